@@ -1,0 +1,10 @@
+pub mod Limits
+pub mod Bytes
+pub mod Token
+pub mod Tree
+pub mod Reader
+pub mod Types
+pub mod Processes
+pub mod Scripts
+pub mod Tables
+pub mod Examples

@@ -1,0 +1,158 @@
+-- The reading of processes: "A process holds branches and a branch holds a process".
+use Prim.Native.Nat.{ℕ, zero, suc, _+_}
+use mathlib.Core.List.{List, [], _∷_}
+use mathlib.Core.Bool.{cond}
+use lib.Dec.{eqb}
+use Rattle.notation.specs.Token.{tokenAt, nameAt, kindAt, kSend, kRecv, kFwd, kCall, kCancel, kRaise, kTry, kCatch, kName, kLabel, kRoundOpen, kRoundClose, kSquareOpen, kSquareClose, kColon, kComma, kSemicolon, kFrom, kThen, kBar}
+use Rattle.notation.specs.Tree.{Located, Ty, Proc, empty, sendUnit, sendChannel, sendLabel, cancel, spawn, recvUnit, recvChannel, recvLabel, fwd, call, raise, try, Branches, branch}
+use Rattle.notation.specs.Reader.{Result, got, refused, take, part, lastly, choose, expect, misfit, opening, processTerm, closed, nameIn, labelIn}
+use Rattle.notation.specs.Types.{readType, labelTerm}
+use Rattle.notation.specs.declared.reading.Cursor.{Cursor}
+use Rattle.notation.specs.declared.token.TermHead.{TermHead}
+use Rattle.notation.specs.declared.token.TermHead.the-variants.{Send, Recv, Fwd, Call, Cancel, Raise, Try, Spawn, Empty}
+use Rattle.notation.specs.declared.token.Payload.{Payload}
+use Rattle.notation.specs.declared.token.Payload.the-variants.{Unit as UnitPayload, Channel, Label, Other}
+
+-- what a token of this kind begins
+unfoldable pub termHead : ℕ → TermHead
+termHead k =
+    cond (eqb k kSend) Send
+    (cond (eqb k kRecv) Recv
+    (cond (eqb k kFwd) Fwd
+    (cond (eqb k kCall) Call
+    (cond (eqb k kCancel) Cancel
+    (cond (eqb k kRaise) Raise
+    (cond (eqb k kTry) Try
+    (cond (eqb k kName) Spawn Empty)))))))
+
+unfoldable pub payload : ℕ → Payload
+payload k =
+    cond (eqb k kRoundOpen) UnitPayload
+    (cond (eqb k kName) Channel
+    (cond (eqb k kLabel) Label Other))
+
+-- ()
+abbrev pub unitMark : {A : Type 0} → List ℕ → Cursor → (Cursor → Result A) → Result A
+unitMark s c k =
+    take (opening s kRoundOpen c) λ _ d.
+    take (expect s kRoundClose d) λ _ e. k (closed c e)
+
+-- (P)
+abbrev pub bracketed : {A : Type 0} → (Cursor → Result Proc) → List ℕ → Cursor → (Proc → Cursor → Result A) → Result A
+bracketed process s c k =
+    take (opening s kRoundOpen c) λ _ d.
+    part (process d) λ P e.
+    take (expect s kRoundClose e) λ _ f. k P (closed c f)
+
+-- names with commas between them, up to the bracket that closes; none or more
+unfoldable pub readNames : ℕ → List ℕ → ℕ → Cursor → Result (List Located)
+unfolding tokenAt nameAt expect
+readNames zero s close c = refused 0 0
+readNames (suc n) s close c =
+    take (expect s kName c) λ i d.
+    choose (eqb (kindAt s (d .at)) kComma)
+    (λ d. take (expect s kComma d) λ _ e. lastly (_∷_ (nameIn s i)) (readNames n s close e))
+    (λ d. take (expect s close d) λ _ e. got (nameIn s i ∷ []) e)
+    d
+
+unfoldable pub nameList : ℕ → List ℕ → ℕ → ℕ → Cursor → Result (List Located)
+unfolding tokenAt expect opening readNames
+nameList n s open′ close c =
+    take (opening s open′ c) λ _ d.
+    part (choose (eqb (kindAt s (d .at)) kName) (readNames n s close) (λ d. take (expect s close d) λ _ e. got [] e) d) λ names e.
+    got names (closed c e)
+
+-- send c (), send c a, send c 'l: what follows the channel c, whose name is read, in a term from `at` on
+unfoldable pub sendBy : (Cursor → Result Proc) → List ℕ → ℕ → Located → Cursor → Payload → Result Proc
+unfolding expect misfit opening nameAt
+sendBy rest s at c d UnitPayload = unitMark s d λ e. lastly (sendUnit at c) (rest e)
+sendBy rest s at c d Channel = take (expect s kName d) λ i e. lastly (sendChannel at c (nameIn s i)) (rest e)
+sendBy rest s at c d Label = take (expect s kLabel d) λ i e. lastly (sendLabel at c (labelIn s i)) (rest e)
+sendBy rest s at c d Other = misfit s d
+
+-- recv c (() => P), recv c (x => P), recv c ('l => P | ..): what follows the bracket, which the caller closes
+unfoldable pub recvBy : (Cursor → Result Proc) → (Cursor → Result Branches) → List ℕ → ℕ → Located → Cursor → Payload → Result Proc
+unfolding expect misfit opening nameAt
+recvBy process branches s at c d UnitPayload =
+    unitMark s d λ e.
+    take (expect s kThen e) λ _ f. lastly (recvUnit at c) (process f)
+recvBy process branches s at c d Channel =
+    take (expect s kName d) λ i e.
+    take (expect s kThen e) λ _ f. lastly (recvChannel at c (nameIn s i)) (process f)
+recvBy process branches s at c d Label = lastly (recvLabel at c) (branches d)
+recvBy process branches s at c d Other = misfit s d
+
+-- a process, by what begins it
+unfoldable pub processBy : (Cursor → Result (Ty Located)) → (Cursor → Result Proc) → (Cursor → Result Proc) → (Cursor → Result Branches) → ℕ → List ℕ → Cursor → TermHead → Result Proc
+unfolding tokenAt nameAt expect opening processTerm nameList payload sendBy recvBy
+processBy type process rest branches n s c Send =
+    take (processTerm s kSend c) λ at d.
+    take (expect s kName d) λ i e.
+    sendBy rest s at (nameIn s i) e (payload (kindAt s (e .at)))
+processBy type process rest branches n s c Recv =
+    take (processTerm s kRecv c) λ at d.
+    take (expect s kName d) λ i e.
+    take (opening s kRoundOpen e) λ _ f.
+    part (recvBy process branches s at (nameIn s i) f (payload (kindAt s (f .at)))) λ P g.
+    take (expect s kRoundClose g) λ _ h. got P (closed e h)
+processBy type process rest branches n s c Fwd =
+    take (processTerm s kFwd c) λ at d.
+    take (expect s kName d) λ i e.
+    take (expect s kName e) λ j f. got (fwd at (nameIn s i) (nameIn s j)) f
+processBy type process rest branches n s c Call =
+    take (processTerm s kCall c) λ at d.
+    take (expect s kName d) λ i e.
+    part (nameList n s kRoundOpen kRoundClose e) λ xs f.
+    part (nameList n s kSquareOpen kSquareClose f) λ ys g. got (call at (nameIn s i) (tokenAt s (e .at) .start) xs ys) g
+processBy type process rest branches n s c Cancel =
+    take (processTerm s kCancel c) λ at d.
+    take (expect s kName d) λ i e. lastly (cancel at (nameIn s i)) (rest e)
+processBy type process rest branches n s c Raise = take (processTerm s kRaise c) λ at d. lastly (raise at) (process d)
+processBy type process rest branches n s c Try =
+    take (processTerm s kTry c) λ at d.
+    bracketed process s d λ P e.
+    take (expect s kCatch e) λ _ f.
+    bracketed process s f λ Q g. got (try at P Q) g
+processBy type process rest branches n s c Spawn =
+    take (processTerm s kName c) λ i d.
+    take (expect s kColon d) λ _ e.
+    part (type e) λ A f.
+    take (expect s kFrom f) λ _ g.
+    bracketed process s g λ P h. lastly (spawn (nameIn s i) A P) (rest h)
+processBy type process rest branches n s c Empty = got (empty (tokenAt s (c .at) .start)) c
+
+-- "followed by nothing or by `;` and a process"
+unfoldable pub restBy : (Cursor → Result Proc) → List ℕ → Cursor → Result Proc
+unfolding tokenAt expect
+restBy process s c =
+    choose (eqb (kindAt s (c .at)) kSemicolon)
+    (λ c. take (expect s kSemicolon c) λ _ d. process d)
+    (λ c. got (empty (tokenAt s (c .at) .start)) c)
+    c
+
+-- 'l => P | .., of which n came before
+unfoldable pub branchesBy : (Cursor → Result Proc) → (Cursor → Result Branches) → List ℕ → ℕ → Cursor → Result Branches
+unfolding tokenAt expect labelTerm nameAt
+branchesBy process more s n c =
+    take (labelTerm s n c) λ i d.
+    take (expect s kThen d) λ _ e.
+    part (process e) λ P f.
+    choose (eqb (kindAt s (f .at)) kBar)
+    (λ f. take (expect s kBar f) λ _ g. lastly (branch (labelIn s i) P) (more g))
+    (λ f. got (branch (labelIn s i) P Branches.none) f)
+    f
+
+unfoldable mutual
+  unfolding tokenAt readType termHead processBy restBy branchesBy
+  pub readProcess : ℕ → List ℕ → Cursor → Result Proc
+  readProcess zero s c = refused 0 0
+  readProcess (suc n) s c =
+      processBy (λ d. readType n s d) (λ d. readProcess n s d) (λ d. readRest n s d) (λ d. readBranches n s 0 d) n s c (termHead (kindAt s (c .at)))
+
+  pub readRest : ℕ → List ℕ → Cursor → Result Proc
+  readRest zero s c = refused 0 0
+  readRest (suc n) s c = restBy (λ d. readProcess n s d) s c
+
+  pub readBranches : ℕ → List ℕ → ℕ → Cursor → Result Branches
+  readBranches zero s k c = refused 0 0
+  readBranches (suc n) s k c = branchesBy (λ d. readProcess n s d) (λ d. readBranches n s (k + 1) d) s k c

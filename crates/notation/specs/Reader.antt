@@ -1,0 +1,94 @@
+-- The parts that every reading is made of: a result, a token that is wanted, and how they follow each other.
+-- A reading is described over the readings that it needs, and the knots are tied on fuel: the reading of a text gives more than the text can use.
+use Prim.Native.Nat.{ℕ, _+_}
+use mathlib.Core.List.{List}
+use mathlib.Core.Bool.{Bool, true, false, cond}
+use lib.Dec.{ltb, eqb}
+use Rattle.notation.specs.Limits.{typeTermLimit, processTermLimit, bracketLimit}
+use Rattle.notation.specs.Token.{tokenAt, nameAt, kFault}
+use Rattle.notation.specs.Tree.{Located}
+use Rattle.notation.specs.declared.token.Token.{Token}
+use Rattle.notation.specs.declared.reading.Cursor.{Cursor}
+use Rattle.notation.specs.declared.reading.Taken.{Taken}
+use Rattle.notation.specs.declared.reading.Taken.the-variants.{At, Refused}
+
+-- what was read and the cursor past it, or a refusal: its number and offset
+pub data Result (A : Type 0) : Type 0 where
+  got : A → Cursor → Result A
+  refused : ℕ → ℕ → Result A
+
+-- a token, then the rest
+abbrev pub take : {A : Type 0} → Taken → (ℕ → Cursor → Result A) → Result A
+take (At i c) k = k i c
+take (Refused n i) k = refused n i
+
+-- a part, then the rest
+abbrev pub part : {A B : Type 0} → Result A → (A → Cursor → Result B) → Result B
+part (got a c) k = k a c
+part (refused n i) k = refused n i
+
+-- a part that is the last, under what it becomes
+abbrev pub lastly : {A B : Type 0} → (A → B) → Result A → Result B
+lastly f (got a c) = got (f a) c
+lastly f (refused n i) = refused n i
+
+-- the one way or the other; each waits for the cursor
+abbrev pub choose : {A : Type 0} → Bool → (Cursor → Result A) → (Cursor → Result A) → Cursor → Result A
+choose true f g c = f c
+choose false f g c = g c
+
+-- the cursor past a token, and with a bracket more open
+abbrev pub past : Cursor → Token → Cursor
+past c t = record { at = t .end; types = c .types; terms = c .terms; depth = c .depth }
+
+-- "Where the next token is not the one wanted, the reading ends there": 3 where it is no token, else 4
+abbrev pub fault : Token → ℕ
+fault t = cond (eqb (t .kind) kFault) 3 4
+
+unfoldable pub expect : List ℕ → ℕ → Cursor → Taken
+unfolding tokenAt
+expect s k c =
+    let t = tokenAt s (c .at) in
+    cond (eqb (t .kind) k) (At (t .start) (past c t)) (Refused (fault t) (t .start))
+
+-- no token fits here
+unfoldable pub misfit : {A : Type 0} → List ℕ → Cursor → Result A
+unfolding tokenAt
+misfit s c = let t = tokenAt s (c .at) in refused (fault t) (t .start)
+
+-- A limit is tested after what is wanted, at the token that passes it: 4 before 5.
+abbrev pub limited : Taken → (Cursor → Bool) → (Cursor → Cursor) → Taken
+limited (At i c) fits more = cond (fits c) (At i (more c)) (Refused 5 i)
+limited (Refused n i) fits more = Refused n i
+
+-- a bracket that opens
+unfoldable pub opening : List ℕ → ℕ → Cursor → Taken
+unfolding expect
+opening s k c =
+    limited (expect s k c) (λ d. ltb (d .depth) bracketLimit)
+    (λ d. record { at = d .at; types = d .types; terms = d .terms; depth = d .depth + 1 })
+
+-- "A type term is a `1`, a name, an infix mark, a `+` or a `&` in a type"
+unfoldable pub typeTerm : List ℕ → ℕ → Cursor → Taken
+unfolding expect
+typeTerm s k c =
+    limited (expect s k c) (λ d. ltb (d .types) typeTermLimit)
+    (λ d. record { at = d .at; types = d .types + 1; terms = d .terms; depth = d .depth })
+
+-- "a process term counts at its first token"
+unfoldable pub processTerm : List ℕ → ℕ → Cursor → Taken
+unfolding expect
+processTerm s k c =
+    limited (expect s k c) (λ d. ltb (d .terms) processTermLimit)
+    (λ d. record { at = d .at; types = d .types; terms = d .terms + 1; depth = d .depth })
+
+-- past a bracket that closes, as many are open as before the one that opened: those of c
+abbrev pub closed : Cursor → Cursor → Cursor
+closed c d = record { at = d .at; types = d .types; terms = d .terms; depth = c .depth }
+
+-- the name at an offset; the label whose apostrophe stands there
+abbrev pub nameIn : List ℕ → ℕ → Located
+nameIn s i = record { at = i; name = nameAt s i }
+
+abbrev pub labelIn : List ℕ → ℕ → Located
+labelIn s i = record { at = i; name = nameAt s (i + 1) }

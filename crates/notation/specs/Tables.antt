@@ -1,0 +1,263 @@
+-- The words of the tables: a fold over the trees that were read, in the order of reading.
+-- A node is appended after its parts, so that parts have smaller numbers and nothing is patched.
+use Prim.Native.Nat.{ℕ, _+_, _*_}
+use mathlib.Core.List.{List, [], _∷_}
+use lib.ListN.{length, set, replicate}
+use Rattle.notation.specs.Limits.{processTermLimit, scratchWords}
+use Rattle.notation.specs.Tree.{Located, Ty, unit, named, tensor, par, lolli, plus, with, Alternatives, alternative, Proc, empty, sendUnit, sendChannel, sendLabel, cancel, spawn, recvUnit, recvChannel, recvLabel, fwd, call, raise, try, Branches, branch, Entry, Declaration, declareType, declareProc, declareExec}
+use Rattle.notation.specs.Reader.{Result, got, refused}
+use Rattle.notation.specs.Scripts.{readText}
+use Rattle.notation.specs.declared.reading.Tally.{Tally}
+use Rattle.notation.specs.declared.reading.TypeNode.{TypeNode}
+use Rattle.notation.specs.declared.reading.TermNode.{TermNode}
+
+-- ── where each table begins: 16 counts, then 64 × 2 types, 64 × 4 processes, 16 execs, 512 signature entries, 512 type nodes,
+-- 512 alternatives, 1,024 × 2 process nodes, 1,640 branches; 5,640 words in all
+abbrev pub typesAt : ℕ
+typesAt = 16
+abbrev pub processesAt : ℕ
+processesAt = 144
+abbrev pub execsAt : ℕ
+execsAt = 400
+abbrev pub entriesAt : ℕ
+entriesAt = 416
+abbrev pub nodesAt : ℕ
+nodesAt = 928
+abbrev pub alternativesAt : ℕ
+alternativesAt = 1440
+abbrev pub termsAt : ℕ
+termsAt = 1952
+abbrev pub branchesAt : ℕ
+branchesAt = 4000
+
+-- ── one entry of each table
+-- a type node: its kind, and two numbers below 1,024 and 524,288
+unfoldable pub typeWord : TypeNode → ℕ
+typeWord n = n .kind + 8 * n .first + 8192 * n .second
+
+-- a process node: its kind, its offset and three numbers, in two words
+unfoldable pub termWord : TermNode → ℕ
+termWord n = n .kind + 16 * n .at + 131072 * n .first
+
+unfoldable pub termWord′ : TermNode → ℕ
+termWord′ n = n .second + 16384 * n .third
+
+-- a name or label with what belongs to it
+unfoldable pub pairWord : ℕ → ℕ → ℕ
+pairWord at n = at + 8192 * n
+
+unfoldable pub putNode : List ℕ → ℕ → TypeNode → List ℕ
+putNode w i n = set w (nodesAt + i) (typeWord n)
+
+unfoldable pub putTerm : List ℕ → ℕ → TermNode → List ℕ
+putTerm w i n = set (set w (termsAt + 2 * i) (termWord n)) (termsAt + 2 * i + 1) (termWord′ n)
+
+unfoldable pub putAlternative : List ℕ → ℕ → ℕ → ℕ → List ℕ
+putAlternative w i at n = set w (alternativesAt + i) (pairWord at n)
+
+unfoldable pub putBranch : List ℕ → ℕ → ℕ → ℕ → List ℕ
+putBranch w i at n = set w (branchesAt + i) (pairWord at n)
+
+unfoldable pub putEntry : List ℕ → ℕ → ℕ → ℕ → List ℕ
+putEntry w i at n = set w (entriesAt + i) (pairWord at n)
+
+unfoldable pub putType : List ℕ → ℕ → ℕ → ℕ → List ℕ
+putType w i at n = set (set w (typesAt + 2 * i) at) (typesAt + 2 * i + 1) n
+
+-- a process: its name, its first signature entry, how many it provides and uses, its body
+unfoldable pub putProcess : List ℕ → ℕ → ℕ → ℕ → ℕ → ℕ → ℕ → List ℕ
+putProcess w i at first provided used body =
+    set (set (set (set w (processesAt + 4 * i) at) (processesAt + 4 * i + 1) first) (processesAt + 4 * i + 2) (provided + 1024 * used)) (processesAt + 4 * i + 3) body
+
+unfoldable pub putExec : List ℕ → ℕ → ℕ → List ℕ
+putExec w i at = set w (execsAt + i) at
+
+-- ── one more of a table; what was read last is its number, or the length of the list that it stands in
+abbrev pub lasting : ℕ → Tally → Tally
+lasting n k = record { types = k .types; processes = k .processes; execs = k .execs; entries = k .entries; nodes = k .nodes; alternatives = k .alternatives; terms = k .terms; branches = k .branches; last = n }
+
+abbrev pub moreNodes : Tally → Tally
+moreNodes k = record { types = k .types; processes = k .processes; execs = k .execs; entries = k .entries; nodes = k .nodes + 1; alternatives = k .alternatives; terms = k .terms; branches = k .branches; last = k .nodes }
+
+abbrev pub moreTerms : Tally → Tally
+moreTerms k = record { types = k .types; processes = k .processes; execs = k .execs; entries = k .entries; nodes = k .nodes; alternatives = k .alternatives; terms = k .terms + 1; branches = k .branches; last = k .terms }
+
+abbrev pub moreAlternatives : Tally → Tally
+moreAlternatives k = record { types = k .types; processes = k .processes; execs = k .execs; entries = k .entries; nodes = k .nodes; alternatives = k .alternatives + 1; terms = k .terms; branches = k .branches; last = k .last + 1 }
+
+abbrev pub moreBranches : Tally → Tally
+moreBranches k = record { types = k .types; processes = k .processes; execs = k .execs; entries = k .entries; nodes = k .nodes; alternatives = k .alternatives; terms = k .terms; branches = k .branches + 1; last = k .last + 1 }
+
+abbrev pub moreEntries : Tally → Tally
+moreEntries k = record { types = k .types; processes = k .processes; execs = k .execs; entries = k .entries + 1; nodes = k .nodes; alternatives = k .alternatives; terms = k .terms; branches = k .branches; last = k .last }
+
+abbrev pub moreTypes : Tally → Tally
+moreTypes k = record { types = k .types + 1; processes = k .processes; execs = k .execs; entries = k .entries; nodes = k .nodes; alternatives = k .alternatives; terms = k .terms; branches = k .branches; last = k .last }
+
+abbrev pub moreProcesses : Tally → Tally
+moreProcesses k = record { types = k .types; processes = k .processes + 1; execs = k .execs; entries = k .entries; nodes = k .nodes; alternatives = k .alternatives; terms = k .terms; branches = k .branches; last = k .last }
+
+abbrev pub moreExecs : Tally → Tally
+moreExecs k = record { types = k .types; processes = k .processes; execs = k .execs + 1; entries = k .entries; nodes = k .nodes; alternatives = k .alternatives; terms = k .terms; branches = k .branches; last = k .last }
+
+-- ── types: kinds 0 to 6 in the order of `Ty`. A choice keeps the place past its first alternative and how many there are:
+-- one list's alternatives stand side by side, the first of them last.
+unfoldable mutual
+  pub afterType : Ty Located → Tally → Tally
+  afterType unit k = moreNodes k
+  afterType (named n) k = moreNodes k
+  afterType (tensor A B) k = moreNodes (afterType B (afterType A k))
+  afterType (par A B) k = moreNodes (afterType B (afterType A k))
+  afterType (lolli A B) k = moreNodes (afterType B (afterType A k))
+  afterType (plus r) k = moreNodes (afterAlternatives r k)
+  afterType (with r) k = moreNodes (afterAlternatives r k)
+
+  pub afterAlternatives : Alternatives Located → Tally → Tally
+  afterAlternatives Alternatives.none k = lasting 0 k
+  afterAlternatives (alternative l A r) k = moreAlternatives (afterAlternatives r (afterType A k))
+
+abbrev pub typeNode : ℕ → ℕ → ℕ → TypeNode
+typeNode kind first second = record { kind = kind; first = first; second = second }
+
+-- a node over two parts, after which the tables are filled by d and e; a node over the list just written
+abbrev pub putInfix : ℕ → Tally → Tally → List ℕ → List ℕ
+putInfix kind d e w = putNode w (e .nodes) (typeNode kind (d .last) (e .last))
+
+abbrev pub putChoice : ℕ → Tally → List ℕ → List ℕ
+putChoice kind d w = putNode w (d .nodes) (typeNode kind (d .alternatives) (d .last))
+
+unfoldable mutual
+  unfolding afterType typeWord pairWord putNode putAlternative
+  pub writeType : Ty Located → Tally → List ℕ → List ℕ
+  writeType unit k w = putNode w (k .nodes) (typeNode 0 0 0)
+  writeType (named n) k w = putNode w (k .nodes) (typeNode 1 0 (n .at))
+  writeType (tensor A B) k w = putInfix 2 (afterType A k) (afterType B (afterType A k)) (writeType B (afterType A k) (writeType A k w))
+  writeType (par A B) k w = putInfix 3 (afterType A k) (afterType B (afterType A k)) (writeType B (afterType A k) (writeType A k w))
+  writeType (lolli A B) k w = putInfix 4 (afterType A k) (afterType B (afterType A k)) (writeType B (afterType A k) (writeType A k w))
+  writeType (plus r) k w = putChoice 5 (afterAlternatives r k) (writeAlternatives r k w)
+  writeType (with r) k w = putChoice 6 (afterAlternatives r k) (writeAlternatives r k w)
+
+  pub writeAlternatives : Alternatives Located → Tally → List ℕ → List ℕ
+  writeAlternatives Alternatives.none k w = w
+  writeAlternatives (alternative l A r) k w =
+      putAlternative (writeAlternatives r (afterType A k) (writeType A k w)) (afterAlternatives r (afterType A k) .alternatives) (l .at) (afterType A k .last)
+
+-- ── processes: kinds 0 to 12 in the order of `Proc`. A pointer is a node's number, or for an empty process, which has no node,
+-- the limit of process terms and its offset. A branch list is kept as a choice's alternatives are.
+abbrev pub emptyPointer : ℕ → ℕ
+emptyPointer at = processTermLimit + at
+
+unfoldable mutual
+  unfolding afterType
+  pub afterProcess : Proc → Tally → Tally
+  afterProcess (empty at) k = lasting (emptyPointer at) k
+  afterProcess (sendUnit at c P) k = moreTerms (afterProcess P k)
+  afterProcess (sendChannel at c a P) k = moreTerms (afterProcess P k)
+  afterProcess (sendLabel at c l P) k = moreTerms (afterProcess P k)
+  afterProcess (cancel at c P) k = moreTerms (afterProcess P k)
+  afterProcess (spawn x A P Q) k = moreTerms (afterProcess Q (afterProcess P (afterType A k)))
+  afterProcess (recvUnit at c P) k = moreTerms (afterProcess P k)
+  afterProcess (recvChannel at c x P) k = moreTerms (afterProcess P k)
+  afterProcess (recvLabel at c B) k = moreTerms (afterBranches B k)
+  afterProcess (fwd at x c) k = moreTerms k
+  afterProcess (call at p bracket xs ys) k = moreTerms k
+  afterProcess (raise at P) k = moreTerms (afterProcess P k)
+  afterProcess (try at P Q) k = moreTerms (afterProcess Q (afterProcess P k))
+
+  pub afterBranches : Branches → Tally → Tally
+  afterBranches Branches.none k = lasting 0 k
+  afterBranches (branch l P B) k = moreBranches (afterBranches B (afterProcess P k))
+
+abbrev pub termNode : ℕ → ℕ → ℕ → ℕ → ℕ → TermNode
+termNode kind at first second third = record { kind = kind; at = at; first = first; second = second; third = third }
+
+-- a node over the part just written, after which the tables are filled by d
+abbrev pub putOver : ℕ → ℕ → ℕ → ℕ → Tally → List ℕ → List ℕ
+putOver kind at first second d w = putTerm w (d .terms) (termNode kind at first second (d .last))
+
+unfoldable mutual
+  unfolding afterType afterProcess writeType termWord termWord′ pairWord putTerm putBranch
+  pub writeProcess : Proc → Tally → List ℕ → List ℕ
+  writeProcess (empty at) k w = w
+  writeProcess (sendUnit at c P) k w = putOver 1 at (c .at) 0 (afterProcess P k) (writeProcess P k w)
+  writeProcess (sendChannel at c a P) k w = putOver 2 at (c .at) (a .at) (afterProcess P k) (writeProcess P k w)
+  writeProcess (sendLabel at c l P) k w = putOver 3 at (c .at) (l .at) (afterProcess P k) (writeProcess P k w)
+  writeProcess (cancel at c P) k w = putOver 4 at (c .at) 0 (afterProcess P k) (writeProcess P k w)
+  writeProcess (spawn x A P Q) k w =
+      putOver 5 (x .at) (afterType A k .last) (afterProcess P (afterType A k) .last) (afterProcess Q (afterProcess P (afterType A k)))
+      (writeProcess Q (afterProcess P (afterType A k)) (writeProcess P (afterType A k) (writeType A k w)))
+  writeProcess (recvUnit at c P) k w = putOver 6 at (c .at) 0 (afterProcess P k) (writeProcess P k w)
+  writeProcess (recvChannel at c x P) k w = putOver 7 at (c .at) (x .at) (afterProcess P k) (writeProcess P k w)
+  writeProcess (recvLabel at c B) k w = putOver 8 at (c .at) (afterBranches B k .branches) (afterBranches B k) (writeBranches B k w)
+  writeProcess (fwd at x c) k w = putTerm w (k .terms) (termNode 9 at (x .at) (c .at) 0)
+  writeProcess (call at p bracket xs ys) k w = putTerm w (k .terms) (termNode 10 at (p .at) bracket 0)
+  writeProcess (raise at P) k w = putOver 11 at 0 0 (afterProcess P k) (writeProcess P k w)
+  writeProcess (try at P Q) k w =
+      putOver 12 at 0 (afterProcess P k .last) (afterProcess Q (afterProcess P k)) (writeProcess Q (afterProcess P k) (writeProcess P k w))
+
+  pub writeBranches : Branches → Tally → List ℕ → List ℕ
+  writeBranches Branches.none k w = w
+  writeBranches (branch l P B) k w =
+      putBranch (writeBranches B (afterProcess P k) (writeProcess P k w)) (afterBranches B (afterProcess P k) .branches) (l .at) (afterProcess P k .last)
+
+-- ── declarations
+unfoldable pub afterEntries : List Entry → Tally → Tally
+unfolding afterType
+afterEntries [] k = k
+afterEntries (e ∷ es) k = afterEntries es (moreEntries (afterType (e .type) k))
+
+unfoldable pub writeEntries : List Entry → Tally → List ℕ → List ℕ
+unfolding afterType writeType pairWord putEntry
+writeEntries [] k w = w
+writeEntries (e ∷ es) k w =
+    writeEntries es (moreEntries (afterType (e .type) k)) (putEntry (writeType (e .type) k w) (k .entries) (e .channel .at) (afterType (e .type) k .last))
+
+unfoldable pub afterDeclaration : Declaration → Tally → Tally
+unfolding afterType afterEntries afterProcess
+afterDeclaration (declareType n A) k = moreTypes (afterType A k)
+afterDeclaration (declareProc n xs ys P) k = moreProcesses (afterProcess P (afterEntries ys (afterEntries xs k)))
+afterDeclaration (declareExec n) k = moreExecs k
+
+unfoldable pub writeDeclaration : Declaration → Tally → List ℕ → List ℕ
+unfolding afterType afterEntries afterProcess writeType writeEntries writeProcess putType putProcess putExec
+writeDeclaration (declareType n A) k w = putType (writeType A k w) (k .types) (n .at) (afterType A k .last)
+writeDeclaration (declareProc n xs ys P) k w =
+    let d = afterEntries xs k in
+    let e = afterEntries ys d in
+    putProcess (writeProcess P e (writeEntries ys d (writeEntries xs k w))) (k .processes) (n .at) (k .entries) (length xs) (length ys) (afterProcess P e .last)
+writeDeclaration (declareExec n) k w = putExec w (k .execs) (n .at)
+
+unfoldable pub afterScript : List Declaration → Tally → Tally
+unfolding afterDeclaration
+afterScript [] k = k
+afterScript (a ∷ r) k = afterScript r (afterDeclaration a k)
+
+unfoldable pub writeScript : List Declaration → Tally → List ℕ → List ℕ
+unfolding afterDeclaration writeDeclaration
+writeScript [] k w = w
+writeScript (a ∷ r) k w = writeScript r (afterDeclaration a k) (writeDeclaration a k w)
+
+abbrev pub nothing : Tally
+nothing = record { types = 0; processes = 0; execs = 0; entries = 0; nodes = 0; alternatives = 0; terms = 0; branches = 0; last = 0 }
+
+-- the first eight words: how many entries each table has
+unfoldable pub writeCounts : Tally → List ℕ → List ℕ
+writeCounts k w =
+    set (set (set (set (set (set (set (set w 0 (k .types)) 1 (k .processes)) 2 (k .execs)) 3 (k .entries)) 4 (k .nodes)) 5 (k .alternatives)) 6 (k .terms)) 7 (k .branches)
+
+abbrev pub zeros : List ℕ
+zeros = replicate scratchWords 0
+
+-- "they hold the checked tables, which the text alone decides": the words of a script
+unfoldable pub tablesOf : List Declaration → List ℕ
+unfolding afterScript writeScript writeCounts
+tablesOf ds = writeCounts (afterScript ds nothing) (writeScript ds nothing zeros)
+
+abbrev pub tablesRead : Result (List Declaration) → List ℕ
+tablesRead (got ds c) = tablesOf ds
+tablesRead (refused n i) = zeros
+
+-- the first 8,192 words of scratch for a text that is not refused
+unfoldable pub tables : List ℕ → List ℕ
+unfolding readText tablesOf
+tables s = tablesRead (readText s)

@@ -1,0 +1,90 @@
+-- The reading of types.
+use Prim.Native.Nat.{ℕ, zero, suc, _+_}
+use mathlib.Core.List.{List}
+use mathlib.Core.Bool.{Bool, cond, _||_}
+use lib.Dec.{ltb, eqb}
+use Rattle.notation.specs.Limits.{labelLimit}
+use Rattle.notation.specs.Token.{tokenAt, nameAt, kindAt, kOne, kName, kLabel, kRoundOpen, kRoundClose, kBraceOpen, kBraceClose, kPlus, kWith, kColon, kComma, kStar, kAt, kLolli}
+use Rattle.notation.specs.Tree.{Located, Ty, unit, named, tensor, par, lolli, plus, with, Alternatives, alternative}
+use Rattle.notation.specs.Reader.{Result, got, refused, take, part, lastly, choose, expect, misfit, limited, opening, typeTerm, closed, nameIn, labelIn}
+use Rattle.notation.specs.declared.reading.Cursor.{Cursor}
+use Rattle.notation.specs.declared.reading.Taken.{Taken}
+use Rattle.notation.specs.declared.token.TypeHead.{TypeHead}
+use Rattle.notation.specs.declared.token.TypeHead.the-variants.{One, Name, Round, Plus, With, Other}
+
+-- what a token of this kind begins
+unfoldable pub typeHead : ℕ → TypeHead
+typeHead k =
+    cond (eqb k kOne) One
+    (cond (eqb k kName) Name
+    (cond (eqb k kRoundOpen) Round
+    (cond (eqb k kPlus) Plus
+    (cond (eqb k kWith) With Other))))
+
+-- "The three infix marks bind alike, to the right"
+unfoldable pub isInfix : ℕ → Bool
+isInfix k = eqb k kStar || eqb k kAt || eqb k kLolli
+
+unfoldable pub infixOf : ℕ → Ty Located → Ty Located → Ty Located
+infixOf k A B = cond (eqb k kStar) (tensor A B) (cond (eqb k kAt) (par A B) (lolli A B))
+
+-- A type is an atom, or an atom, an infix mark and a type.
+unfoldable pub typeBy : (Cursor → Result (Ty Located)) → (Cursor → Result (Ty Located)) → List ℕ → Cursor → Result (Ty Located)
+unfolding tokenAt isInfix infixOf typeTerm
+typeBy atom type s c =
+    part (atom c) λ A d.
+    choose (isInfix (kindAt s (d .at)))
+    (λ d. take (typeTerm s (kindAt s (d .at)) d) λ _ e. lastly (infixOf (kindAt s (d .at)) A) (type e))
+    (λ d. got A d)
+    d
+
+-- a choice: its mark, and its labels in braces
+abbrev pub choiceBy : (Cursor → Result (Alternatives Located)) → List ℕ → ℕ → (Alternatives Located → Ty Located) → Cursor → Result (Ty Located)
+choiceBy alternatives s k choice c =
+    take (typeTerm s k c) λ _ d.
+    take (opening s kBraceOpen d) λ _ e.
+    part (alternatives e) λ r f.
+    take (expect s kBraceClose f) λ _ g. got (choice r) (closed d g)
+
+-- an atom, by what begins it
+unfoldable pub atomBy : (Cursor → Result (Ty Located)) → (Cursor → Result (Alternatives Located)) → List ℕ → Cursor → TypeHead → Result (Ty Located)
+unfolding expect misfit opening typeTerm nameAt
+atomBy type alternatives s c One = take (typeTerm s kOne c) λ _ d. got unit d
+atomBy type alternatives s c Name = take (typeTerm s kName c) λ i d. got (named (nameIn s i)) d
+atomBy type alternatives s c Round =
+    take (opening s kRoundOpen c) λ _ d.
+    part (type d) λ A e.
+    take (expect s kRoundClose e) λ _ f. got A (closed c f)
+atomBy type alternatives s c Plus = choiceBy alternatives s kPlus plus c
+atomBy type alternatives s c With = choiceBy alternatives s kWith with c
+atomBy type alternatives s c Other = misfit s c
+
+-- a label within the limit of its list, of which n came before
+unfoldable pub labelTerm : List ℕ → ℕ → Cursor → Taken
+labelTerm s n c = limited (expect s kLabel c) (λ _. ltb n labelLimit) (λ d. d)
+
+-- one label or more, of which n came before: 'l : A, ..
+unfoldable pub alternativesBy : (Cursor → Result (Ty Located)) → (Cursor → Result (Alternatives Located)) → List ℕ → ℕ → Cursor → Result (Alternatives Located)
+unfolding tokenAt expect labelTerm nameAt
+alternativesBy type more s n c =
+    take (labelTerm s n c) λ i d.
+    take (expect s kColon d) λ _ e.
+    part (type e) λ A f.
+    choose (eqb (kindAt s (f .at)) kComma)
+    (λ f. take (expect s kComma f) λ _ g. lastly (alternative (labelIn s i) A) (more g))
+    (λ f. got (alternative (labelIn s i) A Alternatives.none) f)
+    f
+
+unfoldable mutual
+  unfolding tokenAt typeHead typeBy atomBy alternativesBy
+  pub readType : ℕ → List ℕ → Cursor → Result (Ty Located)
+  readType zero s c = refused 0 0
+  readType (suc n) s c = typeBy (λ d. readAtom n s d) (λ d. readType n s d) s c
+
+  pub readAtom : ℕ → List ℕ → Cursor → Result (Ty Located)
+  readAtom zero s c = refused 0 0
+  readAtom (suc n) s c = atomBy (λ d. readType n s d) (λ d. readAlternatives n s 0 d) s c (typeHead (kindAt s (c .at)))
+
+  pub readAlternatives : ℕ → List ℕ → ℕ → Cursor → Result (Alternatives Located)
+  readAlternatives zero s k c = refused 0 0
+  readAlternatives (suc n) s k c = alternativesBy (λ d. readType n s d) (λ d. readAlternatives n s (k + 1) d) s k c

@@ -1,0 +1,42 @@
+// Where the reading stands, and what counts against the limits: type terms, process terms, open brackets.
+pub struct Cursor {
+    pub at: usize,
+    pub types: usize,
+    pub terms: usize,
+    pub depth: usize,
+}
+
+// A token that was wanted: where it stands and the cursor past it; or the refusal's number and offset.
+pub enum Taken {
+    At(usize, Cursor),
+    Refused(u32, usize),
+}
+
+// How far each table is filled, and what was read last: a type's node, a process's pointer or a list's length.
+pub struct Tally {
+    pub types: usize,
+    pub processes: usize,
+    pub execs: usize,
+    pub entries: usize,
+    pub nodes: usize,
+    pub alternatives: usize,
+    pub terms: usize,
+    pub branches: usize,
+    pub last: usize,
+}
+
+// A node of the type table.
+pub struct TypeNode {
+    pub kind: usize,
+    pub first: usize,
+    pub second: usize,
+}
+
+// A node of the process table.
+pub struct TermNode {
+    pub kind: usize,
+    pub at: usize,
+    pub first: usize,
+    pub second: usize,
+    pub third: usize,
+}
