@@ -1,0 +1,119 @@
+-- Refusals 10 to 15: the first term in text order, then the lowest number, at the term's first byte.
+use Prim.Native.Nat.{ℕ, zero, suc}
+use mathlib.Core.List.{List, [], _∷_, _++_}
+use mathlib.Core.Bool.{Bool, true, false, cond, not, _&&_}
+use mathlib.Core.Option.{Option, some, none}
+use lib.ListN.{length, getElem?}
+use lib.Dec.{ltb}
+use Rattle.notation.specs.Limits.{heldLimit}
+use Rattle.notation.specs.Bytes.{same}
+use Rattle.notation.specs.Tree.{Name, Located, Ty, unit, Alternatives, Proc, empty, sendUnit, sendChannel, sendLabel, cancel, spawn, recvUnit, recvChannel, recvLabel, fwd, call, raise, try, Branches, branch, Entry, Declaration, declareType, declareProc, declareExec, plain}
+use Rattle.calculus.specs.Named.{lookup, without, changed, names, isSome, all, distinct}
+use Rattle.calculus.specs.Types.{Side, provided, used, other, sameSide, sameType, shape, atLeaf, Passing, passing, Choosing, choosing, labelled}
+use Rattle.calculus.specs.Program.{Slot, slot, Context, Signature, Program, signatureContext, entries, programOf}
+use Rattle.calculus.specs.Declarations.{channels, isNil}
+use Rattle.calculus.specs.Mentions.{spawnTakes, spawnLeaves, tryTakes, neverBoth, exactlyOne}
+use Rattle.calculus.specs.Typing.{acting, retyped, bringing, fitting, namesOf, listFits, withoutAll}
+use Rattle.calculus.specs.Verdict.{Verdict, fine, refused, andThen, demand, having}
+
+-- a name may join H where G is held: 15 otherwise
+abbrev pub mayBring : Name → Context → Context → Bool
+mayBring x G H = not (isSome (lookup x G)) && ltb (length H) heldLimit
+
+abbrev pub isUnitOn : Side → Slot → Bool
+isUnitOn s h = sameSide (h .side) s && atLeaf (shape (h .type))
+
+abbrev pub fitsSlot : Side → Ty Name → Slot → Bool
+fitsSlot s A h = sameSide (h .side) s && sameType (h .type) A
+
+unfoldable mutual
+  unfolding same plain lookup without changed names distinct sameType passing choosing labelled spawnTakes spawnLeaves tryTakes neverBoth exactlyOne fitting listFits withoutAll
+  pub check : Program → Context → Bool → Proc → Verdict
+  check p G link (empty at) = demand 13 at (isNil G) fine
+  check p G link (sendUnit at c P) =
+      having 10 at (acting p (c .name) G) λ h.
+      demand 11 at (isUnitOn provided h)
+      (check p (without (c .name) G) link P)
+  check p G link (sendChannel at c a P) =
+      having 10 at (acting p (c .name) G) λ h.
+      having 10 at (lookup (a .name) G) λ e.
+      demand 11 at (not (same (c .name) (a .name)))
+      (having 11 at (passing (h .type)) λ t.
+      demand 11 at (sameSide (h .side) (t .sender) && fitsSlot (t .side) (t .what) e)
+      (check p (retyped (c .name) (t .after) (without (a .name) G)) link P))
+  check p G link (sendLabel at c l P) =
+      having 10 at (acting p (c .name) G) λ h.
+      having 11 at (choosing (h .type)) λ t.
+      demand 11 at (sameSide (h .side) (t .sender))
+      (having 11 at (labelled (l .name) (t .labels)) λ A.
+      check p (retyped (c .name) A G) link P)
+  check p G link (cancel at c P) =
+      having 10 at (lookup (c .name) G) λ _.
+      check p (without (c .name) G) link P
+  check p G link (spawn x A P Q) =
+      demand 13 (x .at) (neverBoth (x .name) P Q (names G))
+      (demand 15 (x .at) (mayBring (x .name) G (spawnTakes (x .name) P G) && mayBring (x .name) G (spawnLeaves (x .name) P G))
+      (andThen (check p (bringing (x .name) (slot provided (plain A)) (spawnTakes (x .name) P G)) false P)
+      (check p (bringing (x .name) (slot used (plain A)) (spawnLeaves (x .name) P G)) link Q)))
+  check p G link (recvUnit at c P) =
+      having 10 at (acting p (c .name) G) λ h.
+      demand 11 at (isUnitOn used h)
+      (check p (without (c .name) G) link P)
+  check p G link (recvChannel at c x P) =
+      having 10 at (acting p (c .name) G) λ h.
+      having 11 at (passing (h .type)) λ t.
+      demand 11 at (sameSide (h .side) (other (t .sender)))
+      (demand 15 at (mayBring (x .name) G G)
+      (check p (bringing (x .name) (slot (t .side) (t .what)) (retyped (c .name) (t .after) G)) link P))
+  check p G link (recvLabel at c B) =
+      having 10 at (acting p (c .name) G) λ h.
+      having 11 at (choosing (h .type)) λ t.
+      demand 11 at (sameSide (h .side) (other (t .sender)))
+      (demand 12 at (fitting (t .labels) B)
+      (checkBranches p G link at (c .name) (t .labels) B))
+  check p G link (fwd at x c) =
+      having 10 at (lookup (x .name) G) λ h.
+      having 10 at (lookup (c .name) G) λ e.
+      demand 11 at (sameSide (h .side) provided && fitsSlot used (h .type) e)
+      (demand 13 at (isNil (withoutAll (x .name ∷ c .name ∷ []) G)) fine)
+  check p G link (call at q bracket xs ys) =
+      demand 10 at (all (λ n. isSome (lookup n G)) (namesOf xs ++ namesOf ys))
+      (having 11 at (lookup (q .name) (p .processes)) λ s.
+      demand 11 at (listFits G provided (namesOf xs) (s .provides) && listFits G used (namesOf ys) (s .uses))
+      (demand 11 at (distinct (namesOf xs ++ namesOf ys))
+      (demand 13 at (isNil (withoutAll (namesOf xs ++ namesOf ys) G)) fine)))
+  check p G link (raise at P) = demand 14 at link (check p G false P)
+  check p G link (try at P Q) =
+      demand 13 at (exactlyOne P Q (names G))
+      (andThen (check p (tryTakes P G) true P) (check p (tryTakes Q G) link Q))
+
+  -- branches as written; `at` is the recv's offset
+  pub checkBranches : Program → Context → Bool → ℕ → Name → Alternatives Name → Branches → Verdict
+  checkBranches p G link at c r Branches.none = fine
+  checkBranches p G link at c r (branch l P B) =
+      having 12 at (labelled (l .name) r) λ A.
+      andThen (check p (retyped c A G) link P) (checkBranches p G link at c r B)
+
+-- "a signature's 17th name is taken before the body"
+abbrev pub atMost : ℕ → List Located → Verdict → Verdict
+atMost n ns v = go (getElem? ns n)
+  where
+    go : Option Located → Verdict
+    go none = v
+    go (some x) = refused 15 (x .at)
+
+abbrev pub checkDeclaration : Program → Declaration → Verdict
+checkDeclaration p (declareType n A) = fine
+checkDeclaration p (declareProc n xs ys P) =
+    atMost heldLimit (channels xs ++ channels ys)
+    (check p (signatureContext (record { provides = entries xs; uses = entries ys; body = P })) false P)
+checkDeclaration p (declareExec n) = fine
+
+-- procs in text order
+abbrev pub checkDeclarations : Program → List Declaration → Verdict
+checkDeclarations p [] = fine
+checkDeclarations p (a ∷ r) = andThen (checkDeclaration p a) (checkDeclarations p r)
+
+unfoldable pub typed : List Declaration → Verdict
+unfolding check plain programOf
+typed ds = checkDeclarations (programOf ds) ds

@@ -1,0 +1,148 @@
+-- Configurations: "a list of processes", the outside's channels, and how many outside numbers were given.
+use Prim.Native.Nat.{ℕ, zero, suc, _+_, _-_}
+use mathlib.Core.List.{List, [], _∷_, _++_, map}
+use mathlib.Core.Bool.{Bool, true, false, cond, _&&_, _||_}
+use mathlib.Core.Option.{Option, some, none, Option·map}
+use lib.ListN.{length, take, drop, set, getElem?}
+use lib.Dec.{ltb, eqb}
+use Rattle.notation.specs.Limits.{channelPlaces}
+use Rattle.notation.specs.Tree.{Name, Ty, Proc}
+use Rattle.calculus.specs.Named.{any}
+use Rattle.calculus.specs.Types.{Side, provided, used, other, sameSide}
+
+-- an end of a channel that a process holds; a channel is the number of its place
+pub record End : Type 0 where
+  pub side : Side
+  pub channel : ℕ
+  pub type : Ty Name
+
+abbrev pub end : Side → ℕ → Ty Name → End
+end s k A = record { side = s; channel = k; type = A }
+
+-- what a process does: it runs a term; it folds up (document 01's term: "cancels one held channel a step, oldest first, then is empty"); it waits as a handler
+pub data Doing : Type 0 where
+  running : Proc → Doing
+  folding : Doing
+  waiting : Proc → Doing
+
+-- a process: what it does, what it holds, oldest first, and its link: the place of its handler
+pub record Process : Type 0 where
+  pub doing : Doing
+  pub held : List (Name × End)
+  pub link : Option ℕ
+
+-- a channel that the outside uses, with its number
+pub record Outside : Type 0 where
+  pub number : ℕ
+  pub channel : ℕ
+  pub type : Ty Name
+
+-- the outside's channels stand in rising number; a place (document 01's term) is a position in the list of processes, from 0
+pub record Config : Type 0 where
+  pub processes : List Process
+  pub outside : List Outside
+  pub given : ℕ
+
+abbrev pub config : List Process → List Outside → ℕ → Config
+config l o n = record { processes = l; outside = o; given = n }
+
+abbrev pub process : Doing → List (Name × End) → Option ℕ → Process
+process d h o = record { doing = d; held = h; link = o }
+
+-- the process at a place
+abbrev pub at : Config → ℕ → Option Process
+at C i = getElem? (C .processes) i
+
+-- ── who holds an end
+-- the name under which an end is held
+unfoldable pub heldAs : ℕ → Side → List (Name × End) → Option Name
+heldAs k s [] = none
+heldAs k s (e ∷ l) = let r = heldAs k s l in cond (eqb k (e .1 .channel) && sameSide s (e .1 .side)) (some (e .0)) r
+
+pub record Holder : Type 0 where
+  pub place : ℕ
+  pub process : Process
+  pub name : Name
+
+abbrev pub holderHere : ℕ → Process → Option Name → Option Holder → Option Holder
+holderHere i q none r = r
+holderHere i q (some n) r = some (record { place = i; process = q; name = n })
+
+-- the first process from place i on that holds an end
+unfoldable pub holderFrom : ℕ → ℕ → Side → List Process → Option Holder
+unfolding heldAs
+holderFrom i k s [] = none
+holderFrom i k s (q ∷ l) = let r = holderFrom (suc i) k s l in holderHere i q (heldAs k s (q .held)) r
+
+unfoldable pub outsideOf : ℕ → List Outside → Option Outside
+outsideOf k [] = none
+outsideOf k (o ∷ l) = cond (eqb k (o .channel)) (some o) (outsideOf k l)
+
+-- the far end of an end: at a process, at the outside, or given up, which it is when nobody holds it
+pub data Far : Type 0 where
+  atProcess : Holder → Far
+  atOutside : ℕ → Far
+  givenUp : Far
+
+abbrev pub orOutside : Side → Option Outside → Far
+orOutside s none = givenUp
+orOutside provided (some o) = atOutside (o .number)
+orOutside used (some o) = givenUp
+
+abbrev pub farFrom : Option Holder → Far → Far
+farFrom none f = f
+farFrom (some h) f = atProcess h
+
+unfoldable pub farEnd : Config → End → Far
+unfolding holderFrom outsideOf
+farEnd C e = farFrom (holderFrom 0 (e .channel) (other (e .side)) (C .processes)) (orOutside (e .side) (outsideOf (e .channel) (C .outside)))
+
+-- ── channel places: "A channel place is free when neither end is held"
+abbrev pub holdsChannel : ℕ → Process → Bool
+holdsChannel k q = any (λ (e : Name × End). eqb k (e .1 .channel)) (q .held)
+
+abbrev pub inUse : Config → ℕ → Bool
+inUse C k = any (holdsChannel k) (C .processes) || any (λ (o : Outside). eqb k (o .channel)) (C .outside)
+
+abbrev pub freeFrom : Config → ℕ → ℕ → Option ℕ
+freeFrom C k zero = none
+freeFrom C k (suc n) = let r = freeFrom C (suc k) n in cond (inUse C k) r (some k)
+
+-- Document 01 leaves open which free channel place a new channel takes: here the lowest.
+unfoldable pub freshChannel : Config → Option ℕ
+freshChannel C = freeFrom C 0 channelPlaces
+
+-- ── places move when a process comes or leaves, and links with them
+abbrev pub movedUp : ℕ → ℕ → ℕ
+movedUp i h = cond (ltb i h) (suc h) h
+
+abbrev pub movedDown : ℕ → ℕ → ℕ
+movedDown i h = cond (ltb i h) (h - 1) h
+
+abbrev pub relinked : (ℕ → ℕ) → Process → Process
+relinked f q = process (q .doing) (q .held) (Option·map f (q .link))
+
+-- "a new one stands directly after its maker": the process q after place i
+unfoldable pub inserted : ℕ → Process → List Process → List Process
+inserted i q l = take (suc i) (map (relinked (movedUp i)) l) ++ (q ∷ drop (suc i) (map (relinked (movedUp i)) l))
+
+unfoldable pub removed : ℕ → List Process → List Process
+removed i l = take i (map (relinked (movedDown i)) l) ++ drop (suc i) (map (relinked (movedDown i)) l)
+
+abbrev pub replaced : ℕ → Process → Config → Config
+replaced i q C = config (set (C .processes) i q) (C .outside) (C .given)
+
+-- ── the outside
+unfoldable pub letGo : ℕ → List Outside → List Outside
+letGo k [] = []
+letGo k (o ∷ l) = cond (eqb k (o .channel)) (letGo k l) (o ∷ letGo k l)
+
+unfoldable pub changedOutside : ℕ → (Outside → Outside) → List Outside → List Outside
+changedOutside k f [] = []
+changedOutside k f (o ∷ l) = cond (eqb k (o .channel)) (f o ∷ l) (o ∷ changedOutside k f l)
+
+abbrev pub retypedOutside : ℕ → Ty Name → List Outside → List Outside
+retypedOutside k A = changedOutside k (λ o. record { number = o .number; channel = o .channel; type = A })
+
+abbrev pub movedOutside : ℕ → ℕ → List Outside → List Outside
+movedOutside k m = changedOutside k (λ o. record { number = o .number; channel = m; type = o .type })

@@ -1,0 +1,14 @@
+pub mod Answers
+pub mod Named
+pub mod Types
+pub mod Program
+pub mod Verdict
+pub mod Declarations
+pub mod Mentions
+pub mod Typing
+pub mod Checking
+pub mod Accepted
+pub mod Configuration
+pub mod Steps
+pub mod Runs
+pub mod Printed

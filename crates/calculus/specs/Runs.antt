@@ -1,0 +1,99 @@
+-- Start, run-on and report.
+use Prim.Native.Nat.{ℕ, zero, suc, _+_}
+use mathlib.Core.List.{List, [], _∷_, map}
+use mathlib.Core.Bool.{Bool, true, false, cond}
+use mathlib.Core.Option.{Option, some, none}
+use lib.ListN.{length, getElem?}
+use Rattle.notation.specs.Tree.{Name, Located, Ty}
+use Rattle.calculus.specs.Named.{lookup}
+use Rattle.calculus.specs.Types.{provided}
+use Rattle.calculus.specs.Program.{Signature, Program}
+use Rattle.calculus.specs.Configuration.{End, end, running, Process, process, Outside, Config, config}
+use Rattle.calculus.specs.Steps.{Outcome, carried, notOpen, lacking, step}
+use Rattle.calculus.specs.declared.answers.Seen.{Seen}
+use Rattle.calculus.specs.declared.answers.Seen.the-variants.{Nothing, Label, Close, Passed, Cancelled}
+use Rattle.calculus.specs.declared.answers.RanOn.{RanOn}
+use Rattle.calculus.specs.declared.answers.RanOn.the-variants.{Shown, Done, Full, Stopped}
+
+-- ── "Start makes one process, the exec process's body with its signature's channels."
+abbrev pub startHeld : ℕ → List (Name × Ty Name) → List (Name × End)
+startHeld k [] = []
+startHeld k (e ∷ l) = (e .0, end provided k (e .1)) ∷ startHeld (suc k) l
+
+-- "The outside uses these channels, numbered from 0 in list order."
+abbrev pub startOutside : ℕ → List (Name × Ty Name) → List Outside
+startOutside k [] = []
+startOutside k (e ∷ l) = record { number = k; channel = k; type = e .1 } ∷ startOutside (suc k) l
+
+unfoldable pub startConfig : Signature → Config
+startConfig s = config (process (running (s .body)) (startHeld 0 (s .provides)) none ∷ []) (startOutside 0 (s .provides)) (length (s .provides))
+
+-- the signature of an exec line's process, "numbered from 0"
+abbrev pub lineSignature : Program → Option Located → Option Signature
+lineSignature p none = none
+lineSignature p (some n) = lookup (n .name) (p .processes)
+
+unfoldable pub execOf : Program → ℕ → Option Signature
+unfolding lookup
+execOf p line = lineSignature p (getElem? (p .execs) line)
+
+-- ── "Run-on takes the first open place that can be carried out"
+abbrev pub isCarried : Outcome → Bool
+isCarried (carried s D) = true
+isCarried notOpen = false
+isCarried lacking = false
+
+unfoldable pub firstFrom : Program → Config → ℕ → List Process → Option ℕ
+unfolding step
+firstFrom p C i [] = none
+firstFrom p C i (q ∷ l) = elim (isCarried (step p C i)) [ true ↦ some i | false ↦ firstFrom p C (suc i) l ]
+
+-- run-on's choice of place
+unfoldable pub choosePlace : Program → Config → Option ℕ
+unfolding firstFrom
+choosePlace p C = firstFrom p C 0 (C .processes)
+
+pub record Ran : Type 0 where
+  pub answer : RanOn
+  pub config : Config
+
+abbrev pub ran : RanOn → Config → Ran
+ran a C = record { answer = a; config = C }
+
+-- its tests in their order, before each step: a step showed something, no process is left, none can be carried out; then, with the place of the next step, its budget
+abbrev pub orFull : ℕ → Config → Option ℕ → (ℕ → Ran) → Ran
+orFull taken C none k = ran (Full taken) C
+orFull taken C (some i) k = k i
+
+abbrev pub orDone : Program → ℕ → Config → List Process → (ℕ → Ran) → Ran
+orDone p taken C [] k = ran (Done taken) C
+orDone p taken C (q ∷ l) k = orFull taken C (choosePlace p C) k
+
+abbrev pub testing : Program → Seen → ℕ → Config → (ℕ → Ran) → Ran
+testing p Nothing taken C k = orDone p taken C (C .processes) k
+testing p (Label n l) taken C k = ran (Shown (Label n l) taken) C
+testing p (Close n) taken C k = ran (Shown (Close n) taken) C
+testing p (Passed n m gone) taken C k = ran (Shown (Passed n m gone) taken) C
+testing p (Cancelled n) taken C k = ran (Shown (Cancelled n) taken) C
+
+abbrev pub afterStep : Outcome → (Seen → Config → Ran) → Ran → Ran
+afterStep (carried s D) k r = k s D
+afterStep notOpen k r = r
+afterStep lacking k r = r
+
+-- with `taken` steps taken, the last of which showed `seen`, and so many still in the budget
+unfoldable pub runFrom : Program → ℕ → ℕ → Seen → Config → Ran
+unfolding choosePlace step
+runFrom p zero taken seen C = testing p seen taken C λ i. ran (Stopped taken) C
+runFrom p (suc budget) taken seen C =
+    testing p seen taken C λ i.
+    afterStep (step p C i) (λ s D. runFrom p budget (suc taken) s D) (ran (Full taken) C)
+
+-- "It gives the steps taken."
+unfoldable pub runOn : Program → Config → ℕ → Ran
+unfolding runFrom
+runOn p C budget = runFrom p budget 0 Nothing C
+
+-- ── "A report gives the outside channels still open, each once"
+unfoldable pub report : Config → List ℕ
+report C = map (λ (o : Outside). o .number) (C .outside)

@@ -1,0 +1,374 @@
+-- The step at a place: "Which rule applies is decided by the term's kind". One definition for each rule of document 01.
+use Prim.Native.Nat.{ℕ, zero, suc, _+_}
+use mathlib.Core.List.{List, [], _∷_, _++_}
+use mathlib.Core.Bool.{Bool, true, false, cond, not}
+use mathlib.Core.Option.{Option, some, none, Option·map, Option·getD}
+use lib.ListN.{length, set, getElem?}
+use lib.Dec.{ltb}
+use Rattle.notation.specs.Limits.{processPlaces, outsideNumbers}
+use Rattle.notation.specs.Bytes.{same}
+use Rattle.notation.specs.Tree.{Name, Located, Ty, unit, Alternatives, Proc, empty, sendUnit, sendChannel, sendLabel, cancel, spawn, recvUnit, recvChannel, recvLabel, fwd, call, raise, try, Branches, branch, plain}
+use Rattle.calculus.specs.Named.{lookup, without, changed}
+use Rattle.calculus.specs.Types.{Side, provided, used, standing, Passing, passing, Choosing, choosing, labelled}
+use Rattle.calculus.specs.Program.{Slot, Context, Signature, Program, signatureContext}
+use Rattle.calculus.specs.Mentions.{spawnTakes, spawnLeaves, tryTakes}
+use Rattle.calculus.specs.Typing.{namesOf}
+use Rattle.calculus.specs.Configuration.{End, end, Doing, running, folding, waiting, Process, process, Outside, Config, config, at, Holder, Far, atProcess, atOutside, givenUp, farEnd, freshChannel, movedUp, relinked, inserted, removed, replaced, letGo, changedOutside, retypedOutside, movedOutside}
+use Rattle.calculus.specs.declared.answers.Seen.{Seen}
+use Rattle.calculus.specs.declared.answers.Seen.the-variants.{Nothing, Label, Close, Passed, Cancelled}
+
+-- carried out, with what was seen; "A step is open when, lack of places and numbers aside, a rule here applies at its place"
+pub data Outcome : Type 0 where
+  carried : Seen → Config → Outcome
+  notOpen : Outcome
+  lacking : Outcome
+
+abbrev pub onHeld : Option End → (End → Outcome) → Outcome
+onHeld none k = notOpen
+onHeld (some e) k = k e
+
+-- ── what goes over a channel
+pub data Message : Type 0 where
+  closing : Message
+  passes : Located → Message
+  chooses : Located → Message
+
+-- what a recv has for each
+pub data Wanted : Type 0 where
+  onClose : Proc → Wanted
+  onChannel : Located → Proc → Wanted
+  onLabel : Branches → Wanted
+
+-- a term by its kind: a send, a recv, or a term that steps alone
+pub data Turn : Type 0 where
+  sends : Located → Message → Proc → Turn
+  receives : Located → Wanted → Turn
+  alone : Turn
+
+abbrev pub turn : Proc → Turn
+turn (empty i) = alone
+turn (sendUnit i c P) = sends c closing P
+turn (sendChannel i c a P) = sends c (passes a) P
+turn (sendLabel i c l P) = sends c (chooses l) P
+turn (cancel i c P) = alone
+turn (spawn x A P Q) = alone
+turn (recvUnit i c P) = receives c (onClose P)
+turn (recvChannel i c x P) = receives c (onChannel x P)
+turn (recvLabel i c B) = receives c (onLabel B)
+turn (fwd i x c) = alone
+turn (call i q bracket xs ys) = alone
+turn (raise i P) = alone
+turn (try i P Q) = alone
+
+abbrev pub turnOf : Doing → Turn
+turnOf (running P) = turn P
+turnOf folding = alone
+turnOf (waiting P) = alone
+
+-- "An end's type is what the typing rules make of its signature's or spawn's": the type of a channel once a message has gone over it
+abbrev pub afterPassing : Ty Name → Option Passing → Ty Name
+afterPassing A none = A
+afterPassing A (some t) = t .after
+
+abbrev pub afterChoosing : Ty Name → Name → Option Choosing → Ty Name
+afterChoosing A l none = A
+afterChoosing A l (some t) = Option·getD (labelled l (t .labels)) A
+
+unfoldable pub afterMessage : Program → Message → Ty Name → Ty Name
+unfolding lookup passing choosing labelled
+afterMessage p closing A = A
+afterMessage p (passes a) A = afterPassing A (passing (standing (p .types) A))
+afterMessage p (chooses l) A = afterChoosing A (l .name) (choosing (standing (p .types) A))
+
+abbrev pub retypedEnd : Name → Ty Name → List (Name × End) → List (Name × End)
+retypedEnd c A l = changed c (λ e. end (e .side) (e .channel) A) l
+
+-- the sender's channels afterwards: a closed channel is dropped, a passed one is gone
+unfoldable pub afterSend : Program → Name → End → Message → List (Name × End) → List (Name × End)
+unfolding without changed afterMessage
+afterSend p c e closing l = without c l
+afterSend p c e (passes a) l = retypedEnd c (afterMessage p (passes a) (e .type)) (without (a .name) l)
+afterSend p c e (chooses m) l = retypedEnd c (afterMessage p (chooses m) (e .type)) l
+
+abbrev pub branchOf : Name → Branches → Option Proc
+branchOf l Branches.none = none
+branchOf l (branch m P B) = cond (same l (m .name)) (some P) (branchOf l B)
+
+-- the receiver afterwards, where its term wants the message: d is the end that is passed
+abbrev pub takesClose : Wanted → Name → Process → Option Process
+takesClose (onClose P) c q = some (process (running P) (without c (q .held)) (q .link))
+takesClose (onChannel x P) c q = none
+takesClose (onLabel B) c q = none
+
+abbrev pub bound : Name → Option End → List (Name × End)
+bound x none = []
+bound x (some d) = (x, d) ∷ []
+
+abbrev pub takesChannel : Wanted → Name → Ty Name → Option End → Process → Option Process
+takesChannel (onClose P) c A d q = none
+takesChannel (onChannel x P) c A d q = some (process (running P) (retypedEnd c A (q .held) ++ bound (x .name) d) (q .link))
+takesChannel (onLabel B) c A d q = none
+
+abbrev pub takesLabel : Wanted → Name → Ty Name → Name → Process → Option Process
+takesLabel (onClose P) c A l q = none
+takesLabel (onChannel x P) c A l q = none
+takesLabel (onLabel B) c A l q = Option·map (λ P. process (running P) (retypedEnd c A (q .held)) (q .link)) (branchOf l B)
+
+unfoldable pub afterReceive : Program → Message → Wanted → Name → End → Option End → Process → Option Process
+unfolding same without changed afterMessage
+afterReceive p closing w c e d q = takesClose w c q
+afterReceive p (passes a) w c e d q = takesChannel w c (afterMessage p (passes a) (e .type)) d q
+afterReceive p (chooses l) w c e d q = takesLabel w c (afterMessage p (chooses l) (e .type)) (l .name) q
+
+abbrev pub passedEnd : Message → List (Name × End) → Option End
+passedEnd closing l = none
+passedEnd (passes a) l = lookup (a .name) l
+passedEnd (chooses m) l = none
+
+-- ── an end is given up: "the outside lets go of a channel that is closed or cancelled"; where the far end is the outside's, the step shows cancelled
+abbrev pub seenAt : Far → Seen
+seenAt (atProcess h) = Nothing
+seenAt (atOutside n) = Cancelled n
+seenAt givenUp = Nothing
+
+abbrev pub outsideAfter : Far → ℕ → List Outside → List Outside
+outsideAfter (atProcess h) k o = o
+outsideAfter (atOutside n) k o = letGo k o
+outsideAfter givenUp k o = o
+
+-- the process q stands at place i, and has let go of the end e
+unfoldable pub parting : Config → ℕ → Process → End → Outcome
+unfolding farEnd letGo
+parting C i q e = carried (seenAt (farEnd C e)) (config (set (C .processes) i q) (outsideAfter (farEnd C e) (e .channel) (C .outside)) (C .given))
+
+-- ── "A matching send and recv on one channel step together"
+abbrev pub bothTo : Config → ℕ → Process → ℕ → Option Process → Outcome
+bothTo C i p′ j none = notOpen
+bothTo C i p′ j (some q′) = carried Nothing (config (set (set (C .processes) i p′) j q′) (C .outside) (C .given))
+
+abbrev pub meeting : Program → Config → ℕ → Process → Process → Message → End → Holder → Turn → Outcome
+meeting p C i q q′ m e h (sends c′ m′ P) = notOpen
+meeting p C i q q′ m e h (receives c′ w) =
+    cond (same (c′ .name) (h .name)) (bothTo C i q′ (h .place) (afterReceive p m w (h .name) e (passedEnd m (q .held)) (h .process))) notOpen
+meeting p C i q q′ m e h alone = notOpen
+
+-- ── "A send on an outside channel steps with the outside; a channel passed out takes the next outside number"
+-- One that was already given up takes its number too, and the outside lets go of it at once.
+abbrev pub isGivenUp : Far → Bool
+isGivenUp (atProcess h) = false
+isGivenUp (atOutside n) = false
+isGivenUp givenUp = true
+
+abbrev pub passedOut : Config → ℕ → Process → ℕ → ℕ → Ty Name → End → Bool → Outcome
+passedOut C i q′ n k A d gone =
+    carried (Passed n (C .given) gone)
+    (config (set (C .processes) i q′)
+      (retypedOutside k A (C .outside) ++ cond gone [] (record { number = C .given; channel = d .channel; type = d .type } ∷ []))
+      (suc (C .given)))
+
+abbrev pub outward′ : Program → Config → ℕ → Process → Process → Message → End → ℕ → Outcome
+outward′ p C i q q′ closing e n = carried (Close n) (config (set (C .processes) i q′) (letGo (e .channel) (C .outside)) (C .given))
+outward′ p C i q q′ (passes a) e n =
+    onHeld (lookup (a .name) (q .held)) λ d.
+    cond (ltb (C .given) outsideNumbers) (passedOut C i q′ n (e .channel) (afterMessage p (passes a) (e .type)) d (isGivenUp (farEnd C d))) lacking
+outward′ p C i q q′ (chooses l) e n =
+    carried (Label n (l .at)) (config (set (C .processes) i q′) (retypedOutside (e .channel) (afterMessage p (chooses l) (e .type)) (C .outside)) (C .given))
+
+-- ── "When the far end was given up: a send goes on, and gives up a channel it would have passed"
+abbrev pub unheard : Config → ℕ → Process → Process → Message → Outcome
+unheard C i q q′ closing = carried Nothing (replaced i q′ C)
+unheard C i q q′ (passes a) = onHeld (lookup (a .name) (q .held)) λ d. parting C i q′ d
+unheard C i q q′ (chooses l) = carried Nothing (replaced i q′ C)
+
+abbrev pub sending : Program → Config → ℕ → Process → Process → Message → End → Far → Outcome
+sending p C i q q′ m e (atProcess h) = meeting p C i q q′ m e h (turnOf (h .process .doing))
+sending p C i q q′ m e (atOutside n) = outward′ p C i q q′ m e n
+sending p C i q q′ m e givenUp = unheard C i q q′ m
+
+-- a send of the process q at place i
+unfoldable pub send : Program → Config → ℕ → Process → Located → Message → Proc → Outcome
+unfolding same lookup farEnd letGo changedOutside afterSend afterReceive afterMessage parting
+send p C i q c m P =
+    onHeld (lookup (c .name) (q .held)) λ e.
+    sending p C i q (process (running P) (afterSend p (c .name) e m (q .held)) (q .link)) m e (farEnd C e)
+
+-- "either one's place names the step": a recv steps as the send at its far end does
+abbrev pub answering : Program → Config → Holder → Turn → Outcome
+answering p C h (sends c m P) = cond (same (c .name) (h .name)) (send p C (h .place) (h .process) c m P) notOpen
+answering p C h (receives c w) = notOpen
+answering p C h alone = notOpen
+
+-- "a recv drops its channel in that step and folds up"
+abbrev pub receiving : Program → Config → ℕ → Process → Name → Far → Outcome
+receiving p C i q c (atProcess h) = answering p C h (turnOf (h .process .doing))
+receiving p C i q c (atOutside n) = notOpen
+receiving p C i q c givenUp = carried Nothing (replaced i (process folding (without c (q .held)) (q .link)) C)
+
+unfoldable pub receive : Program → Config → ℕ → Process → Located → Outcome
+unfolding same lookup without farEnd send
+receive p C i q c = onHeld (lookup (c .name) (q .held)) λ e. receiving p C i q (c .name) (farEnd C e)
+
+-- ── alone: cancel
+unfoldable pub cancelling : Config → ℕ → Process → Located → Proc → Outcome
+unfolding lookup without parting
+cancelling C i q c P = onHeld (lookup (c .name) (q .held)) λ e. parting C i (process (running P) (without (c .name) (q .held)) (q .link)) e
+
+-- ── alone: spawn. "A spawn's new process is P"
+abbrev pub placeFor : Config → Outcome → Outcome
+placeFor C r = cond (ltb (length (C .processes)) processPlaces) r lacking
+
+abbrev pub spawned : Config → ℕ → Process → Name → Ty Name → Proc → Proc → Option ℕ → Outcome
+spawned C i q x A P Q none = lacking
+spawned C i q x A P Q (some k) =
+    carried Nothing
+    (config
+      (inserted i (process (running P) (spawnTakes x P (q .held) ++ ((x, end provided k A) ∷ [])) none)
+        (set (C .processes) i (process (running Q) (spawnLeaves x P (q .held) ++ ((x, end used k A) ∷ [])) (q .link))))
+      (C .outside) (C .given))
+
+unfoldable pub spawning : Config → ℕ → Process → Located → Ty Located → Proc → Proc → Outcome
+unfolding plain freshChannel inserted spawnTakes spawnLeaves
+spawning C i q x A P Q = placeFor C (spawned C i q (x .name) (plain A) P Q (freshChannel C))
+
+-- ── alone: try (the handler waits). "a try's is Q"; P gets a new link, Q the old
+unfoldable pub trying : Config → ℕ → Process → Proc → Proc → Outcome
+unfolding inserted tryTakes
+trying C i q P Q =
+    placeFor C
+    (carried Nothing
+      (config
+        (set (inserted i (process (waiting Q) (tryTakes Q (q .held)) (Option·map (movedUp i) (q .link))) (C .processes)) i
+          (process (running P) (tryTakes P (q .held)) (some (suc i))))
+        (C .outside) (C .given)))
+
+-- ── alone: call. The body with the channels of the lists, in signature order
+abbrev pub renamed : List Name → Context → List (Name × End) → List (Name × End)
+renamed [] G l = []
+renamed (a ∷ ns) [] l = []
+renamed (a ∷ ns) (s ∷ G) l = rename (lookup a l) ++ renamed ns G l
+  where
+    rename : Option End → List (Name × End)
+    rename none = []
+    rename (some e) = (s .0, end (s .1 .side) (e .channel) (s .1 .type)) ∷ []
+
+abbrev pub entering : Config → ℕ → Process → List Name → Option Signature → Outcome
+entering C i q ns none = notOpen
+entering C i q ns (some s) = carried Nothing (replaced i (process (running (s .body)) (renamed ns (signatureContext s) (q .held)) (q .link)) C)
+
+unfoldable pub calling : Program → Config → ℕ → Process → Located → List Located → List Located → Outcome
+unfolding lookup
+calling p C i q f xs ys = entering C i q (namesOf xs ++ namesOf ys) (lookup (f .name) (p .processes))
+
+-- ── alone: raise (the handler starts), and what the leaving of a linked process does to its handler
+abbrev pub startedHandler : Process → Process
+startedHandler h = process (go (h .doing)) (h .held) (h .link)
+  where
+    go : Doing → Doing
+    go (running P) = running P
+    go folding = folding
+    go (waiting Q) = running Q
+
+abbrev pub foldedHandler : Process → Process
+foldedHandler h = process folding (h .held) (h .link)
+
+abbrev pub changedAt : (Process → Process) → Option ℕ → List Process → List Process
+changedAt f none l = l
+changedAt f (some j) l = go (getElem? l j)
+  where
+    go : Option Process → List Process
+    go none = l
+    go (some h) = set l j (f h)
+
+unfoldable pub raising : Config → ℕ → Process → Proc → Outcome
+raising C i q P =
+    carried Nothing
+    (config (set (changedAt startedHandler (q .link) (C .processes)) i (process (running P) (q .held) none)) (C .outside) (C .given))
+
+-- ── alone: fwd. It "makes the two far ends one channel and leaves its process empty; if one was given up, the other finds its far end given up,
+-- and if that other is the outside, the step shows cancelled": e is the end of x, d that of c
+abbrev pub emptied : Process → Process
+emptied q = process folding [] (q .link)
+
+abbrev pub joinedTo : Config → ℕ → Process → End → End → Far → Outcome
+joinedTo C i q e d (atProcess h) =
+    carried Nothing
+    (config (set (set (C .processes) i (emptied q)) (h .place) (moved (h .process))) (C .outside) (C .given))
+  where
+    moved : Process → Process
+    moved r = process (r .doing) (changed (h .name) (λ (f : End). end (f .side) (d .channel) (f .type)) (r .held)) (r .link)
+joinedTo C i q e d (atOutside n) = carried Nothing (config (set (C .processes) i (emptied q)) (movedOutside (e .channel) (d .channel) (C .outside)) (C .given))
+joinedTo C i q e d givenUp = carried Nothing (replaced i (emptied q) C)
+
+abbrev pub joining : Config → ℕ → Process → End → End → Far → Outcome
+joining C i q e d (atProcess h) = joinedTo C i q e d (farEnd C e)
+joining C i q e d (atOutside n) = joinedTo C i q e d (farEnd C e)
+joining C i q e d givenUp = parting C i (emptied q) e
+
+unfoldable pub forwarding : Config → ℕ → Process → Located → Located → Outcome
+unfolding lookup changed farEnd letGo changedOutside parting
+forwarding C i q x c =
+    onHeld (lookup (x .name) (q .held)) λ e.
+    onHeld (lookup (c .name) (q .held)) λ d.
+    joining C i q e d (farEnd C d)
+
+-- ── "An empty process steps by leaving the list. Its handler, if linked, then folds up, keeping its own link."
+unfoldable pub leaving : Config → ℕ → Process → Outcome
+unfolding removed
+leaving C i q = carried Nothing (config (removed i (changedAt foldedHandler (q .link) (C .processes))) (C .outside) (C .given))
+
+-- "A process that folds up cancels one held channel a step, oldest first, then is empty." With nothing held it is empty at once.
+unfoldable pub foldingUp : Config → ℕ → Process → List (Name × End) → Outcome
+unfolding leaving parting
+foldingUp C i q [] = leaving C i q
+foldingUp C i q (e ∷ l) = parting C i (process folding l (q .link)) (e .1)
+
+-- ── the rule of a term's kind
+unfoldable pub stepTerm : Program → Config → ℕ → Process → Proc → Outcome
+unfolding send receive cancelling spawning forwarding calling raising trying leaving
+stepTerm p C i q (empty o) = leaving C i q
+stepTerm p C i q (sendUnit o c P) = send p C i q c closing P
+stepTerm p C i q (sendChannel o c a P) = send p C i q c (passes a) P
+stepTerm p C i q (sendLabel o c l P) = send p C i q c (chooses l) P
+stepTerm p C i q (cancel o c P) = cancelling C i q c P
+stepTerm p C i q (spawn x A P Q) = spawning C i q x A P Q
+stepTerm p C i q (recvUnit o c P) = receive p C i q c
+stepTerm p C i q (recvChannel o c x P) = receive p C i q c
+stepTerm p C i q (recvLabel o c B) = receive p C i q c
+stepTerm p C i q (fwd o x c) = forwarding C i q x c
+stepTerm p C i q (call o f bracket xs ys) = calling p C i q f xs ys
+stepTerm p C i q (raise o P) = raising C i q P
+stepTerm p C i q (try o P Q) = trying C i q P Q
+
+-- "a waiting handler has none"
+abbrev pub stepDoing : Program → Config → ℕ → Process → Doing → Outcome
+stepDoing p C i q (running P) = stepTerm p C i q P
+stepDoing p C i q folding = foldingUp C i q (q .held)
+stepDoing p C i q (waiting Q) = notOpen
+
+abbrev pub stepOf : Program → Config → ℕ → Option Process → Outcome
+stepOf p C i none = notOpen
+stepOf p C i (some q) = stepDoing p C i q (q .doing)
+
+-- the step at a place
+unfoldable pub step : Program → Config → ℕ → Outcome
+unfolding stepTerm foldingUp
+step p C i = stepOf p C i (at C i)
+
+abbrev pub isOpenBy : Outcome → Bool
+isOpenBy (carried s D) = true
+isOpenBy notOpen = false
+isOpenBy lacking = true
+
+abbrev pub lacksBy : Outcome → Bool
+lacksBy (carried s D) = false
+lacksBy notOpen = false
+lacksBy lacking = true
+
+-- the step at a place is open; it lacks a free place or number
+unfoldable pub isOpen : Program → Config → ℕ → Bool
+unfolding step
+isOpen p C i = isOpenBy (step p C i)
+
+unfoldable pub lacks : Program → Config → ℕ → Bool
+unfolding step
+lacks p C i = lacksBy (step p C i)

@@ -1,0 +1,139 @@
+-- Types without offsets: when two are equal, what a name stands for, and what goes over a channel.
+use Prim.Native.Nat.{ℕ}
+use mathlib.Core.List.{List, [], _∷_}
+use mathlib.Core.Bool.{Bool, true, false, cond, _&&_}
+use mathlib.Core.Option.{Option, some, none, Option·getD}
+use lib.Dec.{eqb}
+use Rattle.notation.specs.Bytes.{same}
+use Rattle.notation.specs.Tree.{Name, Ty, unit, named, tensor, par, lolli, plus, with, Alternatives, alternative}
+use Rattle.calculus.specs.Named.{lookup}
+
+-- the side of a channel that a process holds
+pub data Side : Type 0 where
+  provided used : Side
+
+abbrev pub other : Side → Side
+other provided = used
+other used = provided
+
+abbrev pub sameSide : Side → Side → Bool
+sameSide provided provided = true
+sameSide provided used = false
+sameSide used provided = false
+sameSide used used = true
+
+-- a type by its mark: one view for what treats the marks alike
+pub data Shape : Type 0 where
+  leaf : Shape
+  word : Name → Shape
+  pair : ℕ → Ty Name → Ty Name → Shape
+  choice : ℕ → Alternatives Name → Shape
+
+abbrev pub shape : Ty Name → Shape
+shape unit = leaf
+shape (named n) = word n
+shape (tensor A B) = pair 2 A B
+shape (par A B) = pair 3 A B
+shape (lolli A B) = pair 4 A B
+shape (plus r) = choice 5 r
+shape (with r) = choice 6 r
+
+abbrev pub atLeaf : Shape → Bool
+atLeaf leaf = true
+atLeaf (word n) = false
+atLeaf (pair k A B) = false
+atLeaf (choice k r) = false
+
+abbrev pub atWord : (Name → Bool) → Shape → Bool
+atWord f leaf = false
+atWord f (word n) = f n
+atWord f (pair k A B) = false
+atWord f (choice k r) = false
+
+abbrev pub atPair : ℕ → (Ty Name → Ty Name → Bool) → Shape → Bool
+atPair m f leaf = false
+atPair m f (word n) = false
+atPair m f (pair k A B) = eqb m k && f A B
+atPair m f (choice k r) = false
+
+abbrev pub atChoice : ℕ → (Alternatives Name → Bool) → Shape → Bool
+atChoice m f leaf = false
+atChoice m f (word n) = false
+atChoice m f (pair k A B) = false
+atChoice m f (choice k r) = eqb m k && f r
+
+abbrev pub atAlternative : (Name → Ty Name → Alternatives Name → Bool) → Alternatives Name → Bool
+atAlternative f Alternatives.none = false
+atAlternative f (alternative l A r) = f l A r
+
+abbrev pub atNone : Alternatives Name → Bool
+atNone Alternatives.none = true
+atNone (alternative l A r) = false
+
+-- "a type is compared part by part, down to names: same name, or same mark and equal parts, labels in the same order"
+unfoldable mutual
+  unfolding same
+  pub sameType : Ty Name → Ty Name → Bool
+  sameType unit B = atLeaf (shape B)
+  sameType (named n) B = atWord (same n) (shape B)
+  sameType (tensor A C) B = atPair 2 (λ D E. sameType A D && sameType C E) (shape B)
+  sameType (par A C) B = atPair 3 (λ D E. sameType A D && sameType C E) (shape B)
+  sameType (lolli A C) B = atPair 4 (λ D E. sameType A D && sameType C E) (shape B)
+  sameType (plus r) B = atChoice 5 (λ q. sameAlternatives r q) (shape B)
+  sameType (with r) B = atChoice 6 (λ q. sameAlternatives r q) (shape B)
+
+  pub sameAlternatives : Alternatives Name → Alternatives Name → Bool
+  sameAlternatives Alternatives.none q = atNone q
+  sameAlternatives (alternative l A r) q = atAlternative (λ m B p. same l m && (sameType A B && sameAlternatives r p)) q
+
+-- "A name stands for its definition when a send or recv acts on its channel."
+abbrev pub standing : List (Name × Ty Name) → Ty Name → Ty Name
+standing types unit = unit
+standing types (named n) = Option·getD (lookup n types) (named n)
+standing types (tensor A B) = tensor A B
+standing types (par A B) = par A B
+standing types (lolli A B) = lolli A B
+standing types (plus r) = plus r
+standing types (with r) = with r
+
+-- a channel that goes over another: the side of c that sends it, its own side, its type, and the type of c afterwards
+pub record Passing : Type 0 where
+  pub sender : Side
+  pub side : Side
+  pub what : Ty Name
+  pub after : Ty Name
+
+-- "c : A * B provided, a : A used; or c : A @ B used, a : A provided; or c : A -o B used, a : A used. Afterwards .. c : B."
+unfoldable pub passing : Ty Name → Option Passing
+passing unit = none
+passing (named n) = none
+passing (tensor A B) = some (record { sender = provided; side = used; what = A; after = B })
+passing (par A B) = some (record { sender = used; side = provided; what = A; after = B })
+passing (lolli A B) = some (record { sender = used; side = used; what = A; after = B })
+passing (plus r) = none
+passing (with r) = none
+
+-- a label that goes over a channel: the side of c that sends it, and the labels
+pub record Choosing : Type 0 where
+  pub sender : Side
+  pub labels : Alternatives Name
+
+-- "+ provided or & used"
+unfoldable pub choosing : Ty Name → Option Choosing
+choosing unit = none
+choosing (named n) = none
+choosing (tensor A B) = none
+choosing (par A B) = none
+choosing (lolli A B) = none
+choosing (plus r) = some (record { sender = provided; labels = r })
+choosing (with r) = some (record { sender = used; labels = r })
+
+-- the type that a label leads to
+unfoldable pub labelled : Name → Alternatives Name → Option (Ty Name)
+unfolding same
+labelled l Alternatives.none = none
+labelled l (alternative m A r) = cond (same l m) (some A) (labelled l r)
+
+unfoldable pub labelsOf : Alternatives Name → List Name
+labelsOf Alternatives.none = []
+labelsOf (alternative l A r) = l ∷ labelsOf r

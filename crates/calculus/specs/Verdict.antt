@@ -1,0 +1,37 @@
+-- What a check says: nothing is at fault, or the refusal's number and its offset.
+use Prim.Native.Nat.{ℕ}
+use mathlib.Core.List.{List, [], _∷_}
+use mathlib.Core.Bool.{Bool, true, false, cond}
+use mathlib.Core.Option.{Option, some, none}
+use lib.Dec.{ltb}
+
+pub data Verdict : Type 0 where
+  fine : Verdict
+  refused : ℕ → ℕ → Verdict
+
+-- the first refusal of two in order
+abbrev pub andThen : Verdict → Verdict → Verdict
+andThen fine v = v
+andThen (refused n at) v = refused n at
+
+-- refusal n at an offset unless the test passes
+abbrev pub demand : ℕ → ℕ → Bool → Verdict → Verdict
+demand n at true v = v
+demand n at false v = refused n at
+
+-- refusal n at an offset unless there is a thing, which the rest needs
+abbrev pub having : {X : Type 0} → ℕ → ℕ → Option X → (X → Verdict) → Verdict
+having n at none k = refused n at
+having n at (some x) k = k x
+
+-- refusal n at the lowest of the offsets where it applies, if any
+abbrev pub lower : ℕ → ℕ → ℕ
+lower i j = cond (ltb j i) j i
+
+abbrev pub lowest : ℕ → List ℕ → ℕ
+lowest i [] = i
+lowest i (j ∷ js) = lowest (lower i j) js
+
+unfoldable pub faults : ℕ → List ℕ → Verdict
+faults n [] = fine
+faults n (i ∷ is) = refused n (lowest i is)

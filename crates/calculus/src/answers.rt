@@ -1,0 +1,40 @@
+// What a step shows: nothing; a label on an outside channel, by the label's offset in the text; a close; a channel passed out,
+// with its new number and whether it was already given up; a channel cancelled.
+pub enum Seen {
+    Nothing,
+    Label(u32, u32),
+    Close(u32),
+    Passed(u32, u32, bool),
+    Cancelled(u32),
+}
+
+// Each answer is a refusal, with its number and offset, or what was carried out.
+pub enum Started {
+    Begun,
+    Refused(u32, u32),
+}
+
+pub enum Stepped {
+    Carried(Seen),
+    Refused(u32, u32),
+}
+
+// A run-on's end, each with the steps taken.
+pub enum RanOn {
+    Shown(Seen, u32),
+    Done(u32),
+    Full(u32),
+    Stopped(u32),
+    Refused(u32, u32),
+}
+
+// How many outside channels are open; their numbers stand beside it in Report.
+pub enum Reported {
+    Open(u32),
+    Refused(u32, u32),
+}
+
+pub struct Report {
+    pub answer: Reported,
+    pub numbers: [u32; 32],
+}
