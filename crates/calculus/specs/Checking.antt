@@ -28,6 +28,7 @@ fitsSlot s A h = sameSide (h .side) s && sameType (h .type) A
 
 unfoldable mutual
   unfolding same plain lookup without changed names distinct sameType passing choosing labelled spawnTakes spawnLeaves tryTakes neverBoth exactlyOne fitting listFits withoutAll
+
   pub check : Program → Context → Bool → Proc → Verdict
   check p G link (empty at) = demand 13 at (isNil G) fine
   check p G link (sendUnit at c P) =
@@ -95,17 +96,14 @@ unfoldable mutual
       andThen (check p (retyped c A G) link P) (checkBranches p G link at c r B)
 
 -- "a signature's 17th name is taken before the body"
-abbrev pub atMost : ℕ → List Located → Verdict → Verdict
-atMost n ns v = go (getElem? ns n)
-  where
-    go : Option Located → Verdict
-    go none = v
-    go (some x) = refused 15 (x .at)
+abbrev pub unlessNamed : Option Located → Verdict → Verdict
+unlessNamed none v = v
+unlessNamed (some x) v = refused 15 (x .at)
 
 abbrev pub checkDeclaration : Program → Declaration → Verdict
 checkDeclaration p (declareType n A) = fine
 checkDeclaration p (declareProc n xs ys P) =
-    atMost heldLimit (channels xs ++ channels ys)
+    unlessNamed (getElem? (channels xs ++ channels ys) heldLimit)
     (check p (signatureContext (record { provides = entries xs; uses = entries ys; body = P })) false P)
 checkDeclaration p (declareExec n) = fine
 

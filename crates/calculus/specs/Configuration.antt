@@ -1,13 +1,12 @@
 -- Configurations: "a list of processes", the outside's channels, and how many outside numbers were given.
 use Prim.Native.Nat.{ℕ, zero, suc, _+_, _-_}
 use mathlib.Core.List.{List, [], _∷_, _++_, map}
-use mathlib.Core.Bool.{Bool, true, false, cond, _&&_, _||_}
+use mathlib.Core.Bool.{Bool, true, false, cond, _&&_}
 use mathlib.Core.Option.{Option, some, none, Option·map}
 use lib.ListN.{length, take, drop, set, getElem?}
 use lib.Dec.{ltb, eqb}
 use Rattle.notation.specs.Limits.{channelPlaces}
 use Rattle.notation.specs.Tree.{Name, Ty, Proc}
-use Rattle.calculus.specs.Named.{any}
 use Rattle.calculus.specs.Types.{Side, provided, used, other, sameSide}
 
 -- an end of a channel that a process holds; a channel is the number of its place
@@ -68,7 +67,7 @@ abbrev pub holderHere : ℕ → Process → Option Name → Option Holder → Op
 holderHere i q none r = r
 holderHere i q (some n) r = some (record { place = i; process = q; name = n })
 
--- the first process from place i on that holds an end
+-- the first process, from place i on, that holds an end
 unfoldable pub holderFrom : ℕ → ℕ → Side → List Process → Option Holder
 unfolding heldAs
 holderFrom i k s [] = none
@@ -98,19 +97,30 @@ unfolding holderFrom outsideOf
 farEnd C e = farFrom (holderFrom 0 (e .channel) (other (e .side)) (C .processes)) (orOutside (e .side) (outsideOf (e .channel) (C .outside)))
 
 -- ── channel places: "A channel place is free when neither end is held"
-abbrev pub holdsChannel : ℕ → Process → Bool
-holdsChannel k q = any (λ (e : Name × End). eqb k (e .1 .channel)) (q .held)
+abbrev pub heldChannels : List (Name × End) → List ℕ → List ℕ
+heldChannels [] r = r
+heldChannels (e ∷ l) r = e .1 .channel ∷ heldChannels l r
 
-abbrev pub inUse : Config → ℕ → Bool
-inUse C k = any (holdsChannel k) (C .processes) || any (λ (o : Outside). eqb k (o .channel)) (C .outside)
+abbrev pub processChannels : List Process → List ℕ → List ℕ
+processChannels [] r = r
+processChannels (q ∷ l) r = heldChannels (q .held) (processChannels l r)
 
-abbrev pub freeFrom : Config → ℕ → ℕ → Option ℕ
-freeFrom C k zero = none
-freeFrom C k (suc n) = let r = freeFrom C (suc k) n in cond (inUse C k) r (some k)
+-- the channels of which an end is held, by a process or the outside
+unfoldable pub channelsHeld : Config → List ℕ
+channelsHeld C = processChannels (C .processes) (map (λ (o : Outside). o .channel) (C .outside))
+
+abbrev pub among : ℕ → List ℕ → Bool
+among k [] = false
+among k (j ∷ js) = let r = among k js in cond (eqb k j) true r
+
+abbrev pub freeFrom : List ℕ → ℕ → ℕ → Option ℕ
+freeFrom busy k zero = none
+freeFrom busy k (suc n) = let r = freeFrom busy (suc k) n in cond (among k busy) r (some k)
 
 -- Document 01 leaves open which free channel place a new channel takes: here the lowest.
 unfoldable pub freshChannel : Config → Option ℕ
-freshChannel C = freeFrom C 0 channelPlaces
+unfolding channelsHeld
+freshChannel C = freeFrom (channelsHeld C) 0 channelPlaces
 
 -- ── places move when a process comes or leaves, and links with them
 abbrev pub movedUp : ℕ → ℕ → ℕ
@@ -124,10 +134,10 @@ relinked f q = process (q .doing) (q .held) (Option·map f (q .link))
 
 -- "a new one stands directly after its maker": the process q after place i
 unfoldable pub inserted : ℕ → Process → List Process → List Process
-inserted i q l = take (suc i) (map (relinked (movedUp i)) l) ++ (q ∷ drop (suc i) (map (relinked (movedUp i)) l))
+inserted i q l = let m = map (relinked (movedUp i)) l in take (suc i) m ++ (q ∷ drop (suc i) m)
 
 unfoldable pub removed : ℕ → List Process → List Process
-removed i l = take i (map (relinked (movedDown i)) l) ++ drop (suc i) (map (relinked (movedDown i)) l)
+removed i l = let m = map (relinked (movedDown i)) l in take i m ++ drop (suc i) m
 
 abbrev pub replaced : ℕ → Process → Config → Config
 replaced i q C = config (set (C .processes) i q) (C .outside) (C .given)

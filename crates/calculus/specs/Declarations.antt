@@ -45,6 +45,7 @@ branchLabels (branch l P B) = l ∷ branchLabels B
 
 unfoldable mutual
   unfolding repeats
+
   pub typeRepeats : Ty Located → List ℕ
   typeRepeats unit = []
   typeRepeats (named n) = []
@@ -64,6 +65,7 @@ entriesRepeats (e ∷ l) = typeRepeats (e .type) ++ entriesRepeats l
 
 unfoldable mutual
   unfolding repeats typeRepeats
+
   pub processRepeats : Proc → List ℕ
   processRepeats (empty at) = []
   processRepeats (sendUnit at c P) = processRepeats P
@@ -99,6 +101,7 @@ unless defined n = cond (isSome (lookup (n .name) defined)) [] (n .at ∷ [])
 module _ (p : Program) where
   unfoldable mutual
     unfolding lookup
+
     pub typeUndefined : Ty Located → List ℕ
     typeUndefined unit = []
     typeUndefined (named n) = unless (p .types) n
@@ -118,6 +121,7 @@ module _ (p : Program) where
 
   unfoldable mutual
     unfolding lookup typeUndefined
+
     pub processUndefined : Proc → List ℕ
     processUndefined (empty at) = []
     processUndefined (sendUnit at c P) = processUndefined P
@@ -168,6 +172,7 @@ bareNames ds = gather ownBareName ds
 -- a type has @, -o or &, or a name among those given
 unfoldable mutual
   unfolding same
+
   pub hasOther : List Name → Ty Name → Bool
   hasOther bad unit = false
   hasOther bad (named n) = any (same n) bad
@@ -181,24 +186,24 @@ unfoldable mutual
   haveOther bad Alternatives.none = false
   haveOther bad (alternative l A r) = hasOther bad A || haveOther bad r
 
+abbrev pub namesWithOther : List Name → List (Name × Ty Name) → List Name
+namesWithOther bad [] = []
+namesWithOther bad (e ∷ l) = cond (hasOther bad (e .1)) (e .0 ∷ namesWithOther bad l) (namesWithOther bad l)
+
 -- the types, of those declared, whose definitions reach @, -o or & through fewer than n names
 unfoldable pub reachOther : ℕ → List (Name × Ty Name) → List Name
 unfolding hasOther
 reachOther zero types = []
-reachOther (suc n) types = chosen types (reachOther n types)
-  where
-    chosen : List (Name × Ty Name) → List Name → List Name
-    chosen [] bad = []
-    chosen (e ∷ l) bad = cond (hasOther bad (e .1)) (e .0 ∷ chosen l bad) (chosen l bad)
+reachOther (suc n) types = namesWithOther (reachOther n types) types
 
 -- "reach only 1, * and +, through names as well": no path without a repeated name is longer than there are types
 unfoldable pub outward : Program → Ty Name → Bool
 unfolding hasOther reachOther
 outward p A = not (hasOther (reachOther (length (p .types)) (p .types)) A)
 
-abbrev pub types′ : List (Name × Ty Name) → List (Ty Name)
-types′ [] = []
-types′ (e ∷ l) = e .1 ∷ types′ l
+abbrev pub entryTypes : List (Name × Ty Name) → List (Ty Name)
+entryTypes [] = []
+entryTypes (e ∷ l) = e .1 ∷ entryTypes l
 
 abbrev pub isNil : {X : Type 0} → List X → Bool
 isNil [] = true
@@ -206,7 +211,7 @@ isNil (x ∷ xs) = false
 
 abbrev pub keepsRule : Program → Option Signature → Bool
 keepsRule p none = true
-keepsRule p (some s) = isNil (s .uses) && all (outward p) (types′ (s .provides))
+keepsRule p (some s) = isNil (s .uses) && all (outward p) (entryTypes (s .provides))
 
 abbrev pub breaking : Program → List Located → List ℕ
 breaking p [] = []

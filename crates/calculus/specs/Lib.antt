@@ -12,3 +12,8 @@ pub mod Configuration
 pub mod Steps
 pub mod Runs
 pub mod Printed
+pub mod Machine
+pub mod Forest
+pub mod WellFormed
+pub mod Demands
+pub mod Starred

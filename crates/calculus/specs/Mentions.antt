@@ -15,6 +15,7 @@ isOneOf n (c ∷ cs) = is n c || isOneOf n cs
 -- "A name bound anew inside a half is no mention of a held one."
 unfoldable mutual
   unfolding same
+
   pub mentions : Proc → Name → Bool
   mentions (empty at) n = false
   mentions (sendUnit at c P) n = is n c || mentions P n

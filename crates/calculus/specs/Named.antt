@@ -40,11 +40,11 @@ isSome (some x) = true
 -- every element passes the test; some element does
 abbrev pub all : {X : Type 0} → (X → Bool) → List X → Bool
 all p [] = true
-all p (x ∷ xs) = cond (p x) (all p xs) false
+all p (x ∷ xs) = let r = all p xs in cond (p x) r false
 
 abbrev pub any : {X : Type 0} → (X → Bool) → List X → Bool
 any p [] = false
-any p (x ∷ xs) = cond (p x) true (any p xs)
+any p (x ∷ xs) = let r = any p xs in cond (p x) true r
 
 -- no name comes twice
 unfoldable pub distinct : List Name → Bool

@@ -46,7 +46,7 @@ isCarried lacking = false
 unfoldable pub firstFrom : Program → Config → ℕ → List Process → Option ℕ
 unfolding step
 firstFrom p C i [] = none
-firstFrom p C i (q ∷ l) = elim (isCarried (step p C i)) [ true ↦ some i | false ↦ firstFrom p C (suc i) l ]
+firstFrom p C i (q ∷ l) = let r = firstFrom p C (suc i) l in cond (isCarried (step p C i)) (some i) r
 
 -- run-on's choice of place
 unfoldable pub choosePlace : Program → Config → Option ℕ

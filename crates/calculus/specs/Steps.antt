@@ -163,15 +163,15 @@ abbrev pub passedOut : Config → ℕ → Process → ℕ → ℕ → Ty Name �
 passedOut C i q′ n k A d gone =
     carried (Passed n (C .given) gone)
     (config (set (C .processes) i q′)
-      (retypedOutside k A (C .outside) ++ cond gone [] (record { number = C .given; channel = d .channel; type = d .type } ∷ []))
-      (suc (C .given)))
+    (retypedOutside k A (C .outside) ++ cond gone [] (record { number = C .given; channel = d .channel; type = d .type } ∷ []))
+    (suc (C .given)))
 
-abbrev pub outward′ : Program → Config → ℕ → Process → Process → Message → End → ℕ → Outcome
-outward′ p C i q q′ closing e n = carried (Close n) (config (set (C .processes) i q′) (letGo (e .channel) (C .outside)) (C .given))
-outward′ p C i q q′ (passes a) e n =
+abbrev pub toOutside : Program → Config → ℕ → Process → Process → Message → End → ℕ → Outcome
+toOutside p C i q q′ closing e n = carried (Close n) (config (set (C .processes) i q′) (letGo (e .channel) (C .outside)) (C .given))
+toOutside p C i q q′ (passes a) e n =
     onHeld (lookup (a .name) (q .held)) λ d.
     cond (ltb (C .given) outsideNumbers) (passedOut C i q′ n (e .channel) (afterMessage p (passes a) (e .type)) d (isGivenUp (farEnd C d))) lacking
-outward′ p C i q q′ (chooses l) e n =
+toOutside p C i q q′ (chooses l) e n =
     carried (Label n (l .at)) (config (set (C .processes) i q′) (retypedOutside (e .channel) (afterMessage p (chooses l) (e .type)) (C .outside)) (C .given))
 
 -- ── "When the far end was given up: a send goes on, and gives up a channel it would have passed"
@@ -182,7 +182,7 @@ unheard C i q q′ (chooses l) = carried Nothing (replaced i q′ C)
 
 abbrev pub sending : Program → Config → ℕ → Process → Process → Message → End → Far → Outcome
 sending p C i q q′ m e (atProcess h) = meeting p C i q q′ m e h (turnOf (h .process .doing))
-sending p C i q q′ m e (atOutside n) = outward′ p C i q q′ m e n
+sending p C i q q′ m e (atOutside n) = toOutside p C i q q′ m e n
 sending p C i q q′ m e givenUp = unheard C i q q′ m
 
 -- a send of the process q at place i
@@ -222,9 +222,9 @@ spawned C i q x A P Q none = lacking
 spawned C i q x A P Q (some k) =
     carried Nothing
     (config
-      (inserted i (process (running P) (spawnTakes x P (q .held) ++ ((x, end provided k A) ∷ [])) none)
-        (set (C .processes) i (process (running Q) (spawnLeaves x P (q .held) ++ ((x, end used k A) ∷ [])) (q .link))))
-      (C .outside) (C .given))
+    (inserted i (process (running P) (spawnTakes x P (q .held) ++ ((x, end provided k A) ∷ [])) none)
+    (set (C .processes) i (process (running Q) (spawnLeaves x P (q .held) ++ ((x, end used k A) ∷ [])) (q .link))))
+    (C .outside) (C .given))
 
 unfoldable pub spawning : Config → ℕ → Process → Located → Ty Located → Proc → Proc → Outcome
 unfolding plain freshChannel inserted spawnTakes spawnLeaves
@@ -236,20 +236,20 @@ unfolding inserted tryTakes
 trying C i q P Q =
     placeFor C
     (carried Nothing
-      (config
-        (set (inserted i (process (waiting Q) (tryTakes Q (q .held)) (Option·map (movedUp i) (q .link))) (C .processes)) i
-          (process (running P) (tryTakes P (q .held)) (some (suc i))))
-        (C .outside) (C .given)))
+    (config
+    (set (inserted i (process (waiting Q) (tryTakes Q (q .held)) (Option·map (movedUp i) (q .link))) (C .processes)) i
+    (process (running P) (tryTakes P (q .held)) (some (suc i))))
+    (C .outside) (C .given)))
 
 -- ── alone: call. The body with the channels of the lists, in signature order
+abbrev pub renamedEnd : Name × Slot → Option End → List (Name × End)
+renamedEnd s none = []
+renamedEnd s (some e) = (s .0, end (s .1 .side) (e .channel) (s .1 .type)) ∷ []
+
 abbrev pub renamed : List Name → Context → List (Name × End) → List (Name × End)
 renamed [] G l = []
 renamed (a ∷ ns) [] l = []
-renamed (a ∷ ns) (s ∷ G) l = rename (lookup a l) ++ renamed ns G l
-  where
-    rename : Option End → List (Name × End)
-    rename none = []
-    rename (some e) = (s .0, end (s .1 .side) (e .channel) (s .1 .type)) ∷ []
+renamed (a ∷ ns) (s ∷ G) l = renamedEnd s (lookup a l) ++ renamed ns G l
 
 abbrev pub entering : Config → ℕ → Process → List Name → Option Signature → Outcome
 entering C i q ns none = notOpen
@@ -260,24 +260,24 @@ unfolding lookup
 calling p C i q f xs ys = entering C i q (namesOf xs ++ namesOf ys) (lookup (f .name) (p .processes))
 
 -- ── alone: raise (the handler starts), and what the leaving of a linked process does to its handler
+abbrev pub startedDoing : Doing → Doing
+startedDoing (running P) = running P
+startedDoing folding = folding
+startedDoing (waiting Q) = running Q
+
 abbrev pub startedHandler : Process → Process
-startedHandler h = process (go (h .doing)) (h .held) (h .link)
-  where
-    go : Doing → Doing
-    go (running P) = running P
-    go folding = folding
-    go (waiting Q) = running Q
+startedHandler h = process (startedDoing (h .doing)) (h .held) (h .link)
 
 abbrev pub foldedHandler : Process → Process
 foldedHandler h = process folding (h .held) (h .link)
 
+abbrev pub putAt : List Process → ℕ → Option Process → List Process
+putAt l j none = l
+putAt l j (some h) = set l j h
+
 abbrev pub changedAt : (Process → Process) → Option ℕ → List Process → List Process
 changedAt f none l = l
-changedAt f (some j) l = go (getElem? l j)
-  where
-    go : Option Process → List Process
-    go none = l
-    go (some h) = set l j (f h)
+changedAt f (some j) l = putAt l j (Option·map f (getElem? l j))
 
 unfoldable pub raising : Config → ℕ → Process → Proc → Outcome
 raising C i q P =
@@ -289,13 +289,13 @@ raising C i q P =
 abbrev pub emptied : Process → Process
 emptied q = process folding [] (q .link)
 
+abbrev pub onChannelPlace : ℕ → Name → Process → Process
+onChannelPlace k n r = process (r .doing) (changed n (λ (f : End). end (f .side) k (f .type)) (r .held)) (r .link)
+
 abbrev pub joinedTo : Config → ℕ → Process → End → End → Far → Outcome
 joinedTo C i q e d (atProcess h) =
     carried Nothing
-    (config (set (set (C .processes) i (emptied q)) (h .place) (moved (h .process))) (C .outside) (C .given))
-  where
-    moved : Process → Process
-    moved r = process (r .doing) (changed (h .name) (λ (f : End). end (f .side) (d .channel) (f .type)) (r .held)) (r .link)
+    (config (set (set (C .processes) i (emptied q)) (h .place) (onChannelPlace (d .channel) (h .name) (h .process))) (C .outside) (C .given))
 joinedTo C i q e d (atOutside n) = carried Nothing (config (set (C .processes) i (emptied q)) (movedOutside (e .channel) (d .channel) (C .outside)) (C .given))
 joinedTo C i q e d givenUp = carried Nothing (replaced i (emptied q) C)
 

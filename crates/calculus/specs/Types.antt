@@ -73,6 +73,7 @@ atNone (alternative l A r) = false
 -- "a type is compared part by part, down to names: same name, or same mark and equal parts, labels in the same order"
 unfoldable mutual
   unfolding same
+
   pub sameType : Ty Name → Ty Name → Bool
   sameType unit B = atLeaf (shape B)
   sameType (named n) B = atWord (same n) (shape B)

@@ -1,6 +1,6 @@
 -- The typing rules of document 01, one constructor for each, in its order and words.
 -- `Typed p G link P`: with the channels of G held, oldest first, and with a link to a handler or none, P is typed in the program p.
-use Prim.Native.Nat.{ℕ, _≤_, _<_}
+use Prim.Native.Nat.{ℕ, suc, _≤_, _<_}
 use mathlib.Core.Path.{_≡_}
 use mathlib.Core.List.{List, [], _∷_, _++_}
 use mathlib.Core.Bool.{Bool, true, false, cond, _&&_}
@@ -37,7 +37,7 @@ labelNames (branch l P B) = l .name ∷ labelNames B
 
 abbrev pub times : Name → List Name → ℕ
 times n [] = 0
-times n (m ∷ ms) = cond (same n m) (Prim.Native.Nat.suc (times n ms)) (times n ms)
+times n (m ∷ ms) = cond (same n m) (suc (times n ms)) (times n ms)
 
 -- "each label of the type once, in whatever order", and no other
 unfoldable pub fitting : Alternatives Name → Branches → Bool
@@ -48,17 +48,17 @@ abbrev pub namesOf : List Located → List Name
 namesOf [] = []
 namesOf (n ∷ ns) = n .name ∷ namesOf ns
 
+abbrev pub entryFits : Side → Ty Name → Option Slot → Bool
+entryFits s A none = false
+entryFits s A (some h) = sameSide (h .side) s && sameType (h .type) A
+
 -- a list of names fits a list of a signature: "in number, side and type"
 unfoldable pub listFits : Context → Side → List Name → List (Name × Ty Name) → Bool
 unfolding lookup sameType
 listFits G s [] [] = true
 listFits G s [] (e ∷ es) = false
-listFits G s (a ∷ as′) [] = false
-listFits G s (a ∷ as′) (e ∷ es) = slotFits (lookup a G) && listFits G s as′ es
-  where
-    slotFits : Option Slot → Bool
-    slotFits none = false
-    slotFits (some h) = sameSide (h .side) s && sameType (h .type) (e .1)
+listFits G s (a ∷ ns) [] = false
+listFits G s (a ∷ ns) (e ∷ es) = entryFits s (e .1) (lookup a G) && listFits G s ns es
 
 -- what is held beside the names of a list
 unfoldable pub withoutAll : {X : Type 0} → List Name → List (Name × X) → List (Name × X)
@@ -75,97 +75,97 @@ mutual
   pub data Typed (p : Program) : Context → Bool → Proc → Type 0 where
     -- `send c ()`: c : 1 provided, then dropped.
     sends-unit : {G : Context} {link : Bool} {at : ℕ} {c : Located} {P : Proc}
-      → acting p (c .name) G ≡ some (slot provided unit)
-      → Typed p (without (c .name) G) link P
-      → Typed p G link (sendUnit at c P)
+        → acting p (c .name) G ≡ some (slot provided unit)
+        → Typed p (without (c .name) G) link P
+        → Typed p G link (sendUnit at c P)
     -- `recv c (() => P)`: c : 1 used, then dropped.
     recvs-unit : {G : Context} {link : Bool} {at : ℕ} {c : Located} {P : Proc}
-      → acting p (c .name) G ≡ some (slot used unit)
-      → Typed p (without (c .name) G) link P
-      → Typed p G link (recvUnit at c P)
+        → acting p (c .name) G ≡ some (slot used unit)
+        → Typed p (without (c .name) G) link P
+        → Typed p G link (recvUnit at c P)
     -- `send c a`, a not c: c : A * B provided, a : A used; or c : A @ B used, a : A provided; or c : A -o B used, a : A used. Afterwards a is gone and c : B.
     sends-channel : {G : Context} {link : Bool} {at : ℕ} {c a : Located} {P : Proc} (T A : Ty Name) (t : Passing)
-      → same (c .name) (a .name) ≡ false
-      → passing T ≡ some t
-      → acting p (c .name) G ≡ some (slot (t .sender) T)
-      → lookup (a .name) G ≡ some (slot (t .side) A)
-      → sameType A (t .what) ≡ true
-      → Typed p (retyped (c .name) (t .after) (without (a .name) G)) link P
-      → Typed p G link (sendChannel at c a P)
+        → same (c .name) (a .name) ≡ false
+        → passing T ≡ some t
+        → acting p (c .name) G ≡ some (slot (t .sender) T)
+        → lookup (a .name) G ≡ some (slot (t .side) A)
+        → sameType A (t .what) ≡ true
+        → Typed p (retyped (c .name) (t .after) (without (a .name) G)) link P
+        → Typed p G link (sendChannel at c a P)
     -- `recv c (x => P)` is the other end. For *, c is used and x is used; for @, both provided; for -o, c is provided and x used.
     recvs-channel : {G : Context} {link : Bool} {at : ℕ} {c x : Located} {P : Proc} (T : Ty Name) (t : Passing)
-      → passing T ≡ some t
-      → acting p (c .name) G ≡ some (slot (other (t .sender)) T)
-      → Brought (x .name) G G
-      → Typed p (bringing (x .name) (slot (t .side) (t .what)) (retyped (c .name) (t .after) G)) link P
-      → Typed p G link (recvChannel at c x P)
+        → passing T ≡ some t
+        → acting p (c .name) G ≡ some (slot (other (t .sender)) T)
+        → Brought (x .name) G G
+        → Typed p (bringing (x .name) (slot (t .side) (t .what)) (retyped (c .name) (t .after) G)) link P
+        → Typed p G link (recvChannel at c x P)
     -- `send c 'l`: + provided or & used.
     sends-label : {G : Context} {link : Bool} {at : ℕ} {c l : Located} {P : Proc} (T A : Ty Name) (t : Choosing)
-      → choosing T ≡ some t
-      → acting p (c .name) G ≡ some (slot (t .sender) T)
-      → labelled (l .name) (t .labels) ≡ some A
-      → Typed p (retyped (c .name) A G) link P
-      → Typed p G link (sendLabel at c l P)
+        → choosing T ≡ some t
+        → acting p (c .name) G ≡ some (slot (t .sender) T)
+        → labelled (l .name) (t .labels) ≡ some A
+        → Typed p (retyped (c .name) A G) link P
+        → Typed p G link (sendLabel at c l P)
     -- `recv c` with labels: + used or & provided, each label of the type once, in whatever order.
     recvs-label : {G : Context} {link : Bool} {at : ℕ} {c : Located} {B : Branches} (T : Ty Name) (t : Choosing)
-      → choosing T ≡ some t
-      → acting p (c .name) G ≡ some (slot (other (t .sender)) T)
-      → fitting (t .labels) B ≡ true
-      → TypedBranches p G link (c .name) (t .labels) B
-      → Typed p G link (recvLabel at c B)
+        → choosing T ≡ some t
+        → acting p (c .name) G ≡ some (slot (other (t .sender)) T)
+        → fitting (t .labels) B ≡ true
+        → TypedBranches p G link (c .name) (t .labels) B
+        → Typed p G link (recvLabel at c B)
     -- `fwd x c`: x provided, c used, equal types, no other channel held; the link may be.
     forwards : {G : Context} {link : Bool} {at : ℕ} {x c : Located} (A B : Ty Name)
-      → lookup (x .name) G ≡ some (slot provided A)
-      → lookup (c .name) G ≡ some (slot used B)
-      → sameType A B ≡ true
-      → withoutAll (x .name ∷ c .name ∷ []) G ≡ []
-      → Typed p G link (fwd at x c)
+        → lookup (x .name) G ≡ some (slot provided A)
+        → lookup (c .name) G ≡ some (slot used B)
+        → sameType A B ≡ true
+        → withoutAll (x .name ∷ c .name ∷ []) G ≡ []
+        → Typed p G link (fwd at x c)
     -- `call`: lists fit in number, side and type; no name twice; no other channel held; a link stays with the process.
     calls : {G : Context} {link : Bool} {at bracket : ℕ} {q : Located} {xs ys : List Located} (s : Signature)
-      → lookup (q .name) (p .processes) ≡ some s
-      → listFits G provided (namesOf xs) (s .provides) ≡ true
-      → listFits G used (namesOf ys) (s .uses) ≡ true
-      → distinct (namesOf xs ++ namesOf ys) ≡ true
-      → withoutAll (namesOf xs ++ namesOf ys) G ≡ []
-      → Typed p G link (call at q bracket xs ys)
+        → lookup (q .name) (p .processes) ≡ some s
+        → listFits G provided (namesOf xs) (s .provides) ≡ true
+        → listFits G used (namesOf ys) (s .uses) ≡ true
+        → distinct (namesOf xs ++ namesOf ys) ≡ true
+        → withoutAll (namesOf xs ++ namesOf ys) G ≡ []
+        → Typed p G link (call at q bracket xs ys)
     -- `x : A <- (P); Q`: P takes the held channels it mentions and provides x, without link; Q takes the rest, the link, and uses x. None is mentioned in both.
     spawns : {G : Context} {link : Bool} {x : Located} {A : Ty Located} {P Q : Proc}
-      → neverBoth (x .name) P Q (names G) ≡ true
-      → Brought (x .name) G (spawnTakes (x .name) P G)
-      → Brought (x .name) G (spawnLeaves (x .name) P G)
-      → Typed p (bringing (x .name) (slot provided (plain A)) (spawnTakes (x .name) P G)) false P
-      → Typed p (bringing (x .name) (slot used (plain A)) (spawnLeaves (x .name) P G)) link Q
-      → Typed p G link (spawn x A P Q)
+        → neverBoth (x .name) P Q (names G) ≡ true
+        → Brought (x .name) G (spawnTakes (x .name) P G)
+        → Brought (x .name) G (spawnLeaves (x .name) P G)
+        → Typed p (bringing (x .name) (slot provided (plain A)) (spawnTakes (x .name) P G)) false P
+        → Typed p (bringing (x .name) (slot used (plain A)) (spawnLeaves (x .name) P G)) link Q
+        → Typed p G link (spawn x A P Q)
     -- `try (P) catch (Q)`: each half takes what it mentions; each held channel is mentioned in exactly one. P gets a new link, Q the old.
     tries : {G : Context} {link : Bool} {at : ℕ} {P Q : Proc}
-      → exactlyOne P Q (names G) ≡ true
-      → Typed p (tryTakes P G) true P
-      → Typed p (tryTakes Q G) link Q
-      → Typed p G link (try at P Q)
+        → exactlyOne P Q (names G) ≡ true
+        → Typed p (tryTakes P G) true P
+        → Typed p (tryTakes Q G) link Q
+        → Typed p G link (try at P Q)
     -- `raise P` needs the link; P goes on without it.
     raises : {G : Context} {link : Bool} {at : ℕ} {P : Proc}
-      → link ≡ true
-      → Typed p G false P
-      → Typed p G link (raise at P)
+        → link ≡ true
+        → Typed p G false P
+        → Typed p G link (raise at P)
     -- `cancel c` drops c.
     cancels : {G : Context} {link : Bool} {at : ℕ} {c : Located} {P : Proc}
-      → isSome (lookup (c .name) G) ≡ true
-      → Typed p (without (c .name) G) link P
-      → Typed p G link (cancel at c P)
+        → isSome (lookup (c .name) G) ≡ true
+        → Typed p (without (c .name) G) link P
+        → Typed p G link (cancel at c P)
     -- An empty process holds no channel; it may hold the link.
     empties : {G : Context} {link : Bool} {at : ℕ}
-      → G ≡ []
-      → Typed p G link (empty at)
+        → G ≡ []
+        → Typed p G link (empty at)
 
   -- each branch goes on with the type of its label
   pub data TypedBranches (p : Program) : Context → Bool → Name → Alternatives Name → Branches → Type 0 where
     last-branch : {G : Context} {link : Bool} {c : Name} {r : Alternatives Name}
-      → TypedBranches p G link c r Branches.none
+        → TypedBranches p G link c r Branches.none
     one-branch : {G : Context} {link : Bool} {c : Name} {r : Alternatives Name} {l : Located} {P : Proc} {B : Branches} (A : Ty Name)
-      → labelled (l .name) r ≡ some A
-      → Typed p (retyped c A G) link P
-      → TypedBranches p G link c r B
-      → TypedBranches p G link c r (branch l P B)
+        → labelled (l .name) r ≡ some A
+        → Typed p (retyped c A G) link P
+        → TypedBranches p G link c r B
+        → TypedBranches p G link c r (branch l P B)
 
 -- "A proc body starts with its lists and no link."
 pub record TypedBody (p : Program) (s : Signature) : Type 0 where

@@ -144,6 +144,7 @@ branchesBy process more s n c =
 
 unfoldable mutual
   unfolding tokenAt readType termHead processBy restBy branchesBy
+
   pub readProcess : ℕ → List ℕ → Cursor → Result Proc
   readProcess zero s c = refused 0 0
   readProcess (suc n) s c =

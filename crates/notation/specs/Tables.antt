@@ -15,18 +15,25 @@ use Rattle.notation.specs.declared.reading.TermNode.{TermNode}
 -- 512 alternatives, 1,024 × 2 process nodes, 1,640 branches; 5,640 words in all
 abbrev pub typesAt : ℕ
 typesAt = 16
+
 abbrev pub processesAt : ℕ
 processesAt = 144
+
 abbrev pub execsAt : ℕ
 execsAt = 400
+
 abbrev pub entriesAt : ℕ
 entriesAt = 416
+
 abbrev pub nodesAt : ℕ
 nodesAt = 928
+
 abbrev pub alternativesAt : ℕ
 alternativesAt = 1440
+
 abbrev pub termsAt : ℕ
 termsAt = 1952
+
 abbrev pub branchesAt : ℕ
 branchesAt = 4000
 
@@ -128,6 +135,7 @@ putChoice kind d w = putNode w (d .nodes) (typeNode kind (d .alternatives) (d .l
 
 unfoldable mutual
   unfolding afterType typeWord pairWord putNode putAlternative
+
   pub writeType : Ty Located → Tally → List ℕ → List ℕ
   writeType unit k w = putNode w (k .nodes) (typeNode 0 0 0)
   writeType (named n) k w = putNode w (k .nodes) (typeNode 1 0 (n .at))
@@ -149,6 +157,7 @@ emptyPointer at = processTermLimit + at
 
 unfoldable mutual
   unfolding afterType
+
   pub afterProcess : Proc → Tally → Tally
   afterProcess (empty at) k = lasting (emptyPointer at) k
   afterProcess (sendUnit at c P) k = moreTerms (afterProcess P k)
@@ -177,6 +186,7 @@ putOver kind at first second d w = putTerm w (d .terms) (termNode kind at first 
 
 unfoldable mutual
   unfolding afterType afterProcess writeType termWord termWord′ pairWord putTerm putBranch
+
   pub writeProcess : Proc → Tally → List ℕ → List ℕ
   writeProcess (empty at) k w = w
   writeProcess (sendUnit at c P) k w = putOver 1 at (c .at) 0 (afterProcess P k) (writeProcess P k w)

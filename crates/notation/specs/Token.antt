@@ -46,74 +46,105 @@ symbols =
 -- the kinds by name: reserved words
 abbrev pub kType : ℕ
 kType = 0
+
 abbrev pub kProc : ℕ
 kProc = 1
+
 abbrev pub kExec : ℕ
 kExec = 2
+
 abbrev pub kSend : ℕ
 kSend = 3
+
 abbrev pub kRecv : ℕ
 kRecv = 4
+
 abbrev pub kFwd : ℕ
 kFwd = 5
+
 abbrev pub kCall : ℕ
 kCall = 6
+
 abbrev pub kCancel : ℕ
 kCancel = 7
+
 abbrev pub kRaise : ℕ
 kRaise = 8
+
 abbrev pub kTry : ℕ
 kTry = 9
+
 abbrev pub kCatch : ℕ
 kCatch = 10
 
 -- marks
 abbrev pub kLolli : ℕ
 kLolli = 11
+
 abbrev pub kFrom : ℕ
 kFrom = 12
+
 abbrev pub kThen : ℕ
 kThen = 13
+
 abbrev pub kRoundOpen : ℕ
 kRoundOpen = 14
+
 abbrev pub kRoundClose : ℕ
 kRoundClose = 15
+
 abbrev pub kSquareOpen : ℕ
 kSquareOpen = 16
+
 abbrev pub kSquareClose : ℕ
 kSquareClose = 17
+
 abbrev pub kBraceOpen : ℕ
 kBraceOpen = 18
+
 abbrev pub kBraceClose : ℕ
 kBraceClose = 19
+
 abbrev pub kColon : ℕ
 kColon = 20
+
 abbrev pub kComma : ℕ
 kComma = 21
+
 abbrev pub kSemicolon : ℕ
 kSemicolon = 22
+
 abbrev pub kEquals : ℕ
 kEquals = 23
+
 abbrev pub kBar : ℕ
 kBar = 24
+
 abbrev pub kOne : ℕ
 kOne = 25
+
 abbrev pub kStar : ℕ
 kStar = 26
+
 abbrev pub kAt : ℕ
 kAt = 27
+
 abbrev pub kPlus : ℕ
 kPlus = 28
+
 abbrev pub kWith : ℕ
 kWith = 29
 
 -- names, labels, bytes that open no token or names that are too long, and the end of the text
 abbrev pub kName : ℕ
 kName = 30
+
 abbrev pub kLabel : ℕ
 kLabel = 31
+
 abbrev pub kFault : ℕ
 kFault = 32
+
 abbrev pub kEnd : ℕ
 kEnd = 33
 

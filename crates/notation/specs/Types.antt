@@ -77,6 +77,7 @@ alternativesBy type more s n c =
 
 unfoldable mutual
   unfolding tokenAt typeHead typeBy atomBy alternativesBy
+
   pub readType : ℕ → List ℕ → Cursor → Result (Ty Located)
   readType zero s c = refused 0 0
   readType (suc n) s c = typeBy (λ d. readAtom n s d) (λ d. readType n s d) s c

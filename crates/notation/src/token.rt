@@ -8,8 +8,11 @@ pub struct Token {
 
 impl Token {
     pub const NAME: usize = 30;
+
     pub const LABEL: usize = 31;
+
     pub const FAULT: usize = 32;
+
     pub const END: usize = 33;
 }
 
