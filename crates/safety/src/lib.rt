@@ -1,0 +1,1 @@
+// Safety: no code; specs/ proves what holds of every configuration that a run can reach.
