@@ -21,5 +21,4 @@ checkedRead (got ds c) = judged ds (andThen (declared ds) (typed ds))
 checkedRead (refused n at) = faulty n at
 
 unfoldable pub checked : List ℕ → Checked
-unfolding readText declared typed
 checked s = checkedRead (readText s)

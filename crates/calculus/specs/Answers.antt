@@ -40,13 +40,11 @@ startedAs Begins.Begun = givenAs []
 startedAs (Begins.Refused n at) = refusedAs n at
 
 unfoldable pub steppedAs : Stepped → Told
-unfolding seenValues
 steppedAs (Steps.Carried seen) = givenAs (seenValues seen)
 steppedAs (Steps.Refused n at) = refusedAs n at
 
 -- how run-on ended, in the order of its tests, the steps taken, and what was seen
 unfoldable pub ranOnAs : RanOn → Told
-unfolding seenValues
 ranOnAs (Runs.Shown seen steps) = givenAs (1 ∷ steps ∷ seenValues seen)
 ranOnAs (Runs.Done steps) = givenAs (2 ∷ steps ∷ [])
 ranOnAs (Runs.Full steps) = givenAs (3 ∷ steps ∷ [])

@@ -27,8 +27,6 @@ abbrev pub fitsSlot : Side → Ty Name → Slot → Bool
 fitsSlot s A h = sameSide (h .side) s && sameType (h .type) A
 
 unfoldable mutual
-  unfolding same plain lookup without changed names distinct sameType passing choosing labelled spawnTakes spawnLeaves tryTakes neverBoth exactlyOne fitting listFits withoutAll
-
   pub check : Program → Context → Bool → Proc → Verdict
   check p G link (empty at) = demand 13 at (isNil G) fine
   check p G link (sendUnit at c P) =
@@ -113,5 +111,4 @@ checkDeclarations p [] = fine
 checkDeclarations p (a ∷ r) = andThen (checkDeclaration p a) (checkDeclarations p r)
 
 unfoldable pub typed : List Declaration → Verdict
-unfolding check plain programOf
 typed ds = checkDeclarations (programOf ds) ds

@@ -69,7 +69,6 @@ holderHere i q (some n) r = some (record { place = i; process = q; name = n })
 
 -- the first process, from place i on, that holds an end
 unfoldable pub holderFrom : ℕ → ℕ → Side → List Process → Option Holder
-unfolding heldAs
 holderFrom i k s [] = none
 holderFrom i k s (q ∷ l) = let r = holderFrom (suc i) k s l in holderHere i q (heldAs k s (q .held)) r
 
@@ -93,7 +92,6 @@ farFrom none f = f
 farFrom (some h) f = atProcess h
 
 unfoldable pub farEnd : Config → End → Far
-unfolding holderFrom outsideOf
 farEnd C e = farFrom (holderFrom 0 (e .channel) (other (e .side)) (C .processes)) (orOutside (e .side) (outsideOf (e .channel) (C .outside)))
 
 -- ── channel places: "A channel place is free when neither end is held"
@@ -119,7 +117,6 @@ freeFrom busy k (suc n) = let r = freeFrom busy (suc k) n in cond (among k busy)
 
 -- Document 01 leaves open which free channel place a new channel takes: here the lowest.
 unfoldable pub freshChannel : Config → Option ℕ
-unfolding channelsHeld
 freshChannel C = freeFrom (channelsHeld C) 0 channelPlaces
 
 -- ── places move when a process comes or leaves, and links with them

@@ -31,7 +31,6 @@ channels (e ∷ l) = e .channel ∷ channels l
 
 -- ── 6: "A type, a process, a label of one choice or branch list, or a name of one signature comes twice", at the second of a pair
 unfoldable pub repeats : List Name → List Located → List ℕ
-unfolding same
 repeats before [] = []
 repeats before (n ∷ ns) = cond (any (same (n .name)) before) (n .at ∷ repeats before ns) (repeats (n .name ∷ before) ns)
 
@@ -44,8 +43,6 @@ branchLabels Branches.none = []
 branchLabels (branch l P B) = l ∷ branchLabels B
 
 unfoldable mutual
-  unfolding repeats
-
   pub typeRepeats : Ty Located → List ℕ
   typeRepeats unit = []
   typeRepeats (named n) = []
@@ -64,8 +61,6 @@ entriesRepeats [] = []
 entriesRepeats (e ∷ l) = typeRepeats (e .type) ++ entriesRepeats l
 
 unfoldable mutual
-  unfolding repeats typeRepeats
-
   pub processRepeats : Proc → List ℕ
   processRepeats (empty at) = []
   processRepeats (sendUnit at c P) = processRepeats P
@@ -91,7 +86,6 @@ ownRepeats (declareProc n xs ys P) = repeats [] (channels xs ++ channels ys) ++ 
 ownRepeats (declareExec n) = []
 
 unfoldable pub repeated : List Declaration → List ℕ
-unfolding repeats typeRepeats processRepeats
 repeated ds = repeats [] (gather typeName ds) ++ (repeats [] (gather processName ds) ++ gather ownRepeats ds)
 
 -- ── 7: "A type or process is not defined"
@@ -100,8 +94,6 @@ unless defined n = cond (isSome (lookup (n .name) defined)) [] (n .at ∷ [])
 
 module _ (p : Program) where
   unfoldable mutual
-    unfolding lookup
-
     pub typeUndefined : Ty Located → List ℕ
     typeUndefined unit = []
     typeUndefined (named n) = unless (p .types) n
@@ -120,8 +112,6 @@ module _ (p : Program) where
   entriesUndefined (e ∷ l) = typeUndefined (e .type) ++ entriesUndefined l
 
   unfoldable mutual
-    unfolding lookup typeUndefined
-
     pub processUndefined : Proc → List ℕ
     processUndefined (empty at) = []
     processUndefined (sendUnit at c P) = processUndefined P
@@ -147,7 +137,6 @@ module _ (p : Program) where
   ownUndefined (declareExec n) = unless (p .processes) n
 
 unfoldable pub undefined : List Declaration → List ℕ
-unfolding programOf typeUndefined processUndefined lookup
 undefined ds = gather (ownUndefined (programOf ds)) ds
 
 -- ── 8: "A type is defined as a bare name, in brackets or not", at the name standing as definition
@@ -171,8 +160,6 @@ bareNames ds = gather ownBareName ds
 -- ── 9: "An exec process uses nothing. Its provided types reach only 1, * and +, through names as well."
 -- a type has @, -o or &, or a name among those given
 unfoldable mutual
-  unfolding same
-
   pub hasOther : List Name → Ty Name → Bool
   hasOther bad unit = false
   hasOther bad (named n) = any (same n) bad
@@ -192,13 +179,11 @@ namesWithOther bad (e ∷ l) = cond (hasOther bad (e .1)) (e .0 ∷ namesWithOth
 
 -- the types, of those declared, whose definitions reach @, -o or & through fewer than n names
 unfoldable pub reachOther : ℕ → List (Name × Ty Name) → List Name
-unfolding hasOther
 reachOther zero types = []
 reachOther (suc n) types = namesWithOther (reachOther n types) types
 
 -- "reach only 1, * and +, through names as well": no path without a repeated name is longer than there are types
 unfoldable pub outward : Program → Ty Name → Bool
-unfolding hasOther reachOther
 outward p A = not (hasOther (reachOther (length (p .types)) (p .types)) A)
 
 abbrev pub entryTypes : List (Name × Ty Name) → List (Ty Name)
@@ -218,12 +203,10 @@ breaking p [] = []
 breaking p (n ∷ ns) = cond (keepsRule p (lookup (n .name) (p .processes))) (breaking p ns) (n .at ∷ breaking p ns)
 
 unfoldable pub wrongExecs : List Declaration → List ℕ
-unfolding programOf lookup outward
 wrongExecs ds = breaking (programOf ds) (programOf ds .execs)
 
 -- the four passes in their order
 unfoldable pub declared : List Declaration → Verdict
-unfolding faults repeated undefined bareNames wrongExecs
 declared ds =
     andThen (faults 6 (repeated ds))
     (andThen (faults 7 (undefined ds))

@@ -45,5 +45,4 @@ jointsFrom C i [] = []
 jointsFrom C i (q ∷ l) = (channelJoints C i (q .held) ++ linkJoint i (q .link)) ++ jointsFrom C (suc i) l
 
 unfoldable pub joints : Config → List Joint
-unfolding farEnd
 joints C = jointsFrom C 0 (C .processes)

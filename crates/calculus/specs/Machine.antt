@@ -48,7 +48,6 @@ reply a C = record { answer = a; config = C }
 
 -- ── "the refusal list, where 18 then never applies": refusal 1, then 2 to 15; then those of each call, in their order
 unfoldable pub textChecked : List ℕ → ℕ → Checked
-unfolding checked
 textChecked s scratch = cond (leb scratchWords scratch) (checked s) (faulty 1 0)
 
 abbrev pub onProgram : {A : Type 0} → Checked → (ℕ → ℕ → A) → (Program → A) → A
@@ -107,7 +106,6 @@ respondBy refuse s C (callExecName scratch line) =
 
 -- "A start carried out begins the run anew, a step applies its rule, run-on does so step by step; a call is refused by the refusal list .. and changes nothing."
 unfoldable pub respond : List ℕ → Config → Call → Reply
-unfolding textChecked programOf startConfig execOf step runOn report
 respond s C c = respondBy (refusal C c) s C c
 
 -- before the first start there is no process

@@ -14,8 +14,6 @@ isOneOf n (c ∷ cs) = is n c || isOneOf n cs
 
 -- "A name bound anew inside a half is no mention of a held one."
 unfoldable mutual
-  unfolding same
-
   pub mentions : Proc → Name → Bool
   mentions (empty at) n = false
   mentions (sendUnit at c P) n = is n c || mentions P n
@@ -37,30 +35,24 @@ unfoldable mutual
 
 -- a half of `x : A <- (P); Q` mentions a held name; x in either half is the new one
 unfoldable pub halfMentions : Name → Proc → Name → Bool
-unfolding mentions same
 halfMentions x P n = not (same n x) && mentions P n
 
 module _ {X : Type 0} where
   -- "P takes the held channels it mentions .. Q takes the rest"
   unfoldable pub spawnTakes : Name → Proc → List (Name × X) → List (Name × X)
-  unfolding halfMentions kept
   spawnTakes x P l = kept (halfMentions x P) l
 
   unfoldable pub spawnLeaves : Name → Proc → List (Name × X) → List (Name × X)
-  unfolding halfMentions kept
   spawnLeaves x P l = kept (λ n. not (halfMentions x P n)) l
 
   -- "each half takes what it mentions"
   unfoldable pub tryTakes : Proc → List (Name × X) → List (Name × X)
-  unfolding mentions kept
   tryTakes P l = kept (mentions P) l
 
 -- "None is mentioned in both": of a spawn's halves
 unfoldable pub neverBoth : Name → Proc → Proc → List Name → Bool
-unfolding halfMentions
 neverBoth x P Q held = all (λ n. not (halfMentions x P n && halfMentions x Q n)) held
 
 -- "each held channel is mentioned in exactly one": of a try's halves
 unfoldable pub exactlyOne : Proc → Proc → List Name → Bool
-unfolding mentions
 exactlyOne P Q held = all (λ n. cond (mentions P n) (not (mentions Q n)) (mentions Q n)) held

@@ -8,19 +8,16 @@ use Rattle.notation.specs.Tree.{Name}
 module _ {X : Type 0} where
   -- the thing of a name
   unfoldable pub lookup : Name → List (Name × X) → Option X
-  unfolding same
   lookup c [] = none
   lookup c (e ∷ l) = cond (same c (e .0)) (some (e .1)) (lookup c l)
 
   -- the others, in their order
   unfoldable pub without : Name → List (Name × X) → List (Name × X)
-  unfolding same
   without c [] = []
   without c (e ∷ l) = cond (same c (e .0)) l (e ∷ without c l)
 
   -- the thing of a name changed, in its place
   unfoldable pub changed : Name → (X → X) → List (Name × X) → List (Name × X)
-  unfolding same
   changed c f [] = []
   changed c f (e ∷ l) = cond (same c (e .0)) ((e .0, f (e .1)) ∷ l) (e ∷ changed c f l)
 
@@ -48,6 +45,5 @@ any p (x ∷ xs) = let r = any p xs in cond (p x) true r
 
 -- no name comes twice
 unfoldable pub distinct : List Name → Bool
-unfolding same
 distinct [] = true
 distinct (n ∷ ns) = cond (any (same n) ns) false (distinct ns)

@@ -6,7 +6,18 @@ use mathlib.Core.Option.{Option, some, none}
 use lib.Dec.{ltb}
 use Rattle.notation.specs.Bytes.{bytes}
 use Rattle.notation.specs.Token.{nameAt}
-use Rattle.notation.specs.Tree.{Name, Located, Declaration}
+use Rattle.notation.specs.Tree.{Name, Located, Declaration, plain}
+use Rattle.notation.specs.Computed.{readNow}
+use Rattle.calculus.specs.Named
+use Rattle.calculus.specs.Types
+use Rattle.calculus.specs.Verdict.{faults}
+use Rattle.calculus.specs.Declarations
+use Rattle.calculus.specs.Mentions
+use Rattle.calculus.specs.Typing
+use Rattle.calculus.specs.Checking
+use Rattle.calculus.specs.Configuration
+use Rattle.calculus.specs.Steps
+use Rattle.calculus.specs.Runs
 use Rattle.calculus.specs.Program.{Signature, Program, programOf}
 use Rattle.calculus.specs.Accepted.{Checked, accepted, faulty, checked}
 use Rattle.calculus.specs.Configuration.{Config}
@@ -43,7 +54,6 @@ secondLine m false = []
 
 -- `s` is the text: a label is shown by its bytes there, from the apostrophe on
 unfoldable pub sighting : List ℕ → Seen → List ℕ
-unfolding digits nameAt
 sighting s Nothing = []
 sighting s (Label n at) = shows n (bytes "'" ++ nameAt s (at + 1))
 sighting s (Close n) = shows n (bytes "()")
@@ -62,7 +72,6 @@ showing s taken (Stopped steps) more = ending (bytes "stopped") (taken + steps)
 showing s taken (Refused n at) more = []
 
 unfoldable pub runLines : ℕ → List ℕ → Program → ℕ → Config → List ℕ
-unfolding runOn sighting digits
 runLines zero s p taken C = []
 runLines (suc n) s p taken C =
     let r = runOn p C (stepLimit - taken) in
@@ -81,6 +90,7 @@ abbrev pub printedOf : List ℕ → Checked → List ℕ
 printedOf s (accepted ds) = allExecs s (programOf ds) (programOf ds .execs)
 printedOf s (faulty n at) = line (bytes "refused " ++ (decimal n ++ (bytes " at " ++ decimal at)))
 
+-- to unfold it is to unfold all that it is made of, so that it computes
 unfoldable pub printed : List ℕ → List ℕ
-unfolding digits programOf checked startConfig execOf runLines
+unfolding readNow plain Named.lookup Named.without Named.changed Named.kept Named.names Named.distinct Types.sameType Types.passing Types.choosing Types.labelled Types.labelsOf programOf faults Declarations.repeats Declarations.typeRepeats Declarations.processRepeats Declarations.repeated Declarations.typeUndefined Declarations.processUndefined Declarations.undefined Declarations.bareNames Declarations.hasOther Declarations.reachOther Declarations.outward Declarations.wrongExecs Declarations.declared Mentions.mentions Mentions.halfMentions Mentions.spawnTakes Mentions.spawnLeaves Mentions.tryTakes Mentions.neverBoth Mentions.exactlyOne Typing.fitting Typing.listFits Typing.withoutAll Checking.check Checking.typed checked Configuration.heldAs Configuration.holderFrom Configuration.outsideOf Configuration.farEnd Configuration.channelsHeld Configuration.freshChannel Configuration.inserted Configuration.removed Configuration.letGo Configuration.changedOutside Steps.afterMessage Steps.afterSend Steps.afterReceive Steps.parting Steps.send Steps.receive Steps.cancelling Steps.spawning Steps.trying Steps.calling Steps.raising Steps.forwarding Steps.leaving Steps.foldingUp Steps.stepTerm Steps.step Runs.startConfig Runs.execOf Runs.firstFrom Runs.choosePlace Runs.runFrom Runs.runOn digits sighting runLines
 printed s = printedOf s (checked s)

@@ -47,6 +47,5 @@ addTo (declareProc n xs ys P) p =
 addTo (declareExec n) p = record { types = p .types; processes = p .processes; execs = n ∷ p .execs }
 
 unfoldable pub programOf : List Declaration → Program
-unfolding plain
 programOf [] = record { types = []; processes = []; execs = [] }
 programOf (a ∷ r) = addTo a (programOf r)

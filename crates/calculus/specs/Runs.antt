@@ -34,7 +34,6 @@ lineSignature p none = none
 lineSignature p (some n) = lookup (n .name) (p .processes)
 
 unfoldable pub execOf : Program → ℕ → Option Signature
-unfolding lookup
 execOf p line = lineSignature p (getElem? (p .execs) line)
 
 -- ── "Run-on takes the first open place that can be carried out"
@@ -44,13 +43,11 @@ isCarried notOpen = false
 isCarried lacking = false
 
 unfoldable pub firstFrom : Program → Config → ℕ → List Process → Option ℕ
-unfolding step
 firstFrom p C i [] = none
 firstFrom p C i (q ∷ l) = let r = firstFrom p C (suc i) l in cond (isCarried (step p C i)) (some i) r
 
 -- run-on's choice of place
 unfoldable pub choosePlace : Program → Config → Option ℕ
-unfolding firstFrom
 choosePlace p C = firstFrom p C 0 (C .processes)
 
 pub record Ran : Type 0 where
@@ -83,7 +80,6 @@ afterStep lacking k r = r
 
 -- with `taken` steps taken, the last of which showed `seen`, and so many still in the budget
 unfoldable pub runFrom : Program → ℕ → ℕ → Seen → Config → Ran
-unfolding choosePlace step
 runFrom p zero taken seen C = testing p seen taken C λ i. ran (Stopped taken) C
 runFrom p (suc budget) taken seen C =
     testing p seen taken C λ i.
@@ -91,7 +87,6 @@ runFrom p (suc budget) taken seen C =
 
 -- "It gives the steps taken."
 unfoldable pub runOn : Program → Config → ℕ → Ran
-unfolding runFrom
 runOn p C budget = runFrom p budget 0 Nothing C
 
 -- ── "A report gives the outside channels still open, each once"

@@ -75,7 +75,6 @@ afterChoosing A l none = A
 afterChoosing A l (some t) = Option·getD (labelled l (t .labels)) A
 
 unfoldable pub afterMessage : Program → Message → Ty Name → Ty Name
-unfolding lookup passing choosing labelled
 afterMessage p closing A = A
 afterMessage p (passes a) A = afterPassing A (passing (standing (p .types) A))
 afterMessage p (chooses l) A = afterChoosing A (l .name) (choosing (standing (p .types) A))
@@ -85,7 +84,6 @@ retypedEnd c A l = changed c (λ e. end (e .side) (e .channel) A) l
 
 -- the sender's channels afterwards: a closed channel is dropped, a passed one is gone
 unfoldable pub afterSend : Program → Name → End → Message → List (Name × End) → List (Name × End)
-unfolding without changed afterMessage
 afterSend p c e closing l = without c l
 afterSend p c e (passes a) l = retypedEnd c (afterMessage p (passes a) (e .type)) (without (a .name) l)
 afterSend p c e (chooses m) l = retypedEnd c (afterMessage p (chooses m) (e .type)) l
@@ -115,7 +113,6 @@ takesLabel (onChannel x P) c A l q = none
 takesLabel (onLabel B) c A l q = Option·map (λ P. process (running P) (retypedEnd c A (q .held)) (q .link)) (branchOf l B)
 
 unfoldable pub afterReceive : Program → Message → Wanted → Name → End → Option End → Process → Option Process
-unfolding same without changed afterMessage
 afterReceive p closing w c e d q = takesClose w c q
 afterReceive p (passes a) w c e d q = takesChannel w c (afterMessage p (passes a) (e .type)) d q
 afterReceive p (chooses l) w c e d q = takesLabel w c (afterMessage p (chooses l) (e .type)) (l .name) q
@@ -138,7 +135,6 @@ outsideAfter givenUp k o = o
 
 -- the process q stands at place i, and has let go of the end e
 unfoldable pub parting : Config → ℕ → Process → End → Outcome
-unfolding farEnd letGo
 parting C i q e = carried (seenAt (farEnd C e)) (config (set (C .processes) i q) (outsideAfter (farEnd C e) (e .channel) (C .outside)) (C .given))
 
 -- ── "A matching send and recv on one channel step together"
@@ -187,7 +183,6 @@ sending p C i q q′ m e givenUp = unheard C i q q′ m
 
 -- a send of the process q at place i
 unfoldable pub send : Program → Config → ℕ → Process → Located → Message → Proc → Outcome
-unfolding same lookup farEnd letGo changedOutside afterSend afterReceive afterMessage parting
 send p C i q c m P =
     onHeld (lookup (c .name) (q .held)) λ e.
     sending p C i q (process (running P) (afterSend p (c .name) e m (q .held)) (q .link)) m e (farEnd C e)
@@ -205,12 +200,10 @@ receiving p C i q c (atOutside n) = notOpen
 receiving p C i q c givenUp = carried Nothing (replaced i (process folding (without c (q .held)) (q .link)) C)
 
 unfoldable pub receive : Program → Config → ℕ → Process → Located → Outcome
-unfolding same lookup without farEnd send
 receive p C i q c = onHeld (lookup (c .name) (q .held)) λ e. receiving p C i q (c .name) (farEnd C e)
 
 -- ── alone: cancel
 unfoldable pub cancelling : Config → ℕ → Process → Located → Proc → Outcome
-unfolding lookup without parting
 cancelling C i q c P = onHeld (lookup (c .name) (q .held)) λ e. parting C i (process (running P) (without (c .name) (q .held)) (q .link)) e
 
 -- ── alone: spawn. "A spawn's new process is P"
@@ -227,12 +220,10 @@ spawned C i q x A P Q (some k) =
     (C .outside) (C .given))
 
 unfoldable pub spawning : Config → ℕ → Process → Located → Ty Located → Proc → Proc → Outcome
-unfolding plain freshChannel inserted spawnTakes spawnLeaves
 spawning C i q x A P Q = placeFor C (spawned C i q (x .name) (plain A) P Q (freshChannel C))
 
 -- ── alone: try (the handler waits). "a try's is Q"; P gets a new link, Q the old
 unfoldable pub trying : Config → ℕ → Process → Proc → Proc → Outcome
-unfolding inserted tryTakes
 trying C i q P Q =
     placeFor C
     (carried Nothing
@@ -256,7 +247,6 @@ entering C i q ns none = notOpen
 entering C i q ns (some s) = carried Nothing (replaced i (process (running (s .body)) (renamed ns (signatureContext s) (q .held)) (q .link)) C)
 
 unfoldable pub calling : Program → Config → ℕ → Process → Located → List Located → List Located → Outcome
-unfolding lookup
 calling p C i q f xs ys = entering C i q (namesOf xs ++ namesOf ys) (lookup (f .name) (p .processes))
 
 -- ── alone: raise (the handler starts), and what the leaving of a linked process does to its handler
@@ -305,7 +295,6 @@ joining C i q e d (atOutside n) = joinedTo C i q e d (farEnd C e)
 joining C i q e d givenUp = parting C i (emptied q) e
 
 unfoldable pub forwarding : Config → ℕ → Process → Located → Located → Outcome
-unfolding lookup changed farEnd letGo changedOutside parting
 forwarding C i q x c =
     onHeld (lookup (x .name) (q .held)) λ e.
     onHeld (lookup (c .name) (q .held)) λ d.
@@ -313,18 +302,15 @@ forwarding C i q x c =
 
 -- ── "An empty process steps by leaving the list. Its handler, if linked, then folds up, keeping its own link."
 unfoldable pub leaving : Config → ℕ → Process → Outcome
-unfolding removed
 leaving C i q = carried Nothing (config (removed i (changedAt foldedHandler (q .link) (C .processes))) (C .outside) (C .given))
 
 -- "A process that folds up cancels one held channel a step, oldest first, then is empty." With nothing held it is empty at once.
 unfoldable pub foldingUp : Config → ℕ → Process → List (Name × End) → Outcome
-unfolding leaving parting
 foldingUp C i q [] = leaving C i q
 foldingUp C i q (e ∷ l) = parting C i (process folding l (q .link)) (e .1)
 
 -- ── the rule of a term's kind
 unfoldable pub stepTerm : Program → Config → ℕ → Process → Proc → Outcome
-unfolding send receive cancelling spawning forwarding calling raising trying leaving
 stepTerm p C i q (empty o) = leaving C i q
 stepTerm p C i q (sendUnit o c P) = send p C i q c closing P
 stepTerm p C i q (sendChannel o c a P) = send p C i q c (passes a) P
@@ -351,7 +337,6 @@ stepOf p C i (some q) = stepDoing p C i q (q .doing)
 
 -- the step at a place
 unfoldable pub step : Program → Config → ℕ → Outcome
-unfolding stepTerm foldingUp
 step p C i = stepOf p C i (at C i)
 
 abbrev pub isOpenBy : Outcome → Bool
@@ -366,9 +351,7 @@ lacksBy lacking = true
 
 -- the step at a place is open; it lacks a free place or number
 unfoldable pub isOpen : Program → Config → ℕ → Bool
-unfolding step
 isOpen p C i = isOpenBy (step p C i)
 
 unfoldable pub lacks : Program → Config → ℕ → Bool
-unfolding step
 lacks p C i = lacksBy (step p C i)

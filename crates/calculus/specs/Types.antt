@@ -72,8 +72,6 @@ atNone (alternative l A r) = false
 
 -- "a type is compared part by part, down to names: same name, or same mark and equal parts, labels in the same order"
 unfoldable mutual
-  unfolding same
-
   pub sameType : Ty Name → Ty Name → Bool
   sameType unit B = atLeaf (shape B)
   sameType (named n) B = atWord (same n) (shape B)
@@ -131,7 +129,6 @@ choosing (with r) = some (record { sender = used; labels = r })
 
 -- the type that a label leads to
 unfoldable pub labelled : Name → Alternatives Name → Option (Ty Name)
-unfolding same
 labelled l Alternatives.none = none
 labelled l (alternative m A r) = cond (same l m) (some A) (labelled l r)
 

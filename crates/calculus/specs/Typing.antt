@@ -41,7 +41,6 @@ times n (m ∷ ms) = cond (same n m) (suc (times n ms)) (times n ms)
 
 -- "each label of the type once, in whatever order", and no other
 unfoldable pub fitting : Alternatives Name → Branches → Bool
-unfolding same labelsOf
 fitting r B = all (λ l. eqb (times l (labelNames B)) 1) (labelsOf r) && eqb (length (labelNames B)) (length (labelsOf r))
 
 abbrev pub namesOf : List Located → List Name
@@ -54,7 +53,6 @@ entryFits s A (some h) = sameSide (h .side) s && sameType (h .type) A
 
 -- a list of names fits a list of a signature: "in number, side and type"
 unfoldable pub listFits : Context → Side → List Name → List (Name × Ty Name) → Bool
-unfolding lookup sameType
 listFits G s [] [] = true
 listFits G s [] (e ∷ es) = false
 listFits G s (a ∷ ns) [] = false
@@ -62,7 +60,6 @@ listFits G s (a ∷ ns) (e ∷ es) = entryFits s (e .1) (lookup a G) && listFits
 
 -- what is held beside the names of a list
 unfoldable pub withoutAll : {X : Type 0} → List Name → List (Name × X) → List (Name × X)
-unfolding without
 withoutAll [] l = l
 withoutAll (n ∷ ns) l = withoutAll ns (without n l)
 

@@ -20,7 +20,6 @@ letter b = within 65 90 b || within 97 122 b
 
 -- a letter, a digit or _
 unfoldable pub nameByte : ℕ → Bool
-unfolding letter
 nameByte b = letter b || within 48 57 b || eqb b 95
 
 -- space, tab, LF, CR

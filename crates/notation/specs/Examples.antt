@@ -4,13 +4,14 @@ use Prim.Native.Nat.{ℕ, _+_, _*_}
 use mathlib.Core.List.{List, [], _∷_}
 use lib.ListN.{take, drop}
 use Rattle.notation.specs.Bytes.{bytes}
+use Rattle.notation.specs.Computed.{tablesNow}
 use Rattle.notation.specs.Tables.{tables, typesAt, processesAt, execsAt, entriesAt, nodesAt, alternativesAt, termsAt, branchesAt}
 
 text : List ℕ
 text = bytes "type b = +{'t : 1, 'f : b} proc p (x : b) [] = send x 't; send x () exec p"
 
 words : ℕ → ℕ → List ℕ
-unfolding tables text
+unfolding tablesNow text
 words from count = take count (drop from (tables text))
 
 counts : words 0 9 ≡ (1 ∷ 1 ∷ 1 ∷ 1 ∷ 4 ∷ 2 ∷ 2 ∷ 0 ∷ 0 ∷ [])

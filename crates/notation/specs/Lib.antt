@@ -7,4 +7,5 @@ pub mod Types
 pub mod Processes
 pub mod Scripts
 pub mod Tables
+pub mod Computed
 pub mod Examples

@@ -46,7 +46,6 @@ bracketed process s c k =
 
 -- names with commas between them, up to the bracket that closes; none or more
 unfoldable pub readNames : ℕ → List ℕ → ℕ → Cursor → Result (List Located)
-unfolding tokenAt nameAt expect
 readNames zero s close c = refused 0 0
 readNames (suc n) s close c =
     take (expect s kName c) λ i d.
@@ -56,7 +55,6 @@ readNames (suc n) s close c =
     d
 
 unfoldable pub nameList : ℕ → List ℕ → ℕ → ℕ → Cursor → Result (List Located)
-unfolding tokenAt expect opening readNames
 nameList n s open′ close c =
     take (opening s open′ c) λ _ d.
     part (choose (eqb (kindAt s (d .at)) kName) (readNames n s close) (λ d. take (expect s close d) λ _ e. got [] e) d) λ names e.
@@ -64,7 +62,6 @@ nameList n s open′ close c =
 
 -- send c (), send c a, send c 'l: what follows the channel c, whose name is read, in a term from `at` on
 unfoldable pub sendBy : (Cursor → Result Proc) → List ℕ → ℕ → Located → Cursor → Payload → Result Proc
-unfolding expect misfit opening nameAt
 sendBy rest s at c d UnitPayload = unitMark s d λ e. lastly (sendUnit at c) (rest e)
 sendBy rest s at c d Channel = take (expect s kName d) λ i e. lastly (sendChannel at c (nameIn s i)) (rest e)
 sendBy rest s at c d Label = take (expect s kLabel d) λ i e. lastly (sendLabel at c (labelIn s i)) (rest e)
@@ -72,7 +69,6 @@ sendBy rest s at c d Other = misfit s d
 
 -- recv c (() => P), recv c (x => P), recv c ('l => P | ..): what follows the bracket, which the caller closes
 unfoldable pub recvBy : (Cursor → Result Proc) → (Cursor → Result Branches) → List ℕ → ℕ → Located → Cursor → Payload → Result Proc
-unfolding expect misfit opening nameAt
 recvBy process branches s at c d UnitPayload =
     unitMark s d λ e.
     take (expect s kThen e) λ _ f. lastly (recvUnit at c) (process f)
@@ -84,7 +80,6 @@ recvBy process branches s at c d Other = misfit s d
 
 -- a process, by what begins it
 unfoldable pub processBy : (Cursor → Result (Ty Located)) → (Cursor → Result Proc) → (Cursor → Result Proc) → (Cursor → Result Branches) → ℕ → List ℕ → Cursor → TermHead → Result Proc
-unfolding tokenAt nameAt expect opening processTerm nameList payload sendBy recvBy
 processBy type process rest branches n s c Send =
     take (processTerm s kSend c) λ at d.
     take (expect s kName d) λ i e.
@@ -123,7 +118,6 @@ processBy type process rest branches n s c Empty = got (empty (tokenAt s (c .at)
 
 -- "followed by nothing or by `;` and a process"
 unfoldable pub restBy : (Cursor → Result Proc) → List ℕ → Cursor → Result Proc
-unfolding tokenAt expect
 restBy process s c =
     choose (eqb (kindAt s (c .at)) kSemicolon)
     (λ c. take (expect s kSemicolon c) λ _ d. process d)
@@ -132,7 +126,6 @@ restBy process s c =
 
 -- 'l => P | .., of which n came before
 unfoldable pub branchesBy : (Cursor → Result Proc) → (Cursor → Result Branches) → List ℕ → ℕ → Cursor → Result Branches
-unfolding tokenAt expect labelTerm nameAt
 branchesBy process more s n c =
     take (labelTerm s n c) λ i d.
     take (expect s kThen d) λ _ e.
@@ -143,8 +136,6 @@ branchesBy process more s n c =
     f
 
 unfoldable mutual
-  unfolding tokenAt readType termHead processBy restBy branchesBy
-
   pub readProcess : ℕ → List ℕ → Cursor → Result Proc
   readProcess zero s c = refused 0 0
   readProcess (suc n) s c =

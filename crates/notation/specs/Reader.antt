@@ -46,14 +46,12 @@ abbrev pub fault : Token → ℕ
 fault t = cond (eqb (t .kind) kFault) 3 4
 
 unfoldable pub expect : List ℕ → ℕ → Cursor → Taken
-unfolding tokenAt
 expect s k c =
     let t = tokenAt s (c .at) in
     cond (eqb (t .kind) k) (At (t .start) (past c t)) (Refused (fault t) (t .start))
 
 -- no token fits here
 unfoldable pub misfit : {A : Type 0} → List ℕ → Cursor → Result A
-unfolding tokenAt
 misfit s c = let t = tokenAt s (c .at) in refused (fault t) (t .start)
 
 -- A limit is tested after what is wanted, at the token that passes it: 4 before 5.
@@ -63,21 +61,18 @@ limited (Refused n i) fits more = Refused n i
 
 -- a bracket that opens
 unfoldable pub opening : List ℕ → ℕ → Cursor → Taken
-unfolding expect
 opening s k c =
     limited (expect s k c) (λ d. ltb (d .depth) bracketLimit)
     (λ d. record { at = d .at; types = d .types; terms = d .terms; depth = d .depth + 1 })
 
 -- "A type term is a `1`, a name, an infix mark, a `+` or a `&` in a type"
 unfoldable pub typeTerm : List ℕ → ℕ → Cursor → Taken
-unfolding expect
 typeTerm s k c =
     limited (expect s k c) (λ d. ltb (d .types) typeTermLimit)
     (λ d. record { at = d .at; types = d .types + 1; terms = d .terms; depth = d .depth })
 
 -- "a process term counts at its first token"
 unfoldable pub processTerm : List ℕ → ℕ → Cursor → Taken
-unfolding expect
 processTerm s k c =
     limited (expect s k c) (λ d. ltb (d .terms) processTermLimit)
     (λ d. record { at = d .at; types = d .types; terms = d .terms + 1; depth = d .depth })

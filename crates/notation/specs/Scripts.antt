@@ -17,7 +17,6 @@ use Rattle.notation.specs.declared.token.DeclarationHead.the-variants.{T
 
 -- x : A, .. up to the bracket that closes
 unfoldable pub readEntries : ℕ → List ℕ → ℕ → Cursor → Result (List Entry)
-unfolding tokenAt nameAt expect readType
 readEntries zero s close c = refused 0 0
 readEntries (suc n) s close c =
     take (expect s kName c) λ i d.
@@ -29,7 +28,6 @@ readEntries (suc n) s close c =
     f
 
 unfoldable pub entryList : ℕ → List ℕ → ℕ → ℕ → Cursor → Result (List Entry)
-unfolding tokenAt expect opening readEntries
 entryList n s open′ close c =
     take (opening s open′ c) λ _ d.
     part (choose (eqb (kindAt s (d .at)) kName) (readEntries n s close) (λ d. take (expect s close d) λ _ e. got [] e) d) λ entries e.
@@ -55,7 +53,6 @@ keyword s k before limit c = limited (expect s k c) (λ _. ltb before limit) (λ
 
 -- type t = A
 unfoldable pub typeDeclaration : ℕ → List ℕ → ℕ → Cursor → Result Declaration
-unfolding expect readType nameAt
 typeDeclaration n s before c =
     take (keyword s kType before typeLimit c) λ _ d.
     take (expect s kName d) λ i e.
@@ -63,7 +60,6 @@ typeDeclaration n s before c =
 
 -- proc p (x : A, ..) [y : B, ..] = P
 unfoldable pub procDeclaration : ℕ → List ℕ → ℕ → Cursor → Result Declaration
-unfolding expect entryList readProcess nameAt
 procDeclaration n s before c =
     take (keyword s kProc before processLimit c) λ _ d.
     take (expect s kName d) λ i e.
@@ -73,7 +69,6 @@ procDeclaration n s before c =
 
 -- exec p
 unfoldable pub execDeclaration : List ℕ → ℕ → Cursor → Result Declaration
-unfolding expect nameAt
 execDeclaration s before c =
     take (keyword s kExec before execLimit c) λ _ d.
     take (expect s kName d) λ i e. got (declareExec (nameIn s i)) e
@@ -89,7 +84,6 @@ moreExecs k = record { types = k .types; processes = k .processes; execs = k .ex
 
 -- a declaration and the script after it, by what begins it
 unfoldable pub scriptBy : (Count → Cursor → Result (List Declaration)) → ℕ → List ℕ → Count → Cursor → DeclarationHead → Result (List Declaration)
-unfolding misfit typeDeclaration procDeclaration execDeclaration
 scriptBy script n s k c TypeWord = part (typeDeclaration n s (k .types) c) λ a d. lastly (_∷_ a) (script (moreTypes k) d)
 scriptBy script n s k c ProcWord = part (procDeclaration n s (k .processes) c) λ a d. lastly (_∷_ a) (script (moreProcesses k) d)
 scriptBy script n s k c ExecWord = part (execDeclaration s (k .execs) c) λ a d. lastly (_∷_ a) (script (moreExecs k) d)
@@ -97,7 +91,6 @@ scriptBy script n s k c End = got [] c
 scriptBy script n s k c Other = misfit s c
 
 unfoldable pub readScript : ℕ → List ℕ → Count → Cursor → Result (List Declaration)
-unfolding tokenAt declarationHead scriptBy
 readScript zero s k c = refused 0 0
 readScript (suc n) s k c = scriptBy (λ j d. readScript n s j d) n s k c (declarationHead (kindAt s (c .at)))
 
@@ -110,7 +103,6 @@ fuel s = 2 * length s + 4
 
 -- the declarations of a text, or its refusal among 2 to 5: 2 where it is too long, else the first fault of one pass
 unfoldable pub readText : List ℕ → Result (List Declaration)
-unfolding readScript
 readText s =
     cond (leb (length s) textLimit)
     (readScript (fuel s) s (record { types = 0; processes = 0; execs = 0 }) start)

@@ -134,8 +134,6 @@ abbrev pub putChoice : ℕ → Tally → List ℕ → List ℕ
 putChoice kind d w = putNode w (d .nodes) (typeNode kind (d .alternatives) (d .last))
 
 unfoldable mutual
-  unfolding afterType typeWord pairWord putNode putAlternative
-
   pub writeType : Ty Located → Tally → List ℕ → List ℕ
   writeType unit k w = putNode w (k .nodes) (typeNode 0 0 0)
   writeType (named n) k w = putNode w (k .nodes) (typeNode 1 0 (n .at))
@@ -156,8 +154,6 @@ abbrev pub emptyPointer : ℕ → ℕ
 emptyPointer at = processTermLimit + at
 
 unfoldable mutual
-  unfolding afterType
-
   pub afterProcess : Proc → Tally → Tally
   afterProcess (empty at) k = lasting (emptyPointer at) k
   afterProcess (sendUnit at c P) k = moreTerms (afterProcess P k)
@@ -185,8 +181,6 @@ abbrev pub putOver : ℕ → ℕ → ℕ → ℕ → Tally → List ℕ → List
 putOver kind at first second d w = putTerm w (d .terms) (termNode kind at first second (d .last))
 
 unfoldable mutual
-  unfolding afterType afterProcess writeType termWord termWord′ pairWord putTerm putBranch
-
   pub writeProcess : Proc → Tally → List ℕ → List ℕ
   writeProcess (empty at) k w = w
   writeProcess (sendUnit at c P) k w = putOver 1 at (c .at) 0 (afterProcess P k) (writeProcess P k w)
@@ -212,24 +206,20 @@ unfoldable mutual
 
 -- ── declarations
 unfoldable pub afterEntries : List Entry → Tally → Tally
-unfolding afterType
 afterEntries [] k = k
 afterEntries (e ∷ es) k = afterEntries es (moreEntries (afterType (e .type) k))
 
 unfoldable pub writeEntries : List Entry → Tally → List ℕ → List ℕ
-unfolding afterType writeType pairWord putEntry
 writeEntries [] k w = w
 writeEntries (e ∷ es) k w =
     writeEntries es (moreEntries (afterType (e .type) k)) (putEntry (writeType (e .type) k w) (k .entries) (e .channel .at) (afterType (e .type) k .last))
 
 unfoldable pub afterDeclaration : Declaration → Tally → Tally
-unfolding afterType afterEntries afterProcess
 afterDeclaration (declareType n A) k = moreTypes (afterType A k)
 afterDeclaration (declareProc n xs ys P) k = moreProcesses (afterProcess P (afterEntries ys (afterEntries xs k)))
 afterDeclaration (declareExec n) k = moreExecs k
 
 unfoldable pub writeDeclaration : Declaration → Tally → List ℕ → List ℕ
-unfolding afterType afterEntries afterProcess writeType writeEntries writeProcess putType putProcess putExec
 writeDeclaration (declareType n A) k w = putType (writeType A k w) (k .types) (n .at) (afterType A k .last)
 writeDeclaration (declareProc n xs ys P) k w =
     let d = afterEntries xs k in
@@ -238,12 +228,10 @@ writeDeclaration (declareProc n xs ys P) k w =
 writeDeclaration (declareExec n) k w = putExec w (k .execs) (n .at)
 
 unfoldable pub afterScript : List Declaration → Tally → Tally
-unfolding afterDeclaration
 afterScript [] k = k
 afterScript (a ∷ r) k = afterScript r (afterDeclaration a k)
 
 unfoldable pub writeScript : List Declaration → Tally → List ℕ → List ℕ
-unfolding afterDeclaration writeDeclaration
 writeScript [] k w = w
 writeScript (a ∷ r) k w = writeScript r (afterDeclaration a k) (writeDeclaration a k w)
 
@@ -260,7 +248,6 @@ zeros = replicate scratchWords 0
 
 -- "they hold the checked tables, which the text alone decides": the words of a script
 unfoldable pub tablesOf : List Declaration → List ℕ
-unfolding afterScript writeScript writeCounts
 tablesOf ds = writeCounts (afterScript ds nothing) (writeScript ds nothing zeros)
 
 abbrev pub tablesRead : Result (List Declaration) → List ℕ
@@ -269,5 +256,4 @@ tablesRead (refused n i) = zeros
 
 -- the first 8,192 words of scratch for a text that is not refused
 unfoldable pub tables : List ℕ → List ℕ
-unfolding readText tablesOf
 tables s = tablesRead (readText s)

@@ -150,22 +150,18 @@ kEnd = 33
 
 -- the kind of a word or mark; that of a name where it is none
 unfoldable pub symbol : List ℕ → ℕ
-unfolding find same symbols
 symbol w = find (same w) symbols 0
 
 -- "Space, tab, LF and CR separate tokens": where the next byte stands that is none of them
 unfoldable pub skip : List ℕ → ℕ → ℕ
-unfolding find blank
 skip s at = find (λ b. not (blank b)) (drop at s) at
 
 -- where the name ends that begins at an offset
 unfoldable pub nameEnd : List ℕ → ℕ → ℕ
-unfolding find nameByte
 nameEnd s at = find (λ b. not (nameByte b)) (drop at s) at
 
 -- the bytes of the name that begins at an offset
 unfoldable pub nameAt : List ℕ → ℕ → List ℕ
-unfolding nameEnd
 nameAt s at = take (nameEnd s at - at) (drop at s)
 
 abbrev pub token : ℕ → ℕ → ℕ → Token
@@ -177,17 +173,14 @@ named k a i e = token (cond (leb (e - i) nameLimit) k kFault) a e
 
 -- a letter at i: a reserved word or a name
 unfoldable pub wordAt : List ℕ → ℕ → Token
-unfolding symbol nameAt nameEnd named
 wordAt s i = named (symbol (nameAt s i)) i i (nameEnd s i)
 
 -- an apostrophe at i: "A label is an apostrophe and a name"
 unfoldable pub labelAt : List ℕ → ℕ → Token
-unfolding letter nameEnd named
 labelAt s i = cond (letter (getD s (i + 1) 0)) (named kLabel i (i + 1) (nameEnd s (i + 1))) (token kFault i (i + 1))
 
 -- "the longest mark wins": a mark of two bytes, else of one, else no token
 unfoldable pub markAt : List ℕ → ℕ → Token
-unfolding symbol
 markAt s i =
     cond (ltb (symbol (take 2 (drop i s))) kRoundOpen) (token (symbol (take 2 (drop i s))) i (i + 2))
     (cond (ltb (symbol (take 1 (drop i s))) kName) (token (symbol (take 1 (drop i s))) i (i + 1))
@@ -195,14 +188,12 @@ markAt s i =
 
 -- the token whose first byte stands at i
 unfoldable pub firstAt : List ℕ → ℕ → Token
-unfolding letter wordAt labelAt markAt
 firstAt s i =
     cond (letter (getD s i 0)) (wordAt s i)
     (cond (eqb (getD s i 0) 39) (labelAt s i) (markAt s i))
 
 -- the next token from an offset on; the end of the text is at its length
 unfoldable pub tokenAt : List ℕ → ℕ → Token
-unfolding skip firstAt
 tokenAt s at =
     let i = skip s at in
     cond (ltb i (length s)) (firstAt s i) (token kEnd (length s) (length s))

@@ -30,7 +30,6 @@ infixOf k A B = cond (eqb k kStar) (tensor A B) (cond (eqb k kAt) (par A B) (lol
 
 -- A type is an atom, or an atom, an infix mark and a type.
 unfoldable pub typeBy : (Cursor → Result (Ty Located)) → (Cursor → Result (Ty Located)) → List ℕ → Cursor → Result (Ty Located)
-unfolding tokenAt isInfix infixOf typeTerm
 typeBy atom type s c =
     part (atom c) λ A d.
     choose (isInfix (kindAt s (d .at)))
@@ -48,7 +47,6 @@ choiceBy alternatives s k choice c =
 
 -- an atom, by what begins it
 unfoldable pub atomBy : (Cursor → Result (Ty Located)) → (Cursor → Result (Alternatives Located)) → List ℕ → Cursor → TypeHead → Result (Ty Located)
-unfolding expect misfit opening typeTerm nameAt
 atomBy type alternatives s c One = take (typeTerm s kOne c) λ _ d. got unit d
 atomBy type alternatives s c Name = take (typeTerm s kName c) λ i d. got (named (nameIn s i)) d
 atomBy type alternatives s c Round =
@@ -65,7 +63,6 @@ labelTerm s n c = limited (expect s kLabel c) (λ _. ltb n labelLimit) (λ d. d)
 
 -- one label or more, of which n came before: 'l : A, ..
 unfoldable pub alternativesBy : (Cursor → Result (Ty Located)) → (Cursor → Result (Alternatives Located)) → List ℕ → ℕ → Cursor → Result (Alternatives Located)
-unfolding tokenAt expect labelTerm nameAt
 alternativesBy type more s n c =
     take (labelTerm s n c) λ i d.
     take (expect s kColon d) λ _ e.
@@ -76,8 +73,6 @@ alternativesBy type more s n c =
     f
 
 unfoldable mutual
-  unfolding tokenAt typeHead typeBy atomBy alternativesBy
-
   pub readType : ℕ → List ℕ → Cursor → Result (Ty Located)
   readType zero s c = refused 0 0
   readType (suc n) s c = typeBy (λ d. readAtom n s d) (λ d. readType n s d) s c
