@@ -1,5 +1,5 @@
 -- The token at an offset of a text: total over every text and offset.
-use Prim.Native.Nat.{ℕ, _+_, _-_}
+use Prim.Native.Nat.{ℕ, _+_, _-_, _≤_, _<_}
 use mathlib.Core.List.{List, [], _∷_}
 use mathlib.Core.Bool.{not, cond}
 use lib.ListN.{length, getD, take, drop}
@@ -200,3 +200,8 @@ tokenAt s at =
 
 abbrev pub kindAt : List ℕ → ℕ → ℕ
 kindAt s at = tokenAt s at .kind
+
+-- a token that is neither a fault nor the end lies past its offset, within the text: what a reading goes on by
+pub record Onward (s : List ℕ) (at : ℕ) (t : Token) : Type 0 where
+  pub starts : t .start ≤ length s
+  pub goes : t .kind < kFault → (at < t .end) × (t .end ≤ length s) × (t .start < length s)
