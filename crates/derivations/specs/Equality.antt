@@ -189,6 +189,9 @@ mutual
 pub sameType-decides : Decides sameType
 sameType-decides = record { sound = sameType-sound; self = sameType-refl }
 
+pub atLeaf-iff : (A : Ty Name) → So (atLeaf (shape A)) ↔ (A ≡ unit)
+atLeaf-iff A = (λ e. sym (by-shape unit leaf-sound A e), λ e. ap (λ B. atLeaf (shape B)) e)
+
 pub sameType-iff : (A B : Ty Name) → So (sameType A B) ↔ (A ≡ B)
 sameType-iff = decides-iff sameType-decides
 

@@ -1,2 +1,5 @@
 pub mod Booleans
 pub mod Equality
+pub mod Fine
+pub mod Parts
+pub mod Rules
