@@ -1,7 +1,7 @@
 -- When the check of a process is fine: one law for each combinator of verdicts.
 use Prim.Native.Nat.{ℕ}
-use mathlib.Core.Path.{_≡_, refl, sym, ap, subst}
-use mathlib.Core.Logic.{_↔_, Iff·rfl, Iff·trans}
+use mathlib.Core.Path.{_≡_, refl, sym, subst}
+use mathlib.Core.Logic.{_↔_}
 use mathlib.Core.Bool.{Bool, true, false, So}
 use mathlib.Core.Option.{Option, some, none, Option·some-injective, Option·none-ne-some}
 use Rattle.calculus.specs.Verdict.{Verdict, fine, refused, andThen, demand, having}

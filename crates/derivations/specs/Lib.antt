@@ -3,3 +3,5 @@ pub mod Equality
 pub mod Fine
 pub mod Parts
 pub mod Rules
+pub mod Accepts
+pub mod Demand

@@ -1,9 +1,8 @@
 -- What the tests inside the rules say of the channels held.
-use Prim.Native.Nat.{_<_}
-use mathlib.Core.Path.{_≡_, refl, sym, _∙_, ap}
-use mathlib.Core.Logic.{_↔_, Iff·rfl, Iff·trans, ⊎-elim}
+use mathlib.Core.Path.{_≡_, refl, ap}
+use mathlib.Core.Logic.{_↔_, Iff·rfl, ⊎-elim}
 use mathlib.Core.List.{List, [], _∷_, _++_, List·Memᴰ·append-cases, List·Memᴰ·head, List·Memᴰ·tail}
-use mathlib.Core.Bool.{Bool, true, false, So, not, _&&_, and-eq-true-iff}
+use mathlib.Core.Bool.{So, and-eq-true-iff}
 use mathlib.Core.Option.{Option, some, none}
 use lib.ListN.{length}
 use Rattle.notation.specs.Limits.{heldLimit}

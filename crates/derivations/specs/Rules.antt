@@ -1,18 +1,18 @@
 -- The check of a process is fine exactly where the rules type it.
 use Prim.Native.Nat.{ℕ}
-use mathlib.Core.Path.{_≡_, refl, sym, _∙_, ap}
+use mathlib.Core.Path.{_≡_, refl, _∙_, ap}
 use mathlib.Core.Logic.{_↔_, Iff·rfl, Iff·trans}
-use mathlib.Core.List.{List, [], _∷_, _++_}
-use mathlib.Core.Bool.{Bool, true, false, So, not, _&&_, and-eq-true-iff}
+use mathlib.Core.List.{[], _∷_, _++_}
+use mathlib.Core.Bool.{Bool, true, false, and-eq-true-iff}
 use mathlib.Core.Option.{Option, some, none}
 use Rattle.notation.specs.Bytes.{same}
-use Rattle.notation.specs.Tree.{Name, Located, Ty, unit, Alternatives, Proc, empty, sendUnit, sendChannel, sendLabel, cancel, spawn, recvUnit, recvChannel, recvLabel, fwd, call, raise, try, Branches, branch, plain}
+use Rattle.notation.specs.Tree.{Name, unit, Alternatives, Proc, empty, sendUnit, sendChannel, sendLabel, cancel, spawn, recvUnit, recvChannel, recvLabel, fwd, call, raise, try, Branches, branch}
 use Rattle.calculus.specs.Named.{lookup, names, isSome, all, distinct}
-use Rattle.calculus.specs.Types.{Side, provided, used, other, sameSide, sameType, passing, choosing, labelled}
-use Rattle.calculus.specs.Program.{Slot, slot, Context, Program}
+use Rattle.calculus.specs.Types.{provided, used, other, passing, choosing, labelled}
+use Rattle.calculus.specs.Program.{slot, Context, Program}
 use Rattle.calculus.specs.Mentions.{spawnTakes, spawnLeaves, neverBoth, exactlyOne}
 use Rattle.calculus.specs.Typing.{acting, fitting, namesOf, listFits, withoutAll, Typed, TypedBranches, sends-unit, recvs-unit, sends-channel, recvs-channel, sends-label, recvs-label, forwards, calls, spawns, tries, raises, cancels, empties, last-branch, one-branch}
-use Rattle.calculus.specs.Verdict.{Verdict, fine}
+use Rattle.calculus.specs.Verdict.{fine}
 use Rattle.calculus.specs.Checking.{check, checkBranches}
 use Rattle.derivations.specs.Booleans.{not-iff, and-iff, isNil-iff, isSome-iff}
 use Rattle.derivations.specs.Equality.{sameType-decides, decides-sym}
