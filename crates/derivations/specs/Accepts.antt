@@ -2,8 +2,8 @@
 use Prim.Native.Nat.{ℕ, zero, suc, _+_, _≤_}
 use native.Mathlib.Omega.{arith}
 use mathlib.Core.Path.{_≡_, refl, sym, _∙_, ap, subst}
-use mathlib.Core.Logic.{_↔_, Iff·rfl, Iff·trans, ⊎-elim}
-use mathlib.Core.List.{List, [], _∷_, _++_, List·Memᴰ·head, List·Memᴰ·tail, List·Memᴰ·cases-cons}
+use mathlib.Core.Logic.{_↔_, Iff·rfl, Iff·trans}
+use mathlib.Core.List.{List, [], _∷_, _++_}
 use mathlib.Core.Bool.{Bool, false}
 use mathlib.Core.Option.{Option, some, none, Option·none-ne-some, Option·some-injective}
 use lib.ListN.{length, length-append, getElem?}
@@ -21,6 +21,7 @@ use Rattle.calculus.specs.Checking.{check, checkBranches, unlessNamed, checkDec
 use Rattle.calculus.specs.Accepted.{Checked, accepted, faulty, judged, checkedRead, checked}
 use Rattle.calculus.specs.WellFormed.{In}
 use Rattle.calculus.specs.Demands.{Derivation, Derivable}
+use Rattle.derivations.specs.Booleans.{each-cons}
 use Rattle.derivations.specs.Fine.{refuted, then-law}
 use Rattle.derivations.specs.Rules.{check-iff, branches-iff}
 
@@ -38,9 +39,9 @@ pub branches-complete : {p : Program} {B : Branches} {G : Context} {link : Bool}
 branches-complete {p} {B} {G} {link} at {c} {r} = branches-iff p B G link at c r .1
 
 -- ── a process of a script: "a signature's 17th name is taken before the body"
-unlessNamed-law : {A B : Type 0} (o : Option Located) (v : Verdict) → (o ≡ none) ↔ A → (v ≡ fine) ↔ B → (unlessNamed o v ≡ fine) ↔ (A × B)
-unlessNamed-law none v f g = (λ e. (f .0 refl, g .0 e), λ h. g .1 (h .1))
-unlessNamed-law (some x) v f g = (refuted, λ h. absurd (Option·none-ne-some x (sym (f .1 (h .0)))))
+unlessNamed-law : {A B : Type 0} {o : Option Located} {v : Verdict} → (o ≡ none) ↔ A → (v ≡ fine) ↔ B → (unlessNamed o v ≡ fine) ↔ (A × B)
+unlessNamed-law {o = none} f g = (λ e. (f .0 refl, g .0 e), λ h. g .1 (h .1))
+unlessNamed-law {o = some x} f g = (refuted, λ h. absurd (Option·none-ne-some x (sym (f .1 (h .0)))))
 
 none-there-iff : {X : Type 0} (l : List X) (n : ℕ) → (getElem? l n ≡ none) ↔ (length l ≤ n)
 none-there-iff [] n = (λ e. omega arith, λ h. refl)
@@ -63,31 +64,27 @@ length-signature xs ys P =
 body-iff : (p : Program) (xs ys : List Entry) (P : Proc)
     → (unlessNamed (getElem? (channels xs ++ channels ys) heldLimit) (check p (signatureContext (signed xs ys P)) false P) ≡ fine) ↔ TypedBody p (signed xs ys P)
 body-iff p xs ys P = Iff·trans
-    (unlessNamed-law _ _ (none-there-iff (channels xs ++ channels ys) heldLimit) (check-iff p P (signatureContext (signed xs ys P)) false)) (
+    (unlessNamed-law (none-there-iff (channels xs ++ channels ys) heldLimit) (check-iff p P (signatureContext (signed xs ys P)) false)) (
       λ (l, d). record { room = omega (arith, length-signature xs ys P); body = d },
       λ b. (omega (arith, length-signature xs ys P, b .room), b .body),
     )
 
 -- ── scripts
 abbrev Each : Program → List (Name × Signature) → Type 0
-Each p l = (n : Name) (s : Signature) → In (n, s) l → TypedBody p s
-
-each-cons : (p : Program) (e : Name × Signature) (l : List (Name × Signature)) → (TypedBody p (e .1) × Each p l) ↔ Each p (e ∷ l)
-each-cons p e l = (
-  λ (b, f) n s m. ⊎-elim (λ h. subst (TypedBody p) (ap (λ (k : Name × Signature). k .1) (sym h)) b) (f n s) (List·Memᴰ·cases-cons m),
-  λ f. (f (e .0) (e .1) (List·Memᴰ·head refl), λ n s m. f n s (List·Memᴰ·tail m)),
-)
+Each p l = (e : Name × Signature) → In e l → TypedBody p (e .1)
 
 declarations-iff : (p : Program) (ds : List Declaration) → (checkDeclarations p ds ≡ fine) ↔ Each p (programOf ds .processes)
 unfolding programOf
-declarations-iff p [] = (λ _ n s m. elim m [ ], λ _. refl)
+declarations-iff p [] = (λ _ e m. elim m [ ], λ _. refl)
 declarations-iff p (declareType n A ∷ r) = declarations-iff p r
-declarations-iff p (declareProc n xs ys P ∷ r) = Iff·trans (then-law _ _ (body-iff p xs ys P) (declarations-iff p r)) (each-cons p (n .name, signed xs ys P) (programOf r .processes))
+declarations-iff p (declareProc n xs ys P ∷ r) = Iff·trans
+    (then-law (body-iff p xs ys P) (declarations-iff p r))
+    (each-cons (λ e. TypedBody p (e .1)) (n .name, signed xs ys P) (programOf r .processes))
 declarations-iff p (declareExec n ∷ r) = declarations-iff p r
 
 pub typed-iff : (ds : List Declaration) → (typed ds ≡ fine) ↔ Derivation ds
 unfolding typed
-typed-iff ds = declarations-iff (programOf ds) ds
+typed-iff ds = Iff·trans (declarations-iff (programOf ds) ds) (λ f n s. f (n, s), λ f e. f (e .0) (e .1))
 
 -- ── texts
 abbrev declarationsOf : Checked → Option (List Declaration)
@@ -110,7 +107,7 @@ read-iff r ds = (to r, λ (c, e, f). ap checkedRead e ∙ judged-iff ds ds (andT
 pub accepts : (text : List ℕ) (ds : List Declaration) → (checked text ≡ accepted ds) ↔ Derivable text ds
 unfolding checked
 accepts text ds =
-    let t = then-law (declared ds) (typed ds) Iff·rfl (typed-iff ds) in
+    let t = then-law {u = declared ds} Iff·rfl (typed-iff ds) in
     Iff·trans (read-iff (readText text) ds) (
       λ (c, e, f). record { cursor = c; read = e; declarations = t .0 f .0; derivation = t .0 f .1 },
       λ d. (d .cursor, d .read, t .1 (d .declarations, d .derivation)),

@@ -1,6 +1,6 @@
 -- What the tests inside the rules say of the channels held.
 use mathlib.Core.Path.{_≡_, refl, ap}
-use mathlib.Core.Logic.{_↔_, Iff·rfl, ⊎-elim}
+use mathlib.Core.Logic.{_↔_, ⊎-elim}
 use mathlib.Core.List.{List, [], _∷_, _++_, List·Memᴰ·append-cases, List·Memᴰ·head, List·Memᴰ·tail}
 use mathlib.Core.Bool.{So, and-eq-true-iff}
 use mathlib.Core.Option.{Option, some, none}
@@ -8,12 +8,12 @@ use lib.ListN.{length}
 use Rattle.notation.specs.Limits.{heldLimit}
 use Rattle.notation.specs.Tree.{Name, Ty, unit}
 use Rattle.calculus.specs.Named.{lookup, isSome, all}
-use Rattle.calculus.specs.Types.{Side, sameSide, sameType, shape, atLeaf}
+use Rattle.calculus.specs.Types.{Side, sameSide, sameType}
 use Rattle.calculus.specs.Program.{Slot, slot, Context}
 use Rattle.calculus.specs.Typing.{Brought, entryFits, listFits}
 use Rattle.calculus.specs.Checking.{mayBring, isUnitOn, fitsSlot}
 use Rattle.calculus.specs.WellFormed.{In}
-use Rattle.derivations.specs.Booleans.{never, and-iff, ltb-iff, isNone-iff, all-iff}
+use Rattle.derivations.specs.Booleans.{never, itself, _and_, ltb-iff, isNone-iff, all-iff}
 use Rattle.derivations.specs.Equality.{sameSide-iff, atLeaf-iff}
 
 -- ── slots
@@ -24,16 +24,16 @@ side-iff s h =
 
 pub isUnitOn-iff : (s : Side) (h : Slot) → So (isUnitOn s h) ↔ (h ≡ slot s unit)
 isUnitOn-iff s h =
-    let t = and-iff (sameSide (h .side) s) (atLeaf (shape (h .type))) (sameSide-iff (h .side) s) (atLeaf-iff (h .type)) in
+    let t = sameSide-iff (h .side) s and atLeaf-iff (h .type) in
     (λ e i. slot (t .0 e .0 i) (t .0 e .1 i), λ e. t .1 (ap (λ (k : Slot). k .side) e, ap (λ (k : Slot). k .type) e))
 
 pub fitsSlot-iff : (s : Side) (A : Ty Name) (h : Slot) → So (fitsSlot s A h) ↔ ((h ≡ slot s (h .type)) × So (sameType (h .type) A))
-fitsSlot-iff s A h = and-iff (sameSide (h .side) s) (sameType (h .type) A) (side-iff s h) Iff·rfl
+fitsSlot-iff s A h = side-iff s h and itself (sameType (h .type) A)
 
 -- ── a name brought in
 pub mayBring-iff : (x : Name) (G H : Context) → So (mayBring x G H) ↔ Brought x G H
 mayBring-iff x G H =
-    let t = and-iff _ _ (isNone-iff (lookup x G)) (ltb-iff (length H) heldLimit) in
+    let t = isNone-iff (lookup x G) and ltb-iff (length H) heldLimit in
     (λ e. record { new = t .0 e .0; room = t .0 e .1 }, λ b. t .1 (b .new, b .room))
 
 -- ── the lists of a call: what fits is held
