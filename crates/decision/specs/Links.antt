@@ -18,7 +18,8 @@ use Rattle.decision.specs.Lists.{implies, implies-iff, all-law, at-in, i
 pub stands-iff : (C : Config) (A : Process → Type 0) → ((q : Process) → In q (C .processes) → A q) ↔ ((i : ℕ) (q : Process) → Stands C i q → A q)
 stands-iff C A = (λ h i q s. h q (at-in (C .processes) i (s .there)), λ h q m. let r = in-at m in h (r .0) q (record { there = r .1 }))
 
-pub places-law : {A : Process → Type 0} (C : Config) (f : Process → Bool) → ((q : Process) → So (f q) ↔ A q) → So (all f (C .processes)) ↔ ((i : ℕ) (q : Process) → Stands C i q → A q)
+pub places-law : {A : Process → Type 0} (C : Config) (f : Process → Bool) → ((q : Process) → So (f q) ↔ A q)
+    → So (all f (C .processes)) ↔ ((i : ℕ) (q : Process) → Stands C i q → A q)
 places-law {A} C f g = Iff·trans (all-law f (C .processes) g) (stands-iff C A)
 
 -- ── tests of a link
@@ -102,5 +103,7 @@ unfolding linkedOnce
 linkedOnce-iff C = Iff·trans
     (apart-iff (λ q r. linksApart (q .link) (r .link)) (λ q r. apart-sym (q .link) (r .link)) (C .processes)) (
       λ f i j q r s t h a b. f i j q r (s .there) (t .there) (together-iff (q .link) (r .link) .1 (h, a, b)),
-      λ f i j q r a b e. let k = together-iff (q .link) (r .link) .0 e in f i j q r (record { there = a }) (record { there = b }) (k .0) (k .1) (k .2),
+      λ f i j q r a b e.
+          let k = together-iff (q .link) (r .link) .0 e in
+          f i j q r (record { there = a }) (record { there = b }) (k .0) (k .1) (k .2),
     )

@@ -55,7 +55,8 @@ module _ {X : Type 0} where
       later : (i : ℕ) (x : X) → getElem? l i ≡ some x → So (f (suc k + i) x)
       later i x e = let n : k + suc i ≡ suc k + i = omega arith in subst (λ m. So (f m x)) n (h (suc i) x e)
 
-  pub allFrom-law : {A : ℕ → X → Type 0} (f : ℕ → X → Bool) (l : List X) → ((i : ℕ) (x : X) → So (f i x) ↔ A i x) → So (allFrom f 0 l) ↔ ((i : ℕ) (x : X) → getElem? l i ≡ some x → A i x)
+  pub allFrom-law : {A : ℕ → X → Type 0} (f : ℕ → X → Bool) (l : List X) → ((i : ℕ) (x : X) → So (f i x) ↔ A i x)
+      → So (allFrom f 0 l) ↔ ((i : ℕ) (x : X) → getElem? l i ≡ some x → A i x)
   allFrom-law f l g = (
     λ e i x h. g i x .0 (rw zero-add at (allFrom-at f 0 l e i x h)),
     λ h. at-allFrom f 0 l (λ i x e. rw zero-add (g i x .1 (h i x e))),
@@ -78,9 +79,12 @@ module _ {X : Type 0} (f : X → X → Bool) (symmetric : (x y : X) → f x y �
   -- x goes from what is to come to what is seen
   passed : (x : X) (l seen : List X) → (((y : X) → In y seen → So (f x y)) × Beside (x ∷ seen) l) ↔ Beside seen (x ∷ l)
   passed x l seen = (
-    λ (h, (k, u)). (each-cons (λ z. (y : X) → In y seen → So (f z y)) x l .0 (h, λ z m y n. k z m y (List·Memᴰ·tail n)), (λ y m. symmetric x y ∙ k y m x (List·Memᴰ·head refl), u)),
+    λ (h, (k, u)). (each-cons (λ z. (y : X) → In y seen → So (f z y)) x l .0 (h, λ z m y n. k z m y (List·Memᴰ·tail n)), (from-seen k, u)),
     λ (k, (h, u)). (k x (List·Memᴰ·head refl), (λ z m. each-cons (λ y. So (f z y)) x seen .0 (symmetric z x ∙ h z m, k z (List·Memᴰ·tail m)), u)),
   )
+    where
+      from-seen : ((z : X) → In z l → (y : X) → In y (x ∷ seen) → So (f z y)) → (y : X) → In y l → So (f x y)
+      from-seen k y m = symmetric x y ∙ k y m x (List·Memᴰ·head refl)
 
   pairwise-beside : (l seen : List X) → So (pairwise f seen l) ↔ Beside seen l
   unfolding pairwise
@@ -106,10 +110,13 @@ module _ {X : Type 0} (f : X → X → Bool) (symmetric : (x y : X) → f x y �
 
   apart-pairwise : (l : List X) → Apart l → Pairwise f l
   apart-pairwise [] h = tt
-  apart-pairwise (x ∷ l) h = (λ y m. ⊎-elim (λ e. e) (λ e. absurd (never-zero (in-at m) e)) (bool-cases (f x y)), apart-pairwise l (λ i j y z a b e. let n = h (suc i) (suc j) y z a b e in omega arith))
+  apart-pairwise (x ∷ l) h = (λ y m. ⊎-elim (λ e. e) (λ e. absurd (elsewhere (in-at m) e)) (bool-cases (f x y)), apart-pairwise l later)
     where
-      never-zero : {y : X} → (j : ℕ) × (getElem? l j ≡ some y) → f x y ≡ false → ⊥
-      never-zero {y} r e = let n = h zero (suc (r .0)) x y refl (r .1) e in omega arith
+      elsewhere : {y : X} → (j : ℕ) × (getElem? l j ≡ some y) → f x y ≡ false → ⊥
+      elsewhere {y} r e = let n = h zero (suc (r .0)) x y refl (r .1) e in omega arith
+
+      later : Apart l
+      later i j y z a b e = let n = h (suc i) (suc j) y z a b e in omega arith
 
   pub apart-iff : (l : List X) → So (pairwise f [] l) ↔ Apart l
   apart-iff l = Iff·trans (pairwise-iff l) (pairwise-apart l, apart-pairwise l)

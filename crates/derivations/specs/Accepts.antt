@@ -32,10 +32,12 @@ sound {p} P G link = check-iff p P G link .0
 pub complete : {p : Program} {P : Proc} {G : Context} {link : Bool} → Typed p G link P → check p G link P ≡ fine
 complete {p} {P} {G} {link} = check-iff p P G link .1
 
-pub branches-sound : {p : Program} (B : Branches) (G : Context) (link : Bool) (at : ℕ) (c : Name) (r : Alternatives Name) → checkBranches p G link at c r B ≡ fine → TypedBranches p G link c r B
+pub branches-sound : {p : Program} (B : Branches) (G : Context) (link : Bool) (at : ℕ) (c : Name) (r : Alternatives Name)
+    → checkBranches p G link at c r B ≡ fine → TypedBranches p G link c r B
 branches-sound {p} B G link at c r = branches-iff p B G link at c r .0
 
-pub branches-complete : {p : Program} {B : Branches} {G : Context} {link : Bool} (at : ℕ) {c : Name} {r : Alternatives Name} → TypedBranches p G link c r B → checkBranches p G link at c r B ≡ fine
+pub branches-complete : {p : Program} {B : Branches} {G : Context} {link : Bool} (at : ℕ) {c : Name} {r : Alternatives Name}
+    → TypedBranches p G link c r B → checkBranches p G link at c r B ≡ fine
 branches-complete {p} {B} {G} {link} at {c} {r} = branches-iff p B G link at c r .1
 
 -- ── a process of a script: "a signature's 17th name is taken before the body"
@@ -95,7 +97,8 @@ judged-iff : (ds es : List Declaration) (v : Verdict) → (judged ds v ≡ accep
 judged-iff ds es fine = (λ e. (Option·some-injective ds es (ap declarationsOf e), refl), λ h. ap accepted (h .0))
 judged-iff ds es (Verdict.refused n at) = (λ e. absurd (Option·none-ne-some es (ap declarationsOf e)), λ h. refuted (h .1))
 
-read-iff : (r : Result (List Declaration)) (ds : List Declaration) → (checkedRead r ≡ accepted ds) ↔ ((c : Cursor) × (r ≡ got ds c) × (andThen (declared ds) (typed ds) ≡ fine))
+read-iff : (r : Result (List Declaration)) (ds : List Declaration)
+    → (checkedRead r ≡ accepted ds) ↔ ((c : Cursor) × (r ≡ got ds c) × (andThen (declared ds) (typed ds) ≡ fine))
 read-iff r ds = (to r, λ (c, e, f). ap checkedRead e ∙ judged-iff ds ds (andThen (declared ds) (typed ds)) .1 (refl, f))
   where
     to : (r : Result (List Declaration)) → checkedRead r ≡ accepted ds → (c : Cursor) × (r ≡ got ds c) × (andThen (declared ds) (typed ds) ≡ fine)

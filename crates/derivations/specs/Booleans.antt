@@ -20,6 +20,12 @@ pub bool-cases : (b : Bool) → (b ≡ true) ⊎ (b ≡ false)
 bool-cases true = inl refl
 bool-cases false = inr refl
 
+-- tests that pass together are equal
+pub bool-ext : {a b : Bool} → (So a → So b) → (So b → So a) → a ≡ b
+bool-ext {a = true} f g = sym (f refl)
+bool-ext {a = false} {b = true} f g = g refl
+bool-ext {a = false} {b = false} f g = refl
+
 pub not-iff : (b : Bool) → So (not b) ↔ (b ≡ false)
 not-iff true = (λ e. sym e, λ e. sym e)
 not-iff false = (λ e. refl, λ e. refl)
@@ -94,7 +100,10 @@ module _ {X : Type 0} where
 
   any-in : (p : X → Bool) (l : List X) → So (any p l) → (x : X) × In x l × So (p x)
   any-in p [] e = never e
-  any-in p (x ∷ l) e = ⊎-elim (λ h. (x, List·Memᴰ·head refl, h)) (λ h. let r = any-in p l h in (r .0, List·Memᴰ·tail (r .1), r .2)) (or-cond (p x) (any p l) .0 e)
+  any-in p (x ∷ l) e = ⊎-elim
+      (λ h. (x, List·Memᴰ·head refl, h))
+      (λ h. let r = any-in p l h in (r .0, List·Memᴰ·tail (r .1), r .2))
+      (or-cond (p x) (any p l) .0 e)
 
   pub any-iff : (p : X → Bool) (l : List X) → So (any p l) ↔ ((x : X) × In x l × So (p x))
   any-iff p l = (any-in p l, λ h. in-any p (h .1) (h .2))

@@ -1,14 +1,14 @@
 -- The tests for equal names, sides and types decide equality.
 use Prim.Native.Nat.{ℕ}
 use mathlib.Core.Path.{_≡_, refl, sym, _∙_, ap, subst}
-use mathlib.Core.Logic.{_↔_, _≢_, _⊎_, inl, inr, ⊎-elim, ⊎-map}
+use mathlib.Core.Logic.{_↔_, _≢_, _⊎_, ⊎-elim, ⊎-map}
 use mathlib.Core.List.{List, [], _∷_}
 use mathlib.Core.Bool.{Bool, true, false, So, true≢false, cond, _&&_, and-eq-true-iff}
 use lib.Dec.{eqb}
 use Rattle.notation.specs.Bytes.{same}
 use Rattle.notation.specs.Tree.{Name, Ty, unit, named, tensor, par, lolli, plus, with, Alternatives, alternative}
 use Rattle.calculus.specs.Types.{Side, provided, used, sameSide, Shape, leaf, word, pair, choice, shape, atLeaf, atWord, atPair, atChoice, atAlternative, atNone, sameType, sameAlternatives}
-use Rattle.derivations.specs.Booleans.{never, bool-cases, itself, _and_, eqb-iff}
+use Rattle.derivations.specs.Booleans.{never, bool-cases, bool-ext, itself, _and_, eqb-iff}
 
 -- ── a test that passes exactly for equal things
 pub record Decides {A : Type 0} (test : A → A → Bool) : Type 0 where
@@ -29,13 +29,7 @@ module _ {A : Type 0} {test : A → A → Bool} (d : Decides test) where
   decides-cases a b = ⊎-map (λ e. (e, decides-iff a b .0 e)) (λ e. (e, decides-not a b .0 e)) (bool-cases (test a b))
 
   pub decides-sym : (a b : A) → test a b ≡ test b a
-  decides-sym a b = go (decides-cases a b) (decides-cases b a)
-    where
-      go : (So (test a b) × (a ≡ b)) ⊎ ((test a b ≡ false) × (a ≢ b)) → (So (test b a) × (b ≡ a)) ⊎ ((test b a ≡ false) × (b ≢ a)) → test a b ≡ test b a
-      go (inl h) (inl k) = h .0 ∙ sym (k .0)
-      go (inl h) (inr k) = absurd (k .1 (sym (h .1)))
-      go (inr h) (inl k) = absurd (h .1 (sym (k .1)))
-      go (inr h) (inr k) = h .0 ∙ sym (k .0)
+  decides-sym a b = bool-ext (λ e. decides-iff b a .1 (sym (d .sound a b e))) (λ e. decides-iff a b .1 (sym (d .sound b a e)))
 
 -- ── numbers
 pub eqb-decides : Decides eqb

@@ -41,11 +41,13 @@ entryFits-held : (s : Side) (A : Ty Name) (o : Option Slot) → So (entryFits s 
 entryFits-held s A none e = never e
 entryFits-held s A (some h) e = refl
 
-listFits-held : (G : Context) (s : Side) {n : Name} {ns : List Name} → In n ns → (es : List (Name × Ty Name)) → So (listFits G s ns es) → So (isSome (lookup n G))
+listFits-held : (G : Context) (s : Side) {n : Name} {ns : List Name}
+    → In n ns → (es : List (Name × Ty Name)) → So (listFits G s ns es) → So (isSome (lookup n G))
 unfolding listFits
 listFits-held G s (List·Memᴰ·head h) [] e = never e
 listFits-held G s (List·Memᴰ·tail m) [] e = never e
-listFits-held G s (List·Memᴰ·head {x = a} {xs = ns} h) (f ∷ es) e = rw h (entryFits-held s (f .1) (lookup a G) (and-eq-true-iff _ (listFits G s ns es) .0 e .0))
+listFits-held G s (List·Memᴰ·head {x = a} {xs = ns} h) (f ∷ es) e =
+    rw h (entryFits-held s (f .1) (lookup a G) (and-eq-true-iff _ (listFits G s ns es) .0 e .0))
 listFits-held G s (List·Memᴰ·tail {x = a} {xs = ns} m) (f ∷ es) e = listFits-held G s m es (and-eq-true-iff (entryFits s (f .1) (lookup a G)) _ .0 e .1)
 
 pub lists-held : (G : Context) (s r : Side) (xs ys : List Name) (es fs : List (Name × Ty Name))

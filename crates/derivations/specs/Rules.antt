@@ -74,7 +74,8 @@ module _ (p : Program) where
         )
     check-iff (fwd at x c) G link = Iff·trans
         (having-law _ _ (lookup (x .name) G) λ h. having-law _ _ (lookup (c .name) G) λ e.
-        demand-law _ _ (side-iff provided h and fitsSlot-iff used (h .type) e) (demand-law _ _ (isNil-iff (withoutAll (x .name ∷ c .name ∷ []) G)) fine-law)) (
+        demand-law _ _ (side-iff provided h and fitsSlot-iff used (h .type) e)
+        (demand-law _ _ (isNil-iff (withoutAll (x .name ∷ c .name ∷ []) G)) fine-law)) (
           λ (h, eh, (e, ee, ((hs, (es, st)), (n, _)))). forwards (h .type) (e .type) (found eh hs) (found ee es) (decides-sym sameType-decides (h .type) (e .type) ∙ st) n,
           λ d. elim d [ forwards A B eh ee st n ↦ (slot provided A, eh, (slot used B, ee, ((refl, (refl, decides-sym sameType-decides B A ∙ st)), (n, tt)))) ],
         )
@@ -92,7 +93,8 @@ module _ (p : Program) where
         (demand-law _ _ (itself (exactlyOne P Q (names G))) (then-law (check-iff P _ true) (check-iff Q _ link)))
         (λ (e, (d, f)). tries e d f, λ d. elim d [ tries e d f ↦ (e, (d, f)) ])
 
-    pub branches-iff : (B : Branches) (G : Context) (link : Bool) (at : ℕ) (c : Name) (r : Alternatives Name) → (checkBranches p G link at c r B ≡ fine) ↔ TypedBranches p G link c r B
+    pub branches-iff : (B : Branches) (G : Context) (link : Bool) (at : ℕ) (c : Name) (r : Alternatives Name)
+        → (checkBranches p G link at c r B ≡ fine) ↔ TypedBranches p G link c r B
     branches-iff Branches.none G link at c r = (λ _. last-branch, λ _. refl)
     branches-iff (branch l P B) G link at c r = Iff·trans
         (having-law _ _ (labelled (l .name) r) λ A. then-law (check-iff P _ link) (branches-iff B G link at c r))
