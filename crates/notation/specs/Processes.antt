@@ -124,16 +124,20 @@ restBy process s c =
     (λ c. got (empty (tokenAt s (c .at) .start)) c)
     c
 
+-- after a branch: a bar and more, or none
+abbrev pub moreBranchesBy : (Cursor → Result Branches) → List ℕ → Cursor → Result Branches
+moreBranchesBy more s c =
+    choose (eqb (kindAt s (c .at)) kBar)
+    (λ c. take (expect s kBar c) λ _ d. more d)
+    (λ c. got Branches.none c)
+    c
+
 -- 'l => P | .., of which n came before
 unfoldable pub branchesBy : (Cursor → Result Proc) → (Cursor → Result Branches) → List ℕ → ℕ → Cursor → Result Branches
 branchesBy process more s n c =
     take (labelTerm s n c) λ i d.
     take (expect s kThen d) λ _ e.
-    part (process e) λ P f.
-    choose (eqb (kindAt s (f .at)) kBar)
-    (λ f. take (expect s kBar f) λ _ g. lastly (branch (labelIn s i) P) (more g))
-    (λ f. got (branch (labelIn s i) P Branches.none) f)
-    f
+    part (process e) λ P f. lastly (branch (labelIn s i) P) (moreBranchesBy more s f)
 
 unfoldable mutual
   pub readProcess : ℕ → List ℕ → Cursor → Result Proc

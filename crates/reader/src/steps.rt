@@ -1,8 +1,11 @@
 // The steps that every reading is made of: a token that is wanted, and what a token begins.
-use notation::reading::{Cursor, Taken, Tally};
+use notation::reading::Cursor;
+use notation::reading::Taken;
+use notation::reading::Tally;
 use notation::script::Script;
-use notation::token::{next_token, Token, TypeHead};
-
+use notation::token::Token;
+use notation::token::TypeHead;
+use notation::token::next_token;
 ghost use mathlib.Core.Path.{_≡_};
 ghost use Prim.Native.Nat.{_≤_};
 ghost use Rattle.notation.specs.Token.{kindAt, width};

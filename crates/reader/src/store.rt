@@ -1,6 +1,6 @@
 // The words of the tables, entry by entry: each appends one and counts it.
-use notation::reading::{Tally, TypeNode};
-
+use notation::reading::Tally;
+use notation::reading::TypeNode;
 ghost use Prim.Native.Nat.{_<_, _≤_};
 ghost use lib.ListN.{length};
 ghost use Rattle.notation.specs.Tables.{moreNodes, moreAlternatives, putNode, putAlternative};
