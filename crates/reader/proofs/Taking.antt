@@ -8,12 +8,12 @@ use lib.Dec.{eqb}
 use lib.ListN.{length}
 use borrow.Author.Tests.{eq-eqb, ne-eqb}
 use Rattle.notation.specs.Token.{tokenAt, kFault, kThen, kLabel, width, Onward}
-use Rattle.notation.specs.Reader.{expect, limited, past, fault}
+use Rattle.notation.specs.Reader.{expect, limited, past, fault, thenToken}
 use Rattle.notation.specs.declared.token.Token.{Token}
 use Rattle.notation.specs.declared.reading.Cursor.{Cursor}
 use Rattle.notation.specs.declared.reading.Taken.{Taken}
 use Rattle.notation.specs.declared.reading.Taken.the-variants.{At, Refused}
-use Rattle.reader.specs.Filling.{Further, Stepped, thenToken, misfitOut}
+use Rattle.reader.specs.Filling.{Further, Stepped, misfitOut}
 use Rattle.reader.specs.declared.steps.Out.the-variants.{Not}
 
 -- every token has a byte

@@ -11,7 +11,7 @@ use borrow.Author.Tests.{ltb-true, eqb-true}
 use Rattle.notation.specs.Limits.{textLimit}
 use Rattle.notation.specs.Token.{kindAt, tokenAt, kOne, kName, kRoundOpen, kRoundClose, kBraceOpen, kBraceClose, kColon, kComma, kPlus, kStar, kAt, kLolli, kLabel}
 use Rattle.notation.specs.Tree.{Located, Ty, unit, named, tensor, par, lolli, plus, with, Alternatives, alternative}
-use Rattle.notation.specs.Reader.{Result, got, refused, take, part, lastly, choose, expect, limited, misfit, opening, typeTerm, fault, closed, nameIn, labelIn}
+use Rattle.notation.specs.Reader.{Result, got, refused, take, part, lastly, choose, expect, limited, misfit, opening, typeTerm, fault, closed, thenToken, onwardFrom, nameIn, labelIn}
 use Rattle.notation.specs.Types.{typeHead, isInfix, infixOf, rightBy, typeBy, roundBy, choiceBy, atomBy, moreBy, alternativesBy, labelTerm, readType, readAtom, readAlternatives}
 use Rattle.notation.specs.Tables.{moreNodes, moreAlternatives, lasting, typeNode, putNode, putAlternative, putInfix, putChoice, afterType, afterAlternatives, writeType, writeAlternatives}
 use Rattle.notation.specs.declared.reading.Cursor.{Cursor}
@@ -22,7 +22,7 @@ use Rattle.notation.specs.declared.token.TypeHead.{TypeHead}
 use Rattle.notation.specs.declared.token.TypeHead.the-variants.{One, Name, Round, Plus, With, Other}
 use Rattle.reader.specs.declared.steps.Out.{Out}
 use Rattle.reader.specs.declared.steps.Out.the-variants.{Got, Not}
-use Rattle.reader.specs.Filling.{Stepped, thenToken, onwardFrom, labelColon, choiceOpening, asOut, misfitOut, Put, Room, Form, Made, Meets, FineType, FineAlternatives, Some, typeForm, alternativesForm, moreForm, rightForm, infixKind, choiceOf, unread, TypeRead, AtomRead, RightRead, AlternativesRead, MoreRead, OneRead, NameRead, RoundRead, ChoiceRead}
+use Rattle.reader.specs.Filling.{Stepped, labelColon, choiceOpening, asOut, misfitOut, Put, Room, Form, Made, Meets, FineType, FineAlternatives, Some, typeForm, alternativesForm, moreForm, rightForm, infixKind, choiceOf, unread, TypeRead, AtomRead, RightRead, AlternativesRead, MoreRead, OneRead, NameRead, RoundRead, ChoiceRead}
 use Rattle.reader.proofs.Taking.{never}
 use Rattle.reader.proofs.Filled.{took, refused-out, made-no, made-got, gone-on, stopped, meets-no, meets-got, at-more}
 

@@ -8,11 +8,12 @@ use lib.Dec.{eqb}
 use Rattle.notation.specs.Limits.{textLimit, typeTermLimit, processTermLimit}
 use Rattle.notation.specs.Token.{tokenAt, kColon, kBraceOpen, kStar, kAt, kOne, kName, kPlus}
 use Rattle.notation.specs.Tree.{Located, Ty, unit, named, tensor, par, lolli, plus, with, Alternatives, alternative}
-use Rattle.notation.specs.Reader.{Result, got, refused, take, fault, expect, opening, typeTerm, nameIn}
+use Rattle.notation.specs.Reader.{Result, got, refused, take, fault, expect, opening, typeTerm, thenToken, nameIn}
 use Rattle.notation.specs.Types.{readType, readAtom, readAlternatives, labelTerm, rightBy, roundBy, choiceBy, moreBy}
 use Rattle.notation.specs.Tables.{afterType, afterAlternatives, writeType, writeAlternatives, moreNodes, putInfix}
 use Rattle.notation.specs.declared.reading.Tally.{Tally}
 use Rattle.notation.specs.declared.reading.TypeNode.{TypeNode}
+use Rattle.notation.specs.declared.reading.TermNode.{TermNode}
 use Rattle.notation.specs.declared.reading.Cursor.{Cursor}
 use Rattle.notation.specs.declared.reading.Taken.{Taken}
 use Rattle.notation.specs.declared.reading.Taken.the-variants.{At, Refused}
@@ -43,15 +44,6 @@ asOut (Refused n i) = Not n i
 abbrev pub misfitOut : List ℕ → Cursor → Out
 misfitOut s c = Not (fault (tokenAt s (c .at))) (tokenAt s (c .at) .start)
 
--- two tokens in a row: the first one's offset, past the second
-abbrev pub onwardFrom : ℕ → Taken → Taken
-onwardFrom i (At j d) = At i d
-onwardFrom i (Refused n j) = Refused n j
-
-abbrev pub thenToken : Taken → (Cursor → Taken) → Taken
-thenToken (At i d) f = onwardFrom i (f d)
-thenToken (Refused n i) f = Refused n i
-
 -- a label within its list's limit, and its colon
 unfoldable pub labelColon : List ℕ → ℕ → Cursor → Taken
 labelColon s n c = thenToken (labelTerm s n c) (expect s kColon)
@@ -70,6 +62,10 @@ pub record Put (w x : List ℕ) (k r : Tally) (v : List ℕ) : Type 0 where
 -- what fits a type node's word
 abbrev pub Fits : TypeNode → Type 0
 Fits n = (n .kind < 8) × (n .first < 1024) × (n .second < 524288)
+
+-- what fits a process node's two words
+abbrev pub FitsTerm : TermNode → Type 0
+FitsTerm n = (n .kind < 16) × (n .at < 8192) × (n .first < 32768) × (n .second < 16384) × (n .third < 262144)
 
 -- the words of the tables' area are there
 abbrev pub Area : List ℕ → Type 0
