@@ -8,12 +8,13 @@ use lib.Dec.{eqb}
 use lib.ListN.{length}
 use borrow.Author.Tests.{eq-eqb, ne-eqb}
 use Rattle.notation.specs.Token.{tokenAt, kFault, kThen, kLabel, width, Onward}
-use Rattle.notation.specs.Reader.{expect, limited, past, fault, thenToken}
+use Rattle.notation.specs.Reader.{expect, limited, past, fault, thenToken, closed, closedTaken}
 use Rattle.notation.specs.declared.token.Token.{Token}
 use Rattle.notation.specs.declared.reading.Cursor.{Cursor}
 use Rattle.notation.specs.declared.reading.Taken.{Taken}
 use Rattle.notation.specs.declared.reading.Taken.the-variants.{At, Refused}
 use Rattle.reader.specs.Filling.{Further, Stepped, misfitOut}
+use Rattle.reader.specs.Processes.{misfitTaken}
 use Rattle.reader.specs.declared.steps.Out.the-variants.{Not}
 
 -- every token has a byte
@@ -86,3 +87,22 @@ module _ {s : List ℕ} {c : Cursor} {n types terms : ℕ} {want r : Taken} (u :
 
     pub both-at : {j : ℕ} {b : Cursor} → q ≡ At j b → Further s c n′ types′ terms i b → Stepped s c n′ types′ terms (thenToken want f) (At i b)
     both-at g o = stepped-at i _ (rw (← u .is, e, ← v .is, g)) o
+
+-- as many brackets are open afterwards as before
+module _ {s : List ℕ} {c : Cursor} {n types terms : ℕ} {want r : Taken} (u : Stepped s c n types terms want r) where
+  pub closing-no : {m j : ℕ} → r ≡ Refused m j → Stepped s c n types terms (closedTaken c want) r
+  closing-no {m} {j} e = rw e (stepped-no m j (rw (← u .is, e)))
+
+  pub closing-at : {i : ℕ} {d : Cursor} → r ≡ At i d → Stepped s c n types terms (closedTaken c want) (At i (closed c d))
+  closing-at {i} {d} e = stepped-at i (closed c d) (rw (← u .is, e)) (u .on i d e)
+
+  -- a wider step is a narrower one
+  pub narrower : (n′ : ℕ) → n′ ≤ n → Stepped s c n′ types terms want r
+  narrower n′ l = record { is = u .is; on = λ i d e. let o = u .on i d e in (omega arith, o .1, o .2, o .3, o .4, o .5, o .6) }
+
+-- a refusal of a step, whatever it would have been
+pub refused-step : {s : List ℕ} {c : Cursor} {n types terms m j : ℕ} {r : Taken} → r ≡ Refused m j → Stepped s c n types terms (Refused m j) r
+refused-step e = rw e (stepped-no _ _ refl)
+
+pub misfit-token : (s : List ℕ) (c : Cursor) (t : Token) → t ≡ tokenAt s (c .at) → (n : ℕ) → n ≡ fault t → Refused n (t .start) ≡ misfitTaken s c
+misfit-token s c t e n q = rw (← e) (ap (λ m. Refused m (t .start)) q)

@@ -140,3 +140,29 @@ HandlerRead at i h s w c k = Meets handlerForm s w c k (3 * unread s c + 1) (λ 
 
 abbrev pub BracketedRead : List ℕ → List ℕ → Cursor → Tally → Out → List ℕ → Type 0
 BracketedRead s w c k = Meets processForm s w c k (3 * unread s c) (λ m. bracketedBy (λ d. readProcess m s d) s c)
+
+-- ── lists of names, of which the code keeps none
+abbrev pub forgetNames : ℕ → Result (List Located) → Taken
+forgetNames i (got xs d) = At i d
+forgetNames i (refused n j) = Refused n j
+
+-- the names up to the bracket that closes, as a step
+pub record NamesTaken (s : List ℕ) (c : Cursor) (close : ℕ) (r : Taken) : Type 0 where
+  pub is : (m : ℕ) → unread s c < m → r ≡ forgetNames 0 (readNames m s close c)
+  pub on : (i : ℕ) (d : Cursor) → r ≡ At i d → (c .at < d .at) × (d .at ≤ length s) × (d .types ≡ c .types) × (d .terms ≡ c .terms)
+
+-- a list of names in brackets, with the offset of its bracket
+pub record ListTaken (s : List ℕ) (c : Cursor) (open′ close : ℕ) (r : Taken) : Type 0 where
+  pub is : (m : ℕ) → unread s c < m → r ≡ forgetNames (tokenAt s (c .at) .start) (nameList m s open′ close c)
+  pub on : (i : ℕ) (d : Cursor) → r ≡ At i d → (c .at < d .at) × (d .at ≤ length s) × (i < length s) × (d .types ≡ c .types) × (d .terms ≡ c .terms)
+
+-- ── the parts of a spawn after its arrow: x is at i, and its type's node was read last
+abbrev pub partsForm : ℕ → Form (Proc × Proc)
+partsForm i = record {
+    after = λ p k. moreTerms (afterProcess (p .1) (afterProcess (p .0) k));
+    write = λ p k w. putOver 5 i (k .last) (afterProcess (p .0) k .last) (afterProcess (p .1) (afterProcess (p .0) k)) (writeProcess (p .1) (afterProcess (p .0) k) (writeProcess (p .0) k w));
+    Fine = λ p. FineProcess (p .0) × FineProcess (p .1);
+    Ahead = λ s c k d l. (l .terms + c .terms ≤ d .terms + k .terms + 1) × (c .at ≤ d .at) × (d .at ≤ length s) }
+
+abbrev pub PartsRead : ℕ → List ℕ → List ℕ → Cursor → Tally → Out → List ℕ → Type 0
+PartsRead i s w c k = Meets (partsForm i) s w c k (3 * unread s c + 1) (λ m. part (bracketedBy (λ d. readProcess m s d) s c) λ P d. lastly (λ Q. (P, Q)) (readRest m s d))
