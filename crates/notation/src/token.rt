@@ -18,12 +18,19 @@ pub struct Token {
 
 impl Token {
     pub const SEND: usize = 3;
+
     pub const RECV: usize = 4;
+
     pub const FWD: usize = 5;
+
     pub const CALL: usize = 6;
+
     pub const CANCEL: usize = 7;
+
     pub const RAISE: usize = 8;
+
     pub const TRY: usize = 9;
+
     pub const CATCH: usize = 10;
 
     pub const LOLLI: usize = 11;

@@ -28,15 +28,15 @@ use Rattle.reader.proofs.Filled.{took, refused-out, made-no, made-got, 
 
 -- ── a term over one part of its own kind: the node is put once the part is written
 module _ {A B : Type 0} {F : Form B} {G : Form A} (s w : List ℕ) (c d : Cursor) (k : Tally) {b bs : ℕ} {f : ℕ → Result B} {sub : ℕ → Result A} (over : A → B)
-  (is : (m : ℕ) → b < m → (f m ≡ lastly over (sub m)) × (bs < m)) {p : Out} {v : List ℕ} (t : Meets G s w d k bs sub p v) where
+    (is : (m : ℕ) → b < m → (f m ≡ lastly over (sub m)) × (bs < m)) {p : Out} {v : List ℕ} (t : Meets G s w d k bs sub p v) where
   pub over-no : {n i : ℕ} → p ≡ Not n i → Meets F s w c k b f p v
   over-no {n} {i} g =
       meets-no s w c k g (t .long) (λ m lo. is m lo .0 ∙ ap (lastly over) (stopped (sub m) (t .is m (is m lo .1)) g))
 
   -- put : what is written over the part, from the tally and the words after it
   pub over-got : (put : Tally → List ℕ → List ℕ) (more : Tally → Tally)
-    → ((a : A) → F .after (over a) k ≡ more (G .after a k)) → ((a : A) → F .write (over a) k w ≡ put (G .after a k) (G .write a k w)) → ((a : A) → G .Fine a → F .Fine (over a))
-    → {e : Cursor} {l l₂ : Tally} {v₂ : List ℕ} → p ≡ Got e l → Put v (put l v) (more l) l₂ v₂ → F .Ahead s c k e (more l) → Meets F s w c k b f (Got e l₂) v₂
+      → ((a : A) → F .after (over a) k ≡ more (G .after a k)) → ((a : A) → F .write (over a) k w ≡ put (G .after a k) (G .write a k w)) → ((a : A) → G .Fine a → F .Fine (over a))
+      → {e : Cursor} {l l₂ : Tally} {v₂ : List ℕ} → p ≡ Got e l → Put v (put l v) (more l) l₂ v₂ → F .Ahead s c k e (more l) → Meets F s w c k b f (Got e l₂) v₂
   over-got put more after write fine {e} {l} g pt o =
       rw (pt .is, pt .words)
       (meets-got s w c k o (sym (ap length (pt .words)) ∙ pt .long ∙ t .long)

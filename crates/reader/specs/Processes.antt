@@ -7,10 +7,10 @@ use lib.ListN.{length}
 use Rattle.notation.specs.Limits.{textLimit, typeTermLimit, processTermLimit}
 use Rattle.notation.specs.Token.{tokenAt, kindAt, kName, kLabel, kThen, kColon}
 use Rattle.notation.specs.Tree.{Located, Ty, Proc, empty, sendUnit, sendChannel, sendLabel, cancel, spawn, recvUnit, recvChannel, recvLabel, fwd, call, raise, try, Branches, branch}
-use Rattle.notation.specs.Reader.{Result, got, refused, lastly, part, fault, expect, processTerm, thenToken, nameIn, labelIn}
+use Rattle.notation.specs.Reader.{Result, got, refused, take, lastly, part, fault, expect, processTerm, thenToken, nameIn, labelIn}
 use Rattle.notation.specs.Types.{readType, labelTerm}
 use Rattle.notation.specs.Processes.{payload, unitTaken, bracketedBy, sendBy, recvBy, processBy, moreBranchesBy, readProcess, readRest, readBranches, readNames, nameList}
-use Rattle.notation.specs.Tables.{afterProcess, afterBranches, writeProcess, writeBranches, moreTerms, putOver}
+use Rattle.notation.specs.Tables.{afterProcess, afterBranches, writeProcess, writeBranches, moreTerms, putOver, termNode}
 use Rattle.notation.specs.declared.reading.Cursor.{Cursor}
 use Rattle.notation.specs.declared.reading.Tally.{Tally}
 use Rattle.notation.specs.declared.reading.TermNode.{TermNode}
@@ -85,32 +85,36 @@ AheadProcess spare s c k d l =
 -- a process: its pointer is a node's or an empty process's
 abbrev pub processForm : Form Proc
 processForm = record {
-    after = afterProcess;
-    write = writeProcess;
-    Fine = FineProcess;
-    Ahead = λ s c k d l. AheadProcess 0 s c k d l × (l .last ≤ 9216) }
+  after = afterProcess;
+  write = writeProcess;
+  Fine = FineProcess;
+  Ahead = λ s c k d l. AheadProcess 0 s c k d l × (l .last ≤ 9216);
+}
 
 -- what stands in a recv's bracket
 abbrev pub handlerForm : Form Proc
 handlerForm = record {
-    after = afterProcess;
-    write = writeProcess;
-    Fine = FineProcess;
-    Ahead = λ s c k d l. AheadProcess 1 s c k d l × (l .last ≤ 9216) }
+  after = afterProcess;
+  write = writeProcess;
+  Fine = FineProcess;
+  Ahead = λ s c k d l. AheadProcess 1 s c k d l × (l .last ≤ 9216);
+}
 
 abbrev pub branchesForm : ℕ → Form Branches
 branchesForm n = record {
-    after = afterBranches;
-    write = writeBranches;
-    Fine = λ B. FineBranches B × SomeBranch B;
-    Ahead = λ s c k d l. AheadProcess 1 s c k d l × (l .last + n ≤ 16) × (c .at < d .at) }
+  after = afterBranches;
+  write = writeBranches;
+  Fine = λ B. FineBranches B × SomeBranch B;
+  Ahead = λ s c k d l. AheadProcess 1 s c k d l × (l .last + n ≤ 16) × (c .at < d .at);
+}
 
 abbrev pub moreBranchesForm : ℕ → Form Branches
 moreBranchesForm n = record {
-    after = afterBranches;
-    write = writeBranches;
-    Fine = FineBranches;
-    Ahead = λ s c k d l. AheadProcess 0 s c k d l × (l .last + n ≤ 16) }
+  after = afterBranches;
+  write = writeBranches;
+  Fine = FineBranches;
+  Ahead = λ s c k d l. AheadProcess 0 s c k d l × (l .last + n ≤ 16);
+}
 
 -- ── readings
 abbrev pub ProcessRead : List ℕ → List ℕ → Cursor → Tally → Out → List ℕ → Type 0
@@ -141,6 +145,38 @@ HandlerRead at i h s w c k = Meets handlerForm s w c k (3 * unread s c + 1) (λ 
 abbrev pub BracketedRead : List ℕ → List ℕ → Cursor → Tally → Out → List ℕ → Type 0
 BracketedRead s w c k = Meets processForm s w c k (3 * unread s c) (λ m. bracketedBy (λ d. readProcess m s d) s c)
 
+-- ── a send by what it sends, and its node: the channel at i, what is sent at j; l is the tally after the rest
+unfoldable pub sentOf : List ℕ → Payload → ℕ → Located → ℕ → Proc → Proc
+sentOf s UnitPayload at c j P = sendUnit at c P
+sentOf s Channel at c j P = sendChannel at c (nameIn s j) P
+sentOf s Label at c j P = sendLabel at c (labelIn s j) P
+sentOf s Other at c j P = sendUnit at c P
+
+unfoldable pub sentNode : Payload → ℕ → ℕ → ℕ → Tally → TermNode
+sentNode UnitPayload at i j l = termNode 1 at i 0 (l .last)
+sentNode Channel at i j l = termNode 2 at i j (l .last)
+sentNode Label at i j l = termNode 3 at i j (l .last)
+sentNode Other at i j l = termNode 1 at i 0 (l .last)
+
+-- a recv of () or a channel, and its node
+unfoldable pub recvdOf : List ℕ → Payload → ℕ → Located → ℕ → Proc → Proc
+recvdOf s UnitPayload at c j P = recvUnit at c P
+recvdOf s Channel at c j P = recvChannel at c (nameIn s j) P
+recvdOf s Label at c j P = recvUnit at c P
+recvdOf s Other at c j P = recvUnit at c P
+
+unfoldable pub recvdNode : Payload → ℕ → ℕ → ℕ → Tally → TermNode
+recvdNode UnitPayload at i j l = termNode 6 at i 0 (l .last)
+recvdNode Channel at i j l = termNode 7 at i j (l .last)
+recvdNode Label at i j l = termNode 6 at i 0 (l .last)
+recvdNode Other at i j l = termNode 6 at i 0 (l .last)
+
+abbrev pub OneRead : ℕ → ℕ → Payload → List ℕ → List ℕ → Cursor → Tally → Out → List ℕ → Type 0
+OneRead at i h s w c k = Meets handlerForm s w c k (3 * unread s c + 1) (λ m. take (payloadThen s c h) λ j d. lastly (recvdOf s h at (nameIn s i) j) (readProcess m s d))
+
+abbrev pub LabelsRead : ℕ → ℕ → List ℕ → List ℕ → Cursor → Tally → Out → List ℕ → Type 0
+LabelsRead at i s w c k = Meets handlerForm s w c k (3 * unread s c + 1) (λ m. lastly (recvLabel at (nameIn s i)) (readBranches m s 0 c))
+
 -- ── lists of names, of which the code keeps none
 abbrev pub forgetNames : ℕ → Result (List Located) → Taken
 forgetNames i (got xs d) = At i d
@@ -159,10 +195,22 @@ pub record ListTaken (s : List ℕ) (c : Cursor) (open′ close : ℕ) (r : Take
 -- ── the parts of a spawn after its arrow: x is at i, and its type's node was read last
 abbrev pub partsForm : ℕ → Form (Proc × Proc)
 partsForm i = record {
-    after = λ p k. moreTerms (afterProcess (p .1) (afterProcess (p .0) k));
-    write = λ p k w. putOver 5 i (k .last) (afterProcess (p .0) k .last) (afterProcess (p .1) (afterProcess (p .0) k)) (writeProcess (p .1) (afterProcess (p .0) k) (writeProcess (p .0) k w));
-    Fine = λ p. FineProcess (p .0) × FineProcess (p .1);
-    Ahead = λ s c k d l. (l .terms + c .terms ≤ d .terms + k .terms + 1) × (c .at ≤ d .at) × (d .at ≤ length s) }
+  after = λ p k. moreTerms (afterProcess (p .1) (afterProcess (p .0) k));
+  write = λ p k w. putOver 5 i (k .last) (afterProcess (p .0) k .last) (afterProcess (p .1) (afterProcess (p .0) k)) (writeProcess (p .1) (afterProcess (p .0) k) (writeProcess (p .0) k w));
+  Fine = λ p. FineProcess (p .0) × FineProcess (p .1);
+  Ahead = λ s c k d l.
+      (c .at ≤ d .at)
+      × (d .at ≤ length s)
+      × (c .types ≤ d .types)
+      × (d .types ≤ typeTermLimit)
+      × (d .terms ≤ processTermLimit)
+      × (l .nodes + c .types ≤ d .types + k .nodes)
+      × (l .alternatives + c .types ≤ d .types + k .alternatives)
+      × (l .terms + c .terms ≤ d .terms + k .terms + 1)
+      × (5 * l .branches + c .at ≤ d .at + 5 * k .branches)
+      × (l .entries ≡ k .entries)
+      × (l .last ≤ 9216);
+}
 
 abbrev pub PartsRead : ℕ → List ℕ → List ℕ → Cursor → Tally → Out → List ℕ → Type 0
 PartsRead i s w c k = Meets (partsForm i) s w c k (3 * unread s c + 1) (λ m. part (bracketedBy (λ d. readProcess m s d) s c) λ P d. lastly (λ Q. (P, Q)) (readRest m s d))

@@ -20,13 +20,12 @@ use notation::token::Payload;
 use notation::token::TermHead;
 use notation::token::Token;
 use notation::token::next_token;
-
 ghost use mathlib.Core.Path.{_≡_};
 ghost use Prim.Native.Nat.{_<_, _≤_};
 ghost use Rattle.notation.specs.Processes.{unitTaken};
 ghost use Rattle.notation.specs.declared.token.TermHead.the-variants.{Send, Recv, Fwd, Call, Cancel, Raise, Try, Spawn};
-ghost use Rattle.reader.specs.Filling.{Stepped, Room};
-ghost use Rattle.reader.specs.Processes.{misfitTaken, payloadTaken, payloadThen, labelThen, nameColon, NamesTaken, ListTaken, TermRead, SentRead, HandlerRead, BracketedRead, PartsRead, ProcessRead, RestRead, BranchesRead, MoreBranchesRead};
+ghost use Rattle.reader.specs.Filling.{Stepped, Room, FitsTerm};
+ghost use Rattle.reader.specs.Processes.{misfitTaken, payloadTaken, payloadThen, labelThen, nameColon, sentNode, recvdNode, TermRead, SentRead, HandlerRead, OneRead, LabelsRead, BracketedRead, PartsRead, ProcessRead, RestRead, BranchesRead, MoreBranchesRead};
 
 // The mark ().
 fn unit_mark(text: &[u8], c: Cursor) -> Taken
@@ -120,6 +119,84 @@ fn name_colon(text: &[u8], c: Cursor) -> Taken
     Taken::At(i, e)
 }
 
+// The node of a send over its rest.
+fn sent_node(k: Tally, at: usize, i: usize, j: usize, head: Payload) -> TermNode
+    requires { ⌜ (k .last ≤ 9216) × (at < 8192) × (i < 8192) × (j < 8192) ⌝ }
+    ensures { λ r. ⌜ r ≡ sentNode head at i j k ⌝ }
+    ensures { λ r. ⌜ FitsTerm r ⌝ }
+{
+    let third = k.last;
+    match head {
+        Payload::Unit => TermNode {
+            kind: 1,
+            at,
+            first: i,
+            second: 0,
+            third,
+        },
+        Payload::Channel => TermNode {
+            kind: 2,
+            at,
+            first: i,
+            second: j,
+            third,
+        },
+        Payload::Label => TermNode {
+            kind: 3,
+            at,
+            first: i,
+            second: j,
+            third,
+        },
+        Payload::Other => TermNode {
+            kind: 1,
+            at,
+            first: i,
+            second: 0,
+            third,
+        },
+    }
+}
+
+// The node of a recv of () or of a channel over what follows.
+fn received_node(k: Tally, at: usize, i: usize, j: usize, head: Payload) -> TermNode
+    requires { ⌜ (k .last ≤ 9216) × (at < 8192) × (i < 8192) × (j < 8192) ⌝ }
+    ensures { λ r. ⌜ r ≡ recvdNode head at i j k ⌝ }
+    ensures { λ r. ⌜ FitsTerm r ⌝ }
+{
+    let third = k.last;
+    match head {
+        Payload::Unit => TermNode {
+            kind: 6,
+            at,
+            first: i,
+            second: 0,
+            third,
+        },
+        Payload::Channel => TermNode {
+            kind: 7,
+            at,
+            first: i,
+            second: j,
+            third,
+        },
+        Payload::Label => TermNode {
+            kind: 6,
+            at,
+            first: i,
+            second: 0,
+            third,
+        },
+        Payload::Other => TermNode {
+            kind: 6,
+            at,
+            first: i,
+            second: 0,
+            third,
+        },
+    }
+}
+
 // fwd x c
 fn read_fwd(text: &[u8], scratch: &mut [u32], c: Cursor, k: Tally) -> Out
     requires { ⌜ Room (now text) (now scratch) c k ⌝ }
@@ -150,4 +227,3 @@ fn read_fwd(text: &[u8], scratch: &mut [u32], c: Cursor, k: Tally) -> Out
     );
     Out::Got(f, q)
 }
-

@@ -48,7 +48,7 @@ returns-2 c = second-no (c .before .before .before .before .before .before .labe
 -- src/processes.rt:94:1
 returns-3 : tie.Need-returns-3
 unfolding labelThen
-returns-3 c = 
+returns-3 c =
     let o = c .before .before .before .before .before .before .before .label-term .ensures .on _ _ (c .before .before .before .before .before .labelled .given .1) in
     let p = c .before .before .before .expect .ensures .on _ _ (c .before .arrow .given .1) in
     both-at (c .before .before .before .before .before .before .before .label-term .ensures) 4 0 (expect _ kThen) (c .before .before .before .before .before .labelled .given .1) (c .before .before .before .expect .ensures) (c .before .arrow .given .1) (omega arith)

@@ -48,7 +48,7 @@ returns-2 c = second-no (c .before .before .before .before .before .before .proc
 -- src/processes.rt:109:1
 returns-3 : tie.Need-returns-3
 unfolding nameColon
-returns-3 c = 
+returns-3 c =
     let o = c .before .before .before .before .before .before .before .process-term .ensures .on _ _ (c .before .before .before .before .before .named .given .1) in
     let p = c .before .before .before .expect .ensures .on _ _ (c .before .colon .given .1) in
     both-at (c .before .before .before .before .before .before .before .process-term .ensures) 2 0 (expect _ kColon) (c .before .before .before .before .before .named .given .1) (c .before .before .before .expect .ensures) (c .before .colon .given .1) (omega arith)

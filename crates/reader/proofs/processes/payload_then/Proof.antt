@@ -48,7 +48,7 @@ returns-2 c = second-no (c .before .before .before .before .before .before .payl
 -- src/processes.rt:79:1
 returns-3 : tie.Need-returns-3
 unfolding payloadThen
-returns-3 c = 
+returns-3 c =
     let o = c .before .before .before .before .before .before .before .payload-token .ensures .on _ _ (c .before .before .before .before .before .taken .given .1) in
     let p = c .before .before .before .expect .ensures .on _ _ (c .before .arrow .given .1) in
     both-at (c .before .before .before .before .before .before .before .payload-token .ensures) 3 0 (expect _ kThen) (c .before .before .before .before .before .taken .given .1) (c .before .before .before .expect .ensures) (c .before .arrow .given .1) (omega arith)

@@ -50,7 +50,7 @@ returns-2 c = closing-no (second-no (c .before .before .before .before .before .
 -- src/processes.rt:32:1
 returns-3 : tie.Need-returns-3
 unfolding unitTaken
-returns-3 c = 
+returns-3 c =
     let o = c .before .before .before .before .before .before .before .opening .ensures .on _ _ (c .before .before .before .before .before .opened .given .1) in
     let p = c .before .before .before .expect .ensures .on _ _ (c .before .closed .given .1) in
     closing-at (both-at (c .before .before .before .before .before .before .before .opening .ensures) 2 0 (expect _ kRoundClose) (c .before .before .before .before .before .opened .given .1) (c .before .before .before .expect .ensures) (c .before .closed .given .1) (omega arith)) refl
