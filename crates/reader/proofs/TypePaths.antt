@@ -24,7 +24,7 @@ use Rattle.reader.specs.declared.steps.Out.{Out}
 use Rattle.reader.specs.declared.steps.Out.the-variants.{Got, Not}
 use Rattle.reader.specs.Filling.{Stepped, labelColon, choiceOpening, asOut, misfitOut, Put, Room, Form, Made, Meets, FineType, FineAlternatives, Some, typeForm, alternativesForm, moreForm, rightForm, infixKind, choiceOf, unread, TypeRead, AtomRead, RightRead, AlternativesRead, MoreRead, OneRead, NameRead, RoundRead, ChoiceRead}
 use Rattle.reader.proofs.Taking.{never}
-use Rattle.reader.proofs.Filled.{took, refused-out, made-no, made-got, gone-on, stopped, meets-no, meets-got, at-more}
+use Rattle.reader.proofs.Filled.{took, refused-out, made-no, made-got, gone-on, stopped, meets-no, meets-got, more-no, more-got, more-made}
 
 -- the definition at one more fuel
 type-suc : (m : ℕ) (s : List ℕ) (c : Cursor) → readType (suc m) s c ≡ typeBy (λ d. readAtom m s d) (λ d. readType m s d) s c
@@ -38,14 +38,6 @@ atom-suc m s c = refl
 alternatives-suc : (m : ℕ) (s : List ℕ) (n : ℕ) (c : Cursor) → readAlternatives (suc m) s n c ≡ alternativesBy (λ d. readType m s d) (λ d. readAlternatives m s (n + 1) d) s n c
 unfolding readType
 alternatives-suc m s n c = refl
-
--- a result that a meeting gives at one more fuel
-module _ {A : Type 0} (F : Form A) (s w : List ℕ) (c : Cursor) (k : Tally) {b : ℕ} (f : ℕ → Result A) where
-  more-no : {r : Out} {v : List ℕ} {n i : ℕ} → r ≡ Not n i → length v ≡ length w → ((m : ℕ) → b ≤ m → f (suc m) ≡ refused n i) → Meets F s w c k b f r v
-  more-no {n = n} {i} q g h = meets-no s w c k q g (at-more (λ m. f m ≡ refused n i) h)
-
-  more-got : {d : Cursor} {l : Tally} {v : List ℕ} → F .Ahead s c k d l → length v ≡ length w → ((m : ℕ) → b ≤ m → Made F w k (f (suc m)) (Got d l) v) → Meets F s w c k b f (Got d l) v
-  more-got {d} {l} {v} o g h = meets-got s w c k o g (at-more (λ m. Made F w k (f m) (Got d l) v) h)
 
 -- the words of an infix and of a choice, by their marks
 infix-after : (kind : ℕ) (A B : Ty Located) (k : Tally) → afterType (infixOf kind A B) k ≡ moreNodes (afterType B (afterType A k))
@@ -215,7 +207,7 @@ choice-fine kind r f = go (eqb kind kPlus)
     go false = f
 
 -- two tokens in a row, in the definition's words
-then-take : {A : Type 0} (want : Taken) (g : Cursor → Taken) (f : ℕ → Cursor → Result A) → take (thenToken want g) f ≡ take want (λ i d. take (g d) (λ _ e. f i e))
+pub then-take : {A : Type 0} (want : Taken) (g : Cursor → Taken) (f : ℕ → Cursor → Result A) → take (thenToken want g) f ≡ take want (λ i d. take (g d) (λ _ e. f i e))
 then-take {A} (At i d) g f = go (g d)
   where
     go : (x : Taken) → _≡_ {A = Result A} (take (onwardFrom i x) f) (take x (λ _ e. f i e))
@@ -339,7 +331,7 @@ module _ (s w : List ℕ) (c : Cursor) (k : Tally) (room : Room s w c k) where
         → Meets typeForm s w c k b f r v → ((m : ℕ) → atomBy (λ d. readType m s d) (λ d. readAlternatives m s 0 d) s c h ≡ f m) → AtomRead s w c k r v
     atom-as e l {f} {r} {v} t same =
         record {
-          is = at-more (λ m. Made typeForm w k (readAtom m s c) r v) (λ m lo. rw (atom-by e m, same m) (t .is m (omega arith)));
+          is = more-made typeForm w k (λ m. readAtom m s c) (λ m lo. rw (atom-by e m, same m) (t .is m (omega arith)));
           long = t .long;
           on = t .on;
         }

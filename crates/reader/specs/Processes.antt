@@ -68,9 +68,9 @@ unfoldable mutual
   FineBranches Branches.none = 0 ≤ 0
   FineBranches (branch l P B) = (l .at < textLimit) × FineProcess P × FineBranches B
 
--- ── where a reading goes on: each term was counted, and each branch took five bytes but for `spare`
-abbrev pub AheadProcess : ℕ → List ℕ → Cursor → Tally → Cursor → Tally → Type 0
-AheadProcess spare s c k d l =
+-- ── where a reading goes on: each term was counted, `own` of them before; and each branch took five bytes but for `spare`
+abbrev pub AheadProcess : ℕ → ℕ → List ℕ → Cursor → Tally → Cursor → Tally → Type 0
+AheadProcess own spare s c k d l =
     (c .at ≤ d .at)
     × (d .at ≤ length s)
     × (c .types ≤ d .types)
@@ -78,7 +78,7 @@ AheadProcess spare s c k d l =
     × (d .terms ≤ processTermLimit)
     × (l .nodes + c .types ≤ d .types + k .nodes)
     × (l .alternatives + c .types ≤ d .types + k .alternatives)
-    × (l .terms + c .terms ≤ d .terms + k .terms)
+    × (l .terms + c .terms ≤ d .terms + k .terms + own)
     × (5 * l .branches + c .at ≤ d .at + 5 * k .branches + spare)
     × (l .entries ≡ k .entries)
 
@@ -88,7 +88,16 @@ processForm = record {
   after = afterProcess;
   write = writeProcess;
   Fine = FineProcess;
-  Ahead = λ s c k d l. AheadProcess 0 s c k d l × (l .last ≤ 9216);
+  Ahead = λ s c k d l. AheadProcess 0 0 s c k d l × (l .last ≤ 9216);
+}
+
+-- a process whose own term was counted before: a send's from what it sends on
+abbrev pub sentForm : Form Proc
+sentForm = record {
+  after = afterProcess;
+  write = writeProcess;
+  Fine = FineProcess;
+  Ahead = λ s c k d l. AheadProcess 1 0 s c k d l × (l .last ≤ 9216);
 }
 
 -- what stands in a recv's bracket
@@ -97,7 +106,7 @@ handlerForm = record {
   after = afterProcess;
   write = writeProcess;
   Fine = FineProcess;
-  Ahead = λ s c k d l. AheadProcess 1 s c k d l × (l .last ≤ 9216);
+  Ahead = λ s c k d l. AheadProcess 1 1 s c k d l × (l .last ≤ 9216);
 }
 
 abbrev pub branchesForm : ℕ → Form Branches
@@ -105,7 +114,7 @@ branchesForm n = record {
   after = afterBranches;
   write = writeBranches;
   Fine = λ B. FineBranches B × SomeBranch B;
-  Ahead = λ s c k d l. AheadProcess 1 s c k d l × (l .last + n ≤ 16) × (c .at < d .at);
+  Ahead = λ s c k d l. AheadProcess 0 1 s c k d l × (l .last + n ≤ 16) × (c .at < d .at);
 }
 
 abbrev pub moreBranchesForm : ℕ → Form Branches
@@ -113,7 +122,7 @@ moreBranchesForm n = record {
   after = afterBranches;
   write = writeBranches;
   Fine = FineBranches;
-  Ahead = λ s c k d l. AheadProcess 0 s c k d l × (l .last + n ≤ 16);
+  Ahead = λ s c k d l. AheadProcess 0 0 s c k d l × (l .last + n ≤ 16);
 }
 
 -- ── readings
@@ -137,10 +146,14 @@ abbrev pub TermRead : TermHead → List ℕ → List ℕ → Cursor → Tally �
 TermRead h s w c k = Meets processForm s w c k (3 * unread s c) (termBy h s c)
 
 abbrev pub SentRead : ℕ → ℕ → Payload → List ℕ → List ℕ → Cursor → Tally → Out → List ℕ → Type 0
-SentRead at i h s w c k = Meets processForm s w c k (3 * unread s c + 1) (λ m. sendBy (λ d. readRest m s d) s at (nameIn s i) c h)
+SentRead at i h s w c k =
+    Meets sentForm s w c k (3 * unread s c + 1) (λ m. sendBy (λ d. readRest m s d) s at (nameIn s i) c h)
 
-abbrev pub HandlerRead : ℕ → ℕ → Payload → List ℕ → List ℕ → Cursor → Tally → Out → List ℕ → Type 0
-HandlerRead at i h s w c k = Meets handlerForm s w c k (3 * unread s c + 1) (λ m. recvBy (λ d. readProcess m s d) (λ d. readBranches m s 0 d) s at (nameIn s i) c h)
+abbrev pub handlerBy : ℕ → ℕ → List ℕ → Cursor → ℕ → Result Proc
+handlerBy at i s c m = recvBy (λ d. readProcess m s d) (λ d. readBranches m s 0 d) s at (nameIn s i) c (payload (kindAt s (c .at)))
+
+abbrev pub HandlerRead : ℕ → ℕ → List ℕ → List ℕ → Cursor → Tally → Out → List ℕ → Type 0
+HandlerRead at i s w c k = Meets handlerForm s w c k (3 * unread s c + 2) (handlerBy at i s c)
 
 abbrev pub BracketedRead : List ℕ → List ℕ → Cursor → Tally → Out → List ℕ → Type 0
 BracketedRead s w c k = Meets processForm s w c k (3 * unread s c) (λ m. bracketedBy (λ d. readProcess m s d) s c)
@@ -198,18 +211,7 @@ partsForm i = record {
   after = λ p k. moreTerms (afterProcess (p .1) (afterProcess (p .0) k));
   write = λ p k w. putOver 5 i (k .last) (afterProcess (p .0) k .last) (afterProcess (p .1) (afterProcess (p .0) k)) (writeProcess (p .1) (afterProcess (p .0) k) (writeProcess (p .0) k w));
   Fine = λ p. FineProcess (p .0) × FineProcess (p .1);
-  Ahead = λ s c k d l.
-      (c .at ≤ d .at)
-      × (d .at ≤ length s)
-      × (c .types ≤ d .types)
-      × (d .types ≤ typeTermLimit)
-      × (d .terms ≤ processTermLimit)
-      × (l .nodes + c .types ≤ d .types + k .nodes)
-      × (l .alternatives + c .types ≤ d .types + k .alternatives)
-      × (l .terms + c .terms ≤ d .terms + k .terms + 1)
-      × (5 * l .branches + c .at ≤ d .at + 5 * k .branches)
-      × (l .entries ≡ k .entries)
-      × (l .last ≤ 9216);
+  Ahead = sentForm .Ahead;
 }
 
 abbrev pub PartsRead : ℕ → List ℕ → List ℕ → Cursor → Tally → Out → List ℕ → Type 0
