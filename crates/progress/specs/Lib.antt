@@ -1,0 +1,4 @@
+pub mod Held
+pub mod Joints
+pub mod Lists
+pub mod Outward
