@@ -2,19 +2,19 @@
 use Prim.Native.Nat.{ℕ, zero, suc, _+_}
 use native.Mathlib.Omega.{arith}
 use mathlib.Core.Path.{_≡_, refl, sym, _∙_, ap, subst}
-use mathlib.Core.Logic.{_↔_, _≢_, _⊎_, inl, inr}
-use mathlib.Core.List.{List, [], _∷_, _++_, map, List·Memᴰ·head, List·Memᴰ·tail, List·Memᴰ·not-nil, Memᴰ·append-left, Memᴰ·append-right, Memᴰ·map, Memᴰ·cast}
+use mathlib.Core.Logic.{_↔_, _≢_}
+use mathlib.Core.List.{List, [], _∷_, map, List·Memᴰ·head, List·Memᴰ·tail, Memᴰ·append-left, Memᴰ·append-right, Memᴰ·map, Memᴰ·cast}
 use mathlib.Core.Option.{Option, some, none, Option·map, Option·some-injective, Option·none-ne-some, Option·some-ne-none}
-use mathlib.Core.Bool.{Bool, true, false, cond, _&&_, true≢false, false≢true}
-use lib.ListN.{length, getElem?}
+use mathlib.Core.Bool.{Bool, true, false, cond, _&&_, true≢false}
+use lib.ListN.{getElem?}
 use lib.Dec.{eqb}
 use Rattle.notation.specs.Bytes.{same}
 use Rattle.notation.specs.Tree.{Name, Ty}
 use Rattle.calculus.specs.Named.{lookup}
 use Rattle.calculus.specs.Types.{Side, provided, used, other, sameSide, standing}
-use Rattle.calculus.specs.Program.{Slot, slot, Context, Program}
+use Rattle.calculus.specs.Program.{Slot, slot, Program}
 use Rattle.calculus.specs.Typing.{acting}
-use Rattle.calculus.specs.Configuration.{End, end, Process, Outside, Config, at, heldAs, Holder, holderHere, holderFrom, outsideOf, Far, atProcess, atOutside, givenUp, orOutside, farFrom, farEnd}
+use Rattle.calculus.specs.Configuration.{End, end, Process, Outside, Config, heldAs, Holder, holderHere, holderFrom, outsideOf, Far, atProcess, atOutside, givenUp, orOutside, farFrom, farEnd}
 use Rattle.calculus.specs.WellFormed.{In, NoneTwice, contextOf, heldEnds, processEnds, outsideEnds, ends, key, Stands, WellFormed}
 use Rattle.derivations.specs.Booleans.{and-iff, eqb-iff}
 use Rattle.derivations.specs.Equality.{same-iff, sameSide-iff}

@@ -12,7 +12,7 @@ use Rattle.calculus.specs.Types.{Side, provided, used, other}
 use Rattle.calculus.specs.Program.{Program}
 use Rattle.calculus.specs.Configuration.{End, Process, Config, Holder, Far, atProcess, atOutside, givenUp, farEnd}
 use Rattle.calculus.specs.Forest.{Joint, jointAt, channelJoints, linkJoint, jointsFrom, joints}
-use Rattle.calculus.specs.WellFormed.{In, key, isWaiting, Stands, WellFormed}
+use Rattle.calculus.specs.WellFormed.{In, Stands, WellFormed}
 use Rattle.graphs.specs.Graph.{EndsIn, forest-small}
 use Rattle.progress.specs.Lists.{places, length-places, in-places, position-below}
 use Rattle.progress.specs.Held.{HeldFar, FarView, far-process, far-outside, far-given-up, far-view, far-found}

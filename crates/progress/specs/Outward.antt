@@ -1,13 +1,11 @@
 -- What the outside's types come to: a type that keeps the exec rule stands, by its own mark or its name's definition, for none of @, -o and &.
-use Prim.Native.Nat.{ℕ, zero, suc}
-use mathlib.Core.Path.{_≡_, refl, sym, _∙_, ap, subst}
-use mathlib.Core.Logic.{_⊎_, inl, inr}
+use mathlib.Core.Path.{_≡_, refl, sym, _∙_, ap}
 use mathlib.Core.List.{List, [], _∷_, List·Memᴰ·head, List·Memᴰ·tail, List·Memᴰ·not-nil}
-use mathlib.Core.Option.{Option, some, none, Option·getD, Option·none-ne-some}
-use mathlib.Core.Bool.{Bool, true, false, not, cond, true≢false, false≢true}
+use mathlib.Core.Option.{Option, some, none, Option·getD}
+use mathlib.Core.Bool.{Bool, true, false, cond, true≢false, false≢true}
 use lib.ListN.{length}
 use Rattle.notation.specs.Tree.{Name, Ty, unit, named, tensor, par, lolli, plus, with}
-use Rattle.calculus.specs.Named.{lookup, any}
+use Rattle.calculus.specs.Named.{lookup}
 use Rattle.calculus.specs.Types.{standing}
 use Rattle.calculus.specs.Program.{Program}
 use Rattle.calculus.specs.Declarations.{hasOther, namesWithOther, reachOther, outward}
