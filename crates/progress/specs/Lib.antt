@@ -1,7 +1,9 @@
+pub mod Chosen
 pub mod Held
 pub mod Joints
 pub mod Lists
 pub mod Outward
 pub mod Progress
+pub mod RunOn
 pub mod Turns
 pub mod Waiting
