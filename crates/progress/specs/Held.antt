@@ -2,22 +2,22 @@
 use Prim.Native.Nat.{ℕ, zero, suc, _+_}
 use native.Mathlib.Omega.{arith}
 use mathlib.Core.Path.{_≡_, refl, sym, _∙_, ap, subst}
-use mathlib.Core.Logic.{_↔_, _≢_}
-use mathlib.Core.List.{List, [], _∷_, map, List·Memᴰ·head, List·Memᴰ·tail, Memᴰ·append-left, Memᴰ·append-right, Memᴰ·map, Memᴰ·cast}
+use mathlib.Core.Logic.{_↔_, _≢_, _⊎_, inl, inr}
+use mathlib.Core.List.{List, [], _∷_, map, List·Memᴰ·head, List·Memᴰ·tail, List·Memᴰ·not-nil, Memᴰ·append-left, Memᴰ·append-right, Memᴰ·map, Memᴰ·cast}
 use mathlib.Core.Option.{Option, some, none, Option·map, Option·some-injective, Option·none-ne-some, Option·some-ne-none}
-use mathlib.Core.Bool.{Bool, true, false, cond, _&&_, true≢false}
+use mathlib.Core.Bool.{Bool, true, false, cond, _&&_, true≢false, false≢true}
 use lib.ListN.{getElem?}
 use lib.Dec.{eqb}
 use Rattle.notation.specs.Bytes.{same}
 use Rattle.notation.specs.Tree.{Name, Ty}
-use Rattle.calculus.specs.Named.{lookup}
+use Rattle.calculus.specs.Named.{lookup, names, any, distinct}
 use Rattle.calculus.specs.Types.{Side, provided, used, other, sameSide, standing}
 use Rattle.calculus.specs.Program.{Slot, slot, Program}
 use Rattle.calculus.specs.Typing.{acting}
 use Rattle.calculus.specs.Configuration.{End, end, Process, Outside, Config, heldAs, Holder, holderHere, holderFrom, outsideOf, Far, atProcess, atOutside, givenUp, orOutside, farFrom, farEnd}
 use Rattle.calculus.specs.WellFormed.{In, NoneTwice, contextOf, heldEnds, processEnds, outsideEnds, ends, key, Stands, WellFormed}
-use Rattle.derivations.specs.Booleans.{and-iff, eqb-iff}
-use Rattle.derivations.specs.Equality.{same-iff, sameSide-iff}
+use Rattle.derivations.specs.Booleans.{and-iff, any-iff, eqb-iff}
+use Rattle.derivations.specs.Equality.{same-iff, same-cases, sameSide-iff}
 use Rattle.progress.specs.Lists.{once-left, once-right, once-apart}
 
 -- ── what a name stands for
@@ -29,6 +29,30 @@ lookup-in {X} c (d ∷ l) {x} e = go (same c (d .0)) refl e (λ h. lookup-in c l
     go : (b : Bool) → same c (d .0) ≡ b → cond b (some (d .1)) (lookup c l) ≡ some x → (lookup c l ≡ some x → In (c, x) l) → In (c, x) (d ∷ l)
     go true t e r = List·Memᴰ·head (λ i. (same-iff c (d .0) .0 t i, sym (Option·some-injective _ _ e) i))
     go false t e r = List·Memᴰ·tail (r e)
+
+-- with no name twice, an entry is what its name stands for
+named-in : {X : Type 0} (l : List (Name × X)) {c : Name} {x : X} → In (c, x) l → In c (names l)
+unfolding names
+named-in (d ∷ l) (List·Memᴰ·head z) = List·Memᴰ·head (ap (λ y. y .0) z)
+named-in (d ∷ l) (List·Memᴰ·tail m) = List·Memᴰ·tail (named-in l m)
+
+pub lookup-entry : {X : Type 0} (l : List (Name × X)) {c : Name} {x : X} → distinct (names l) ≡ true → In (c, x) l → lookup c l ≡ some x
+unfolding lookup distinct names
+lookup-entry [] u m = absurd (List·Memᴰ·not-nil m)
+lookup-entry {X} (d ∷ l) {c} {x} u m = go (any (same (d .0)) (names l)) refl u m (same-cases c (d .0)) (λ v k. lookup-entry l v k)
+  where
+    go : (b : Bool) → any (same (d .0)) (names l) ≡ b → cond b false (distinct (names l)) ≡ true → In (c, x) (d ∷ l) → ((same c (d .0) ≡ true) × (c ≡ d .0)) ⊎ ((same c (d .0) ≡ false) × (c ≢ d .0))
+        → (distinct (names l) ≡ true → In (c, x) l → lookup c l ≡ some x) → cond (same c (d .0)) (some (d .1)) (lookup c l) ≡ some x
+    go true t u m s r = absurd (false≢true u)
+    go false t u (List·Memᴰ·head z) (inl s) r = rw (s .0) (ap (λ (y : Name × X). some (y .1)) (sym z))
+    go false t u (List·Memᴰ·head z) (inr s) r = absurd (s .1 (ap (λ (y : Name × X). y .0) z))
+    go false t u (List·Memᴰ·tail m) (inl s) r = absurd (true≢false (sym (any-iff (same (d .0)) (names l) .1 (c, named-in l m, same-iff (d .0) c .1 (sym (s .1)))) ∙ t))
+    go false t u (List·Memᴰ·tail m) (inr s) r = rw (s .0) (r u m)
+
+pub names-context : (l : List (Name × End)) → names (contextOf l) ≡ names l
+unfolding names
+names-context [] = refl
+names-context (e ∷ l) = ap (λ r. e .0 ∷ r) (names-context l)
 
 slot-of : End → Slot
 slot-of e = slot (e .side) (e .type)
@@ -202,6 +226,14 @@ far-view C e = go (holderFrom 0 (e .channel) (other (e .side)) (C .processes)) r
         let z = held-as (e .channel) (other (e .side)) (h .process .held) (y .3) in
         let w : h .place ≡ y .0 = (let a = y .1 in omega arith) in
         far-process (record { stands = record { there = ap (getElem? (C .processes)) w ∙ y .2 }; end = z .0; entry = z .1; far = z .2 })
+
+-- an end is the far end of its far end
+pub far-back : (e d : End) → key d ≡ (e .channel, other (e .side)) → key e ≡ (d .channel, other (d .side))
+far-back e d z = λ i. (ap (λ (k : ℕ × Side). k .0) (sym z) i, (sym (other-other (e .side)) ∙ ap (λ (k : ℕ × Side). other (k .1)) (sym z)) i)
+  where
+    other-other : (s : Side) → other (other s) ≡ s
+    other-other provided = refl
+    other-other used = refl
 
 module _ {p : Program} {C : Config} (w : WellFormed p C) where
   pub entry-in-ends : {i : ℕ} {q : Process} {n : Name} {e : End} → Stands C i q → In (n, e) (q .held) → In e (ends C)

@@ -15,7 +15,7 @@ use Rattle.calculus.specs.Forest.{Joint, jointAt, channelJoints, linkJoint, joi
 use Rattle.calculus.specs.WellFormed.{In, Stands, WellFormed}
 use Rattle.graphs.specs.Graph.{EndsIn, forest-small}
 use Rattle.progress.specs.Lists.{places, length-places, in-places, position-below}
-use Rattle.progress.specs.Held.{HeldFar, FarView, far-process, far-outside, far-given-up, far-view, far-found}
+use Rattle.progress.specs.Held.{HeldFar, FarView, far-process, far-outside, far-given-up, far-view, far-back, far-found}
 
 -- ── the ends of joints are places of processes
 abbrev Within : Config → Joint → Type 0
@@ -158,5 +158,5 @@ channel-joint {C = C} w {i} {q} {n} {e} {h} s m f v = go (e .side) refl
     go used z =
         let c : v .end .channel ≡ e .channel = ap (λ (k : ℕ × Side). k .0) (v .far) in
         let t : v .end .side ≡ provided = ap (λ (k : ℕ × Side). k .1) (v .far) ∙ ap other z in
-        let g = far-found w (v .end) s m (λ i. (sym c i, (z ∙ ap other (sym t)) i)) in
+        let g = far-found w (v .end) s m (far-back e (v .end) (v .far)) in
         Memᴰ·cast (ap channel (sym c)) (own (v .stands) (v .entry) t g)

@@ -1,6 +1,9 @@
 pub mod Chosen
+pub mod Fresh
+pub mod GivenUp
 pub mod Held
 pub mod Joints
+pub mod Lacks
 pub mod Lists
 pub mod Outward
 pub mod Progress

@@ -6,7 +6,7 @@ use mathlib.Core.Path.{_≡_, refl, sym, _∙_, ap}
 use mathlib.Core.Logic.{_≢_}
 use mathlib.Core.List.{List, [], _∷_, _++_, map, List·Memᴰ·head, List·Memᴰ·tail, List·Memᴰ·not-nil, Memᴰ·append-right, Memᴰ·map, Memᴰ·cast}
 use mathlib.Core.Option.{some, none, Option·some-injective, Option·none-ne-some}
-use lib.ListN.{length, getElem?}
+use lib.ListN.{length, set, getElem?}
 use Rattle.calculus.specs.WellFormed.{In, NoneTwice}
 
 -- ── the places below a number
@@ -60,6 +60,11 @@ module _ {A : Type 0} where
   past-the-end [] i h = refl
   past-the-end (y ∷ l) zero h = absurd (omega arith)
   past-the-end (y ∷ l) (suc i) h = past-the-end l i (omega arith)
+
+  pub element-set : (l : List A) (i : ℕ) {x : A} → getElem? l i ≡ some x → (y : A) → getElem? (set l i y) i ≡ some y
+  element-set [] i e y = absurd (Option·none-ne-some _ e)
+  element-set (z ∷ l) zero e y = refl
+  element-set (z ∷ l) (suc i) e y = element-set l i e y
 
 -- ── nothing twice, of the images of a list in two parts
 module _ {A B : Type 0} (f : A → B) where
