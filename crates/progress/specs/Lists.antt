@@ -5,7 +5,7 @@ use native.Mathlib.Decide.{decLe}
 use mathlib.Core.Path.{_≡_, refl, sym, _∙_, ap}
 use mathlib.Core.Logic.{_≢_}
 use mathlib.Core.List.{List, [], _∷_, _++_, map, List·Memᴰ·head, List·Memᴰ·tail, List·Memᴰ·not-nil, Memᴰ·append-right, Memᴰ·map, Memᴰ·cast}
-use mathlib.Core.Option.{some, none, Option·some-injective, Option·none-ne-some}
+use mathlib.Core.Option.{some, none, Option·some-injective, Option·none-ne-some, Option·some-ne-none}
 use lib.ListN.{length, set, getElem?}
 use Rattle.calculus.specs.WellFormed.{In, NoneTwice}
 
@@ -60,6 +60,11 @@ module _ {A : Type 0} where
   past-the-end [] i h = refl
   past-the-end (y ∷ l) zero h = absurd (omega arith)
   past-the-end (y ∷ l) (suc i) h = past-the-end l i (omega arith)
+
+  pub none-past : (l : List A) (i : ℕ) → getElem? l i ≡ none → length l ≤ i
+  none-past [] i e = omega arith
+  none-past (y ∷ l) zero e = absurd (Option·some-ne-none _ e)
+  none-past (y ∷ l) (suc i) e = let h = none-past l i e in omega arith
 
   pub element-set : (l : List A) (i : ℕ) {x : A} → getElem? l i ≡ some x → (y : A) → getElem? (set l i y) i ≡ some y
   element-set [] i e y = absurd (Option·none-ne-some _ e)

@@ -1,0 +1,2 @@
+pub mod Execs
+pub mod Safety
