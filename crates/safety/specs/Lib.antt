@@ -1,2 +1,3 @@
 pub mod Execs
+pub mod Replies
 pub mod Safety
