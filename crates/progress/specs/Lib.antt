@@ -1,4 +1,5 @@
 pub mod Chosen
+pub mod Endings
 pub mod Fresh
 pub mod GivenUp
 pub mod Held
@@ -8,5 +9,6 @@ pub mod Lists
 pub mod Outward
 pub mod Progress
 pub mod RunOn
+pub mod Shown
 pub mod Turns
 pub mod Waiting
