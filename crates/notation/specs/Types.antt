@@ -43,7 +43,7 @@ choiceBy alternatives s k choice c =
     take (typeTerm s k c) λ _ d.
     take (opening s kBraceOpen d) λ _ e.
     part (alternatives e) λ r f.
-    take (expect s kBraceClose f) λ _ g. got (choice r) (closed d g)
+    take (expect s kBraceClose f) λ _ g. got (choice r) (closed c g)
 
 -- an atom, by what begins it
 unfoldable pub atomBy : (Cursor → Result (Ty Located)) → (Cursor → Result (Alternatives Located)) → List ℕ → Cursor → TypeHead → Result (Ty Located)

@@ -1,0 +1,4 @@
+// The reader: from a text to the tables.
+pub mod steps;
+pub mod store;
+pub mod types;
