@@ -65,7 +65,8 @@ module _ (p : Program) (C : Config) where
   none-from i (q ∷ l) e j h g = go (isCarried (step p C i)) refl e (λ f h g. none-from (suc i) l f j h g) (ℕ-discrete j i)
     where
       go : (b : Bool) → isCarried (step p C i) ≡ b → cond b (some i) (firstFrom p C (suc i) l) ≡ none
-          → (firstFrom p C (suc i) l ≡ none → suc i ≤ j → j < suc i + length l → isCarried (step p C j) ≡ false) → Dec (j ≡ i) → isCarried (step p C j) ≡ false
+          → (firstFrom p C (suc i) l ≡ none → suc i ≤ j → j < suc i + length l → isCarried (step p C j) ≡ false) → Dec (j ≡ i)
+          → isCarried (step p C j) ≡ false
       go true t e r d = absurd (Option·some-ne-none _ e)
       go false t e r (yes z) = ap (λ j. isCarried (step p C j)) z ∙ t
       go false t e r (no n) = r e (omega arith) (omega arith)

@@ -42,12 +42,14 @@ none-chosen-short p C v n e =
     let o = some-open p C v n in
     record { place = o .0; opened = o .1; short = λ i h. lacks-exactly p C v i h .0 (open-lacks p C i h (none-chosen p C e i)) }
 
-full-where : (p : Program) (budget t : ℕ) (C : Config) (a : RanOn) (D : Config) → Ended p budget (given a) C a D → a ≡ Full t → WellFormed p D → AllShort p D
+full-where : (p : Program) (budget t : ℕ) (C : Config) (a : RanOn) (D : Config) → Ended p budget (given a) C a D → a ≡ Full t → WellFormed p D
+    → AllShort p D
 full-where p budget t C a D h e v =
     let g : Ended p budget t C (Full t) D = subst (λ a. Ended p budget (given a) C a D) e h in
     none-chosen-short p D v (g .2) (g .3)
 
-pub run-on-full : (p : Program) (C : Config) (budget t : ℕ) → runOn p C budget .answer ≡ Full t → WellFormed p (runOn p C budget .config) → AllShort p (runOn p C budget .config)
+pub run-on-full : (p : Program) (C : Config) (budget t : ℕ) → runOn p C budget .answer ≡ Full t → WellFormed p (runOn p C budget .config)
+    → AllShort p (runOn p C budget .config)
 run-on-full p C budget t e v = full-where p budget t C _ _ (run-on-ends p C budget) e v
 
 -- ── done: exactly where no process is left
@@ -70,14 +72,16 @@ shown-left p (suc n) C seen D h e =
     let z : length (D .processes) ≡ 0 = ap length e in
     omega arith
 
-done-where : (p : Program) (budget n : ℕ) (C : Config) (a : RanOn) (D : Config) → Ended p budget n C a D → (D .processes ≡ []) ↔ ((t : ℕ) × (a ≡ Done t))
+done-where : (p : Program) (budget n : ℕ) (C : Config) (a : RanOn) (D : Config) → Ended p budget n C a D
+    → (D .processes ≡ []) ↔ ((t : ℕ) × (a ≡ Done t))
 done-where p budget n C (Shown seen t) D h = not-done refl (shown-left p n C seen D (h .1))
 done-where p budget n C (Done t) D h = (λ e. (t, refl), λ d. h .2)
 done-where p budget n C (Full t) D h = not-done refl (h .2)
 done-where p budget n C (Stopped t) D h = not-done refl (h .2)
 done-where p budget n C (Refused k i) D h = absurd h
 
-pub run-on-done : (p : Program) (C : Config) (budget : ℕ) → (runOn p C budget .config .processes ≡ []) ↔ ((t : ℕ) × (runOn p C budget .answer ≡ Done t))
+pub run-on-done : (p : Program) (C : Config) (budget : ℕ)
+    → (runOn p C budget .config .processes ≡ []) ↔ ((t : ℕ) × (runOn p C budget .answer ≡ Done t))
 run-on-done p C budget = done-where p budget _ C _ _ (run-on-ends p C budget)
 
 -- ── stopped: the whole budget is spent, and a further step could be carried out
@@ -86,7 +90,8 @@ pub record Spent (p : Program) (budget t : ℕ) (C : Config) : Type 0 where
   pub place : ℕ
   pub further : First p C place
 
-stopped-where : (p : Program) (budget t : ℕ) (C : Config) (a : RanOn) (D : Config) → Ended p budget (given a) C a D → a ≡ Stopped t → Spent p budget t D
+stopped-where : (p : Program) (budget t : ℕ) (C : Config) (a : RanOn) (D : Config) → Ended p budget (given a) C a D → a ≡ Stopped t
+    → Spent p budget t D
 stopped-where p budget t C a D h e =
     let g : Ended p budget t C (Stopped t) D = subst (λ a. Ended p budget (given a) C a D) e h in
     record { whole = g .0; place = g .3; further = chosen-first p D (g .4) }

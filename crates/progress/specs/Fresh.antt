@@ -36,7 +36,8 @@ free-some : (busy : List ℕ) (k n : ℕ) {j : ℕ} → freeFrom busy k n ≡ so
 free-some busy k zero e = absurd (Option·none-ne-some _ e)
 free-some busy k (suc n) {j} e = go (among k busy) refl e (λ h. free-some busy (suc k) n h)
   where
-    go : (b : Bool) → among k busy ≡ b → cond b (freeFrom busy (suc k) n) (some k) ≡ some j → (freeFrom busy (suc k) n ≡ some j → Lowest busy (suc k) n j) → Lowest busy k (suc n) j
+    go : (b : Bool) → among k busy ≡ b → cond b (freeFrom busy (suc k) n) (some k) ≡ some j
+        → (freeFrom busy (suc k) n ≡ some j → Lowest busy (suc k) n j) → Lowest busy k (suc n) j
     go true t e r =
         let y = r e in
         let a = y .from in
@@ -59,7 +60,8 @@ free-none : (busy : List ℕ) (k n : ℕ) → freeFrom busy k n ≡ none → (i 
 free-none busy k zero e i h g = absurd (omega arith)
 free-none busy k (suc n) e i h g = go (among k busy) refl e (λ f h g. free-none busy (suc k) n f i h g) (ℕ-discrete i k)
   where
-    go : (b : Bool) → among k busy ≡ b → cond b (freeFrom busy (suc k) n) (some k) ≡ none → (freeFrom busy (suc k) n ≡ none → suc k ≤ i → i < suc k + n → In i busy) → Dec (i ≡ k) → In i busy
+    go : (b : Bool) → among k busy ≡ b → cond b (freeFrom busy (suc k) n) (some k) ≡ none
+        → (freeFrom busy (suc k) n ≡ none → suc k ≤ i → i < suc k + n → In i busy) → Dec (i ≡ k) → In i busy
     go true t e r (yes z) = Memᴰ·cast z (among-iff k busy .0 t)
     go true t e r (no d) = r e (omega arith) (omega arith)
     go false t e r d = absurd (Option·some-ne-none _ e)

@@ -29,7 +29,8 @@ pub record Forsaken (C : Config) (i : ℕ) (q : Process) (c : Located) : Type 0 
   pub far : farEnd C held ≡ givenUp
 
 -- "a recv drops its channel in that step and folds up": the step is carried out and shows nothing
-pub given-up-recv-folds : (p : Program) (C : Config) (i : ℕ) (q : Process) (c : Located) → Forsaken C i q c → step p C i ≡ carried Nothing (replaced i (folded c q) C)
+pub given-up-recv-folds : (p : Program) (C : Config) (i : ℕ) (q : Process) (c : Located) → Forsaken C i q c
+    → step p C i ≡ carried Nothing (replaced i (folded c q) C)
 unfolding receive
 given-up-recv-folds p C i q c f = step-at p (f .stands) ∙ ap (stepDoing p C i q) (f .runs) ∙ step-turn p C i q (f .term) ∙ ap (by-turn p C i q (f .term)) (f .receives-on) ∙ dropped
   where
@@ -41,7 +42,8 @@ pub folds-there : (C : Config) (i : ℕ) (q : Process) (c : Located) → Forsake
 folds-there C i q c f = element-set (C .processes) i (f .stands .there) (folded c q)
 
 -- a process that folds up never runs a term: its step leaves it folding up with one channel less, or takes it from the list
-pub folding-on : (p : Program) (C : Config) (i : ℕ) (q : Process) (n : Name) (e : End) (l : List (Name × End)) → Stands C i q → q .doing ≡ folding → q .held ≡ (n, e) ∷ l
+pub folding-on : (p : Program) (C : Config) (i : ℕ) (q : Process) (n : Name) (e : End) (l : List (Name × End)) → Stands C i q → q .doing ≡ folding
+    → q .held ≡ (n, e) ∷ l
     → step p C i ≡ parting C i (process folding l (q .link)) e
 unfolding foldingUp
 folding-on p C i q n e l s d h = step-at p s ∙ ap (stepDoing p C i q) d ∙ ap (foldingUp C i q) h

@@ -41,7 +41,8 @@ unfolding lookup distinct names
 lookup-entry [] u m = absurd (List·Memᴰ·not-nil m)
 lookup-entry {X} (d ∷ l) {c} {x} u m = go (any (same (d .0)) (names l)) refl u m (same-cases c (d .0)) (λ v k. lookup-entry l v k)
   where
-    go : (b : Bool) → any (same (d .0)) (names l) ≡ b → cond b false (distinct (names l)) ≡ true → In (c, x) (d ∷ l) → ((same c (d .0) ≡ true) × (c ≡ d .0)) ⊎ ((same c (d .0) ≡ false) × (c ≢ d .0))
+    go : (b : Bool) → any (same (d .0)) (names l) ≡ b → cond b false (distinct (names l)) ≡ true → In (c, x) (d ∷ l)
+        → ((same c (d .0) ≡ true) × (c ≡ d .0)) ⊎ ((same c (d .0) ≡ false) × (c ≢ d .0))
         → (distinct (names l) ≡ true → In (c, x) l → lookup c l ≡ some x) → cond (same c (d .0)) (some (d .1)) (lookup c l) ≡ some x
     go true t u m s r = absurd (false≢true u)
     go false t u (List·Memᴰ·head z) (inl s) r = rw (s .0) (ap (λ (y : Name × X). some (y .1)) (sym z))
@@ -62,7 +63,8 @@ unfolding lookup slot-of
 lookup-context c [] = refl
 lookup-context c (e ∷ l) = go (same c (e .0)) (lookup-context c l)
   where
-    go : (b : Bool) → lookup c (contextOf l) ≡ Option·map slot-of (lookup c l) → cond b (some (slot-of (e .1))) (lookup c (contextOf l)) ≡ Option·map slot-of (cond b (some (e .1)) (lookup c l))
+    go : (b : Bool) → lookup c (contextOf l) ≡ Option·map slot-of (lookup c l)
+        → cond b (some (slot-of (e .1))) (lookup c (contextOf l)) ≡ Option·map slot-of (cond b (some (e .1)) (lookup c l))
     go true r = refl
     go false r = r
 
@@ -77,7 +79,8 @@ pub acts : (p : Program) (c : Name) (l : List (Name × End)) {s : Side} {T : Ty 
 unfolding slot-of
 acts p c l {s} {T} e = go (lookup c l) refl (sym (ap (Option·map (λ (x : Slot). slot (x .side) (standing (p .types) (x .type)))) (lookup-context c l)) ∙ e)
   where
-    go : (o : Option End) → lookup c l ≡ o → Option·map (λ (x : Slot). slot (x .side) (standing (p .types) (x .type))) (Option·map slot-of o) ≡ some (slot s T) → Acts p c l s T
+    go : (o : Option End) → lookup c l ≡ o
+        → Option·map (λ (x : Slot). slot (x .side) (standing (p .types) (x .type))) (Option·map slot-of o) ≡ some (slot s T) → Acts p c l s T
     go none h e = absurd (Option·none-ne-some _ e)
     go (some d) h e =
         let k = Option·some-injective _ _ e in
@@ -102,7 +105,8 @@ process-end (r ∷ l) zero {q} {e} h m = Memᴰ·append-left (processEnds l) (su
 process-end (r ∷ l) (suc i) h m = Memᴰ·append-right (heldEnds (r .held)) (process-end l i h m)
 
 -- an end is held by one process
-one-process : (l : List Process) → NoneTwice (map key (processEnds l)) → (i j : ℕ) {q r : Process} {e d : End} → getElem? l i ≡ some q → getElem? l j ≡ some r → In e (heldEnds (q .held)) → In d (heldEnds (r .held)) → key e ≡ key d → i ≡ j
+one-process : (l : List Process) → NoneTwice (map key (processEnds l)) → (i j : ℕ) {q r : Process} {e d : End} → getElem? l i ≡ some q
+    → getElem? l j ≡ some r → In e (heldEnds (q .held)) → In d (heldEnds (r .held)) → key e ≡ key d → i ≡ j
 one-process [] u i j h g m k z = absurd (Option·none-ne-some _ h)
 one-process (x ∷ l) u zero zero h g m k z = refl
 one-process (x ∷ l) u zero (suc j) {e = e} h g m k z =
@@ -111,7 +115,8 @@ one-process (x ∷ l) u (suc i) zero {d = d} h g m k z =
     absurd (once-apart key (heldEnds (x .held)) (processEnds l) u (subst (λ (r : Process). In d (heldEnds (r .held))) (sym (Option·some-injective _ _ g)) k) (process-end l i h m) (sym z))
 one-process (x ∷ l) u (suc i) (suc j) h g m k z = ap suc (one-process l (once-right key (heldEnds (x .held)) (processEnds l) u) i j h g m k z)
 
-process-once : (l : List Process) (i : ℕ) {q : Process} → NoneTwice (map key (processEnds l)) → getElem? l i ≡ some q → NoneTwice (map key (heldEnds (q .held)))
+process-once : (l : List Process) (i : ℕ) {q : Process} → NoneTwice (map key (processEnds l)) → getElem? l i ≡ some q
+    → NoneTwice (map key (heldEnds (q .held)))
 process-once [] i u h = absurd (Option·none-ne-some _ h)
 process-once (x ∷ l) zero u h = subst (λ (r : Process). NoneTwice (map key (heldEnds (r .held)))) (Option·some-injective _ _ h) (once-left key (heldEnds (x .held)) (processEnds l) u)
 process-once (x ∷ l) (suc i) u h = process-once l i (once-right key (heldEnds (x .held)) (processEnds l) u) h
@@ -164,7 +169,8 @@ holder-from i k s (q ∷ l) {h} e = go (heldAs k s (q .held)) refl e (λ g. hold
         let z = Option·some-injective _ _ e in
         (0, (let w = ap (λ (h : Holder). h .place) z in omega arith), ap (λ (h : Holder). some (h .process)) z, subst (λ (h : Holder). heldAs k s (h .process .held) ≡ some (h .name)) z t)
 
-no-holder : (i k : ℕ) (s : Side) (l : List Process) → holderFrom i k s l ≡ none → (j : ℕ) {q : Process} → getElem? l j ≡ some q → heldAs k s (q .held) ≡ none
+no-holder : (i k : ℕ) (s : Side) (l : List Process) → holderFrom i k s l ≡ none → (j : ℕ) {q : Process} → getElem? l j ≡ some q
+    → heldAs k s (q .held) ≡ none
 unfolding holderFrom
 no-holder i k s [] e j g = absurd (Option·none-ne-some _ g)
 no-holder i k s (q ∷ l) e j {q = r} g = go (heldAs k s (q .held)) refl e j g (λ h j g. no-holder (suc i) k s l h j g)
@@ -181,7 +187,8 @@ unfolding outsideOf
 outside-of k [] e = absurd (Option·none-ne-some _ e)
 outside-of k (x ∷ l) {o} e = go (eqb k (x .channel)) refl e (λ h. outside-of k l h)
   where
-    go : (b : Bool) → eqb k (x .channel) ≡ b → cond b (some x) (outsideOf k l) ≡ some o → (outsideOf k l ≡ some o → In o l × (o .channel ≡ k)) → In o (x ∷ l) × (o .channel ≡ k)
+    go : (b : Bool) → eqb k (x .channel) ≡ b → cond b (some x) (outsideOf k l) ≡ some o → (outsideOf k l ≡ some o → In o l × (o .channel ≡ k))
+        → In o (x ∷ l) × (o .channel ≡ k)
     go true t e r = let z = Option·some-injective _ _ e in (List·Memᴰ·head (sym z), ap (λ (o : Outside). o .channel) (sym z) ∙ sym (eqb-iff k (x .channel) .0 t))
     go false t e r = let y = r e in (List·Memᴰ·tail (y .0), y .1)
 
@@ -219,7 +226,8 @@ far-view C e = go (holderFrom 0 (e .channel) (other (e .side)) (C .processes)) r
     out provided z (some o) t = let y = outside-of (e .channel) (C .outside) t in far-outside (record { outside = o; number = refl; member = y .0; channel = y .1; side = z })
     out used z (some o) t = far-given-up
 
-    go : (o : Option Holder) → holderFrom 0 (e .channel) (other (e .side)) (C .processes) ≡ o → FarView C e (farFrom o (orOutside (e .side) (outsideOf (e .channel) (C .outside))))
+    go : (o : Option Holder) → holderFrom 0 (e .channel) (other (e .side)) (C .processes) ≡ o
+        → FarView C e (farFrom o (orOutside (e .side) (outsideOf (e .channel) (C .outside))))
     go none t = out (e .side) refl (outsideOf (e .channel) (C .outside)) refl
     go (some h) t =
         let y = holder-from 0 (e .channel) (other (e .side)) (C .processes) t in
@@ -246,18 +254,21 @@ module _ {p : Program} {C : Config} (w : WellFormed p C) where
   held-keys = once-left key (processEnds (C .processes)) (outsideEnds (C .outside)) (w .once)
 
   -- "each held at most once": one process, one name
-  pub one-holder : {i j : ℕ} {q r : Process} {n m : Name} {e d : End} → Stands C i q → Stands C j r → In (n, e) (q .held) → In (m, d) (r .held) → key e ≡ key d → i ≡ j
+  pub one-holder : {i j : ℕ} {q r : Process} {n m : Name} {e d : End} → Stands C i q → Stands C j r → In (n, e) (q .held) → In (m, d) (r .held)
+      → key e ≡ key d → i ≡ j
   one-holder {i} {j} {q} {r} s t a b z = one-process (C .processes) held-keys i j (s .there) (t .there) (entry-end (q .held) a) (entry-end (r .held) b) z
 
   pub one-name : {i : ℕ} {q : Process} {n m : Name} {e d : End} → Stands C i q → In (n, e) (q .held) → In (m, d) (q .held) → key e ≡ key d → n ≡ m
   one-name {i} {q} s = one-entry (q .held) (process-once (C .processes) i held-keys (s .there))
 
   -- who holds the other side of a channel is its far end
-  pub far-found : {j : ℕ} {r : Process} {n : Name} {d : End} (e : End) → Stands C j r → In (n, d) (r .held) → key d ≡ (e .channel, other (e .side)) → farEnd C e ≡ atProcess (record { place = j; process = r; name = n })
+  pub far-found : {j : ℕ} {r : Process} {n : Name} {d : End} (e : End) → Stands C j r → In (n, d) (r .held) → key d ≡ (e .channel, other (e .side))
+      → farEnd C e ≡ atProcess (record { place = j; process = r; name = n })
   unfolding farEnd
   far-found {j} {r} {n} {d} e s m z = go (holderFrom 0 (e .channel) (other (e .side)) (C .processes)) refl
     where
-      go : (o : Option Holder) → holderFrom 0 (e .channel) (other (e .side)) (C .processes) ≡ o → farFrom o (orOutside (e .side) (outsideOf (e .channel) (C .outside))) ≡ atProcess (record { place = j; process = r; name = n })
+      go : (o : Option Holder) → holderFrom 0 (e .channel) (other (e .side)) (C .processes) ≡ o
+          → farFrom o (orOutside (e .side) (outsideOf (e .channel) (C .outside))) ≡ atProcess (record { place = j; process = r; name = n })
       go none t = absurd (not-held (e .channel) (other (e .side)) (r .held) (no-holder 0 (e .channel) (other (e .side)) (C .processes) t j (s .there)) m z)
       go (some h) t =
           let y = holder-from 0 (e .channel) (other (e .side)) (C .processes) t in

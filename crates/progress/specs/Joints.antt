@@ -24,7 +24,8 @@ Within C j = (j .0 < length (C .processes)) × (j .1 < length (C .processes))
 stands-below : {C : Config} {i : ℕ} {q : Process} → Stands C i q → i < length (C .processes)
 stands-below {C} {i} s = position-below (C .processes) i (s .there)
 
-joint-within : {C : Config} {i : ℕ} {e : End} {f : Far} {j : Joint} → i < length (C .processes) → (s : Side) → FarView C e f → In j (jointAt i s f) → Within C j
+joint-within : {C : Config} {i : ℕ} {e : End} {f : Far} {j : Joint} → i < length (C .processes) → (s : Side) → FarView C e f → In j (jointAt i s f)
+    → Within C j
 joint-within {C} h provided (far-process v) (List·Memᴰ·head e) = subst (Within C) (sym e) (h, stands-below (v .stands))
 joint-within h used (far-process v) m = absurd (List·Memᴰ·not-nil m)
 joint-within h provided (far-outside v) m = absurd (List·Memᴰ·not-nil m)
@@ -40,11 +41,13 @@ channel-within C {i} (e ∷ l) {j} h m = go (List·Memᴰ·append-cases (jointAt
     go (inl k) r = joint-within h (e .1 .side) (far-view C (e .1)) k
     go (inr k) r = r k
 
-link-within : {p : Program} {C : Config} → WellFormed p C → {i : ℕ} {q : Process} → Stands C i q → (o : Option ℕ) → q .link ≡ o → {j : Joint} → In j (linkJoint i o) → Within C j
+link-within : {p : Program} {C : Config} → WellFormed p C → {i : ℕ} {q : Process} → Stands C i q → (o : Option ℕ) → q .link ≡ o → {j : Joint}
+    → In j (linkJoint i o) → Within C j
 link-within w s none e m = absurd (List·Memᴰ·not-nil m)
 link-within {C = C} w {i} {q} s (some h) e (List·Memᴰ·head z) = subst (Within C) (sym z) (stands-below s, stands-below (w .links i q s h e .1))
 
-joints-within : {p : Program} {C : Config} → WellFormed p C → (i : ℕ) (l : List Process) → ((k : ℕ) (q : Process) → getElem? l k ≡ some q → Stands C (i + k) q) → {j : Joint} → In j (jointsFrom C i l) → Within C j
+joints-within : {p : Program} {C : Config} → WellFormed p C → (i : ℕ) (l : List Process)
+    → ((k : ℕ) (q : Process) → getElem? l k ≡ some q → Stands C (i + k) q) → {j : Joint} → In j (jointsFrom C i l) → Within C j
 joints-within w i [] f m = absurd (List·Memᴰ·not-nil m)
 joints-within {C = C} w i (q ∷ l) f {j} m =
     go (List·Memᴰ·append-cases (channelJoints C i (q .held) ++ linkJoint i (q .link)) m)
@@ -57,7 +60,8 @@ joints-within {C = C} w i (q ∷ l) f {j} m =
     own (inl k) = channel-within C (q .held) (stands-below s) k
     own (inr k) = link-within w s (q .link) refl k
 
-    go : In j (channelJoints C i (q .held) ++ linkJoint i (q .link)) ⊎ In j (jointsFrom C (suc i) l) → (In j (jointsFrom C (suc i) l) → Within C j) → Within C j
+    go : In j (channelJoints C i (q .held) ++ linkJoint i (q .link)) ⊎ In j (jointsFrom C (suc i) l) → (In j (jointsFrom C (suc i) l) → Within C j)
+        → Within C j
     go (inl k) r = own (List·Memᴰ·append-cases (channelJoints C i (q .held)) k)
     go (inr k) r = r k
 
@@ -128,13 +132,15 @@ pub keys-of-joints : (C : Config) → length (jointKeys C) ≡ length (joints C)
 unfolding joints jointKeys
 keys-of-joints C = length-keys C 0 (C .processes)
 
-channel-key : (C : Config) {n : Name} {e : End} {h : Holder} (l : List (Name × End)) → In (n, e) l → e .side ≡ provided → farEnd C e ≡ atProcess h → In (channel (e .channel)) (channelKeys C l)
+channel-key : (C : Config) {n : Name} {e : End} {h : Holder} (l : List (Name × End)) → In (n, e) l → e .side ≡ provided → farEnd C e ≡ atProcess h
+    → In (channel (e .channel)) (channelKeys C l)
 channel-key C {e = e} (x ∷ l) (List·Memᴰ·head g) s f =
     Memᴰ·append-left (channelKeys C l)
     (subst (λ (y : Name × End). In (channel (e .channel)) (keyAt (y .1 .channel) (y .1 .side) (farEnd C (y .1)))) g (rw (f, s) (List·Memᴰ·head refl)))
 channel-key C (x ∷ l) (List·Memᴰ·tail m) s f = Memᴰ·append-right (keyAt (x .1 .channel) (x .1 .side) (farEnd C (x .1))) (channel-key C l m s f)
 
-key-in : (C : Config) (l : List Process) (i : ℕ) {q : Process} {k : JointKey} → getElem? l i ≡ some q → In k (channelKeys C (q .held) ++ linkKey (q .link)) → In k (keysFrom C l)
+key-in : (C : Config) (l : List Process) (i : ℕ) {q : Process} {k : JointKey} → getElem? l i ≡ some q
+    → In k (channelKeys C (q .held) ++ linkKey (q .link)) → In k (keysFrom C l)
 key-in C [] i h m = absurd (Option·none-ne-some _ h)
 key-in C (r ∷ l) zero {k = k} h m =
     Memᴰ·append-left (keysFrom C l) (subst (λ (q : Process). In k (channelKeys C (q .held) ++ linkKey (q .link))) (sym (Option·some-injective _ _ h)) m)
@@ -146,11 +152,13 @@ unfolding jointKeys
 link-joint {C} {i} {h} {q} s e = key-in C (C .processes) i (s .there) (Memᴰ·append-right (channelKeys C (q .held)) (rw e (List·Memᴰ·head refl)))
 
 -- a channel with processes at both ends is a joint
-pub channel-joint : {p : Program} {C : Config} → WellFormed p C → {i : ℕ} {q : Process} {n : Name} {e : End} {h : Holder} → Stands C i q → In (n, e) (q .held) → farEnd C e ≡ atProcess h → HeldFar C e h → In (channel (e .channel)) (jointKeys C)
+pub channel-joint : {p : Program} {C : Config} → WellFormed p C → {i : ℕ} {q : Process} {n : Name} {e : End} {h : Holder} → Stands C i q
+    → In (n, e) (q .held) → farEnd C e ≡ atProcess h → HeldFar C e h → In (channel (e .channel)) (jointKeys C)
 unfolding jointKeys
 channel-joint {C = C} w {i} {q} {n} {e} {h} s m f v = go (e .side) refl
   where
-    own : {j : ℕ} {r : Process} {c : Name} {d : End} {g : Holder} → Stands C j r → In (c, d) (r .held) → d .side ≡ provided → farEnd C d ≡ atProcess g → In (channel (d .channel)) (keysFrom C (C .processes))
+    own : {j : ℕ} {r : Process} {c : Name} {d : End} {g : Holder} → Stands C j r → In (c, d) (r .held) → d .side ≡ provided → farEnd C d ≡ atProcess g
+        → In (channel (d .channel)) (keysFrom C (C .processes))
     own {j} {r} t k z f = key-in C (C .processes) j (t .there) (Memᴰ·append-left (linkKey (r .link)) (channel-key C (r .held) k z f))
 
     go : (s : Side) → e .side ≡ s → In (channel (e .channel)) (keysFrom C (C .processes))

@@ -75,7 +75,8 @@ if-served : (b : Bool) {r : Outcome} → Served r → Served (cond b r notOpen)
 if-served true s = s
 if-served false s = served refl
 
-meeting-served : (p : Program) (C : Config) (i : ℕ) (q q′ : Process) (m : Message) (e : End) (h : Holder) (t : Turn) → Served (meeting p C i q q′ m e h t)
+meeting-served : (p : Program) (C : Config) (i : ℕ) (q q′ : Process) (m : Message) (e : End) (h : Holder) (t : Turn)
+    → Served (meeting p C i q q′ m e h t)
 meeting-served p C i q q′ m e h (sends c m′ P) = served refl
 meeting-served p C i q q′ m e h (receives c w) =
     if-served (same (c .name) (h .name)) (both-served C i q′ (h .place) (afterReceive p m w (h .name) e (passedEnd m (q .held)) (h .process)))
@@ -101,7 +102,8 @@ record OutOfNumbers (C : Config) (q : Process) (c : Located) (m : Message) : Typ
   far : farEnd C held ≡ atOutside number
   given : outsideNumbers ≤ C .given
 
-out-lacks : (p : Program) (C : Config) (i : ℕ) (q q′ : Process) (m : Message) (e : End) (n : ℕ) → Lacking (toOutside p C i q q′ m e n) → (a : Located) × (m ≡ passes a) × (outsideNumbers ≤ C .given)
+out-lacks : (p : Program) (C : Config) (i : ℕ) (q q′ : Process) (m : Message) (e : End) (n : ℕ) → Lacking (toOutside p C i q q′ m e n)
+    → (a : Located) × (m ≡ passes a) × (outsideNumbers ≤ C .given)
 out-lacks p C i q q′ closing e n l = absurd (served refl l)
 out-lacks p C i q q′ (passes a) e n l = (a, refl, go (lookup (a .name) (q .held)) l)
   where
@@ -113,14 +115,16 @@ out-lacks p C i q q′ (passes a) e n l = (a, refl, go (lookup (a .name) (q .hel
     go (some d) l = left-of (room (C .given) outsideNumbers (out d) l) (served refl)
 out-lacks p C i q q′ (chooses k) e n l = absurd (served refl l)
 
-send-lacks : (p : Program) (C : Config) (i : ℕ) (q : Process) (c : Located) (m : Message) (P : Proc) → Lacking (send p C i q c m P) → OutOfNumbers C q c m
+send-lacks : (p : Program) (C : Config) (i : ℕ) (q : Process) (c : Located) (m : Message) (P : Proc) → Lacking (send p C i q c m P)
+    → OutOfNumbers C q c m
 unfolding send
 send-lacks p C i q c m P l = go (lookup (c .name) (q .held)) refl l
   where
     after : End → Process
     after e = process (running P) (afterSend p (c .name) e m (q .held)) (q .link)
 
-    far-lacks : (e : End) → lookup (c .name) (q .held) ≡ some e → (f : Far) → farEnd C e ≡ f → Lacking (sending p C i q (after e) m e f) → OutOfNumbers C q c m
+    far-lacks : (e : End) → lookup (c .name) (q .held) ≡ some e → (f : Far) → farEnd C e ≡ f → Lacking (sending p C i q (after e) m e f)
+        → OutOfNumbers C q c m
     far-lacks e h (atProcess g) t l = absurd (meeting-served p C i q (after e) m e g (turnOf (g .process .doing)) l)
     far-lacks e h (atOutside n) t l = let y = out-lacks p C i q (after e) m e n l in record { passed = y .0; passing = y .1; held = e; holds = h; number = n; far = t; given = y .2 }
     far-lacks e h givenUp t l = absurd (unheard-served C i q (after e) m l)
@@ -146,7 +150,8 @@ sender-distinct p G link folding e t = absurd (false≢true e)
 sender-distinct p G link (waiting Q) e t = absurd (false≢true e)
 
 module _ {p : Program} {C : Config} (v : WellFormed p C) {i : ℕ} {q : Process} (s : Stands C i q) where
-  answer-served : {c : Name} {e : End} {h : Holder} → In (c, e) (q .held) → HeldFar C e h → {c′ : Located} {m : Message} {P : Proc} → turnOf (h .process .doing) ≡ sends c′ m P → c′ .name ≡ h .name → Served (send p C (h .place) (h .process) c′ m P)
+  answer-served : {c : Name} {e : End} {h : Holder} → In (c, e) (q .held) → HeldFar C e h → {c′ : Located} {m : Message} {P : Proc}
+      → turnOf (h .process .doing) ≡ sends c′ m P → c′ .name ≡ h .name → Served (send p C (h .place) (h .process) c′ m P)
   answer-served {c} {e} {h} k u {c′} {m} {P} t z l =
       let o = send-lacks p C (h .place) (h .process) c′ m P l in
       let d : distinct (names (h .process .held)) ≡ true = rw (← names-context (h .process .held)) (sender-distinct p _ _ (h .process .doing) (ap is-send t) (v .typed (h .place) (h .process) (u .stands))) in
@@ -158,7 +163,8 @@ module _ {p : Program} {C : Config} (v : WellFormed p C) {i : ℕ} {q : Process}
   unfolding receive
   receive-served c = go (lookup (c .name) (q .held)) refl
     where
-      answered : {e : End} {h : Holder} → In (c .name, e) (q .held) → HeldFar C e h → (t : Turn) → turnOf (h .process .doing) ≡ t → Served (answering p C h t)
+      answered : {e : End} {h : Holder} → In (c .name, e) (q .held) → HeldFar C e h → (t : Turn) → turnOf (h .process .doing) ≡ t
+          → Served (answering p C h t)
       answered {h = h} k u (sends c′ m P) t = pick (same (c′ .name) (h .name)) refl
         where
           pick : (b : Bool) → same (c′ .name) (h .name) ≡ b → Served (cond b (send p C (h .place) (h .process) c′ m P) notOpen)
@@ -202,7 +208,8 @@ folding-served C i q [] = served refl
 folding-served C i q (e ∷ l) = served refl
 
 -- ── a step that lacks is short of something
-spawn-short : {C : Config} {i : ℕ} (q : Process) (x : Located) (A : Ty Located) (P Q : Proc) → Spawns C i → Lacking (spawning C i q x A P Q) → Short C i
+spawn-short : {C : Config} {i : ℕ} (q : Process) (x : Located) (A : Ty Located) (P Q : Proc) → Spawns C i → Lacking (spawning C i q x A P Q)
+    → Short C i
 unfolding spawning
 spawn-short {C} {i} q x A P Q w l = go (room (length (C .processes)) processPlaces (spawned C i q (x .name) (plain A) P Q (freshChannel C)) l)
   where
@@ -218,7 +225,8 @@ try-short : {C : Config} {i : ℕ} (q : Process) (P Q : Proc) → Tries C i → 
 unfolding trying
 try-short {C} q P Q w l = inl (inr w, left-of (room (length (C .processes)) processPlaces _ l) (served refl))
 
-send-short : {C : Config} {i : ℕ} {q : Process} {c a : Located} {o : ℕ} {P : Proc} → Stands C i q → q .doing ≡ running (sendChannel o c a P) → OutOfNumbers C q c (passes a) → Short C i
+send-short : {C : Config} {i : ℕ} {q : Process} {c a : Located} {o : ℕ} {P : Proc} → Stands C i q → q .doing ≡ running (sendChannel o c a P)
+    → OutOfNumbers C q c (passes a) → Short C i
 send-short {q = q} {c} {a} {o} {P} s e n =
     inr (inr (record { process = q; offset = o; over = c; passed = a; rest = P; held = n .held; number = n .number; stands = s; sends = e; holds = n .holds; far = n .far }, n .given))
 
@@ -228,7 +236,8 @@ is-passing (passes a) = true
 is-passing (chooses l) = false
 
 -- only a channel that is passed out takes a number
-send-served : (p : Program) (C : Config) (i : ℕ) (q : Process) (c : Located) (m : Message) (P : Proc) → is-passing m ≡ false → Served (send p C i q c m P)
+send-served : (p : Program) (C : Config) (i : ℕ) (q : Process) (c : Located) (m : Message) (P : Proc) → is-passing m ≡ false
+    → Served (send p C i q c m P)
 send-served p C i q c m P e l = true≢false (sym (ap is-passing (send-lacks p C i q c m P l .passing)) ∙ e)
 
 module _ {p : Program} {C : Config} (v : WellFormed p C) {i : ℕ} {q : Process} (s : Stands C i q) where

@@ -45,11 +45,13 @@ mutual
   have-more bad worse w (alternative l A r) e = or-more (hasOther bad A) _ (hasOther worse A) _ (λ h. has-more bad worse w A h) (λ h. have-more bad worse w r h) e
 
 -- a definition that has another mark puts its name on the list
-reached : (bad : List Name) (types : List (Name × Ty Name)) {n : Name} {A : Ty Name} → In (n, A) types → hasOther bad A ≡ true → In n (namesWithOther bad types)
+reached : (bad : List Name) (types : List (Name × Ty Name)) {n : Name} {A : Ty Name} → In (n, A) types → hasOther bad A ≡ true
+    → In n (namesWithOther bad types)
 reached bad [] m h = absurd (List·Memᴰ·not-nil m)
 reached bad (e ∷ l) {n} {A} m h = go (hasOther bad (e .1)) refl m (λ k. reached bad l k h)
   where
-    go : (b : Bool) → hasOther bad (e .1) ≡ b → In (n, A) (e ∷ l) → (In (n, A) l → In n (namesWithOther bad l)) → In n (cond b (e .0 ∷ namesWithOther bad l) (namesWithOther bad l))
+    go : (b : Bool) → hasOther bad (e .1) ≡ b → In (n, A) (e ∷ l) → (In (n, A) l → In n (namesWithOther bad l))
+        → In n (cond b (e .0 ∷ namesWithOther bad l) (namesWithOther bad l))
     go true t (List·Memᴰ·head z) r = List·Memᴰ·head (ap (λ (x : Name × Ty Name). x .0) z)
     go true t (List·Memᴰ·tail k) r = List·Memᴰ·tail (r k)
     go false t (List·Memᴰ·head z) r = absurd (true≢false (sym h ∙ ap (λ (x : Name × Ty Name). hasOther bad (x .1)) z ∙ t))
@@ -77,11 +79,13 @@ grows bad worse w (e ∷ l) = go (hasOther bad (e .1)) (hasOther worse (e .1)) (
     go false true f (inr h) = inr (omega arith)
     go false false f r = r
 
-within-more : (bad worse : List Name) → Within bad worse → (types : List (Name × Ty Name)) → Within (namesWithOther bad types) (namesWithOther worse types)
+within-more : (bad worse : List Name) → Within bad worse → (types : List (Name × Ty Name))
+    → Within (namesWithOther bad types) (namesWithOther worse types)
 within-more bad worse w [] n m = m
 within-more bad worse w (e ∷ l) n m = go (hasOther bad (e .1)) (hasOther worse (e .1)) (has-more bad worse w (e .1)) m (within-more bad worse w l n)
   where
-    go : (b c : Bool) → (b ≡ true → c ≡ true) → In n (cond b (e .0 ∷ namesWithOther bad l) (namesWithOther bad l)) → (In n (namesWithOther bad l) → In n (namesWithOther worse l)) → In n (cond c (e .0 ∷ namesWithOther worse l) (namesWithOther worse l))
+    go : (b c : Bool) → (b ≡ true → c ≡ true) → In n (cond b (e .0 ∷ namesWithOther bad l) (namesWithOther bad l))
+        → (In n (namesWithOther bad l) → In n (namesWithOther worse l)) → In n (cond c (e .0 ∷ namesWithOther worse l) (namesWithOther worse l))
     go true true f (List·Memᴰ·head z) r = List·Memᴰ·head z
     go true true f (List·Memᴰ·tail k) r = List·Memᴰ·tail (r k)
     go true false f k r = absurd (false≢true (f refl))
@@ -111,7 +115,8 @@ module _ (types : List (Name × Ty Name)) where
       first (x ∷ l) = inr (omega arith)
   stays-or-grows (suc n) = go (stays-or-grows n) (grows (reachOther n types) (reachOther (suc n) types) (reach-more n) types)
     where
-      go : (reachOther (suc n) types ≡ reachOther n types) ⊎ (suc n ≤ length (reachOther (suc n) types)) → Longer (reachOther (suc n) types) (reachOther (suc (suc n)) types)
+      go : (reachOther (suc n) types ≡ reachOther n types) ⊎ (suc n ≤ length (reachOther (suc n) types))
+          → Longer (reachOther (suc n) types) (reachOther (suc (suc n)) types)
           → (reachOther (suc (suc n)) types ≡ reachOther (suc n) types) ⊎ (suc (suc n) ≤ length (reachOther (suc (suc n)) types))
       go (inl z) r = inl (ap (λ bad. namesWithOther bad types) z)
       go (inr h) (inl z) = inl z
@@ -122,7 +127,8 @@ module _ (types : List (Name × Ty Name)) where
   unfolding reachOther
   reach-stays = go (stays-or-grows (length types)) (length-names (reachOther (length types) types) types)
     where
-      go : (reachOther (suc (length types)) types ≡ reachOther (length types) types) ⊎ (suc (length types) ≤ length (reachOther (suc (length types)) types)) → length (reachOther (suc (length types)) types) ≤ length types
+      go : (reachOther (suc (length types)) types ≡ reachOther (length types) types) ⊎ (suc (length types) ≤ length (reachOther (suc (length types)) types))
+          → length (reachOther (suc (length types)) types) ≤ length types
           → reachOther (suc (length types)) types ≡ reachOther (length types) types
       go (inl z) h = z
       go (inr k) h = absurd (omega arith)
@@ -189,7 +195,8 @@ unfolding outward hasOther
 outward-tensor p A B h = both-not (hasOther _ A) _ h
 
 -- what a channel that keeps the rule passes, and its type afterwards
-pub outward-passing : (p : Program) (T : Ty Name) {t : Passing} → passing T ≡ some t → outward p T ≡ true → (outward p (t .what) ≡ true) × (outward p (t .after) ≡ true)
+pub outward-passing : (p : Program) (T : Ty Name) {t : Passing} → passing T ≡ some t → outward p T ≡ true
+    → (outward p (t .what) ≡ true) × (outward p (t .after) ≡ true)
 unfolding passing
 outward-passing p unit e h = absurd (Option·none-ne-some _ e)
 outward-passing p (named n) e h = absurd (Option·none-ne-some _ e)
@@ -200,16 +207,19 @@ outward-passing p (plus r) e h = absurd (Option·none-ne-some _ e)
 outward-passing p (with r) e h = absurd (Option·none-ne-some _ e)
 
 -- where its labels lead
-outward-labelled : (bad : List Name) (l : Name) (r : Alternatives Name) {A : Ty Name} → labelled l r ≡ some A → not (haveOther bad r) ≡ true → not (hasOther bad A) ≡ true
+outward-labelled : (bad : List Name) (l : Name) (r : Alternatives Name) {A : Ty Name} → labelled l r ≡ some A → not (haveOther bad r) ≡ true
+    → not (hasOther bad A) ≡ true
 unfolding hasOther labelled
 outward-labelled bad l Alternatives.none e h = absurd (Option·none-ne-some _ e)
 outward-labelled bad l (alternative m B r) {A} e h = go (same l m) e (both-not (hasOther bad B) (haveOther bad r) h) (λ f g. outward-labelled bad l r f g)
   where
-    go : (b : Bool) → cond b (some B) (labelled l r) ≡ some A → (not (hasOther bad B) ≡ true) × (not (haveOther bad r) ≡ true) → (labelled l r ≡ some A → not (haveOther bad r) ≡ true → not (hasOther bad A) ≡ true) → not (hasOther bad A) ≡ true
+    go : (b : Bool) → cond b (some B) (labelled l r) ≡ some A → (not (hasOther bad B) ≡ true) × (not (haveOther bad r) ≡ true)
+        → (labelled l r ≡ some A → not (haveOther bad r) ≡ true → not (hasOther bad A) ≡ true) → not (hasOther bad A) ≡ true
     go true e h f = subst (λ A. not (hasOther bad A) ≡ true) (Option·some-injective _ _ e) (h .0)
     go false e h f = f e (h .1)
 
-pub outward-choosing : (p : Program) (T : Ty Name) (l : Name) {t : Choosing} {A : Ty Name} → choosing T ≡ some t → labelled l (t .labels) ≡ some A → outward p T ≡ true → outward p A ≡ true
+pub outward-choosing : (p : Program) (T : Ty Name) (l : Name) {t : Choosing} {A : Ty Name} → choosing T ≡ some t → labelled l (t .labels) ≡ some A
+    → outward p T ≡ true → outward p A ≡ true
 unfolding choosing outward hasOther
 outward-choosing p unit l e f h = absurd (Option·none-ne-some _ e)
 outward-choosing p (named n) l e f h = absurd (Option·none-ne-some _ e)

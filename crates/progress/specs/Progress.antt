@@ -67,7 +67,8 @@ module _ {p : Program} {C : Config} (v : WellFormed p C) where
 
   -- ── two that wait on one joint are its two ends, and these match
   -- a send meets a recv
-  meet : (i : ℕ) (q : Process) (P : Proc) {j : ℕ} {r : Process} {c c′ : Located} {m : Message} {w : Wanted} {Q : Proc} {e d : End} → Stands C j r → turn P ≡ sends c m Q → turnOf (r .doing) ≡ receives c′ w
+  meet : (i : ℕ) (q : Process) (P : Proc) {j : ℕ} {r : Process} {c c′ : Located} {m : Message} {w : Wanted} {Q : Proc} {e d : End} → Stands C j r
+      → turn P ≡ sends c m Q → turnOf (r .doing) ≡ receives c′ w
       → Meets C q c e → Meets C r c′ d → key d ≡ (e .channel, other (e .side))
       → {s t : Side} {T : Ty Name} → Sending (q .held) m s T → Receiving w t T → Open (stepTerm p C i q P)
   unfolding send
@@ -81,7 +82,8 @@ module _ {p : Program} {C : Config} (v : WellFormed p C) where
     one-type : standing (p .types) (e .type) ≡ standing (p .types) (d .type)
     apart : e .side ≢ d .side
 
-  ends-apart : {i j : ℕ} {q r : Process} {c c′ : Located} {e d : End} → i ≢ j → Stands C i q → Stands C j r → Meets C q c e → Meets C r c′ d → e .channel ≡ d .channel → Ends i j q r e d
+  ends-apart : {i j : ℕ} {q r : Process} {c c′ : Located} {e d : End} → i ≢ j → Stands C i q → Stands C j r → Meets C q c e → Meets C r c′ d
+      → e .channel ≡ d .channel → Ends i j q r e d
   ends-apart {q = q} {r} {c} {c′} {e} {d} n s t x y z =
       let a = lookup-in (c .name) (q .held) (x .holds) in
       let b = lookup-in (c′ .name) (r .held) (y .holds) in
@@ -90,7 +92,8 @@ module _ {p : Program} {C : Config} (v : WellFormed p C) where
         apart = λ f. n (one-holder v s t a b (λ i. (z i, f i)));
       }
 
-  clash : {i j : ℕ} {q r : Process} {a b : Doing} {k l : JointKey} → i ≢ j → Stands C i q → Stands C j r → q .doing ≡ a → r .doing ≡ b → Waits p C i q a k → Waits p C j r b l → k ≡ l
+  clash : {i j : ℕ} {q r : Process} {a b : Doing} {k l : JointKey} → i ≢ j → Stands C i q → Stands C j r → q .doing ≡ a → r .doing ≡ b
+      → Waits p C i q a k → Waits p C j r b l → k ≡ l
       → isOpenBy (stepDoing p C i q a) ≡ false → isOpenBy (stepDoing p C j r b) ≡ false → ⊥
   clash n s t da db waits-handler waits-handler z f g = n (ap number z)
   clash n s t da db waits-handler (waits-send e h m x) z f g = false≢true (ap is-channel z)
@@ -140,7 +143,8 @@ search-open : (p : Program) (C : Config) (n : ℕ) → ((i : ℕ) × (isOpen p C
 search-open p C zero = inr λ i h. absurd (omega arith)
 search-open p C (suc n) = go (search-open p C n) (bool-cases (isOpen p C n))
   where
-    go : ((i : ℕ) × (isOpen p C i ≡ true)) ⊎ ((i : ℕ) → i < n → isOpen p C i ≡ false) → (isOpen p C n ≡ true) ⊎ (isOpen p C n ≡ false) → ((i : ℕ) × (isOpen p C i ≡ true)) ⊎ ((i : ℕ) → i < suc n → isOpen p C i ≡ false)
+    go : ((i : ℕ) × (isOpen p C i ≡ true)) ⊎ ((i : ℕ) → i < n → isOpen p C i ≡ false) → (isOpen p C n ≡ true) ⊎ (isOpen p C n ≡ false)
+        → ((i : ℕ) × (isOpen p C i ≡ true)) ⊎ ((i : ℕ) → i < suc n → isOpen p C i ≡ false)
     go (inl r) d = inl r
     go (inr f) (inl o) = inl (n, o)
     go (inr f) (inr o) = inr λ i h. here i h (ℕ-discrete i n)

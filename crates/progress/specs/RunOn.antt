@@ -63,11 +63,13 @@ given (Stopped t) = t
 given (Refused k i) = 0
 
 -- one quiet step before
-showing-later : (p : Program) (n : ℕ) {C E : Config} → Chosen p C Nothing E → (seen : Seen) (D : Config) → showingTo p n E seen D → showingTo p (suc n) C seen D
+showing-later : (p : Program) (n : ℕ) {C E : Config} → Chosen p C Nothing E → (seen : Seen) (D : Config) → showingTo p n E seen D
+    → showingTo p (suc n) C seen D
 showing-later p zero c s D h = absurd h
 showing-later p (suc n) {C} {E} c s D h = (h .0, (E, c, h .1), h .2, h .3)
 
-later : (p : Program) (budget n : ℕ) {C E : Config} → Chosen p C Nothing E → (a : RanOn) (D : Config) → Ended p budget n E a D → Ended p (suc budget) (suc n) C a D
+later : (p : Program) (budget n : ℕ) {C E : Config} → Chosen p C Nothing E → (a : RanOn) (D : Config) → Ended p budget n E a D
+    → Ended p (suc budget) (suc n) C a D
 later p budget n c (Shown s t) D h = (suc-le-suc (h .0), showing-later p n c s D (h .1))
 later p budget n {E = E} c (Done t) D h = (suc-le-suc (h .0), (E, c, h .1), h .2)
 later p budget n {E = E} c (Full t) D h = (suc-le-suc (h .0), (E, c, h .1), h .2, h .3)
@@ -80,12 +82,15 @@ record Counts (p : Program) (budget taken : ℕ) (C : Config) (r : Ran) : Type 0
   gives : given (r .answer) ≡ taken + count
   ends : Ended p budget count C (r .answer) (r .config)
 
-counts-later : {p : Program} {budget taken : ℕ} {C E : Config} {r : Ran} → Chosen p C Nothing E → Counts p budget (suc taken) E r → Counts p (suc budget) taken C r
+counts-later : {p : Program} {budget taken : ℕ} {C E : Config} {r : Ran} → Chosen p C Nothing E → Counts p budget (suc taken) E r
+    → Counts p (suc budget) taken C r
 counts-later {p} {budget} {r = r} c x =
     record { count = suc (x .count); gives = (let g = x .gives in omega arith); ends = later p budget (x .count) c (r .answer) (r .config) (x .ends) }
 
 -- the first test passed: nothing was shown
-tested : (p : Program) (budget taken : ℕ) (C : Config) (k : ℕ → Ran) → (C .processes ≢ [] → (i : ℕ) → choosePlace p C ≡ some i → Counts p budget taken C (k i)) → Counts p budget taken C (orDone p taken C (C .processes) k)
+tested : (p : Program) (budget taken : ℕ) (C : Config) (k : ℕ → Ran)
+    → (C .processes ≢ [] → (i : ℕ) → choosePlace p C ≡ some i → Counts p budget taken C (k i))
+    → Counts p budget taken C (orDone p taken C (C .processes) k)
 tested p budget taken C k f = go (C .processes) refl
   where
     full : C .processes ≢ [] → (o : Option ℕ) → choosePlace p C ≡ o → Counts p budget taken C (orFull taken C o k)
@@ -120,17 +125,20 @@ unfolding runFrom
 from-ends p zero taken C = tested p 0 taken C _ λ n i e. record { count = 0; gives = omega arith; ends = (refl, refl, n, i, e) }
 from-ends p (suc budget) taken C = tested p (suc budget) taken C _ λ n i e. next i e (chosen-first p C e .carried-out) (λ D. from-ends p budget (suc taken) D)
   where
-    next : (i : ℕ) → choosePlace p C ≡ some i → (c : Carries p C i) → ((D : Config) → Counts p budget (suc taken) D (runFrom p budget (suc taken) Nothing D))
+    next : (i : ℕ) → choosePlace p C ≡ some i → (c : Carries p C i)
+        → ((D : Config) → Counts p budget (suc taken) D (runFrom p budget (suc taken) Nothing D))
         → Counts p (suc budget) taken C (afterStep (step p C i) (λ s D. runFrom p budget (suc taken) s D) (ran (Full taken) C))
     next i e c r = rw (c .steps) (go (c .seen) (c .steps) (shows-or-nothing (c .seen)))
       where
-        go : (seen : Seen) → step p C i ≡ carried seen (c .after) → Shows seen ⊎ (seen ≡ Nothing) → Counts p (suc budget) taken C (runFrom p budget (suc taken) seen (c .after))
+        go : (seen : Seen) → step p C i ≡ carried seen (c .after) → Shows seen ⊎ (seen ≡ Nothing)
+            → Counts p (suc budget) taken C (runFrom p budget (suc taken) seen (c .after))
         go seen h (inl s) = rw (shown-ends p budget (suc taken) seen (c .after) s)
             (record { count = 1; gives = omega arith; ends = (omega arith, (C, refl, record { place = i; chosen = e; steps = h }, s)) })
         go seen h (inr z) = rw z (counts-later (record { place = i; chosen = e; steps = rw (← z) h }) (r (c .after)))
 
 -- how a run-on ends
-pub run-on-ends : (p : Program) (C : Config) (budget : ℕ) → Ended p budget (given (runOn p C budget .answer)) C (runOn p C budget .answer) (runOn p C budget .config)
+pub run-on-ends : (p : Program) (C : Config) (budget : ℕ)
+    → Ended p budget (given (runOn p C budget .answer)) C (runOn p C budget .answer) (runOn p C budget .config)
 unfolding runOn
 run-on-ends p C budget =
     let r = from-ends p budget 0 C in

@@ -49,7 +49,8 @@ parting-stays : (C : Config) (i : ℕ) (q : Process) (e : End) → Stays C (part
 unfolding parting
 parting-stays C i q e = as-many (length-set (C .processes) i q)
 
-meeting-stays : (p : Program) (C : Config) (i : ℕ) (q q′ : Process) (m : Message) (e : End) (h : Holder) (t : Turn) → Stays C (meeting p C i q q′ m e h t)
+meeting-stays : (p : Program) (C : Config) (i : ℕ) (q q′ : Process) (m : Message) (e : End) (h : Holder) (t : Turn)
+    → Stays C (meeting p C i q q′ m e h t)
 meeting-stays p C i q q′ m e h (sends c m′ P) = quiet (λ s. s)
 meeting-stays p C i q q′ m e h (receives c w) = if-stays (same (c .name) (h .name)) (both (afterReceive p m w (h .name) e (passedEnd m (q .held)) (h .process))) (quiet (λ s. s))
   where
@@ -148,5 +149,6 @@ step-stays p C i = place (at C i)
     place none = quiet (λ s. s)
     place (some q) = doing q (q .doing)
 
-pub shown-stays : (p : Program) (C D : Config) (i : ℕ) (seen : Seen) → step p C i ≡ carried seen D → Shows seen → length (D .processes) ≡ length (C .processes)
+pub shown-stays : (p : Program) (C D : Config) (i : ℕ) (seen : Seen) → step p C i ≡ carried seen D → Shows seen
+    → length (D .processes) ≡ length (C .processes)
 shown-stays p C D i seen e s = subst (Stays C) e (step-stays p C i) .stays s

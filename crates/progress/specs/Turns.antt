@@ -24,13 +24,16 @@ use Rattle.progress.specs.Outward.{other-mark}
 -- the message that a typed send has for a channel of type T whose side s it holds
 pub data Sending (l : List (Name × End)) : Message → Side → Ty Name → Type 0 where
   sends-close : {s : Side} {T : Ty Name} → s ≡ provided → T ≡ unit → Sending l closing s T
-  sends-passing : {a : Located} {s : Side} {T : Ty Name} (t : Passing) (d : End) → passing T ≡ some t → s ≡ t .sender → lookup (a .name) l ≡ some d → Sending l (passes a) s T
-  sends-choice : {n : Located} {s : Side} {T : Ty Name} (t : Choosing) (A : Ty Name) → choosing T ≡ some t → s ≡ t .sender → labelled (n .name) (t .labels) ≡ some A → Sending l (chooses n) s T
+  sends-passing : {a : Located} {s : Side} {T : Ty Name} (t : Passing) (d : End) → passing T ≡ some t → s ≡ t .sender → lookup (a .name) l ≡ some d
+      → Sending l (passes a) s T
+  sends-choice : {n : Located} {s : Side} {T : Ty Name} (t : Choosing) (A : Ty Name) → choosing T ≡ some t → s ≡ t .sender
+      → labelled (n .name) (t .labels) ≡ some A → Sending l (chooses n) s T
 
 -- what a typed recv wants of it
 pub data Receiving : Wanted → Side → Ty Name → Type 0 where
   receives-close : {P : Proc} {s : Side} {T : Ty Name} → s ≡ used → T ≡ unit → Receiving (onClose P) s T
-  receives-passing : {x : Located} {P : Proc} {s : Side} {T : Ty Name} (t : Passing) → passing T ≡ some t → s ≡ other (t .sender) → Receiving (onChannel x P) s T
+  receives-passing : {x : Located} {P : Proc} {s : Side} {T : Ty Name} (t : Passing) → passing T ≡ some t → s ≡ other (t .sender)
+      → Receiving (onChannel x P) s T
   receives-choice : {B : Branches} {s : Side} {T : Ty Name} (t : Choosing) → choosing T ≡ some t → s ≡ other (t .sender)
       → ((l : Name) (A : Ty Name) → labelled l (t .labels) ≡ some A → (P : Proc) × (branchOf l B ≡ some P)) → Receiving (onLabel B) s T
 
@@ -103,7 +106,8 @@ named-once : (l : Name) (B : Branches) → times l (labelNames B) ≡ 1 → (P :
 named-once l Branches.none e = absurd (omega (arith, e))
 named-once l (branch m P B) e = go (same l (m .name)) e (λ h. named-once l B h)
   where
-    go : (b : Bool) → cond b (suc (times l (labelNames B))) (times l (labelNames B)) ≡ 1 → (times l (labelNames B) ≡ 1 → (Q : Proc) × (branchOf l B ≡ some Q)) → (Q : Proc) × (cond b (some P) (branchOf l B) ≡ some Q)
+    go : (b : Bool) → cond b (suc (times l (labelNames B))) (times l (labelNames B)) ≡ 1
+        → (times l (labelNames B) ≡ 1 → (Q : Proc) × (branchOf l B ≡ some Q)) → (Q : Proc) × (cond b (some P) (branchOf l B) ≡ some Q)
     go true e r = (P, refl)
     go false e r = r e
 
@@ -116,7 +120,8 @@ label-listed l (alternative m C r) {A} e = go (same l m) refl e (λ h. label-lis
     go true t e f = List·Memᴰ·head (same-iff l m .0 t)
     go false t e f = List·Memᴰ·tail (f e)
 
-pub branch-for : (r : Alternatives Name) (B : Branches) → fitting r B ≡ true → (l : Name) (A : Ty Name) → labelled l r ≡ some A → (P : Proc) × (branchOf l B ≡ some P)
+pub branch-for : (r : Alternatives Name) (B : Branches) → fitting r B ≡ true → (l : Name) (A : Ty Name) → labelled l r ≡ some A
+    → (P : Proc) × (branchOf l B ≡ some P)
 unfolding fitting
 branch-for r B f l A e =
     let t = and-iff (all (λ l. eqb (times l (labelNames B)) 1) (labelsOf r)) (eqb (length (labelNames B)) (length (labelsOf r))) Iff·rfl Iff·rfl .0 f .0 in
@@ -136,7 +141,8 @@ one-kind (with r) e f = Option·none-ne-some _ e
 abbrev Takes : Program → Message → Wanted → Type 0
 Takes p m w = (c : Name) (e : End) (d : Option End) (q : Process) → (r : Process) × (afterReceive p m w c e d q ≡ some r)
 
-pub takes : (p : Program) {l : List (Name × End)} {m : Message} {w : Wanted} {s t : Side} {T : Ty Name} → Sending l m s T → Receiving w t T → Takes p m w
+pub takes : (p : Program) {l : List (Name × End)} {m : Message} {w : Wanted} {s t : Side} {T : Ty Name} → Sending l m s T → Receiving w t T
+    → Takes p m w
 unfolding afterReceive passing choosing
 takes p (sends-close e z) (receives-close f y) c x d q = (_, refl)
 takes p (sends-close e z) (receives-passing t f y) c x d q = absurd (Option·none-ne-some _ (ap passing (sym z) ∙ f))

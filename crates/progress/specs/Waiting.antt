@@ -24,8 +24,10 @@ use Rattle.progress.specs.Turns.{Sending, sends-close, sends-passing, se
 
 -- ── a typed term steps alone, or it sends or receives on a channel that it holds
 pub data Talks (p : Program) (l : List (Name × End)) : Turn → Type 0 where
-  talks-send : {c : Located} {m : Message} {P : Proc} (e : End) → lookup (c .name) l ≡ some e → Sending l m (e .side) (standing (p .types) (e .type)) → Talks p l (sends c m P)
-  talks-receive : {c : Located} {w : Wanted} (e : End) → lookup (c .name) l ≡ some e → Receiving w (e .side) (standing (p .types) (e .type)) → Talks p l (receives c w)
+  talks-send : {c : Located} {m : Message} {P : Proc} (e : End) → lookup (c .name) l ≡ some e → Sending l m (e .side) (standing (p .types) (e .type))
+      → Talks p l (sends c m P)
+  talks-receive : {c : Located} {w : Wanted} (e : End) → lookup (c .name) l ≡ some e → Receiving w (e .side) (standing (p .types) (e .type))
+      → Talks p l (receives c w)
 
 -- an outcome that is not `notOpen`
 pub record Open (r : Outcome) : Type 0 where
@@ -52,7 +54,8 @@ joining-open C i q e d (atProcess h) = joined-open C i q e d (farEnd C e)
 joining-open C i q e d (atOutside n) = joined-open C i q e d (farEnd C e)
 joining-open C i q e d givenUp = opened refl
 
-moves : {p : Program} (C : Config) (i : ℕ) (q : Process) {link : Bool} {P : Proc} → Typed p (contextOf (q .held)) link P → Open (stepTerm p C i q P) ⊎ Talks p (q .held) (turn P)
+moves : {p : Program} (C : Config) (i : ℕ) (q : Process) {link : Bool} {P : Proc} → Typed p (contextOf (q .held)) link P
+    → Open (stepTerm p C i q P) ⊎ Talks p (q .held) (turn P)
 unfolding stepTerm cancelling parting spawning trying calling raising forwarding leaving
 moves {p} C i q (sends-unit {c = c} e d) = let a = acts p (c .name) (q .held) e in inr (talks-send (a .held) (a .found) (sends-close (a .side) (a .type)))
 moves {p} C i q (recvs-unit {c = c} e d) = let a = acts p (c .name) (q .held) e in inr (talks-receive (a .held) (a .found) (receives-close (a .side) (a .type)))
@@ -96,11 +99,14 @@ pub record Meets (C : Config) (q : Process) (c : Located) (e : End) : Type 0 whe
 
 pub data Waits (p : Program) (C : Config) (i : ℕ) (q : Process) : Doing → JointKey → Type 0 where
   waits-handler : {Q : Proc} → Waits p C i q (waiting Q) (handler i)
-  waits-send : {P P′ : Proc} {c : Located} {m : Message} (e : End) → turn P ≡ sends c m P′ → Sending (q .held) m (e .side) (standing (p .types) (e .type)) → Meets C q c e → Waits p C i q (running P) (channel (e .channel))
-  waits-receive : {P : Proc} {c : Located} {w : Wanted} (e : End) → turn P ≡ receives c w → Receiving w (e .side) (standing (p .types) (e .type)) → Meets C q c e → Waits p C i q (running P) (channel (e .channel))
+  waits-send : {P P′ : Proc} {c : Located} {m : Message} (e : End) → turn P ≡ sends c m P′
+      → Sending (q .held) m (e .side) (standing (p .types) (e .type)) → Meets C q c e → Waits p C i q (running P) (channel (e .channel))
+  waits-receive : {P : Proc} {c : Located} {w : Wanted} (e : End) → turn P ≡ receives c w → Receiving w (e .side) (standing (p .types) (e .type))
+      → Meets C q c e → Waits p C i q (running P) (channel (e .channel))
 
 -- a send on an outside channel, and one whose far end was given up, go on
-out-open : (p : Program) (C : Config) (i : ℕ) (q q′ : Process) {m : Message} (e : End) (n : ℕ) {s : Side} {T : Ty Name} → Sending (q .held) m s T → Open (toOutside p C i q q′ m e n)
+out-open : (p : Program) (C : Config) (i : ℕ) (q q′ : Process) {m : Message} (e : End) (n : ℕ) {s : Side} {T : Ty Name} → Sending (q .held) m s T
+    → Open (toOutside p C i q q′ m e n)
 out-open p C i q q′ e n (sends-close z t) = opened refl
 out-open p C i q q′ e n (sends-passing {a = a} t d z y h) = rw h (go (ltb (C .given) 32))
   where
@@ -115,7 +121,8 @@ unheard-open C i q q′ (sends-close z t) = opened refl
 unheard-open C i q q′ (sends-passing t d z y h) = rw h (opened refl)
 unheard-open C i q q′ (sends-choice t A z y h) = opened refl
 
-send-moves : (p : Program) (C : Config) (i : ℕ) (q : Process) {c : Located} {m : Message} (P : Proc) (e : End) → lookup (c .name) (q .held) ≡ some e → {s : Side} {T : Ty Name} → Sending (q .held) m s T
+send-moves : (p : Program) (C : Config) (i : ℕ) (q : Process) {c : Located} {m : Message} (P : Proc) (e : End) → lookup (c .name) (q .held) ≡ some e
+    → {s : Side} {T : Ty Name} → Sending (q .held) m s T
     → Open (send p C i q c m P) ⊎ Meets C q c e
 unfolding send
 send-moves p C i q {c} {m} P e h {s} {T} g = rw h (go (far-view C e) refl)
@@ -129,14 +136,16 @@ send-moves p C i q {c} {m} P e h {s} {T} g = rw h (go (far-view C e) refl)
     go far-given-up t = inl (unheard-open C i q q′ g)
 
 -- a recv whose far end is the outside's is not typed
-no-recv-outside : {p : Program} {C : Config} → WellFormed p C → {i : ℕ} {q : Process} {c : Name} {e : End} {n : ℕ} {w : Wanted} → Stands C i q → In (c, e) (q .held) → Receiving w (e .side) (standing (p .types) (e .type)) → OutsideFar C e n → ⊥
+no-recv-outside : {p : Program} {C : Config} → WellFormed p C → {i : ℕ} {q : Process} {c : Name} {e : End} {n : ℕ} {w : Wanted} → Stands C i q
+    → In (c, e) (q .held) → Receiving w (e .side) (standing (p .types) (e .type)) → OutsideFar C e n → ⊥
 no-recv-outside {p} {C} v {e = e} {w = w} s m r o =
     let z : o .outside .type ≡ e .type = sameType-iff _ _ .0 (v .oneType _ _ (outside-in-ends v (o .member)) (entry-in-ends v s m) (o .channel)) in
     let a = outward-stands p (o .outside .type) (v .outside (o .outside) (o .member) .0) in
     let b : Receiving w provided (standing (p .types) (e .type)) = rw (o .side) at r in
     true≢false (sym (received-provided b) ∙ ap (λ A. other-mark (standing (p .types) A)) (sym z) ∙ a)
 
-receive-moves : {p : Program} {C : Config} → WellFormed p C → {i : ℕ} {q : Process} {c : Located} {w : Wanted} (e : End) → Stands C i q → lookup (c .name) (q .held) ≡ some e → Receiving w (e .side) (standing (p .types) (e .type))
+receive-moves : {p : Program} {C : Config} → WellFormed p C → {i : ℕ} {q : Process} {c : Located} {w : Wanted} (e : End) → Stands C i q
+    → lookup (c .name) (q .held) ≡ some e → Receiving w (e .side) (standing (p .types) (e .type))
     → Open (receive p C i q c) ⊎ Meets C q c e
 unfolding receive
 receive-moves {p} {C} v {i} {q} {c} {w} e s h g = rw h (go (far-view C e) refl)
@@ -177,7 +186,8 @@ folding-open C i q [] = opened refl
 folding-open C i q (e ∷ l) = opened refl
 
 module _ {p : Program} {C : Config} (v : WellFormed p C) {i : ℕ} {q : Process} (s : Stands C i q) where
-  talk-waits : {P : Proc} {t : Turn} → Talks p (q .held) t → turn P ≡ t → isOpenBy (by-turn p C i q P t) ≡ false → (k : JointKey) × Waits p C i q (running P) k
+  talk-waits : {P : Proc} {t : Turn} → Talks p (q .held) t → turn P ≡ t → isOpenBy (by-turn p C i q P t) ≡ false
+      → (k : JointKey) × Waits p C i q (running P) k
   talk-waits {P} (talks-send {c = c} {m} {P = P′} e h g) t n = go (send-moves p C i q P′ e h g)
     where
       go : Open (send p C i q c m P′) ⊎ Meets C q c e → (k : JointKey) × Waits p C i q (running P) k
@@ -189,14 +199,16 @@ module _ {p : Program} {C : Config} (v : WellFormed p C) {i : ℕ} {q : Process}
       go (inl o) = absurd (shut n o)
       go (inr x) = (channel (e .channel), waits-receive e t g x)
 
-  term-waits : {link : Bool} {P : Proc} → Typed p (contextOf (q .held)) link P → isOpenBy (stepTerm p C i q P) ≡ false → (k : JointKey) × Waits p C i q (running P) k
+  term-waits : {link : Bool} {P : Proc} → Typed p (contextOf (q .held)) link P → isOpenBy (stepTerm p C i q P) ≡ false
+      → (k : JointKey) × Waits p C i q (running P) k
   term-waits {link} {P} d n = go (moves C i q d)
     where
       go : Open (stepTerm p C i q P) ⊎ Talks p (q .held) (turn P) → (k : JointKey) × Waits p C i q (running P) k
       go (inl o) = absurd (shut n o)
       go (inr t) = talk-waits t refl (sym (ap isOpenBy (step-turn p C i q P)) ∙ n)
 
-  doing-waits : (link : Bool) (d : Doing) → TypedAs p (contextOf (q .held)) link d → isOpenBy (stepDoing p C i q d) ≡ false → (k : JointKey) × Waits p C i q d k
+  doing-waits : (link : Bool) (d : Doing) → TypedAs p (contextOf (q .held)) link d → isOpenBy (stepDoing p C i q d) ≡ false
+      → (k : JointKey) × Waits p C i q d k
   doing-waits link (running P) t n = term-waits (t .1) n
   doing-waits link folding t n = absurd (shut n (folding-open C i q (q .held)))
   doing-waits link (waiting Q) t n = (handler i, waits-handler)

@@ -5,47 +5,24 @@ use mathlib.Core.List.{List, [], _∷_, _++_, List·Memᴰ·head, List·Memᴰ·
 use mathlib.Core.Option.{some}
 use mathlib.Core.Bool.{Bool, true, false, cond, false≢true}
 use Rattle.notation.specs.Tree.{Name, Located, Declaration, declareType, declareProc, declareExec}
-use Rattle.notation.specs.Reader.{Result, got, refused}
-use Rattle.notation.specs.Scripts.{readText}
 use Rattle.calculus.specs.Named.{lookup, isSome}
 use Rattle.calculus.specs.Program.{Signature, Program, programOf}
 use Rattle.calculus.specs.Verdict.{Verdict, fine, andThen, faults}
 use Rattle.calculus.specs.Declarations.{gather, unless, ownUndefined, undefined, repeated, declared}
-use Rattle.calculus.specs.Checking.{typed}
-use Rattle.calculus.specs.Accepted.{Checked, accepted, faulty, judged, checkedRead, checked}
+use Rattle.calculus.specs.Accepted.{accepted, checked}
 use Rattle.calculus.specs.WellFormed.{In}
 use Rattle.derivations.specs.Booleans.{isSome-iff}
+use Rattle.derivations.specs.Accepts.{accepts}
 
--- ── what is accepted passed every check
+-- refusal 7 found nothing
 abbrev is-fine : Verdict → Bool
 is-fine fine = true
 is-fine (Verdict.refused n at) = false
-
-abbrev is-accepted : Checked → Bool
-is-accepted (accepted ds) = true
-is-accepted (faulty n at) = false
-
-abbrev declarations : Checked → List Declaration
-declarations (accepted ds) = ds
-declarations (faulty n at) = []
 
 both-fine : (a b : Verdict) → andThen a b ≡ fine → (a ≡ fine) × (b ≡ fine)
 both-fine fine b e = (refl, e)
 both-fine (Verdict.refused n at) b e = absurd (false≢true (ap is-fine e))
 
-accepted-declared : (text : List ℕ) (ds : List Declaration) → checked text ≡ accepted ds → declared ds ≡ fine
-unfolding checked
-accepted-declared text ds e = go (readText text) e
-  where
-    judge : (r : List Declaration) (v : Verdict) → andThen (declared r) (typed r) ≡ v → judged r v ≡ accepted ds → declared ds ≡ fine
-    judge r fine h e = subst (λ d. declared d ≡ fine) (ap declarations e) (both-fine (declared r) (typed r) h .0)
-    judge r (Verdict.refused n at) h e = absurd (false≢true (ap is-accepted e))
-
-    go : (r : Result (List Declaration)) → checkedRead r ≡ accepted ds → declared ds ≡ fine
-    go (got r c) e = judge r (andThen (declared r) (typed r)) refl e
-    go (refused n at) e = absurd (false≢true (ap is-accepted e))
-
--- ── refusal 7 found nothing
 no-faults : (n : ℕ) (l : List ℕ) → faults n l ≡ fine → l ≡ []
 unfolding faults
 no-faults n [] e = refl
@@ -66,7 +43,8 @@ unless-some l n e = go (isSome (lookup (n .name) l)) e
     go true e = refl
     go false e = absurd (cons-ne-nil _ _ e)
 
-exec-listed : (p : Program) (ds : List Declaration) → gather (ownUndefined p) ds ≡ [] → {n : Located} → In n (programOf ds .execs) → isSome (lookup (n .name) (p .processes)) ≡ true
+exec-listed : (p : Program) (ds : List Declaration) → gather (ownUndefined p) ds ≡ [] → {n : Located} → In n (programOf ds .execs)
+    → isSome (lookup (n .name) (p .processes)) ≡ true
 unfolding programOf
 exec-listed p [] e m = absurd (List·Memᴰ·not-nil m)
 exec-listed p (declareType t A ∷ r) e m = exec-listed p r (both-nil (ownUndefined p (declareType t A)) _ e .1) m
@@ -76,6 +54,7 @@ exec-listed p (declareExec f ∷ r) e {n} (List·Memᴰ·head z) =
 exec-listed p (declareExec f ∷ r) e (List·Memᴰ·tail m) = exec-listed p r (both-nil (ownUndefined p (declareExec f)) _ e .1) m
 
 -- the process of an exec line
-pub exec-defined : (text : List ℕ) (ds : List Declaration) → checked text ≡ accepted ds → {n : Located} → In n (programOf ds .execs) → (g : Signature) × (lookup (n .name) (programOf ds .processes) ≡ some g)
+pub exec-defined : (text : List ℕ) (ds : List Declaration) → checked text ≡ accepted ds → {n : Located} → In n (programOf ds .execs)
+    → (g : Signature) × (lookup (n .name) (programOf ds .processes) ≡ some g)
 unfolding undefined
-exec-defined text ds e m = isSome-iff _ .0 (exec-listed (programOf ds) ds (all-defined ds (accepted-declared text ds e)) m)
+exec-defined text ds e m = isSome-iff _ .0 (exec-listed (programOf ds) ds (all-defined ds (accepts text ds .0 e .declarations)) m)

@@ -29,7 +29,6 @@ use Rattle.progress.specs.Lists.{element-in, none-past, position-below}
 use Rattle.progress.specs.RunOn.{Ended, run-on-ends}
 use Rattle.progress.specs.Lacks.{lacks-exactly}
 use Rattle.safety.specs.Execs.{exec-defined}
-use Rattle.progress.specs.Chosen.{open-carries}
 
 -- a test that passes where the claim holds, and one that fails where it does not
 holds-iff : {b : Bool} {A : Type 0} → b ≡ true → A → (b ≡ true) ↔ A
@@ -44,8 +43,10 @@ not-past l i e h = let b = position-below l i e in omega arith
 -- ── the replies to a call, by the refusal list
 pub data Replied (p : Program) (C : Config) : Call → Reply → Type 0 where
   refuses : {c : Call} (n i : ℕ) → Replied p C c (refusal C c n i)
-  begins : {scratch run line : ℕ} (g : Signature) → execOf p line ≡ some g → Replied p C (callStart scratch run line) (reply (started Starts.Begun) (startConfig g))
-  carries-out : {scratch run place : ℕ} (seen : Seen) (D : Config) → step p C place ≡ carried seen D → Replied p C (callStep scratch run place) (reply (stepped (Steps.Carried seen)) D)
+  begins : {scratch run line : ℕ} (g : Signature) → execOf p line ≡ some g
+      → Replied p C (callStart scratch run line) (reply (started Starts.Begun) (startConfig g))
+  carries-out : {scratch run place : ℕ} (seen : Seen) (D : Config) → step p C place ≡ carried seen D
+      → Replied p C (callStep scratch run place) (reply (stepped (Steps.Carried seen)) D)
   runs : {scratch run budget : ℕ} → Replied p C (callRunOn scratch run budget) (reply (ranOn (runOn p C budget .answer)) (runOn p C budget .config))
   reports : {scratch run : ℕ} → Replied p C (callReport scratch run) (reply (reported (Reports.Open (length (report C))) (report C)) C)
   names : {scratch line : ℕ} (n : Located) → Replied p C (callExecName scratch line) (reply (named (n .name) 0 0) C)
@@ -66,7 +67,8 @@ module _ {p : Program} {C : Config} {c : Call} where
   on-place none h = refuses 19 0
   on-place (some q) h = h
 
-  on-step : (o : Outcome) {k : Seen → Config → Reply} → ((seen : Seen) (D : Config) → o ≡ carried seen D → Replied p C c (k seen D)) → Replied p C c (onStep o (refusal C c) k)
+  on-step : (o : Outcome) {k : Seen → Config → Reply} → ((seen : Seen) (D : Config) → o ≡ carried seen D → Replied p C c (k seen D))
+      → Replied p C c (onStep o (refusal C c) k)
   on-step (carried s D) f = f s D refl
   on-step notOpen f = refuses 20 0
   on-step lacking f = refuses 21 0
@@ -110,7 +112,8 @@ module _ (text : List ℕ) (ds : List Declaration) (ok : checked text ≡ accept
   abbrev pub P : Program
   P = programOf ds
 
-  on-text : {C : Config} (c : Call) (scratch : ℕ) (k : Program → Reply) → Replied P C c (k P) → Replied P C c (onProgram (textChecked text scratch) (refusal C c) k)
+  on-text : {C : Config} (c : Call) (scratch : ℕ) (k : Program → Reply) → Replied P C c (k P)
+      → Replied P C c (onProgram (textChecked text scratch) (refusal C c) k)
   unfolding textChecked
   on-text {C} c scratch k h = go (leb scratchWords scratch)
     where
@@ -131,7 +134,8 @@ module _ (text : List ℕ) (ds : List Declaration) (ok : checked text ≡ accept
   unfolding textChecked
   enough-text scratch h = rw (leb-iff scratchWords scratch .1 h) ok
 
-  refused-start : (C : Config) (scratch run line : ℕ) → Enough scratch run → RefusedWhere P C (callStart scratch run line) (respond text C (callStart scratch run line) .answer)
+  refused-start : (C : Config) (scratch run line : ℕ) → Enough scratch run
+      → RefusedWhere P C (callStart scratch run line) (respond text C (callStart scratch run line) .answer)
   unfolding respond execOf
   refused-start C scratch run line h = rw (enough-text scratch (h .scratchEnough), leb-iff runWords run .1 (h .runEnough)) (go (getElem? (P .execs) line) refl)
     where
@@ -140,7 +144,8 @@ module _ (text : List ℕ) (ds : List Declaration) (ok : checked text ≡ accept
       go none e = holds-iff refl (none-past (P .execs) line e)
       go (some n) e = rw (exec-defined text ds ok (element-in (P .execs) line e) .1) (fails-iff refl (not-past (P .execs) line e))
 
-  refused-name : (C : Config) (scratch line : ℕ) → Enough scratch runWords → RefusedWhere P C (callExecName scratch line) (respond text C (callExecName scratch line) .answer)
+  refused-name : (C : Config) (scratch line : ℕ) → Enough scratch runWords
+      → RefusedWhere P C (callExecName scratch line) (respond text C (callExecName scratch line) .answer)
   unfolding respond
   refused-name C scratch line h = rw (enough-text scratch (h .scratchEnough)) (go (getElem? (P .execs) line) refl)
     where
@@ -149,21 +154,25 @@ module _ (text : List ℕ) (ds : List Declaration) (ok : checked text ≡ accept
       go none e = holds-iff refl (none-past (P .execs) line e)
       go (some n) e = fails-iff refl (not-past (P .execs) line e)
 
-  refused-step : (C : Config) → WellFormed P C → (scratch run i : ℕ) → Enough scratch run → RefusedWhere P C (callStep scratch run i) (respond text C (callStep scratch run i) .answer)
+  refused-step : (C : Config) → WellFormed P C → (scratch run i : ℕ) → Enough scratch run
+      → RefusedWhere P C (callStep scratch run i) (respond text C (callStep scratch run i) .answer)
   unfolding respond isOpen lacks
   refused-step C v scratch run i h o =
       Iff·trans (rw (enough-text scratch (h .scratchEnough), leb-iff runWords run .1 (h .runEnough), open-place P C i o .1) (outcome (step P C i) o)) (lacks-exactly P C v i o)
     where
-      outcome : (r : Outcome) → isOpenBy r ≡ true → (isRefused (onStep r (refusal C (callStep scratch run i)) (λ seen D. reply (stepped (Steps.Carried seen)) D) .answer) ≡ true) ↔ (lacksBy r ≡ true)
+      outcome : (r : Outcome) → isOpenBy r ≡ true
+          → (isRefused (onStep r (refusal C (callStep scratch run i)) (λ seen D. reply (stepped (Steps.Carried seen)) D) .answer) ≡ true) ↔ (lacksBy r ≡ true)
       outcome (carried s D) o = Iff·rfl
       outcome notOpen o = absurd (false≢true o)
       outcome lacking o = Iff·rfl
 
-  refused-run : (C : Config) (scratch run budget : ℕ) → Enough scratch run → RefusedWhere P C (callRunOn scratch run budget) (respond text C (callRunOn scratch run budget) .answer)
+  refused-run : (C : Config) (scratch run budget : ℕ) → Enough scratch run
+      → RefusedWhere P C (callRunOn scratch run budget) (respond text C (callRunOn scratch run budget) .answer)
   unfolding respond
   refused-run C scratch run budget h = rw (enough-text scratch (h .scratchEnough), leb-iff runWords run .1 (h .runEnough)) (run-never-refused P C budget)
 
-  refused-report : (C : Config) (scratch run : ℕ) → Enough scratch run → RefusedWhere P C (callReport scratch run) (respond text C (callReport scratch run) .answer)
+  refused-report : (C : Config) (scratch run : ℕ) → Enough scratch run
+      → RefusedWhere P C (callReport scratch run) (respond text C (callReport scratch run) .answer)
   unfolding respond
   refused-report C scratch run h = rw (enough-text scratch (h .scratchEnough), leb-iff runWords run .1 (h .runEnough)) refl
 
@@ -173,13 +182,3 @@ module _ (text : List ℕ) (ds : List Declaration) (ok : checked text ≡ accept
   refused-where C v (callRunOn scratch run budget) h = refused-run C scratch run budget h
   refused-where C v (callReport scratch run) h = refused-report C scratch run h
   refused-where C v (callExecName scratch line) h = refused-name C scratch line h
-
--- "each step that they open can be chosen": demand 2's clause about steps
-pub step-chosen : (text : List ℕ) (ds : List Declaration) → checked text ≡ accepted ds → (C : Config) (scratch run i : ℕ) → Enough scratch run
-    → isOpen (programOf ds) C i ≡ true → lacks (programOf ds) C i ≡ false
-    → (seen : Seen) × (D : Config) × (step (programOf ds) C i ≡ carried seen D) × (respond text C (callStep scratch run i) ≡ reply (stepped (Steps.Carried seen)) D)
-unfolding respond
-step-chosen text ds ok C scratch run i h o n =
-    let c = open-carries (programOf ds) C i o n in
-    let q = open-place (programOf ds) C i o in
-    (c .seen, c .after, c .steps, rw (enough-text text ds ok scratch (h .scratchEnough), leb-iff runWords run .1 (h .runEnough), q .1, c .steps))

@@ -66,7 +66,8 @@ module _ (preserved : Preservation) (text : List ℕ) (ds : List Declaration) (o
   run-keeps : (C : Config) (budget : ℕ) → WellFormed (programOf ds) C → WellFormed (programOf ds) (runOn (programOf ds) C budget .config)
   run-keeps C budget v = steps-keep (given (runOn (programOf ds) C budget .answer)) C _ v (run-on-steps (programOf ds) C budget)
 
-  reply-keeps : {C : Config} {c : Call} {r : Reply} → WellFormed (programOf ds) C → Replied (programOf ds) C c r → WellFormed (programOf ds) (r .config)
+  reply-keeps : {C : Config} {c : Call} {r : Reply} → WellFormed (programOf ds) C → Replied (programOf ds) C c r
+      → WellFormed (programOf ds) (r .config)
   reply-keeps {C} v (refuses {c} n i) = subst (WellFormed (programOf ds)) (sym (refusal-config C c n i)) v
   reply-keeps v (begins {line = line} g e) = preserved .starts text ds ok line g e
   reply-keeps {C} v (carries-out {place = i} seen D e) = preserved .steps text ds ok C D i seen v e
@@ -82,12 +83,14 @@ module _ (preserved : Preservation) (text : List ℕ) (ds : List Declaration) (o
   safe-between C v (callExecName scratch line) = tt
 
   -- a call that meets a well-formed configuration
-  pub moment-kept : (C : Config) → WellFormed (programOf ds) C → (c : Call) → Kept (programOf ds) (record { before = C; call = c; after = respond text C c })
+  pub moment-kept : (C : Config) → WellFormed (programOf ds) C → (c : Call)
+      → Kept (programOf ds) (record { before = C; call = c; after = respond text C c })
   moment-kept C v c =
       let r = replied text ds ok C c in
       record { safe = safe (reply-keeps v r); between = safe-between C v c; refusals = refused-where text ds ok C v c; unchanged = unchanged-by r }
 
-  pub history-kept : (C : Config) → WellFormed (programOf ds) C → (calls : List Call) (m : Moment) → In m (history text C calls) → Kept (programOf ds) m
+  pub history-kept : (C : Config) → WellFormed (programOf ds) C → (calls : List Call) (m : Moment) → In m (history text C calls)
+      → Kept (programOf ds) m
   history-kept C v [] m k = absurd (List·Memᴰ·not-nil k)
   history-kept C v (c ∷ cs) m (List·Memᴰ·head e) = subst (Kept (programOf ds)) (sym e) (moment-kept C v c)
   history-kept C v (c ∷ cs) m (List·Memᴰ·tail k) = history-kept (respond text C c .config) (reply-keeps v (replied text ds ok C c)) cs m k
