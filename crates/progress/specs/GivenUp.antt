@@ -3,15 +3,15 @@ use Prim.Native.Nat.{ℕ}
 use mathlib.Core.Path.{_≡_, _∙_, ap}
 use mathlib.Core.List.{List, [], _∷_}
 use mathlib.Core.Option.{some}
-use Rattle.notation.specs.Tree.{Name, Located, Proc}
+use Rattle.notation.specs.Tree.{Name, Located}
 use Rattle.calculus.specs.Named.{lookup, without}
 use Rattle.calculus.specs.Program.{Program}
-use Rattle.calculus.specs.Configuration.{End, running, folding, Process, process, Config, at, givenUp, farEnd, replaced}
-use Rattle.calculus.specs.Steps.{carried, Wanted, receives, turn, receive, parting, leaving, foldingUp, stepDoing, step}
+use Rattle.calculus.specs.Configuration.{End, folding, Process, process, Config, at, givenUp, farEnd, replaced}
+use Rattle.calculus.specs.Steps.{carried, Wanted, receives, receive, parting, leaving, foldingUp, stepDoing, step}
 use Rattle.calculus.specs.WellFormed.{Stands}
 use Rattle.calculus.specs.declared.answers.Seen.the-variants.{Nothing}
 use Rattle.progress.specs.Lists.{element-set}
-use Rattle.progress.specs.Waiting.{by-turn, step-turn, step-at}
+use Rattle.progress.specs.Waiting.{AtTurn, step-at, step-by-turn}
 
 -- the process afterwards: it folds up, without the channel
 abbrev pub folded : Located → Process → Process
@@ -19,11 +19,8 @@ folded c q = process folding (without (c .name) (q .held)) (q .link)
 
 -- a process runs a recv, of one of the three kinds, on a channel whose far end was given up
 pub record Forsaken (C : Config) (i : ℕ) (q : Process) (c : Located) : Type 0 where
-  pub stands : Stands C i q
-  pub term : Proc
-  pub runs : q .doing ≡ running term
   pub wanted : Wanted
-  pub receives-on : turn term ≡ receives c wanted
+  pub receives-on : AtTurn C i q (receives c wanted)
   pub held : End
   pub holds : lookup (c .name) (q .held) ≡ some held
   pub far : farEnd C held ≡ givenUp
@@ -32,14 +29,14 @@ pub record Forsaken (C : Config) (i : ℕ) (q : Process) (c : Located) : Type 0 
 pub given-up-recv-folds : (p : Program) (C : Config) (i : ℕ) (q : Process) (c : Located) → Forsaken C i q c
     → step p C i ≡ carried Nothing (replaced i (folded c q) C)
 unfolding receive
-given-up-recv-folds p C i q c f = step-at p (f .stands) ∙ ap (stepDoing p C i q) (f .runs) ∙ step-turn p C i q (f .term) ∙ ap (by-turn p C i q (f .term)) (f .receives-on) ∙ dropped
+given-up-recv-folds p C i q c f = step-by-turn p (f .receives-on) ∙ dropped
   where
     dropped : receive p C i q c ≡ carried Nothing (replaced i (folded c q) C)
     dropped = rw (f .holds, f .far)
 
 -- afterwards the process at that place folds up
 pub folds-there : (C : Config) (i : ℕ) (q : Process) (c : Located) → Forsaken C i q c → at (replaced i (folded c q) C) i ≡ some (folded c q)
-folds-there C i q c f = element-set (C .processes) i (f .stands .there) (folded c q)
+folds-there C i q c f = element-set (C .processes) i (f .receives-on .stands .there) (folded c q)
 
 -- a process that folds up never runs a term: its step leaves it folding up with one channel less, or takes it from the list
 pub folding-on : (p : Program) (C : Config) (i : ℕ) (q : Process) (n : Name) (e : End) (l : List (Name × End)) → Stands C i q → q .doing ≡ folding

@@ -10,5 +10,6 @@ pub mod Outward
 pub mod Progress
 pub mod RunOn
 pub mod Shown
+pub mod Together
 pub mod Turns
 pub mod Waiting

@@ -217,6 +217,17 @@ pub step-at : (p : Program) {C : Config} {i : ℕ} {q : Process} → Stands C i 
 unfolding step
 step-at p {C} {i} s = ap (stepOf p C i) (s .there)
 
+-- a process that runs a term whose turn is t
+pub record AtTurn (C : Config) (i : ℕ) (q : Process) (t : Turn) : Type 0 where
+  pub stands : Stands C i q
+  pub term : Proc
+  pub runs : q .doing ≡ running term
+  pub turn-is : turn term ≡ t
+
+pub step-by-turn : (p : Program) {C : Config} {i : ℕ} {q : Process} {t : Turn} (x : AtTurn C i q t) → step p C i ≡ by-turn p C i q (x .term) t
+step-by-turn p {C} {i} {q} x =
+    step-at p (x .stands) ∙ ap (stepDoing p C i q) (x .runs) ∙ step-turn p C i q (x .term) ∙ ap (by-turn p C i q (x .term)) (x .turn-is)
+
 -- a place whose step is not open
 pub record Stuck (p : Program) (C : Config) (i : ℕ) (q : Process) : Type 0 where
   pub stands : Stands C i q
