@@ -14,7 +14,8 @@ use Rattle.progress.specs.Held.{lookup-in, far-found}
 use Rattle.progress.specs.Waiting.{AtTurn, step-by-turn}
 
 -- the recv at place i and the send at place j, at the two ends of one channel
-pub either-place : {p : Program} {C : Config} → WellFormed p C → {i j : ℕ} {q r : Process} {c d : Located} {w : Wanted} {m : Message} {P : Proc} {e f : End}
+pub either-place : {p : Program} {C : Config} → WellFormed p C
+    → {i j : ℕ} {q r : Process} {c d : Located} {w : Wanted} {m : Message} {P : Proc} {e f : End}
     → AtTurn C i q (receives c w) → AtTurn C j r (sends d m P) → lookup (c .name) (q .held) ≡ some e → lookup (d .name) (r .held) ≡ some f
     → key f ≡ (e .channel, other (e .side)) → step p C i ≡ step p C j
 unfolding receive

@@ -134,7 +134,7 @@ module _ (text : List ℕ) (ds : List Declaration) (ok : checked text ≡ accept
   unfolding textChecked
   enough-text scratch h = rw (leb-iff scratchWords scratch .1 h) ok
 
-  refused-start : (C : Config) (scratch run line : ℕ) → Enough scratch run
+  pub refused-start : (C : Config) (scratch run line : ℕ) → Enough scratch run
       → RefusedWhere P C (callStart scratch run line) (respond text C (callStart scratch run line) .answer)
   unfolding respond execOf
   refused-start C scratch run line h = rw (enough-text scratch (h .scratchEnough), leb-iff runWords run .1 (h .runEnough)) (go (getElem? (P .execs) line) refl)
