@@ -1,17 +1,16 @@
 -- A recv whose far end was given up: the process drops the channel and folds up; what the recv would have gone on with is never run.
 use Prim.Native.Nat.{ℕ}
-use mathlib.Core.Path.{_≡_, _∙_, ap}
-use mathlib.Core.List.{List, [], _∷_}
+use mathlib.Core.Path.{_≡_, refl, _∙_}
 use mathlib.Core.Option.{some}
-use Rattle.notation.specs.Tree.{Name, Located}
+use Rattle.notation.specs.Tree.{Located}
 use Rattle.calculus.specs.Named.{lookup, without}
 use Rattle.calculus.specs.Program.{Program}
 use Rattle.calculus.specs.Configuration.{End, folding, Process, process, Config, at, givenUp, farEnd, replaced}
-use Rattle.calculus.specs.Steps.{carried, Wanted, receives, receive, parting, leaving, foldingUp, stepDoing, step}
-use Rattle.calculus.specs.WellFormed.{Stands}
+use Rattle.calculus.specs.Steps.{carried, Wanted, receives, receive, step}
 use Rattle.calculus.specs.declared.answers.Seen.the-variants.{Nothing}
 use Rattle.progress.specs.Lists.{element-set}
-use Rattle.progress.specs.Waiting.{AtTurn, step-at, step-by-turn}
+use Rattle.progress.specs.Folding.{FoldsAt, Follows, folds-on}
+use Rattle.progress.specs.Waiting.{AtTurn, step-by-turn}
 
 -- the process afterwards: it folds up, without the channel
 abbrev pub folded : Located → Process → Process
@@ -34,17 +33,11 @@ given-up-recv-folds p C i q c f = step-by-turn p (f .receives-on) ∙ dropped
     dropped : receive p C i q c ≡ carried Nothing (replaced i (folded c q) C)
     dropped = rw (f .holds, f .far)
 
--- afterwards the process at that place folds up
+-- afterwards the process at that place folds up, and does so until it leaves: what the recv would have gone on with is never run
 pub folds-there : (C : Config) (i : ℕ) (q : Process) (c : Located) → Forsaken C i q c → at (replaced i (folded c q) C) i ≡ some (folded c q)
 folds-there C i q c f = element-set (C .processes) i (f .receives-on .stands .there) (folded c q)
 
--- a process that folds up never runs a term: its step leaves it folding up with one channel less, or takes it from the list
-pub folding-on : (p : Program) (C : Config) (i : ℕ) (q : Process) (n : Name) (e : End) (l : List (Name × End)) → Stands C i q → q .doing ≡ folding
-    → q .held ≡ (n, e) ∷ l
-    → step p C i ≡ parting C i (process folding l (q .link)) e
-unfolding foldingUp
-folding-on p C i q n e l s d h = step-at p s ∙ ap (stepDoing p C i q) d ∙ ap (foldingUp C i q) h
-
-pub folded-leaves : (p : Program) (C : Config) (i : ℕ) (q : Process) → Stands C i q → q .doing ≡ folding → q .held ≡ [] → step p C i ≡ leaving C i q
-unfolding foldingUp
-folded-leaves p C i q s d h = step-at p s ∙ ap (stepDoing p C i q) d ∙ ap (foldingUp C i q) h
+pub never-runs : (p : Program) (C : Config) (i : ℕ) (q : Process) (c : Located) → Forsaken C i q c → {D : Config} {j : ℕ}
+    → Follows p (replaced i (folded c q) C) i D j
+    → FoldsAt (D .processes) j
+never-runs p C i q c f w = folds-on w (record { process = folded c q; there = folds-there C i q c f; folds = refl })

@@ -1,5 +1,6 @@
 pub mod Chosen
 pub mod Endings
+pub mod Folding
 pub mod Fresh
 pub mod GivenUp
 pub mod Held
@@ -9,6 +10,7 @@ pub mod Lists
 pub mod Outward
 pub mod Progress
 pub mod RunOn
+pub mod Shapes
 pub mod Shown
 pub mod Together
 pub mod Turns
