@@ -1,7 +1,7 @@
 -- A process that folds up folds up until it leaves: no step makes it run a term.
-use Prim.Native.Nat.{ℕ, zero, suc, _-_, _≤_, _<_}
+use Prim.Native.Nat.{ℕ, suc, _-_, _≤_, _<_, suc-le-suc}
 use native.Mathlib.Omega.{arith}
-use native.Mathlib.Decide.{ℕ-discrete, decLt}
+use native.Mathlib.Decide.{ℕ-discrete}
 use mathlib.Core.Path.{_≡_, refl, sym, _∙_, ap, subst, subst₂}
 use mathlib.Core.Logic.{_≢_}
 use mathlib.Core.List.{List, [], _∷_, _++_, map}
@@ -18,42 +18,9 @@ use Rattle.calculus.specs.Runs.{isCarried}
 use Rattle.calculus.specs.WellFormed.{Stands}
 use Rattle.calculus.specs.declared.answers.Seen.{Seen}
 use Rattle.derivations.specs.Booleans.{ltb-iff}
-use Rattle.progress.specs.Lists.{position-below, element-set}
+use Rattle.progress.specs.Lists.{not-below, position-below, element-set, set-other, put-below, put-above, out-above, element-map, length-put, length-out}
 use Rattle.progress.specs.Shapes.{talks, Touched, itself, partner, Shape, not-carried, one, two, joined, handled, spawned-one, tried-one, left, config-by, step-shape}
 use Rattle.progress.specs.Waiting.{step-at}
-
--- ── lists with one element changed, put in or taken out
-module _ {A : Type 0} where
-  set-other : (l : List A) (k i : ℕ) (x : A) → i ≢ k → getElem? (set l k x) i ≡ getElem? l i
-  set-other [] k i x n = refl
-  set-other (y ∷ l) zero zero x n = absurd (n refl)
-  set-other (y ∷ l) zero (suc i) x n = refl
-  set-other (y ∷ l) (suc k) zero x n = refl
-  set-other (y ∷ l) (suc k) (suc i) x n = set-other l k i x (λ e. n (ap suc e))
-
-  put-below : (m r : List A) (k i : ℕ) → i < k → i < length m → getElem? (take k m ++ r) i ≡ getElem? m i
-  put-below [] r k i h g = absurd (omega arith)
-  put-below (y ∷ m) r zero i h g = absurd (omega arith)
-  put-below (y ∷ m) r (suc k) zero h g = refl
-  put-below (y ∷ m) r (suc k) (suc i) h g = put-below m r k i (omega arith) (omega arith)
-
-  put-above : (m : List A) (x : A) (k i : ℕ) → k ≤ i → i < length m → getElem? (take k m ++ (x ∷ drop k m)) (suc i) ≡ getElem? m i
-  put-above m x zero i h g = refl
-  put-above [] x (suc k) i h g = absurd (omega arith)
-  put-above (y ∷ m) x (suc k) zero h g = absurd (omega arith)
-  put-above (y ∷ m) x (suc k) (suc i) h g = put-above m x k i (omega arith) (omega arith)
-
-  out-above : (m : List A) (k i : ℕ) → k ≤ i → getElem? (take k m ++ drop (suc k) m) i ≡ getElem? m (suc i)
-  out-above [] zero i h = refl
-  out-above [] (suc k) i h = refl
-  out-above (y ∷ m) zero i h = refl
-  out-above (y ∷ m) (suc k) zero h = absurd (omega arith)
-  out-above (y ∷ m) (suc k) (suc i) h = out-above m k i (omega arith)
-
-element-map : {A B : Type 0} (f : A → B) (l : List A) (i : ℕ) → getElem? (map f l) i ≡ Option·map f (getElem? l i)
-element-map f [] i = refl
-element-map f (x ∷ l) zero = refl
-element-map f (x ∷ l) (suc i) = element-map f l i
 
 -- ── a process that folds up at a place
 pub record FoldsAt (l : List Process) (i : ℕ) : Type 0 where
@@ -89,25 +56,11 @@ folds-changed {l} g h (some j) f = folds-put g h j (getElem? l j) refl f
 abbrev pub placeAfter : ℕ → ℕ → ℕ → ℕ → ℕ
 placeAfter k before after i = cond (ltb before after) (movedUp k i) (cond (ltb after before) (movedDown k i) i)
 
-not-less : (n m : ℕ) → m ≤ n → ltb n m ≡ false
-not-less n m h = go (ltb n m) refl
-  where
-    go : (b : Bool) → ltb n m ≡ b → b ≡ false
-    go true e = let l = ltb-iff n m .0 e in absurd (omega arith)
-    go false e = refl
-
-at-most : (k i : ℕ) → ltb k i ≡ false → i < suc k
-at-most k i e = go (decLt k i)
-  where
-    go : Dec (k < i) → i < suc k
-    go (yes h) = absurd (true≢false (sym (ltb-iff k i .1 h) ∙ e))
-    go (no n) = omega arith
-
 same-places : (k n m i : ℕ) (l : List Process) → m ≡ n → FoldsAt l i → FoldsAt l (placeAfter k n m i)
 same-places k n m i l e f = subst (FoldsAt l) (sym stays) f
   where
     stays : placeAfter k n m i ≡ i
-    stays = rw (not-less n m (omega arith), not-less m n (omega arith))
+    stays = rw (not-below n m .1 (omega arith), not-below m n .1 (omega arith))
 
 -- a process that folds up is not one that a step at another place touches
 untouched : {C : Config} {k i : ℕ} → FoldsAt (C .processes) i → i ≢ k → {j : ℕ} → Touched C k j → i ≢ j
@@ -128,7 +81,7 @@ folds-inserted {l} {i} k x f = go (ltb k i) refl (folds-map (relinked (movedUp k
 
     go : (b : Bool) → ltb k i ≡ b → FoldsAt m i → FoldsAt (take (suc k) m ++ (x ∷ drop (suc k) m)) (cond b (suc i) i)
     go true e f = record { process = f .process; there = put-above m x (suc k) i (ltb-iff k i .0 e) (position-below m i (f .there)) ∙ f .there; folds = f .folds }
-    go false e f = record { process = f .process; there = put-below m (x ∷ drop (suc k) m) (suc k) i (at-most k i e) (position-below m i (f .there)) ∙ f .there; folds = f .folds }
+    go false e f = record { process = f .process; there = put-below m (x ∷ drop (suc k) m) (suc k) i (suc-le-suc (not-below k i .0 e)) (position-below m i (f .there)) ∙ f .there; folds = f .folds }
 
 folds-removed : {l : List Process} {i : ℕ} (k : ℕ) → i ≢ k → FoldsAt l i → FoldsAt (removed k l) (movedDown k i)
 unfolding removed
@@ -143,20 +96,10 @@ folds-removed {l} {i} k n f = go (ltb k i) refl (folds-map (relinked (movedDown 
         let back : suc (i - 1) ≡ i = omega arith in
         record { process = f .process; there = out-above m k (i - 1) (omega arith) ∙ ap (getElem? m) back ∙ f .there; folds = f .folds }
     go false e f =
-        let h = at-most k i e in
+        let h = not-below k i .0 e in
         record { process = f .process; there = put-below m (drop (suc k) m) k i (omega arith) (position-below m i (f .there)) ∙ f .there; folds = f .folds }
 
 -- ── how long the list is
-length-put : {A : Type 0} (m : List A) (x : A) (k : ℕ) → length (take k m ++ (x ∷ drop k m)) ≡ suc (length m)
-length-put m x zero = refl
-length-put [] x (suc k) = refl
-length-put (y ∷ m) x (suc k) = ap suc (length-put m x k)
-
-length-out : {A : Type 0} (m : List A) (k : ℕ) → k < length m → suc (length (take k m ++ drop (suc k) m)) ≡ length m
-length-out [] k h = absurd (omega arith)
-length-out (y ∷ m) zero h = refl
-length-out (y ∷ m) (suc k) h = ap suc (length-out m k (omega arith))
-
 length-changed : (g : Process → Process) (o : Option ℕ) (l : List Process) → length (changedAt g o l) ≡ length l
 length-changed g none l = refl
 length-changed g (some j) l = go (getElem? l j)
@@ -189,7 +132,7 @@ one-less : (k n i : ℕ) (l : List Process) → suc (length l) ≡ n → FoldsAt
 one-less k n i l e f = subst (FoldsAt l) (sym down) f
   where
     down : placeAfter k n (length l) i ≡ movedDown k i
-    down = rw (not-less n (length l) (omega arith), ltb-iff (length l) n .1 (omega arith))
+    down = rw (not-below n (length l) .1 (omega arith), ltb-iff (length l) n .1 (omega arith))
 
 -- ── a step at another place leaves it folding up
 up-apart : (k i : ℕ) → i ≢ k → movedUp k i ≢ k

@@ -15,7 +15,7 @@ use Rattle.calculus.specs.Forest.{Joint, jointAt, channelJoints, linkJoint, joi
 use Rattle.calculus.specs.WellFormed.{In, Stands, WellFormed}
 use Rattle.graphs.specs.Graph.{EndsIn, forest-small}
 use Rattle.progress.specs.Lists.{places, length-places, in-places, position-below}
-use Rattle.progress.specs.Held.{HeldFar, FarView, far-process, far-outside, far-given-up, far-view, far-back, far-found}
+use Rattle.progress.specs.FarEnds.{HeldFar, FarView, far-process, far-outside, far-given-up, far-view, far-back, far-found}
 
 -- ── the ends of joints are places of processes
 abbrev Within : Config → Joint → Type 0

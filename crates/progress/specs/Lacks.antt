@@ -1,7 +1,5 @@
 -- What an open step can lack: a process place, a channel place or an outside number, and nothing else.
 use Prim.Native.Nat.{ℕ, _≤_}
-use native.Mathlib.Omega.{arith}
-use native.Mathlib.Decide.{decLe}
 use mathlib.Core.Path.{_≡_, refl, sym, _∙_, ap, subst}
 use mathlib.Core.Logic.{_↔_, _⊎_, inl, inr}
 use mathlib.Core.List.{List, [], _∷_}
@@ -18,9 +16,10 @@ use Rattle.calculus.specs.Configuration.{End, Doing, running, folding, waiting,
 use Rattle.calculus.specs.Steps.{Outcome, notOpen, lacking, onHeld, Message, closing, passes, chooses, Turn, sends, receives, alone, turnOf, passedEnd, afterMessage, afterSend, afterReceive, parting, bothTo, meeting, isGivenUp, passedOut, toOutside, unheard, sending, send, answering, receiving, receive, cancelling, spawned, spawning, trying, entering, calling, raising, joinedTo, joining, forwarding, leaving, foldingUp, stepTerm, stepDoing, stepOf, step, isOpenBy, lacksBy, isOpen, lacks}
 use Rattle.calculus.specs.WellFormed.{In, TypedAs, Stands, WellFormed}
 use Rattle.calculus.specs.Demands.{Spawns, Tries, PassesOut, Short}
-use Rattle.derivations.specs.Booleans.{ltb-iff}
 use Rattle.derivations.specs.Equality.{same-iff}
-use Rattle.progress.specs.Held.{lookup-in, lookup-entry, names-context, HeldFar, FarView, far-process, far-outside, far-given-up, far-view, far-back, far-found}
+use Rattle.progress.specs.Lists.{not-below}
+use Rattle.progress.specs.Held.{lookup-in, lookup-entry, names-context}
+use Rattle.progress.specs.FarEnds.{HeldFar, FarView, far-process, far-outside, far-given-up, far-view, far-back, far-found}
 use Rattle.progress.specs.Fresh.{none-fresh}
 use Rattle.progress.specs.Waiting.{step-at}
 
@@ -42,29 +41,15 @@ left-of (inl a) n = a
 left-of (inr b) n = absurd (n b)
 
 -- ── a test for a place or number
-not-below : (m n : ℕ) → ltb m n ≡ false → n ≤ m
-not-below m n e = go (decLe n m)
-  where
-    go : Dec (n ≤ m) → n ≤ m
-    go (yes h) = h
-    go (no h) = absurd (true≢false (sym (ltb-iff m n .1 (omega arith)) ∙ e))
-
-tested-below : (m n : ℕ) → n ≤ m → ltb m n ≡ false
-tested-below m n h = go (ltb m n) refl
-  where
-    go : (b : Bool) → ltb m n ≡ b → b ≡ false
-    go true e = let l = ltb-iff m n .0 e in absurd (omega arith)
-    go false e = refl
-
 room : (m n : ℕ) (r : Outcome) → Lacking (cond (ltb m n) r lacking) → (n ≤ m) ⊎ Lacking r
 room m n r h = go (ltb m n) refl h
   where
     go : (b : Bool) → ltb m n ≡ b → Lacking (cond b r lacking) → (n ≤ m) ⊎ Lacking r
     go true e h = inr h
-    go false e h = inl (not-below m n e)
+    go false e h = inl (not-below m n .0 e)
 
 no-room : (m n : ℕ) (r : Outcome) → n ≤ m → Lacking (cond (ltb m n) r lacking)
-no-room m n r h = rw (tested-below m n h) (lacked refl)
+no-room m n r h = rw (not-below m n .1 h) (lacked refl)
 
 -- ── what lacks nothing
 both-served : (C : Config) (i : ℕ) (q′ : Process) (j : ℕ) (o : Option Process) → Served (bothTo C i q′ j o)

@@ -1,5 +1,6 @@
 pub mod Chosen
 pub mod Endings
+pub mod FarEnds
 pub mod Folding
 pub mod Fresh
 pub mod GivenUp

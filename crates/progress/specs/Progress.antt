@@ -19,7 +19,8 @@ use Rattle.derivations.specs.Booleans.{bool-cases}
 use Rattle.derivations.specs.Equality.{same-refl, sameType-iff}
 use Rattle.graphs.specs.Graph.{pigeonhole, Twins}
 use Rattle.progress.specs.Lists.{places, length-places, places-below, places-once, element}
-use Rattle.progress.specs.Held.{lookup-in, entry-in-ends, one-holder, far-found}
+use Rattle.progress.specs.Held.{lookup-in, entry-in-ends, one-holder}
+use Rattle.progress.specs.FarEnds.{far-found}
 use Rattle.progress.specs.Joints.{joints-fewer, JointKey, channel, handler, JointKey-discrete, jointKeys, keys-of-joints, link-joint, channel-joint}
 use Rattle.progress.specs.Turns.{Sending, Receiving, sending-side, sender-of, receiving-side, faces, takes}
 use Rattle.progress.specs.Waiting.{Open, opened, Meets, Waits, waits-handler, waits-send, waits-receive, step-turn, shut, step-at, Stuck, stuck}
@@ -88,7 +89,7 @@ module _ {p : Program} {C : Config} (v : WellFormed p C) where
       let a = lookup-in (c .name) (q .held) (x .holds) in
       let b = lookup-in (c′ .name) (r .held) (y .holds) in
       record {
-        one-type = ap (standing (p .types)) (sameType-iff _ _ .0 (v .oneType e d (entry-in-ends v s a) (entry-in-ends v t b) z));
+        one-type = ap (standing (p .types)) (sameType-iff _ _ .0 (v .oneType e d (entry-in-ends s a) (entry-in-ends t b) z));
         apart = λ f. n (one-holder v s t a b (λ i. (z i, f i)));
       }
 

@@ -19,7 +19,7 @@ use Rattle.calculus.specs.WellFormed.{Stands}
 use Rattle.calculus.specs.declared.answers.Seen.{Seen}
 use Rattle.calculus.specs.declared.answers.Seen.the-variants.{Nothing}
 use Rattle.progress.specs.Lists.{position-below}
-use Rattle.progress.specs.Held.{FarView, far-process, far-outside, far-given-up, far-view}
+use Rattle.progress.specs.FarEnds.{FarView, far-process, far-outside, far-given-up, far-view}
 
 abbrev pub talks : Turn → Bool
 talks (sends c m P) = true
@@ -48,15 +48,12 @@ pub data Shape (C : Config) (k : ℕ) : Outcome → Type 0 where
       → Shape C k (carried Nothing (config (removed k (changedAt foldedHandler l (C .processes))) o n))
 
 module _ {C : Config} {k : ℕ} where
-  shut : {r : Outcome} → isCarried r ≡ false → Shape C k r
-  shut e = not-carried e
-
   if-shape : (b : Bool) {r t : Outcome} → Shape C k r → Shape C k t → Shape C k (cond b r t)
   if-shape true s t = s
   if-shape false s t = t
 
   held-shape : (o : Option End) {f : End → Outcome} → ((e : End) → Shape C k (f e)) → Shape C k (onHeld o f)
-  held-shape none s = shut refl
+  held-shape none s = not-carried refl
   held-shape (some e) s = s e
 
   parting-shape : {j : ℕ} (q : Process) (e : End) → Touched C k j → Shape C k (parting C j q e)
@@ -67,17 +64,17 @@ module _ {C : Config} {k : ℕ} where
   module _ (p : Program) {j : ℕ} (t : Touched C k j) (q q′ : Process) where
     meeting-shape : (m : Message) (e : End) (h : Holder) → Stands C (h .place) (h .process) → (u : Turn) → turnOf (h .process .doing) ≡ u
         → Shape C k (meeting p C j q q′ m e h u)
-    meeting-shape m e h s (sends c m′ P) z = shut refl
-    meeting-shape m e h s (receives c w) z = if-shape (same (c .name) (h .name)) (both (afterReceive p m w (h .name) e (passedEnd m (q .held)) (h .process))) (shut refl)
+    meeting-shape m e h s (sends c m′ P) z = not-carried refl
+    meeting-shape m e h s (receives c w) z = if-shape (same (c .name) (h .name)) (both (afterReceive p m w (h .name) e (passedEnd m (q .held)) (h .process))) (not-carried refl)
       where
         both : (o : Option Process) → Shape C k (bothTo C j q′ (h .place) o)
-        both none = shut refl
+        both none = not-carried refl
         both (some r) = two _ _ _ _ t (partner s (ap talks z))
-    meeting-shape m e h s alone z = shut refl
+    meeting-shape m e h s alone z = not-carried refl
 
     out-shape : (m : Message) (e : End) (n : ℕ) → Shape C k (toOutside p C j q q′ m e n)
     out-shape closing e n = one _ _ t
-    out-shape (passes a) e n = held-shape (lookup (a .name) (q .held)) λ d. if-shape (ltb (C .given) outsideNumbers) (one _ _ t) (shut refl)
+    out-shape (passes a) e n = held-shape (lookup (a .name) (q .held)) λ d. if-shape (ltb (C .given) outsideNumbers) (one _ _ t) (not-carried refl)
     out-shape (chooses l) e n = one _ _ t
 
     unheard-shape : (m : Message) → Shape C k (unheard C j q q′ m)
@@ -104,13 +101,13 @@ module _ (p : Program) (C : Config) (k : ℕ) (q : Process) (s : Stands C k q) w
   receive-shape c = held-shape (lookup (c .name) (q .held)) λ e. go (far-view C e)
     where
       answer : (h : Holder) → Stands C (h .place) (h .process) → (u : Turn) → turnOf (h .process .doing) ≡ u → Shape C k (answering p C h u)
-      answer h s (sends c′ m P) z = if-shape (same (c′ .name) (h .name)) (send-shape p (partner s (ap talks z)) (h .process) c′ m P) (shut refl)
-      answer h s (receives c′ w) z = shut refl
-      answer h s alone z = shut refl
+      answer h s (sends c′ m P) z = if-shape (same (c′ .name) (h .name)) (send-shape p (partner s (ap talks z)) (h .process) c′ m P) (not-carried refl)
+      answer h s (receives c′ w) z = not-carried refl
+      answer h s alone z = not-carried refl
 
       go : {e : End} {f : Far} → FarView C e f → Shape C k (receiving p C k q (c .name) f)
       go (far-process {h} v) = answer h (v .stands) (turnOf (h .process .doing)) refl
-      go (far-outside v) = shut refl
+      go (far-outside v) = not-carried refl
       go far-given-up = one _ _ own
 
   joining-shape : (e d : End) (f : Far) → Shape C k (joining C k q e d f)
@@ -133,10 +130,10 @@ module _ (p : Program) (C : Config) (k : ℕ) (q : Process) (s : Stands C k q) w
   term-shape (sendChannel o c a P) = send-shape p own q c (passes a) P
   term-shape (sendLabel o c l P) = send-shape p own q c (chooses l) P
   term-shape (cancel o c P) = held-shape (lookup (c .name) (q .held)) λ e. parting-shape _ e own
-  term-shape (spawn x A P Q) = if-shape (ltb (length (C .processes)) processPlaces) (go (freshChannel C)) (shut refl)
+  term-shape (spawn x A P Q) = if-shape (ltb (length (C .processes)) processPlaces) (go (freshChannel C)) (not-carried refl)
     where
       go : (o : Option ℕ) → Shape C k (spawned C k q (x .name) (plain A) P Q o)
-      go none = shut refl
+      go none = not-carried refl
       go (some n) = spawned-one _ _
   term-shape (recvUnit o c P) = receive-shape c
   term-shape (recvChannel o c x P) = receive-shape c
@@ -145,10 +142,10 @@ module _ (p : Program) (C : Config) (k : ℕ) (q : Process) (s : Stands C k q) w
   term-shape (call o f bracket xs ys) = go (lookup (f .name) (p .processes))
     where
       go : (s : Option Signature) → Shape C k (entering C k q (namesOf xs ++ namesOf ys) s)
-      go none = shut refl
+      go none = not-carried refl
       go (some s) = one _ _ own
   term-shape (raise o P) = handled _ (q .link)
-  term-shape (try o P Q) = if-shape (ltb (length (C .processes)) processPlaces) (tried-one _ _) (shut refl)
+  term-shape (try o P Q) = if-shape (ltb (length (C .processes)) processPlaces) (tried-one _ _) (not-carried refl)
 
   fold-shape : (l : List (Name × End)) → Shape C k (foldingUp C k q l)
   unfolding foldingUp leaving
@@ -158,7 +155,7 @@ module _ (p : Program) (C : Config) (k : ℕ) (q : Process) (s : Stands C k q) w
   doing-shape : (d : Doing) → Shape C k (stepDoing p C k q d)
   doing-shape (running P) = term-shape P
   doing-shape folding = fold-shape (q .held)
-  doing-shape (waiting Q) = shut refl
+  doing-shape (waiting Q) = not-carried refl
 
 pub step-shape : (p : Program) (C : Config) (k : ℕ) → Shape C k (step p C k)
 unfolding step

@@ -17,7 +17,8 @@ use Rattle.calculus.specs.Steps.{Outcome, lacking, Message, passes, Wanted, Tur
 use Rattle.calculus.specs.WellFormed.{In, contextOf, TypedAs, Stands, WellFormed}
 use Rattle.derivations.specs.Booleans.{isSome-iff}
 use Rattle.derivations.specs.Equality.{sameType-iff}
-use Rattle.progress.specs.Held.{lookup-in, acts, held-of, HeldFar, OutsideFar, FarView, far-process, far-outside, far-given-up, far-view, entry-in-ends, outside-in-ends}
+use Rattle.progress.specs.Held.{lookup-in, acts, held-of, entry-in-ends, outside-in-ends}
+use Rattle.progress.specs.FarEnds.{HeldFar, OutsideFar, FarView, far-process, far-outside, far-given-up, far-view}
 use Rattle.progress.specs.Joints.{JointKey, channel, handler}
 use Rattle.progress.specs.Outward.{outward-stands, other-mark}
 use Rattle.progress.specs.Turns.{Sending, sends-close, sends-passing, sends-choice, Receiving, receives-close, receives-passing, receives-choice, received-provided, branch-for}
@@ -139,7 +140,7 @@ send-moves p C i q {c} {m} P e h {s} {T} g = rw h (go (far-view C e) refl)
 no-recv-outside : {p : Program} {C : Config} → WellFormed p C → {i : ℕ} {q : Process} {c : Name} {e : End} {n : ℕ} {w : Wanted} → Stands C i q
     → In (c, e) (q .held) → Receiving w (e .side) (standing (p .types) (e .type)) → OutsideFar C e n → ⊥
 no-recv-outside {p} {C} v {e = e} {w = w} s m r o =
-    let z : o .outside .type ≡ e .type = sameType-iff _ _ .0 (v .oneType _ _ (outside-in-ends v (o .member)) (entry-in-ends v s m) (o .channel)) in
+    let z : o .outside .type ≡ e .type = sameType-iff _ _ .0 (v .oneType _ _ (outside-in-ends C (o .member)) (entry-in-ends s m) (o .channel)) in
     let a = outward-stands p (o .outside .type) (v .outside (o .outside) (o .member) .0) in
     let b : Receiving w provided (standing (p .types) (e .type)) = rw (o .side) at r in
     true≢false (sym (received-provided b) ∙ ap (λ A. other-mark (standing (p .types) A)) (sym z) ∙ a)
