@@ -78,7 +78,9 @@ outside-of k (x ∷ l) {o} e = go (eqb k (x .channel)) refl e (λ h. outside-of 
   where
     go : (b : Bool) → eqb k (x .channel) ≡ b → cond b (some x) (outsideOf k l) ≡ some o → (outsideOf k l ≡ some o → In o l × (o .channel ≡ k))
         → In o (x ∷ l) × (o .channel ≡ k)
-    go true t e r = let z = Option·some-injective _ _ e in (List·Memᴰ·head (sym z), ap (λ (o : Outside). o .channel) (sym z) ∙ sym (eqb-iff k (x .channel) .0 t))
+    go true t e r =
+        let z = Option·some-injective _ _ e in
+        (List·Memᴰ·head (sym z), ap (λ (o : Outside). o .channel) (sym z) ∙ sym (eqb-iff k (x .channel) .0 t))
     go false t e r = let y = r e in (List·Memᴰ·tail (y .0), y .1)
 
 -- ── the far end of an end
@@ -108,7 +110,9 @@ far-view C e = go (holderFrom 0 (e .channel) (other (e .side)) (C .processes)) r
   where
     out : (s : Side) → e .side ≡ s → (o : Option Outside) → outsideOf (e .channel) (C .outside) ≡ o → FarView C e (orOutside s o)
     out s z none t = far-given-up
-    out provided z (some o) t = let y = outside-of (e .channel) (C .outside) t in far-outside (record { outside = o; number = refl; member = y .0; channel = y .1; side = z })
+    out provided z (some o) t =
+        let y = outside-of (e .channel) (C .outside) t in
+        far-outside (record { outside = o; number = refl; member = y .0; channel = y .1; side = z })
     out used z (some o) t = far-given-up
 
     go : (o : Option Holder) → holderFrom 0 (e .channel) (other (e .side)) (C .processes) ≡ o
@@ -137,7 +141,8 @@ module _ {p : Program} {C : Config} (w : WellFormed p C) where
     where
       go : (o : Option Holder) → holderFrom 0 (e .channel) (other (e .side)) (C .processes) ≡ o
           → farFrom o (orOutside (e .side) (outsideOf (e .channel) (C .outside))) ≡ atProcess (record { place = j; process = r; name = n })
-      go none t = absurd (not-held (e .channel) (other (e .side)) (r .held) (no-holder 0 (e .channel) (other (e .side)) (C .processes) t j (s .there)) m z)
+      go none t =
+          absurd (not-held (e .channel) (other (e .side)) (r .held) (no-holder 0 (e .channel) (other (e .side)) (C .processes) t j (s .there)) m z)
       go (some h) t =
           let y = holder-from 0 (e .channel) (other (e .side)) (C .processes) t in
           let g = held-as (e .channel) (other (e .side)) (h .process .held) (y .3) in

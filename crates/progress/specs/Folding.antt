@@ -28,13 +28,18 @@ pub record FoldsAt (l : List Process) (i : ℕ) : Type 0 where
   pub there : getElem? l i ≡ some process
   pub folds : process .doing ≡ folding
 
+-- the same process at a place of another list
+same-process : {l m : List Process} {i j : ℕ} → getElem? m j ≡ getElem? l i → FoldsAt l i → FoldsAt m j
+same-process e f = record { process = f .process; there = e ∙ f .there; folds = f .folds }
+
 folds-set : {l : List Process} {i k : ℕ} (x : Process) → i ≢ k → FoldsAt l i → FoldsAt (set l k x) i
-folds-set {l} {i} {k} x n f = record { process = f .process; there = set-other l k i x n ∙ f .there; folds = f .folds }
+folds-set {l} {i} {k} x n f = same-process (set-other l k i x n) f
 
 -- a process with the same doings put in its place
 folds-map : {l : List Process} {i : ℕ} (g : Process → Process) → ((q : Process) → q .doing ≡ folding → g q .doing ≡ folding) → FoldsAt l i
     → FoldsAt (map g l) i
-folds-map {l} {i} g h f = record { process = g (f .process); there = element-map g l i ∙ ap (Option·map g) (f .there); folds = h (f .process) (f .folds) }
+folds-map {l} {i} g h f =
+    record { process = g (f .process); there = element-map g l i ∙ ap (Option·map g) (f .there); folds = h (f .process) (f .folds) }
 
 folds-put : {l : List Process} {i : ℕ} (g : Process → Process) → ((q : Process) → q .doing ≡ folding → g q .doing ≡ folding)
     → (j : ℕ) (o : Option Process) → getElem? l j ≡ o → FoldsAt l i → FoldsAt (putAt l j (Option·map g o)) i
@@ -44,7 +49,11 @@ folds-put {l} {i} g h j (some q) e f = go (ℕ-discrete i j)
     go : Dec (i ≡ j) → FoldsAt (set l j (g q)) i
     go (yes z) =
         let s : f .process ≡ q = Option·some-injective _ _ (sym (f .there) ∙ ap (getElem? l) z ∙ e) in
-        record { process = g q; there = ap (getElem? (set l j (g q))) z ∙ element-set l j e (g q); folds = h q (ap (λ (q : Process). q .doing) (sym s) ∙ f .folds) }
+        record {
+          process = g q;
+          there = ap (getElem? (set l j (g q))) z ∙ element-set l j e (g q);
+          folds = h q (ap (λ (q : Process). q .doing) (sym s) ∙ f .folds);
+        }
     go (no n) = folds-set (g q) n f
 
 folds-changed : {l : List Process} {i : ℕ} (g : Process → Process) → ((q : Process) → q .doing ≡ folding → g q .doing ≡ folding) → (o : Option ℕ)
@@ -80,8 +89,9 @@ folds-inserted {l} {i} k x f = go (ltb k i) refl (folds-map (relinked (movedUp k
     m = map (relinked (movedUp k)) l
 
     go : (b : Bool) → ltb k i ≡ b → FoldsAt m i → FoldsAt (take (suc k) m ++ (x ∷ drop (suc k) m)) (cond b (suc i) i)
-    go true e f = record { process = f .process; there = put-above m x (suc k) i (ltb-iff k i .0 e) (position-below m i (f .there)) ∙ f .there; folds = f .folds }
-    go false e f = record { process = f .process; there = put-below m (x ∷ drop (suc k) m) (suc k) i (suc-le-suc (not-below k i .0 e)) (position-below m i (f .there)) ∙ f .there; folds = f .folds }
+    go true e f = same-process (put-above m x (suc k) i (ltb-iff k i .0 e) (position-below m i (f .there))) f
+    go false e f =
+        same-process (put-below m (x ∷ drop (suc k) m) (suc k) i (suc-le-suc (not-below k i .0 e)) (position-below m i (f .there))) f
 
 folds-removed : {l : List Process} {i : ℕ} (k : ℕ) → i ≢ k → FoldsAt l i → FoldsAt (removed k l) (movedDown k i)
 unfolding removed
@@ -94,10 +104,10 @@ folds-removed {l} {i} k n f = go (ltb k i) refl (folds-map (relinked (movedDown 
     go true e f =
         let h = ltb-iff k i .0 e in
         let back : suc (i - 1) ≡ i = omega arith in
-        record { process = f .process; there = out-above m k (i - 1) (omega arith) ∙ ap (getElem? m) back ∙ f .there; folds = f .folds }
+        same-process (out-above m k (i - 1) (omega arith) ∙ ap (getElem? m) back) f
     go false e f =
         let h = not-below k i .0 e in
-        record { process = f .process; there = put-below m (drop (suc k) m) k i (omega arith) (position-below m i (f .there)) ∙ f .there; folds = f .folds }
+        same-process (put-below m (drop (suc k) m) k i (omega arith) (position-below m i (f .there))) f
 
 -- ── how long the list is
 length-changed : (g : Process → Process) (o : Option ℕ) (l : List Process) → length (changedAt g o l) ≡ length l
@@ -162,18 +172,22 @@ shape-folds : {C : Config} {k i : ℕ} {r : Outcome} → Shape C k r → isCarri
 shape-folds (not-carried e) c n f = absurd (false≢true (sym e ∙ c))
 shape-folds {C} {k} {i} (one j x t) c n f = same-places k _ _ i _ (length-set (C .processes) j x) (folds-set x (untouched f n t) f)
 shape-folds {C} {k} {i} (two j h x y t u) c n f =
-    same-places k _ _ i _ (length-set (set (C .processes) j x) h y ∙ length-set (C .processes) j x) (folds-set y (untouched f n u) (folds-set x (untouched f n t) f))
+    same-places k _ _ i _ (length-set (set (C .processes) j x) h y ∙ length-set (C .processes) j x)
+    (folds-set y (untouched f n u) (folds-set x (untouched f n t) f))
 shape-folds {C} {k} {i} (joined h x y s e) c n f =
     same-places k _ _ i _ (length-set (set (C .processes) k x) h y ∙ length-set (C .processes) k x) (joined-folds x y n f s e)
 shape-folds {C} {k} {i} (handled x l) c n f =
-    same-places k _ _ i _ (length-set (changedAt startedHandler l (C .processes)) k x ∙ length-changed startedHandler l (C .processes)) (folds-set x n (folds-changed startedHandler started-folds l f))
+    same-places k _ _ i _ (length-set (changedAt startedHandler l (C .processes)) k x ∙ length-changed startedHandler l (C .processes))
+    (folds-set x n (folds-changed startedHandler started-folds l f))
 shape-folds {C} {k} {i} (spawned-one x y) c n f =
     one-more k _ i _ (length-inserted k x (set (C .processes) k y) ∙ ap suc (length-set (C .processes) k y)) (folds-inserted k x (folds-set y n f))
 shape-folds {C} {k} {i} (tried-one x y) c n f =
-    one-more k _ i _ (length-set (inserted k x (C .processes)) k y ∙ length-inserted k x (C .processes)) (folds-set y (up-apart k i n) (folds-inserted k x f))
+    one-more k _ i _ (length-set (inserted k x (C .processes)) k y ∙ length-inserted k x (C .processes))
+    (folds-set y (up-apart k i n) (folds-inserted k x f))
 shape-folds {C} {k} {i} (left l b) c n f =
     let g = length-changed foldedHandler l (C .processes) in
-    one-less k _ i _ (length-removed k (changedAt foldedHandler l (C .processes)) (omega arith) ∙ g) (folds-removed k n (folds-changed foldedHandler (λ q e. refl) l f))
+    one-less k _ i _ (length-removed k (changedAt foldedHandler l (C .processes)) (omega arith) ∙ g)
+    (folds-removed k n (folds-changed foldedHandler (λ q e. refl) l f))
 
 pub folding-stays : (p : Program) (C D : Config) (k i : ℕ) (seen : Seen) → step p C k ≡ carried seen D → i ≢ k → FoldsAt (C .processes) i
     → FoldsAt (D .processes) (placeAfter k (length (C .processes)) (length (D .processes)) i)
@@ -192,7 +206,9 @@ own-folds C D i q seen s [] e h =
     let a = length-removed i (changedAt foldedHandler (q .link) (C .processes)) (let b = position-below (C .processes) i (s .there) in omega arith) in
     let d = ap (λ r. length (config-by C r .processes)) e in
     absurd (omega arith)
-own-folds C D i q seen s (x ∷ l) e h = subst (λ r. FoldsAt (config-by C r .processes) i) e (record { process = process folding l (q .link); there = element-set (C .processes) i (s .there) _; folds = refl })
+own-folds C D i q seen s (x ∷ l) e h =
+    subst (λ r. FoldsAt (config-by C r .processes) i) e
+    (record { process = process folding l (q .link); there = element-set (C .processes) i (s .there) _; folds = refl })
 
 -- ── a process followed through steps: that at place i of C is, after them, that at place j of D
 pub data Follows (p : Program) : Config → ℕ → Config → ℕ → Type 0 where
@@ -206,5 +222,6 @@ pub data Follows (p : Program) : Config → ℕ → Config → ℕ → Type 0 wh
 pub folds-on : {p : Program} {C D : Config} {i j : ℕ} → Follows p C i D j → FoldsAt (C .processes) i → FoldsAt (D .processes) j
 folds-on (no-step e z) f = subst₂ (λ (C : Config) i. FoldsAt (C .processes) i) e z f
 folds-on {p} (own-step {C} {E} {i = i} seen e h r) f =
-    folds-on r (own-folds C E i (f .process) seen (record { there = f .there }) (f .process .held) (sym (folding-on p C i (f .process) (record { there = f .there }) (f .folds)) ∙ e) h)
+    let s : Stands C i (f .process) = record { there = f .there } in
+    folds-on r (own-folds C E i (f .process) seen s (f .process .held) (sym (folding-on p C i (f .process) s (f .folds)) ∙ e) h)
 folds-on {p} (other-step {C} {E} {i = i} k seen e n r) f = folds-on r (folding-stays p C E k i seen e n f)

@@ -15,7 +15,8 @@ use Rattle.derivations.specs.Booleans.{or-cond, eqb-iff}
 
 among-iff : (k : ℕ) (l : List ℕ) → (among k l ≡ true) ↔ In k l
 among-iff k [] = (λ e. absurd (false≢true e), λ m. absurd (List·Memᴰ·not-nil m))
-among-iff k (j ∷ l) = (λ e. to (or-cond (eqb k j) (among k l) .0 e) (among-iff k l .0), λ m. or-cond (eqb k j) (among k l) .1 (from m (among-iff k l .1)))
+among-iff k (j ∷ l) =
+    (λ e. to (or-cond (eqb k j) (among k l) .0 e) (among-iff k l .0), λ m. or-cond (eqb k j) (among k l) .1 (from m (among-iff k l .1)))
   where
     to : (eqb k j ≡ true) ⊎ (among k l ≡ true) → (among k l ≡ true → In k l) → In k (j ∷ l)
     to (inl e) r = List·Memᴰ·head (eqb-iff k j .0 e)

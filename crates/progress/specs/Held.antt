@@ -45,7 +45,8 @@ lookup-entry {X} (d ∷ l) {c} {x} u m = go (any (same (d .0)) (names l)) refl u
     go true t u m s r = absurd (false≢true u)
     go false t u (List·Memᴰ·head z) (inl s) r = rw (s .0) (ap (λ (y : Name × X). some (y .1)) (sym z))
     go false t u (List·Memᴰ·head z) (inr s) r = absurd (s .1 (ap (λ (y : Name × X). y .0) z))
-    go false t u (List·Memᴰ·tail m) (inl s) r = absurd (true≢false (sym (any-iff (same (d .0)) (names l) .1 (c, named-in l m, same-iff (d .0) c .1 (sym (s .1)))) ∙ t))
+    go false t u (List·Memᴰ·tail m) (inl s) r =
+        absurd (true≢false (sym (any-iff (same (d .0)) (names l) .1 (c, named-in l m, same-iff (d .0) c .1 (sym (s .1)))) ∙ t))
     go false t u (List·Memᴰ·tail m) (inr s) r = rw (s .0) (r u m)
 
 pub names-context : (l : List (Name × End)) → names (contextOf l) ≡ names l
@@ -75,7 +76,8 @@ pub record Acts (p : Program) (c : Name) (l : List (Name × End)) (s : Side) (T 
 
 pub acts : (p : Program) (c : Name) (l : List (Name × End)) {s : Side} {T : Ty Name} → acting p c (contextOf l) ≡ some (slot s T) → Acts p c l s T
 unfolding slot-of
-acts p c l {s} {T} e = go (lookup c l) refl (sym (ap (Option·map (λ (x : Slot). slot (x .side) (standing (p .types) (x .type)))) (lookup-context c l)) ∙ e)
+acts p c l {s} {T} e =
+    go (lookup c l) refl (sym (ap (Option·map (λ (x : Slot). slot (x .side) (standing (p .types) (x .type)))) (lookup-context c l)) ∙ e)
   where
     go : (o : Option End) → lookup c l ≡ o
         → Option·map (λ (x : Slot). slot (x .side) (standing (p .types) (x .type))) (Option·map slot-of o) ≡ some (slot s T) → Acts p c l s T
@@ -97,9 +99,13 @@ pub entry-end : {n : Name} {e : End} (l : List (Name × End)) → In (n, e) l �
 entry-end (x ∷ l) (List·Memᴰ·head h) = List·Memᴰ·head (ap (λ (y : Name × End). y .1) h)
 entry-end (x ∷ l) (List·Memᴰ·tail m) = List·Memᴰ·tail (entry-end l m)
 
+-- what the process found holds
+found-holds : {q r : Process} {e : End} → some r ≡ some q → In e (heldEnds (q .held)) → In e (heldEnds (r .held))
+found-holds {e = e} h m = subst (λ (r : Process). In e (heldEnds (r .held))) (sym (Option·some-injective _ _ h)) m
+
 process-end : (l : List Process) (i : ℕ) {q : Process} {e : End} → getElem? l i ≡ some q → In e (heldEnds (q .held)) → In e (processEnds l)
 process-end [] i h m = absurd (Option·none-ne-some _ h)
-process-end (r ∷ l) zero {q} {e} h m = Memᴰ·append-left (processEnds l) (subst (λ (r : Process). In e (heldEnds (r .held))) (sym (Option·some-injective _ _ h)) m)
+process-end (r ∷ l) zero h m = Memᴰ·append-left (processEnds l) (found-holds h m)
 process-end (r ∷ l) (suc i) h m = Memᴰ·append-right (heldEnds (r .held)) (process-end l i h m)
 
 -- an end is held by one process
@@ -107,23 +113,27 @@ one-process : (l : List Process) → NoneTwice (map key (processEnds l)) → (i 
     → getElem? l j ≡ some r → In e (heldEnds (q .held)) → In d (heldEnds (r .held)) → key e ≡ key d → i ≡ j
 one-process [] u i j h g m k z = absurd (Option·none-ne-some _ h)
 one-process (x ∷ l) u zero zero h g m k z = refl
-one-process (x ∷ l) u zero (suc j) {e = e} h g m k z =
-    absurd (once-apart key (heldEnds (x .held)) (processEnds l) u (subst (λ (r : Process). In e (heldEnds (r .held))) (sym (Option·some-injective _ _ h)) m) (process-end l j g k) z)
-one-process (x ∷ l) u (suc i) zero {d = d} h g m k z =
-    absurd (once-apart key (heldEnds (x .held)) (processEnds l) u (subst (λ (r : Process). In d (heldEnds (r .held))) (sym (Option·some-injective _ _ g)) k) (process-end l i h m) (sym z))
+one-process (x ∷ l) u zero (suc j) h g m k z =
+    absurd (once-apart key (heldEnds (x .held)) (processEnds l) u (found-holds h m) (process-end l j g k) z)
+one-process (x ∷ l) u (suc i) zero h g m k z =
+    absurd (once-apart key (heldEnds (x .held)) (processEnds l) u (found-holds g k) (process-end l i h m) (sym z))
 one-process (x ∷ l) u (suc i) (suc j) h g m k z = ap suc (one-process l (once-right key (heldEnds (x .held)) (processEnds l) u) i j h g m k z)
 
 process-once : (l : List Process) (i : ℕ) {q : Process} → NoneTwice (map key (processEnds l)) → getElem? l i ≡ some q
     → NoneTwice (map key (heldEnds (q .held)))
 process-once [] i u h = absurd (Option·none-ne-some _ h)
-process-once (x ∷ l) zero u h = subst (λ (r : Process). NoneTwice (map key (heldEnds (r .held)))) (Option·some-injective _ _ h) (once-left key (heldEnds (x .held)) (processEnds l) u)
+process-once (x ∷ l) zero u h =
+    subst (λ (r : Process). NoneTwice (map key (heldEnds (r .held)))) (Option·some-injective _ _ h)
+    (once-left key (heldEnds (x .held)) (processEnds l) u)
 process-once (x ∷ l) (suc i) u h = process-once l i (once-right key (heldEnds (x .held)) (processEnds l) u) h
 
 -- an end is held under one name
 one-entry : (l : List (Name × End)) → NoneTwice (map key (heldEnds l)) → {n m : Name} {e d : End} → In (n, e) l → In (m, d) l → key e ≡ key d → n ≡ m
 one-entry (x ∷ l) u (List·Memᴰ·head h) (List·Memᴰ·head g) z = ap (λ (y : Name × End). y .0) (h ∙ sym g)
-one-entry (x ∷ l) u (List·Memᴰ·head h) (List·Memᴰ·tail k) z = absurd (u .0 (Memᴰ·cast (ap (λ (y : Name × End). key (y .1)) (sym h) ∙ z) (Memᴰ·map key (entry-end l k))))
-one-entry (x ∷ l) u (List·Memᴰ·tail k) (List·Memᴰ·head g) z = absurd (u .0 (Memᴰ·cast (ap (λ (y : Name × End). key (y .1)) (sym g) ∙ sym z) (Memᴰ·map key (entry-end l k))))
+one-entry (x ∷ l) u (List·Memᴰ·head h) (List·Memᴰ·tail k) z =
+    absurd (u .0 (Memᴰ·cast (ap (λ (y : Name × End). key (y .1)) (sym h) ∙ z) (Memᴰ·map key (entry-end l k))))
+one-entry (x ∷ l) u (List·Memᴰ·tail k) (List·Memᴰ·head g) z =
+    absurd (u .0 (Memᴰ·cast (ap (λ (y : Name × End). key (y .1)) (sym g) ∙ sym z) (Memᴰ·map key (entry-end l k))))
 one-entry (x ∷ l) u (List·Memᴰ·tail k) (List·Memᴰ·tail g) z = one-entry l (u .1) k g z
 
 outside-end : (l : List Outside) {o : Outside} → In o l → In (end used (o .channel) (o .type)) (outsideEnds l)
@@ -143,7 +153,8 @@ module _ {p : Program} {C : Config} (w : WellFormed p C) where
   -- "each held at most once": one process, one name
   pub one-holder : {i j : ℕ} {q r : Process} {n m : Name} {e d : End} → Stands C i q → Stands C j r → In (n, e) (q .held) → In (m, d) (r .held)
       → key e ≡ key d → i ≡ j
-  one-holder {i} {j} {q} {r} s t a b z = one-process (C .processes) held-keys i j (s .there) (t .there) (entry-end (q .held) a) (entry-end (r .held) b) z
+  one-holder {i} {j} {q} {r} s t a b z =
+      one-process (C .processes) held-keys i j (s .there) (t .there) (entry-end (q .held) a) (entry-end (r .held) b) z
 
   pub one-name : {i : ℕ} {q : Process} {n m : Name} {e d : End} → Stands C i q → In (n, e) (q .held) → In (m, d) (q .held) → key e ≡ key d → n ≡ m
   one-name {i} {q} s = one-entry (q .held) (process-once (C .processes) i held-keys (s .there))

@@ -143,7 +143,8 @@ key-in : (C : Config) (l : List Process) (i : ℕ) {q : Process} {k : JointKey} 
     → In k (channelKeys C (q .held) ++ linkKey (q .link)) → In k (keysFrom C l)
 key-in C [] i h m = absurd (Option·none-ne-some _ h)
 key-in C (r ∷ l) zero {k = k} h m =
-    Memᴰ·append-left (keysFrom C l) (subst (λ (q : Process). In k (channelKeys C (q .held) ++ linkKey (q .link))) (sym (Option·some-injective _ _ h)) m)
+    Memᴰ·append-left (keysFrom C l)
+    (subst (λ (q : Process). In k (channelKeys C (q .held) ++ linkKey (q .link))) (sym (Option·some-injective _ _ h)) m)
 key-in C (r ∷ l) (suc i) h m = Memᴰ·append-right (channelKeys C (r .held) ++ linkKey (r .link)) (key-in C l i h m)
 
 -- a link is a joint

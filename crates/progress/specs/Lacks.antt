@@ -111,7 +111,9 @@ send-lacks p C i q c m P l = go (lookup (c .name) (q .held)) refl l
     far-lacks : (e : End) → lookup (c .name) (q .held) ≡ some e → (f : Far) → farEnd C e ≡ f → Lacking (sending p C i q (after e) m e f)
         → OutOfNumbers C q c m
     far-lacks e h (atProcess g) t l = absurd (meeting-served p C i q (after e) m e g (turnOf (g .process .doing)) l)
-    far-lacks e h (atOutside n) t l = let y = out-lacks p C i q (after e) m e n l in record { passed = y .0; passing = y .1; held = e; holds = h; number = n; far = t; given = y .2 }
+    far-lacks e h (atOutside n) t l =
+        let y = out-lacks p C i q (after e) m e n l in
+        record { passed = y .0; passing = y .1; held = e; holds = h; number = n; far = t; given = y .2 }
     far-lacks e h givenUp t l = absurd (unheard-served C i q (after e) m l)
 
     go : (o : Option End) → lookup (c .name) (q .held) ≡ o → Lacking (onHeld o λ e. sending p C i q (after e) m e (farEnd C e)) → OutOfNumbers C q c m
@@ -139,8 +141,10 @@ module _ {p : Program} {C : Config} (v : WellFormed p C) {i : ℕ} {q : Process}
       → turnOf (h .process .doing) ≡ sends c′ m P → c′ .name ≡ h .name → Served (send p C (h .place) (h .process) c′ m P)
   answer-served {c} {e} {h} k u {c′} {m} {P} t z l =
       let o = send-lacks p C (h .place) (h .process) c′ m P l in
-      let d : distinct (names (h .process .held)) ≡ true = rw (← names-context (h .process .held)) (sender-distinct p _ _ (h .process .doing) (ap is-send t) (v .typed (h .place) (h .process) (u .stands))) in
-      let a : o .held ≡ u .end = Option·some-injective _ _ (sym (o .holds) ∙ ap (λ n. lookup n (h .process .held)) z ∙ lookup-entry (h .process .held) d (u .entry)) in
+      let t′ = sender-distinct p _ _ (h .process .doing) (ap is-send t) (v .typed (h .place) (h .process) (u .stands)) in
+      let d : distinct (names (h .process .held)) ≡ true = rw (← names-context (h .process .held)) t′ in
+      let g = lookup-entry (h .process .held) d (u .entry) in
+      let a : o .held ≡ u .end = Option·some-injective _ _ (sym (o .holds) ∙ ap (λ n. lookup n (h .process .held)) z ∙ g) in
       let f = far-found v (u .end) s k (far-back e (u .end) (u .far)) in
       false≢true (ap is-outside (sym f ∙ ap (farEnd C) (sym a) ∙ o .far))
 
@@ -212,8 +216,23 @@ try-short {C} q P Q w l = inl (inr w, left-of (room (length (C .processes)) proc
 
 send-short : {C : Config} {i : ℕ} {q : Process} {c a : Located} {o : ℕ} {P : Proc} → Stands C i q → q .doing ≡ running (sendChannel o c a P)
     → OutOfNumbers C q c (passes a) → Short C i
-send-short {q = q} {c} {a} {o} {P} s e n =
-    inr (inr (record { process = q; offset = o; over = c; passed = a; rest = P; held = n .held; number = n .number; stands = s; sends = e; holds = n .holds; far = n .far }, n .given))
+send-short {C} {i} {q} {c} {a} {o} {P} s e n = inr (inr (out, n .given))
+  where
+    out : PassesOut C i
+    out =
+        record {
+          process = q;
+          offset = o;
+          over = c;
+          passed = a;
+          rest = P;
+          held = n .held;
+          number = n .number;
+          stands = s;
+          sends = e;
+          holds = n .holds;
+          far = n .far;
+        }
 
 abbrev is-passing : Message → Bool
 is-passing closing = false
@@ -274,7 +293,9 @@ module _ (p : Program) (C : Config) (i : ℕ) where
       after = process (running (w .rest)) (afterSend p (w .over .name) (w .held) (passes (w .passed)) (w .process .held)) (w .process .link)
 
       out : End → Outcome
-      out d = cond (ltb (C .given) outsideNumbers) (passedOut C i after (w .number) (w .held .channel) (afterMessage p (passes (w .passed)) (w .held .type)) d (isGivenUp (farEnd C d))) lacking
+      out d =
+          cond (ltb (C .given) outsideNumbers)
+          (passedOut C i after (w .number) (w .held .channel) (afterMessage p (passes (w .passed)) (w .held .type)) d (isGivenUp (farEnd C d))) lacking
 
       sent : send p C i (w .process) (w .over) (passes (w .passed)) (w .rest) ≡ onHeld (lookup (w .passed .name) (w .process .held)) out
       sent = rw (w .holds, w .far)

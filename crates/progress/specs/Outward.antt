@@ -34,7 +34,8 @@ mutual
   has-more : (bad worse : List Name) → Within bad worse → (A : Ty Name) → hasOther bad A ≡ true → hasOther worse A ≡ true
   has-more bad worse w unit e = e
   has-more bad worse w (named n) e = let r = any-iff (same n) bad .0 e in any-iff (same n) worse .1 (r .0, w (r .0) (r .1), r .2)
-  has-more bad worse w (tensor A B) e = or-more (hasOther bad A) _ (hasOther worse A) _ (λ h. has-more bad worse w A h) (λ h. has-more bad worse w B h) e
+  has-more bad worse w (tensor A B) e =
+      or-more (hasOther bad A) _ (hasOther worse A) _ (λ h. has-more bad worse w A h) (λ h. has-more bad worse w B h) e
   has-more bad worse w (par A B) e = refl
   has-more bad worse w (lolli A B) e = refl
   has-more bad worse w (plus r) e = have-more bad worse w r e
@@ -42,7 +43,8 @@ mutual
 
   have-more : (bad worse : List Name) → Within bad worse → (r : Alternatives Name) → haveOther bad r ≡ true → haveOther worse r ≡ true
   have-more bad worse w Alternatives.none e = e
-  have-more bad worse w (alternative l A r) e = or-more (hasOther bad A) _ (hasOther worse A) _ (λ h. has-more bad worse w A h) (λ h. have-more bad worse w r h) e
+  have-more bad worse w (alternative l A r) e =
+      or-more (hasOther bad A) _ (hasOther worse A) _ (λ h. has-more bad worse w A h) (λ h. have-more bad worse w r h) e
 
 -- a definition that has another mark puts its name on the list
 reached : (bad : List Name) (types : List (Name × Ty Name)) {n : Name} {A : Ty Name} → In (n, A) types → hasOther bad A ≡ true
@@ -106,30 +108,32 @@ module _ (types : List (Name × Ty Name)) where
   reach-more zero = λ m k. absurd (List·Memᴰ·not-nil k)
   reach-more (suc n) = within-more (reachOther n types) (reachOther (suc n) types) (reach-more n) types
 
-  stays-or-grows : (n : ℕ) → (reachOther (suc n) types ≡ reachOther n types) ⊎ (suc n ≤ length (reachOther (suc n) types))
+  abbrev Stays : ℕ → Type 0
+  Stays n = reachOther (suc n) types ≡ reachOther n types
+
+  abbrev Fills : ℕ → Type 0
+  Fills n = suc n ≤ length (reachOther (suc n) types)
+
+  stays-or-fills : (n : ℕ) → Stays n ⊎ Fills n
   unfolding reachOther
-  stays-or-grows zero = first (namesWithOther [] types)
+  stays-or-fills zero = first (namesWithOther [] types)
     where
       first : (l : List Name) → (l ≡ []) ⊎ (1 ≤ length l)
       first [] = inl refl
       first (x ∷ l) = inr (omega arith)
-  stays-or-grows (suc n) = go (stays-or-grows n) (grows (reachOther n types) (reachOther (suc n) types) (reach-more n) types)
+  stays-or-fills (suc n) = go (stays-or-fills n) (grows (reachOther n types) (reachOther (suc n) types) (reach-more n) types)
     where
-      go : (reachOther (suc n) types ≡ reachOther n types) ⊎ (suc n ≤ length (reachOther (suc n) types))
-          → Longer (reachOther (suc n) types) (reachOther (suc (suc n)) types)
-          → (reachOther (suc (suc n)) types ≡ reachOther (suc n) types) ⊎ (suc (suc n) ≤ length (reachOther (suc (suc n)) types))
+      go : Stays n ⊎ Fills n → Longer (reachOther (suc n) types) (reachOther (suc (suc n)) types) → Stays (suc n) ⊎ Fills (suc n)
       go (inl z) r = inl (ap (λ bad. namesWithOther bad types) z)
       go (inr h) (inl z) = inl z
       go (inr h) (inr k) = inr (omega arith)
 
   -- "no path without a repeated name is longer than there are types"
-  reach-stays : reachOther (suc (length types)) types ≡ reachOther (length types) types
+  reach-stays : Stays (length types)
   unfolding reachOther
-  reach-stays = go (stays-or-grows (length types)) (length-names (reachOther (length types) types) types)
+  reach-stays = go (stays-or-fills (length types)) (length-names (reachOther (length types) types) types)
     where
-      go : (reachOther (suc (length types)) types ≡ reachOther (length types) types) ⊎ (suc (length types) ≤ length (reachOther (suc (length types)) types))
-          → length (reachOther (suc (length types)) types) ≤ length types
-          → reachOther (suc (length types)) types ≡ reachOther (length types) types
+      go : Stays (length types) ⊎ Fills (length types) → length (reachOther (suc (length types)) types) ≤ length types → Stays (length types)
       go (inl z) h = z
       go (inr k) h = absurd (omega arith)
 
@@ -200,7 +204,8 @@ pub outward-passing : (p : Program) (T : Ty Name) {t : Passing} → passing T �
 unfolding passing
 outward-passing p unit e h = absurd (Option·none-ne-some _ e)
 outward-passing p (named n) e h = absurd (Option·none-ne-some _ e)
-outward-passing p (tensor A B) {t} e h = subst (λ (t : Passing). (outward p (t .what) ≡ true) × (outward p (t .after) ≡ true)) (Option·some-injective _ _ e) (outward-tensor p A B h)
+outward-passing p (tensor A B) {t} e h =
+    subst (λ (t : Passing). (outward p (t .what) ≡ true) × (outward p (t .after) ≡ true)) (Option·some-injective _ _ e) (outward-tensor p A B h)
 outward-passing p (par A B) e h = absurd (true≢false (outward-mark p (par A B) h))
 outward-passing p (lolli A B) e h = absurd (true≢false (outward-mark p (lolli A B) h))
 outward-passing p (plus r) e h = absurd (Option·none-ne-some _ e)
@@ -211,7 +216,8 @@ outward-labelled : (bad : List Name) (l : Name) (r : Alternatives Name) {A : Ty 
     → not (hasOther bad A) ≡ true
 unfolding hasOther labelled
 outward-labelled bad l Alternatives.none e h = absurd (Option·none-ne-some _ e)
-outward-labelled bad l (alternative m B r) {A} e h = go (same l m) e (both-not (hasOther bad B) (haveOther bad r) h) (λ f g. outward-labelled bad l r f g)
+outward-labelled bad l (alternative m B r) {A} e h =
+    go (same l m) e (both-not (hasOther bad B) (haveOther bad r) h) (λ f g. outward-labelled bad l r f g)
   where
     go : (b : Bool) → cond b (some B) (labelled l r) ≡ some A → (not (hasOther bad B) ≡ true) × (not (haveOther bad r) ≡ true)
         → (labelled l r ≡ some A → not (haveOther bad r) ≡ true → not (hasOther bad A) ≡ true) → not (hasOther bad A) ≡ true

@@ -118,7 +118,9 @@ module _ {p : Program} {C : Config} (v : WellFormed p C) where
 
   not-all-stuck : C .processes ≢ [] → ((i : ℕ) → i < length (C .processes) → isOpen p C i ≡ false) → ⊥
   unfolding isOpen
-  not-all-stuck n f = go (pigeonhole (JointKey-discrete ℕ-discrete) (λ i. place-key i (at C i)) (places (length (C .processes))) (jointKeys C) (places-once _) in-keys few)
+  not-all-stuck n f =
+      go
+      (pigeonhole (JointKey-discrete ℕ-discrete) (λ i. place-key i (at C i)) (places (length (C .processes))) (jointKeys C) (places-once _) in-keys few)
     where
       one : (i : ℕ) → i < length (C .processes) → (q : Process) × Stuck p C i q
       one i h = let e = element (C .processes) i h in (e .0, stuck v (record { there = e .1 }) (f i h))

@@ -123,7 +123,8 @@ shown-ends p (suc budget) taken seen D h = testing-shown p taken seen D _ h
 from-ends : (p : Program) (budget taken : ℕ) (C : Config) → Counts p budget taken C (runFrom p budget taken Nothing C)
 unfolding runFrom
 from-ends p zero taken C = tested p 0 taken C _ λ n i e. record { count = 0; gives = omega arith; ends = (refl, refl, n, i, e) }
-from-ends p (suc budget) taken C = tested p (suc budget) taken C _ λ n i e. next i e (chosen-first p C e .carried-out) (λ D. from-ends p budget (suc taken) D)
+from-ends p (suc budget) taken C =
+    tested p (suc budget) taken C _ λ n i e. next i e (chosen-first p C e .carried-out) (λ D. from-ends p budget (suc taken) D)
   where
     next : (i : ℕ) → choosePlace p C ≡ some i → (c : Carries p C i)
         → ((D : Config) → Counts p budget (suc taken) D (runFrom p budget (suc taken) Nothing D))

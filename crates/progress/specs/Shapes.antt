@@ -65,7 +65,8 @@ module _ {C : Config} {k : ℕ} where
     meeting-shape : (m : Message) (e : End) (h : Holder) → Stands C (h .place) (h .process) → (u : Turn) → turnOf (h .process .doing) ≡ u
         → Shape C k (meeting p C j q q′ m e h u)
     meeting-shape m e h s (sends c m′ P) z = not-carried refl
-    meeting-shape m e h s (receives c w) z = if-shape (same (c .name) (h .name)) (both (afterReceive p m w (h .name) e (passedEnd m (q .held)) (h .process))) (not-carried refl)
+    meeting-shape m e h s (receives c w) z =
+        if-shape (same (c .name) (h .name)) (both (afterReceive p m w (h .name) e (passedEnd m (q .held)) (h .process))) (not-carried refl)
       where
         both : (o : Option Process) → Shape C k (bothTo C j q′ (h .place) o)
         both none = not-carried refl
@@ -89,7 +90,9 @@ module _ {C : Config} {k : ℕ} where
 
   send-shape : (p : Program) {j : ℕ} (t : Touched C k j) (q : Process) (c : Located) (m : Message) (P : Proc) → Shape C k (send p C j q c m P)
   unfolding send
-  send-shape p t q c m P = held-shape (lookup (c .name) (q .held)) λ e. sending-shape p t q (process (running P) (afterSend p (c .name) e m (q .held)) (q .link)) m e (far-view C e)
+  send-shape p t q c m P =
+      held-shape (lookup (c .name) (q .held)) λ e.
+      sending-shape p t q (process (running P) (afterSend p (c .name) e m (q .held)) (q .link)) m e (far-view C e)
 
 -- ── the rules at their own place
 module _ (p : Program) (C : Config) (k : ℕ) (q : Process) (s : Stands C k q) where
@@ -101,7 +104,8 @@ module _ (p : Program) (C : Config) (k : ℕ) (q : Process) (s : Stands C k q) w
   receive-shape c = held-shape (lookup (c .name) (q .held)) λ e. go (far-view C e)
     where
       answer : (h : Holder) → Stands C (h .place) (h .process) → (u : Turn) → turnOf (h .process .doing) ≡ u → Shape C k (answering p C h u)
-      answer h s (sends c′ m P) z = if-shape (same (c′ .name) (h .name)) (send-shape p (partner s (ap talks z)) (h .process) c′ m P) (not-carried refl)
+      answer h s (sends c′ m P) z =
+          if-shape (same (c′ .name) (h .name)) (send-shape p (partner s (ap talks z)) (h .process) c′ m P) (not-carried refl)
       answer h s (receives c′ w) z = not-carried refl
       answer h s alone z = not-carried refl
 

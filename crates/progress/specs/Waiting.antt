@@ -58,8 +58,12 @@ joining-open C i q e d givenUp = opened refl
 moves : {p : Program} (C : Config) (i : ℕ) (q : Process) {link : Bool} {P : Proc} → Typed p (contextOf (q .held)) link P
     → Open (stepTerm p C i q P) ⊎ Talks p (q .held) (turn P)
 unfolding stepTerm cancelling parting spawning trying calling raising forwarding leaving
-moves {p} C i q (sends-unit {c = c} e d) = let a = acts p (c .name) (q .held) e in inr (talks-send (a .held) (a .found) (sends-close (a .side) (a .type)))
-moves {p} C i q (recvs-unit {c = c} e d) = let a = acts p (c .name) (q .held) e in inr (talks-receive (a .held) (a .found) (receives-close (a .side) (a .type)))
+moves {p} C i q (sends-unit {c = c} e d) =
+    let a = acts p (c .name) (q .held) e in
+    inr (talks-send (a .held) (a .found) (sends-close (a .side) (a .type)))
+moves {p} C i q (recvs-unit {c = c} e d) =
+    let a = acts p (c .name) (q .held) e in
+    inr (talks-receive (a .held) (a .found) (receives-close (a .side) (a .type)))
 moves {p} C i q (sends-channel {c = c} {a = n} T A t z e h l g d) =
     let a = acts p (c .name) (q .held) h in
     let b = held-of (n .name) (q .held) l in

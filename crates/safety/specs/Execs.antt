@@ -50,7 +50,8 @@ exec-listed p [] e m = absurd (List·Memᴰ·not-nil m)
 exec-listed p (declareType t A ∷ r) e m = exec-listed p r (both-nil (ownUndefined p (declareType t A)) _ e .1) m
 exec-listed p (declareProc f xs ys P ∷ r) e m = exec-listed p r (both-nil (ownUndefined p (declareProc f xs ys P)) _ e .1) m
 exec-listed p (declareExec f ∷ r) e {n} (List·Memᴰ·head z) =
-    subst (λ (f : Located). isSome (lookup (f .name) (p .processes)) ≡ true) (sym z) (unless-some (p .processes) f (both-nil (ownUndefined p (declareExec f)) _ e .0))
+    subst (λ (f : Located). isSome (lookup (f .name) (p .processes)) ≡ true) (sym z)
+    (unless-some (p .processes) f (both-nil (ownUndefined p (declareExec f)) _ e .0))
 exec-listed p (declareExec f ∷ r) e (List·Memᴰ·tail m) = exec-listed p r (both-nil (ownUndefined p (declareExec f)) _ e .1) m
 
 -- the process of an exec line

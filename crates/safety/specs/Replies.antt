@@ -124,7 +124,8 @@ module _ (text : List ℕ) (ds : List Declaration) (ok : checked text ≡ accept
   pub replied : (C : Config) (c : Call) → Replied P C c (respond text C c)
   unfolding respond
   replied C (callStart scratch run line) = on-text _ scratch _ (on-run run (on-line (execOf P line) (λ g e. begins g e)))
-  replied C (callStep scratch run place) = on-text _ scratch _ (on-run run (on-place (at C place) (on-step (step P C place) (λ seen D e. carries-out seen D e))))
+  replied C (callStep scratch run place) =
+      on-text _ scratch _ (on-run run (on-place (at C place) (on-step (step P C place) (λ seen D e. carries-out seen D e))))
   replied C (callRunOn scratch run budget) = on-text _ scratch _ (on-run run runs)
   replied C (callReport scratch run) = on-text _ scratch _ (on-run run reports)
   replied C (callExecName scratch line) = on-text _ scratch _ (on-line (getElem? (P .execs) line) (λ n e. names n))
@@ -137,7 +138,8 @@ module _ (text : List ℕ) (ds : List Declaration) (ok : checked text ≡ accept
   pub refused-start : (C : Config) (scratch run line : ℕ) → Enough scratch run
       → RefusedWhere P C (callStart scratch run line) (respond text C (callStart scratch run line) .answer)
   unfolding respond execOf
-  refused-start C scratch run line h = rw (enough-text scratch (h .scratchEnough), leb-iff runWords run .1 (h .runEnough)) (go (getElem? (P .execs) line) refl)
+  refused-start C scratch run line h =
+      rw (enough-text scratch (h .scratchEnough), leb-iff runWords run .1 (h .runEnough)) (go (getElem? (P .execs) line) refl)
     where
       go : (o : Option Located) → getElem? (P .execs) line ≡ o
           → (isRefused (onLine (lineSignature P o) (refusal C (callStart scratch run line)) (λ g. reply (started Starts.Begun) (startConfig g)) .answer) ≡ true) ↔ (length (P .execs) ≤ line)
@@ -158,7 +160,8 @@ module _ (text : List ℕ) (ds : List Declaration) (ok : checked text ≡ accept
       → RefusedWhere P C (callStep scratch run i) (respond text C (callStep scratch run i) .answer)
   unfolding respond isOpen lacks
   refused-step C v scratch run i h o =
-      Iff·trans (rw (enough-text scratch (h .scratchEnough), leb-iff runWords run .1 (h .runEnough), open-place P C i o .1) (outcome (step P C i) o)) (lacks-exactly P C v i o)
+      Iff·trans (rw (enough-text scratch (h .scratchEnough), leb-iff runWords run .1 (h .runEnough), open-place P C i o .1) (outcome (step P C i) o))
+      (lacks-exactly P C v i o)
     where
       outcome : (r : Outcome) → isOpenBy r ≡ true
           → (isRefused (onStep r (refusal C (callStep scratch run i)) (λ seen D. reply (stepped (Steps.Carried seen)) D) .answer) ≡ true) ↔ (lacksBy r ≡ true)
@@ -169,7 +172,8 @@ module _ (text : List ℕ) (ds : List Declaration) (ok : checked text ≡ accept
   refused-run : (C : Config) (scratch run budget : ℕ) → Enough scratch run
       → RefusedWhere P C (callRunOn scratch run budget) (respond text C (callRunOn scratch run budget) .answer)
   unfolding respond
-  refused-run C scratch run budget h = rw (enough-text scratch (h .scratchEnough), leb-iff runWords run .1 (h .runEnough)) (run-never-refused P C budget)
+  refused-run C scratch run budget h =
+      rw (enough-text scratch (h .scratchEnough), leb-iff runWords run .1 (h .runEnough)) (run-never-refused P C budget)
 
   refused-report : (C : Config) (scratch run : ℕ) → Enough scratch run
       → RefusedWhere P C (callReport scratch run) (respond text C (callReport scratch run) .answer)
