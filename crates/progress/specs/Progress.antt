@@ -4,7 +4,7 @@ use native.Mathlib.Omega.{arith}
 use native.Mathlib.Decide.{ℕ-discrete}
 use mathlib.Core.Path.{_≡_, refl, sym, _∙_, ap}
 use mathlib.Core.Logic.{_≢_, _⊎_, inl, inr}
-use mathlib.Core.List.{[], Memᴰ·cast}
+use mathlib.Core.List.{List, [], Memᴰ·cast}
 use mathlib.Core.Option.{Option, some, none}
 use mathlib.Core.Bool.{Bool, true, false, true≢false, false≢true}
 use lib.ListN.{length}
@@ -79,12 +79,12 @@ module _ {p : Program} {C : Config} (v : WellFormed p C) where
       rw (step-turn p C i q P, tp, x .holds, f, tq, same-refl (c′ .name), z .1) (opened refl)
 
   -- the ends that two processes wait on, of one channel
-  record Ends (i j : ℕ) (q r : Process) (e d : End) : Type 0 where
+  record Facing (e d : End) : Type 0 where
     one-type : standing (p .types) (e .type) ≡ standing (p .types) (d .type)
     apart : e .side ≢ d .side
 
   ends-apart : {i j : ℕ} {q r : Process} {c c′ : Located} {e d : End} → i ≢ j → Stands C i q → Stands C j r → Meets C q c e → Meets C r c′ d
-      → e .channel ≡ d .channel → Ends i j q r e d
+      → e .channel ≡ d .channel → Facing e d
   ends-apart {q = q} {r} {c} {c′} {e} {d} n s t x y z =
       let a = lookup-in (c .name) (q .held) (x .holds) in
       let b = lookup-in (c′ .name) (r .held) (y .holds) in
@@ -119,22 +119,24 @@ module _ {p : Program} {C : Config} (v : WellFormed p C) where
   not-all-stuck : C .processes ≢ [] → ((i : ℕ) → i < length (C .processes) → isOpen p C i ≡ false) → ⊥
   unfolding isOpen
   not-all-stuck n f =
-      go
-      (pigeonhole (JointKey-discrete ℕ-discrete) (λ i. place-key i (at C i)) (places (length (C .processes))) (jointKeys C) (places-once _) in-keys few)
+      go (pigeonhole (JointKey-discrete ℕ-discrete) (λ i. place-key i (at C i)) all-places (jointKeys C) (places-once _) in-keys few)
     where
+      all-places : List ℕ
+      all-places = places (length (C .processes))
+
       one : (i : ℕ) → i < length (C .processes) → (q : Process) × Stuck p C i q
       one i h = let e = element (C .processes) i h in (e .0, stuck v (record { there = e .1 }) (f i h))
 
       key-at : {i : ℕ} {q : Process} (u : Stuck p C i q) → place-key i (at C i) ≡ u .key-of
       key-at {i} {q} u = ap (place-key i) (u .stands .there) ∙ waits-key i q (u .waits)
 
-      in-keys : (i : ℕ) → In i (places (length (C .processes))) → In (place-key i (at C i)) (jointKeys C)
+      in-keys : (i : ℕ) → In i all-places → In (place-key i (at C i)) (jointKeys C)
       in-keys i m = let u = one i (places-below _ m) in Memᴰ·cast (key-at (u .1)) (waits-joint (u .1 .stands) refl (u .1 .waits))
 
-      few : length (jointKeys C) < length (places (length (C .processes)))
+      few : length (jointKeys C) < length all-places
       few = rw (length-places, keys-of-joints C) (joints-fewer p C v n)
 
-      go : Twins (λ i. place-key i (at C i)) (places (length (C .processes))) → ⊥
+      go : Twins (λ i. place-key i (at C i)) all-places → ⊥
       go t =
           let a = one (t .one) (places-below _ (t .one-in)) in
           let b = one (t .two) (places-below _ (t .two-in)) in

@@ -7,6 +7,7 @@ use mathlib.Core.Option.{Option, some, none}
 use mathlib.Core.Bool.{Bool, true, false, cond, true≢false}
 use lib.ListN.{length}
 use lib.Dec.{ltb}
+use Rattle.notation.specs.Limits.{processPlaces, outsideNumbers}
 use Rattle.notation.specs.Tree.{Name, Located, Ty, Proc, empty, sendUnit, sendChannel, sendLabel, cancel, spawn, recvUnit, recvChannel, recvLabel, fwd, call, raise, try, plain}
 use Rattle.calculus.specs.Named.{lookup, isSome}
 use Rattle.calculus.specs.Types.{Side, provided, standing, passing, choosing}
@@ -38,7 +39,7 @@ abbrev pub opened : {r : Outcome} → isOpenBy r ≡ true → Open r
 opened h = record { is-open = h }
 
 place-for : (C : Config) {r : Outcome} → Open r → Open (placeFor C r)
-place-for C {r} h = go (ltb (length (C .processes)) 128)
+place-for C {r} h = go (ltb (length (C .processes)) processPlaces)
   where
     go : (b : Bool) → Open (cond b r lacking)
     go true = h
@@ -113,7 +114,7 @@ pub data Waits (p : Program) (C : Config) (i : ℕ) (q : Process) : Doing → Jo
 out-open : (p : Program) (C : Config) (i : ℕ) (q q′ : Process) {m : Message} (e : End) (n : ℕ) {s : Side} {T : Ty Name} → Sending (q .held) m s T
     → Open (toOutside p C i q q′ m e n)
 out-open p C i q q′ e n (sends-close z t) = opened refl
-out-open p C i q q′ e n (sends-passing {a = a} t d z y h) = rw h (go (ltb (C .given) 32))
+out-open p C i q q′ e n (sends-passing {a = a} t d z y h) = rw h (go (ltb (C .given) outsideNumbers))
   where
     go : (b : Bool) → Open (cond b (passedOut C i q′ n (e .channel) (afterMessage p (passes a) (e .type)) d (isGivenUp (farEnd C d))) lacking)
     go true = opened refl
