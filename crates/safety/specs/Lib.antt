@@ -1,3 +1,3 @@
-pub mod Execs
 pub mod Replies
 pub mod Safety
+pub mod Scripts

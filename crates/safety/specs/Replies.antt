@@ -28,7 +28,7 @@ use Rattle.derivations.specs.Booleans.{leb-iff}
 use Rattle.progress.specs.Lists.{element-in, none-past, position-below}
 use Rattle.progress.specs.RunOn.{Ended, run-on-ends}
 use Rattle.progress.specs.Lacks.{lacks-exactly}
-use Rattle.safety.specs.Execs.{exec-defined}
+use Rattle.safety.specs.Scripts.{exec-defined}
 
 -- a test that passes where the claim holds, and one that fails where it does not
 holds-iff : {b : Bool} {A : Type 0} → b ≡ true → A → (b ≡ true) ↔ A
