@@ -1,3 +1,5 @@
 pub mod Witness
 pub mod Lists
-pub mod Held
+pub mod Mates
+pub mod Roster
+pub mod LettingGo
