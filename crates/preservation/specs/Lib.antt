@@ -3,3 +3,4 @@ pub mod Lists
 pub mod Mates
 pub mod Roster
 pub mod LettingGo
+pub mod Retyping

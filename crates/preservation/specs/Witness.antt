@@ -27,10 +27,17 @@ abbrev pub Rel : Type 1
 Rel = ℕ → Tip → Type 0
 
 -- ── keys are told apart
+abbrev IsProvided : Side → Type 0
+IsProvided provided = Unit {0}
+IsProvided used = ⊥
+
+pub side-clash : provided ≢ used
+side-clash e = subst IsProvided e tt
+
 unfoldable pub side-discrete : (s t : Side) → Dec (s ≡ t)
 side-discrete provided provided = yes refl
-side-discrete provided used = no λ e. subst (λ s. elim s as (λ _. Type 0) [ provided ↦ Unit {0} | used ↦ ⊥ ]) e tt
-side-discrete used provided = no λ e. subst (λ s. elim s as (λ _. Type 0) [ provided ↦ ⊥ | used ↦ Unit {0} ]) e tt
+side-discrete provided used = no side-clash
+side-discrete used provided = no λ e. side-clash (sym e)
 side-discrete used used = yes refl
 
 abbrev pub decPair : {A B : Type 0} (p q : A × B) → Dec (p .0 ≡ q .0) → Dec (p .1 ≡ q .1) → Dec (p ≡ q)
