@@ -4,3 +4,4 @@ pub mod Mates
 pub mod Roster
 pub mod LettingGo
 pub mod Retyping
+pub mod Passing

@@ -82,7 +82,8 @@ fine-retyped {p} {r} f d c A t = record {
   names = subst NoneTwice (sym (changed-names c _ (r .held))) (f .names);
   keys = subst NoneTwice (sym (retyped-keys c A (r .held))) (f .keys);
   room = subst (λ n. n ≤ heldLimit) (sym (changed-length c _ (r .held))) (f .room);
-  channels = retyped-channels c A (r .held) channelPlaces (f .channels) }
+  channels = retyped-channels c A (r .held) channelPlaces (f .channels);
+}
 
 -- ── the outside with one type changed
 module _ (k : ℕ) (f : Outside → Outside) where
@@ -125,7 +126,8 @@ fair-retyped {p} {given} {o} f k A a = record {
   below = λ y i. num y (outside-cases k re o (f .keys) y i);
   rising = subst (Rising 0) (sym (outside-map k re (λ (y : Outside). y .number) (λ y. refl) o)) (f .rising);
   keys = subst NoneTwice (sym (outside-map k re (λ (y : Outside). y .channel) (λ y. refl) o)) (f .keys);
-  channels = λ y i. chan y (outside-cases k re o (f .keys) y i) }
+  channels = λ y i. chan y (outside-cases k re o (f .keys) y i);
+}
   where
     re : Outside → Outside
     re y = record { number = y .number; channel = y .channel; type = A }
@@ -202,3 +204,83 @@ module _ {p : Program} {S : Roster} {o : List Outside} {given next : ℕ} (G : G
       entry : (x : Name × End) → (x .1 ≡ end (e .side) (e .channel) A) ⊎ (In x (r .held) × (key (x .1) ≢ key e)) → (x .1 ≡ end (e .side) (e .channel) A) ⊎ (Has S o u (tipOf (x .1)) × (key (x .1) ≢ key e))
       entry x (inl z) = inl z
       entry x (inr z) = inr (held-tip u r su x (z .0), z .1)
+
+  -- ── the rules: a label goes over the channel of e, from the process r of u
+  module _ (u : ℕ) (r : Process) (su : S u ≡ some r) (d : Doing) (wd : isWaiting (r .doing) ≡ isWaiting d) (c : Name) (e : End) (A : Ty Name) (lc : lookup c (r .held) ≡ some e)
+      (td : TypedDoing p (contextOf (retypedEnd c A (r .held))) (isSome (r .link)) d) where
+    hu : Has S o u (tipOf e)
+    hu = held-tip u r su (c, e) (lookup-in c (r .held) e lc)
+
+    -- to the process q of w
+    pub chosen : (w : ℕ) (q : Process) → S w ≡ some q → (d′ : Doing) → isWaiting (q .doing) ≡ isWaiting d′ → (c′ : Name) (f : End) → lookup c′ (q .held) ≡ some f → f .channel ≡ e .channel
+        → f .side ≡ other (e .side) → TypedDoing p (contextOf (retypedEnd c′ A (q .held))) (isSome (q .link)) d′
+        → Good p (put w (some (process d′ (retypedEnd c′ A (q .held)) (q .link))) (put u (some (process d (retypedEnd c A (r .held)) (r .link))) S)) o given next
+    chosen w q sw d′ wd′ c′ f lf z s td′ =
+        two-good G (retyping (G .witness) (channelKey (e .channel)) (some A)) u w (process d (retypedEnd c A (r .held)) (r .link)) (process d′ (retypedEnd c′ A (q .held)) (q .link))
+        (retypes u r su d wd c e A lc (λ t h. uw (owner u w _ t (some (f .type)) h far)) td)
+        (subst (λ k. Change p (Retyped (Has S o) (channelKey k) (some A)) w (S w) (some (process d′ (retypedEnd c′ A (q .held)) (q .link)))) z
+        (retypes w q sw d′ wd′ c′ f A lf (λ t h. uw (owner u w _ (some (e .type)) t hu (subst (λ k. Has S o w (k, t)) (λ i. (channelKey (z i), (ap other s ∙ other-other (e .side)) i)) h))) td′))
+        (λ v t nu nw h. retyped-off (Has S o) v t h (λ y. rest v t nu nw h (whose u v e hu t h y))) u0 w0
+      where
+        u0 : u ≢ 0
+        u0 = above u r su
+
+        w0 : w ≢ 0
+        w0 = above w q sw
+
+        hw : Has S o w (tipOf f)
+        hw = held-tip w q sw (c′, f) (lookup-in c′ (q .held) f lf)
+
+        far : Has S o w ((channelKey (e .channel), other (e .side)), some (f .type))
+        far = subst (λ k. Has S o w (k, some (f .type))) (λ i. (channelKey (z i), s i)) hw
+
+        uw : u ≢ w
+        uw = ends-apart u w e f z s hu hw u0 w0
+
+        rest : (v : ℕ) (t : Tip) → v ≢ u → v ≢ w → Has S o v t → (v ≡ u) ⊎ Has S o v ((channelKey (e .channel), other (e .side)), t .1) → ⊥
+        rest v t nu nw h (inl y) = nu y
+        rest v t nu nw h (inr y) = nw (owner v w _ (t .1) (some (f .type)) y far)
+
+    -- to nobody
+    pub chosen-unheard : ((v : ℕ) (t : Option (Ty Name)) → ¬ Has S o v ((channelKey (e .channel), other (e .side)), t)) → Good p (put u (some (process d (retypedEnd c A (r .held)) (r .link))) S) o given next
+    chosen-unheard far =
+        one-good G (retyping (G .witness) (channelKey (e .channel)) (some A)) u (process d (retypedEnd c A (r .held)) (r .link)) (retypes u r su d wd c e A lc (far u) td)
+        (λ v t nu _ h. retyped-off (Has S o) v t h (λ y. rest v t nu (whose u v e hu t h y)))
+        (λ y i. let h : Has S o 0 (outsideTip y) = outside refl y i refl in retyped-off (Has S o) 0 (outsideTip y) h (λ z. rest 0 (outsideTip y) (λ k. above u r su (sym k)) (whose u 0 e hu (outsideTip y) h z))) (G .fair)
+      where
+        rest : (v : ℕ) (t : Tip) → v ≢ u → (v ≡ u) ⊎ Has S o v ((channelKey (e .channel), other (e .side)), t .1) → ⊥
+        rest v t nu (inl y) = nu y
+        rest v t nu (inr y) = far v (t .1) y
+
+  -- the outside's ends afterwards
+  pub out-retyped : (k : ℕ) (A : Ty Name) (y : Outside) → In y (retypedOutside k A o) → Retyped (Has S o) (channelKey k) (some A) 0 (outsideTip y)
+  out-retyped k A y i = go (outside-cases k re o (G .fair .keys) y i)
+    where
+      re : Outside → Outside
+      re y = record { number = y .number; channel = y .channel; type = A }
+
+      go : ((x : Outside) × In x o × (x .channel ≡ k) × (y ≡ re x)) ⊎ (In y o × (y .channel ≢ k)) → Retyped (Has S o) (channelKey k) (some A) 0 (outsideTip y)
+      go (inl x) =
+          let z : y .channel ≡ x .0 .channel = ap (λ (y : Outside). y .channel) (x .3) in
+          (some (x .0 .type), outside refl (x .0) (x .1) (λ i. ((channelKey (z i), used), some (x .0 .type))), inl (ap channelKey (z ∙ x .2), ap (λ (y : Outside). some (y .type)) (x .3)))
+      go (inr x) = retyped-off (Has S o) 0 (outsideTip y) (outside refl y (x .0) refl) (λ z. x .1 (channel-key-one (y .channel) k z))
+
+  -- the outside has the far end of e
+  pub out-far : (e : End) (y : Outside) → In y o → y .channel ≡ e .channel → e .side ≡ provided → Has S o 0 ((channelKey (e .channel), other (e .side)), some (y .type))
+  out-far e y i z s = outside refl y i (λ i. ((channelKey (sym z i), other (s i)), some (y .type)))
+
+  pub chosen-out : (u : ℕ) (r : Process) → S u ≡ some r → (d : Doing) → isWaiting (r .doing) ≡ isWaiting d → (c : Name) (e : End) (A : Ty Name) → lookup c (r .held) ≡ some e
+      → TypedDoing p (contextOf (retypedEnd c A (r .held))) (isSome (r .link)) d → (y : Outside) → In y o → y .channel ≡ e .channel → e .side ≡ provided → outward p A ≡ true
+      → Good p (put u (some (process d (retypedEnd c A (r .held)) (r .link))) S) (retypedOutside (e .channel) A o) given next
+  chosen-out u r su d wd c e A lc td y i z s a =
+      one-good G (retyping (G .witness) (channelKey (e .channel)) (some A)) u (process d (retypedEnd c A (r .held)) (r .link))
+      (retypes u r su d wd c e A lc (λ t h. above u r su (owner u 0 _ t (some (y .type)) h far)) td)
+      (λ v t nu n0 h. retyped-off (Has S o) v t h (λ k. rest v t nu n0 (whose u v e (held-tip u r su (c, e) (lookup-in c (r .held) e lc)) t h k)))
+      (out-retyped (e .channel) A) (fair-retyped (G .fair) (e .channel) A a)
+    where
+      far : Has S o 0 ((channelKey (e .channel), other (e .side)), some (y .type))
+      far = out-far e y i z s
+
+      rest : (v : ℕ) (t : Tip) → v ≢ u → v ≢ 0 → (v ≡ u) ⊎ Has S o v ((channelKey (e .channel), other (e .side)), t .1) → ⊥
+      rest v t nu n0 (inl k) = nu k
+      rest v t nu n0 (inr k) = n0 (owner v 0 _ (t .1) (some (y .type)) k far)

@@ -81,7 +81,7 @@ fewer w le s = record {
 abbrev pub Retyped : Rel → ℕ → Option (Ty Name) → Rel
 Retyped H k T v e = (t : Option (Ty Name)) × H v (e .0, t) × (((e .0 .0 ≡ k) × (e .1 ≡ T)) ⊎ ((e .0 .0 ≢ k) × (e .1 ≡ t)))
 
-pub retyping : {H : Rel} {n : ℕ} → Witness H n → (k : ℕ) (T : Option (Ty Name)) → Witness (Retyped H k T) n
+unfoldable pub retyping : {H : Rel} {n : ℕ} → Witness H n → (k : ℕ) (T : Option (Ty Name)) → Witness (Retyped H k T) n
 retyping {H} w k T = record {
   K = w .K;
   own = w .own;
