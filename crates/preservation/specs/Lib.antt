@@ -5,3 +5,5 @@ pub mod Roster
 pub mod LettingGo
 pub mod Retyping
 pub mod Passing
+pub mod Forwarding
+pub mod Growing
