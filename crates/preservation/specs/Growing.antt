@@ -17,7 +17,7 @@ use Rattle.calculus.specs.Configuration.{End, end, Doing, running, folding, wai
 use Rattle.calculus.specs.WellFormed.{In, NoneTwice, contextOf, key, isWaiting}
 use Rattle.preservation.specs.Witness.{Key, Tip, Rel, Witness, fewer, Moved, Joined, sides, Between, over, joined-uses, joined-provides}
 use Rattle.preservation.specs.Lists.{once-by, sub-in, sub-once, sub-length, lookup-in, absent, kept-sub, kept-in, names-map, names-in, names-append, once-snoc, length-snoc}
-use Rattle.preservation.specs.Mates.{put, put-elim, put-at, put-off, Mates, mates-same, mates-put, mates-new, Quiet, quiet-none, quiet-some}
+use Rattle.preservation.specs.Mates.{put, put-elim, put-at, put-off, Profile, Mates, mates-same, mates-put, mates-new, Quiet, quiet-none, quiet-some}
 use Rattle.preservation.specs.Roster.{Roster, channelKey, linkKey, channel-key-one, link-key-one, channel-no-link, keyOf, tipOf, linkTip, outsideTip, Tips, holds, links, waits, Has, outside, inside, TypedDoing, keyAt, Fine, fine-less, Fair, profile, Good}
 use Rattle.preservation.specs.LettingGo.{profile-put, profile-put-two}
 use Rattle.preservation.specs.Retyping.{key-of-key, key-from-key, above, owner, held-tip}
@@ -173,3 +173,144 @@ module _ {p : Program} {S : Roster} {o : List Outside} {given next : ℕ} (G : G
 
     next-place : (0 < next) × (next < suc next)
     next-place = let b = un in (omega arith, omega arith)
+
+  -- ── a process that holds less and one more channel
+  brought : (r : Process) → Fine p r → (d : Doing) (k : Option ℕ) (t : Name → Bool) (x : Name) (e : End) → lookup x (r .held) ≡ none → ¬ In (key e) (map keyAt (r .held)) → length (kept t (r .held)) < heldLimit
+      → e .channel < channelPlaces → TypedDoing p (contextOf (kept t (r .held) ++ ((x, e) ∷ []))) (isSome k) d → Fine p (process d (kept t (r .held) ++ ((x, e) ∷ [])) k)
+  unfolding names
+  brought r f d k t x e new nk room lt td = record {
+    typed = td;
+    names = subst NoneTwice (sym (names-append l ((x, e) ∷ [])))
+        (once-snoc (names l) x (subst NoneTwice (sym (names-map l)) (sub-once (λ (y : Name × End). y .0) sub (subst NoneTwice (names-map (r .held)) (f .names)))) no-name);
+    keys = subst NoneTwice (sym (map-append keyAt l ((x, e) ∷ []))) (once-snoc (map keyAt l) (key e) (sub-once keyAt sub (f .keys)) no-key);
+    room = subst (λ n. n ≤ heldLimit) (sym (length-snoc l (x, e))) room;
+    channels = λ y i. chan y (List·Memᴰ·append-cases l i);
+  }
+    where
+      l : List (Name × End)
+      l = kept t (r .held)
+
+      sub : mathlib.Core.List.Sublistᴰ (kept t (r .held)) (r .held)
+      sub = kept-sub t (r .held)
+
+      no-name : ¬ In x (names (kept t (r .held)))
+      no-name m =
+          let y = Memᴰ·of-map (λ (y : Name × End). y .0) (kept t (r .held)) (subst (In x) (names-map (kept t (r .held))) m) in
+          absent x (r .held) new (Memᴰ·cast (sym (y .2)) (names-in (r .held) (sub-in sub (y .1))))
+
+      no-key : ¬ In (key e) (map keyAt (kept t (r .held)))
+      no-key m = let y = Memᴰ·of-map keyAt (kept t (r .held)) m in nk (Memᴰ·cast (sym (y .2)) (Memᴰ·map keyAt (sub-in sub (y .1))))
+
+      chan : (y : Name × End) → In y (kept t (r .held)) ⊎ In y ((x, e) ∷ []) → y .1 .channel < channelPlaces
+      chan y (inl i) = f .channels y (sub-in sub i)
+      chan y (inr i) = subst (λ (y : Name × End). y .1 .channel < channelPlaces) (sym (List·Memᴰ·eq-of-singleton i)) lt
+
+  -- ── spawn: the new process takes what t picks, and provides x on the channel n
+  module _ (u : ℕ) (r : Process) (su : S u ≡ some r) (wr : isWaiting (r .doing) ≡ false) (t : Name → Bool) (x : Name) (A : Ty Name) (n : ℕ) (free : (v : ℕ) (e : Tip) → Has S o v e → e .0 .0 ≢ channelKey n)
+      (lt : n < channelPlaces) (new : lookup x (r .held) ≡ none) (P Q : Proc) where
+    abbrev rest : Name → Bool
+    rest m = not (t m)
+
+    abbrev maker : Process
+    maker = process (running Q) (kept rest (r .held) ++ ((x, end used n A) ∷ [])) (r .link)
+
+    abbrev made : Process
+    made = process (running P) (kept t (r .held) ++ ((x, end provided n A) ∷ [])) none
+
+    disjoint : (y : Name × End) → In y (r .held) → So (not (t (y .0))) → So (t (y .0)) → ⊥
+    disjoint y i a b = go (t (y .0)) a b
+      where
+        go : (b : Bool) → So (not b) → So b → ⊥
+        go true a b = true≢false (sym a)
+        go false a b = true≢false (sym b)
+
+    none-link : (h : ℕ) → none ≡ some h → r .link ≡ some h
+    none-link h e = absurd (Option·none-ne-some h e)
+
+    no-key : (s : Side) → ¬ In (n, s) (map keyAt (r .held))
+    no-key s m = let y = Memᴰ·of-map keyAt (r .held) m in free u (tipOf (y .0 .1)) (held-tip G u r su (y .0) (y .1)) (ap (λ (k : ℕ × Side). channelKey (k .0)) (y .2))
+
+    abbrev R₁ : Rel
+    R₁ = R u r su wr rest t disjoint none none-link (channelKey n) free (sides next u) (some A)
+
+    pub spawned : length (kept t (r .held)) < heldLimit → length (kept rest (r .held)) < heldLimit → Typed p (contextOf (made .held)) false P → Typed p (contextOf (maker .held)) (isSome (r .link)) Q
+        → Good p (put next (some made) (put u (some maker) S)) o given (suc next)
+    spawned roomP roomQ tP tQ =
+        grown-good u r su wr rest t disjoint none none-link (channelKey n) free (sides next u) (some A)
+        (grown u r su wr rest t disjoint none none-link (channelKey n) free (sides next u) (some A) (joined-provides (G .witness) (channelKey n) u next (some A) free (omega arith) (G .placed u r su .1)) (inr (refl, refl)))
+        (put-elim (Grows u r su wr rest t disjoint none none-link (channelKey n) free (sides next u) (some A)) next (some made) (put u (some maker) S)
+        (at-one u r su wr rest t disjoint none none-link (channelKey n) free (sides next u) (some A) next (next-place u r su wr rest t disjoint none none-link (channelKey n) free (sides next u) (some A)) made
+        (brought r (G .fine u r su) (running P) none t x (end provided n A) new (no-key provided) roomP lt tP) made-tips)
+        (λ v _. put-elim (Grows u r su wr rest t disjoint none none-link (channelKey n) free (sides next u) (some A)) u (some maker) S
+        (at-one u r su wr rest t disjoint none none-link (channelKey n) free (sides next u) (some A) u (u-place u r su wr rest t disjoint none none-link (channelKey n) free (sides next u) (some A)) maker
+        (brought r (G .fine u r su) (running Q) (r .link) rest x (end used n A) new (no-key used) roomQ lt tQ) maker-tips)
+        (old u r su wr rest t disjoint none none-link (channelKey n) free (sides next u) (some A)) v))
+        mates′
+      where
+        made-tips : (e : Tip) → Tips next made e → R₁ next e
+        made-tips e (holds y i z) = rw z (go y (List·Memᴰ·append-cases (kept t (r .held)) i))
+          where
+            go : (y : Name × End) → In y (kept t (r .held)) ⊎ In y ((x, end provided n A) ∷ []) → R₁ next (tipOf (y .1))
+            go y (inl j) = comes u r su wr rest t disjoint none none-link (channelKey n) free (sides next u) (some A) y j
+            go y (inr j) = subst (λ (y : Name × End). R₁ next (tipOf (y .1))) (sym (List·Memᴰ·eq-of-singleton j)) (joint-at u r su wr rest t disjoint none none-link (channelKey n) free (sides next u) (some A) provided)
+        made-tips e (links h k z) = absurd (Option·none-ne-some h k)
+        made-tips e (waits k z) = absurd (true≢false (sym k))
+
+        maker-tips : (e : Tip) → Tips u maker e → R₁ u e
+        maker-tips e (holds y i z) = rw z (go y (List·Memᴰ·append-cases (kept rest (r .held)) i))
+          where
+            go : (y : Name × End) → In y (kept rest (r .held)) ⊎ In y ((x, end used n A) ∷ []) → R₁ u (tipOf (y .1))
+            go y (inl j) = stays u r su wr rest t disjoint none none-link (channelKey n) free (sides next u) (some A) y j
+            go y (inr j) = subst (λ (y : Name × End). R₁ u (tipOf (y .1))) (sym (List·Memᴰ·eq-of-singleton j)) (joint-at u r su wr rest t disjoint none none-link (channelKey n) free (sides next u) (some A) used)
+        maker-tips e (links h k z) = rw z (link-stays u r su wr rest t disjoint none none-link (channelKey n) free (sides next u) (some A) refl h k)
+        maker-tips e (waits k z) = absurd (true≢false (sym k))
+
+        F : ℕ → Profile
+        F v = profile (S v)
+
+        same : (v : ℕ) → F v ≡ put u (some (r .link, false)) F v
+        same = put-elim (λ v y. F v ≡ y) u (some (r .link, false)) F (ap profile su ∙ ap (λ b. some (r .link, b)) wr) (λ v _. refl)
+
+        mates′ : Mates (λ v. profile (put next (some made) (put u (some maker) S) v))
+        mates′ =
+            mates-same (λ v. sym (profile-put-two next u (some made) (some maker) S v))
+            (mates-put (mates-same same (G .mates)) next (some (none, false)) (subst Quiet (sym (sym (same next) ∙ ap profile nobody)) quiet-none) quiet-some)
+
+  -- ── try: the new process takes what t₂ picks, and waits as the handler
+  module _ (u : ℕ) (r : Process) (su : S u ≡ some r) (wr : isWaiting (r .doing) ≡ false) (t₁ t₂ : Name → Bool) (disjoint : (x : Name × End) → In x (r .held) → So (t₁ (x .0)) → So (t₂ (x .0)) → ⊥) (P Q : Proc) where
+    abbrev tryer : Process
+    tryer = process (running P) (kept t₁ (r .held)) (some next)
+
+    abbrev waiter : Process
+    waiter = process (waiting Q) (kept t₂ (r .held)) (r .link)
+
+    abbrev R₂ : Rel
+    R₂ = R u r su wr t₁ t₂ disjoint (r .link) (λ h e. e) (linkKey next) link-free (sides u next) none
+
+    half : (d : Doing) (k : Option ℕ) (t : Name → Bool) → TypedDoing p (contextOf (kept t (r .held))) (isSome k) d → Fine p (process d (kept t (r .held)) k)
+    half d k t td = let f = fine-less (G .fine u r su) folding (kept-sub t (r .held)) tt in record { typed = td; names = f .names; keys = f .keys; room = f .room; channels = f .channels }
+
+    pub tried : Typed p (contextOf (kept t₁ (r .held))) true P → Typed p (contextOf (kept t₂ (r .held))) (isSome (r .link)) Q → Good p (put u (some tryer) (put next (some waiter) S)) o given (suc next)
+    tried tP tQ =
+        grown-good u r su wr t₁ t₂ disjoint (r .link) (λ h e. e) (linkKey next) link-free (sides u next) none
+        (grown u r su wr t₁ t₂ disjoint (r .link) (λ h e. e) (linkKey next) link-free (sides u next) none (joined-uses (G .witness) (linkKey next) u next none link-free (omega arith) (G .placed u r su .1)) (inl (refl, refl)))
+        (put-elim (Grows u r su wr t₁ t₂ disjoint (r .link) (λ h e. e) (linkKey next) link-free (sides u next) none) u (some tryer) (put next (some waiter) S)
+        (at-one u r su wr t₁ t₂ disjoint (r .link) (λ h e. e) (linkKey next) link-free (sides u next) none u (u-place u r su wr t₁ t₂ disjoint (r .link) (λ h e. e) (linkKey next) link-free (sides u next) none) tryer
+        (half (running P) (some next) t₁ tP) tryer-tips)
+        (λ v nu. put-elim (λ v y. v ≢ u → Grows u r su wr t₁ t₂ disjoint (r .link) (λ h e. e) (linkKey next) link-free (sides u next) none v y) next (some waiter) S
+        (λ _. at-one u r su wr t₁ t₂ disjoint (r .link) (λ h e. e) (linkKey next) link-free (sides u next) none next (next-place u r su wr t₁ t₂ disjoint (r .link) (λ h e. e) (linkKey next) link-free (sides u next) none) waiter
+        (half (waiting Q) (r .link) t₂ tQ) waiter-tips)
+        (λ v _ n. old u r su wr t₁ t₂ disjoint (r .link) (λ h e. e) (linkKey next) link-free (sides u next) none v n) v nu))
+        (mates-same (λ v. sym (profile-put-two u next (some tryer) (some waiter) S v))
+        (mates-new (G .mates) u next (r .link) (ap profile su ∙ ap (λ b. some (r .link, b)) wr) (ap profile nobody)))
+      where
+        tryer-tips : (e : Tip) → Tips u tryer e → R₂ u e
+        tryer-tips e (holds y i z) = rw z (stays u r su wr t₁ t₂ disjoint (r .link) (λ h e. e) (linkKey next) link-free (sides u next) none y i)
+        tryer-tips e (links h k z) =
+            subst (R₂ u) (ap (λ h. linkTip h provided) (Option·some-injective _ _ k) ∙ sym z) (joint-at u r su wr t₁ t₂ disjoint (r .link) (λ h e. e) (linkKey next) link-free (sides u next) none provided)
+        tryer-tips e (waits k z) = absurd (true≢false (sym k))
+
+        waiter-tips : (e : Tip) → Tips next waiter e → R₂ next e
+        waiter-tips e (holds y i z) = rw z (comes u r su wr t₁ t₂ disjoint (r .link) (λ h e. e) (linkKey next) link-free (sides u next) none y i)
+        waiter-tips e (links h k z) = rw z (link-comes u r su wr t₁ t₂ disjoint (r .link) (λ h e. e) (linkKey next) link-free (sides u next) none h k)
+        waiter-tips e (waits k z) = rw z (joint-at u r su wr t₁ t₂ disjoint (r .link) (λ h e. e) (linkKey next) link-free (sides u next) none used)
