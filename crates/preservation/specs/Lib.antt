@@ -7,3 +7,4 @@ pub mod Retyping
 pub mod Passing
 pub mod Forwarding
 pub mod Growing
+pub mod Places
