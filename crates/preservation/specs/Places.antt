@@ -328,3 +328,91 @@ module _ {id : ℕ → ℕ} {l : List Process} {S : Roster} (s : Shows id l S) w
           go (inr y) =
               let x = map-eq-some-iff {B = ℕ} (movedUp i) (y .1 .link) .0 (ap (λ (r : Process). r .link) (y .4) ∙ w) in
               subst (λ a. a < suc (length l)) (x .2) (up-below i (x .0) (s .within (y .0) (y .1) (y .2) (x .0) (x .1)))
+
+  -- ── the process at place i leaves; no link leads to it
+  pub idOut : ℕ → ℕ → ℕ
+  idOut i j = id (skip i j)
+
+  id-out-down : (i h : ℕ) → h ≢ i → idOut i (movedDown i h) ≡ id h
+  unfolding idOut
+  id-out-down i h n = ap id (skip-down i h n)
+
+  pub length-removed : (i : ℕ) → i < length l → suc (length (removed i l)) ≡ length l
+  unfolding removed
+  length-removed i h = length-out i (map (relinked (movedDown i)) l) (omega (arith, length-map l (relinked (movedDown i)))) ∙ length-map l (relinked (movedDown i))
+
+  skip-below : (i j n : ℕ) → i < suc n → j < n → skip i j < suc n
+  skip-below i j n h k = go (skip-cases i j)
+    where
+      go : ((j < i) × (skip i j ≡ j)) ⊎ ((i ≤ j) × (skip i j ≡ suc j)) → skip i j < suc n
+      go (inl z) = let z1 = z .1 in omega arith
+      go (inr z) = let z1 = z .1 in omega arith
+
+  down-below : (i h n : ℕ) → i < suc n → h < suc n → h ≢ i → movedDown i h < n
+  down-below i h n a b c = go (down-cases i h)
+    where
+      go : ((i < h) × (movedDown i h ≡ h - 1)) ⊎ ((h ≤ i) × (movedDown i h ≡ h)) → movedDown i h < n
+      go (inl z) = let z0 = z .0 in let z1 = z .1 in omega arith
+      go (inr z) = let z0 = z .0 in let z1 = z .1 in omega arith
+
+  skip-one : (i a b : ℕ) → skip i a ≡ skip i b → a ≡ b
+  skip-one i a b e = go (skip-cases i a) (skip-cases i b)
+    where
+      go : ((a < i) × (skip i a ≡ a)) ⊎ ((i ≤ a) × (skip i a ≡ suc a)) → ((b < i) × (skip i b ≡ b)) ⊎ ((i ≤ b) × (skip i b ≡ suc b)) → a ≡ b
+      go (inl x) (inl y) = sym (x .1) ∙ e ∙ y .1
+      go (inl x) (inr y) = let x0 = x .0 in let x1 = x .1 in let y0 = y .0 in let y1 = y .1 in absurd (omega arith)
+      go (inr x) (inl y) = let x0 = x .0 in let x1 = x .1 in let y0 = y .0 in let y1 = y .1 in absurd (omega arith)
+      go (inr x) (inr y) = let x1 = x .1 in let y1 = y .1 in omega arith
+
+  skip-not : (i j : ℕ) → skip i j ≢ i
+  skip-not i j e = go (skip-cases i j)
+    where
+      go : ((j < i) × (skip i j ≡ j)) ⊎ ((i ≤ j) × (skip i j ≡ suc j)) → ⊥
+      go (inl z) = let z0 = z .0 in let z1 = z .1 in omega arith
+      go (inr z) = let z0 = z .0 in let z1 = z .1 in omega arith
+
+  pub shows-out : (i : ℕ) → i < length l → ((j : ℕ) (r : Process) → getElem? l j ≡ some r → r .link ≢ some i) → Shows (idOut i) (removed i l) (put (id i) none S)
+  unfolding removed idOut
+  shows-out i h alone = record { there = there′; back = put-elim (Back (idOut i) (takeOut i m′)) (id i) none S (λ r e. absurd (Option·none-ne-some r e)) back′; apart = apart′; within = within′ }
+    where
+      m′ : List Process
+      m′ = map (relinked (movedDown i)) l
+
+      len : suc (length (takeOut i m′)) ≡ length l
+      len = length-removed i h
+
+      at-skip : (j : ℕ) → getElem? (takeOut i m′) j ≡ Option·map (relinked (movedDown i)) (getElem? l (skip i j))
+      at-skip j = go (skip-cases i j)
+        where
+          go : ((j < i) × (skip i j ≡ j)) ⊎ ((i ≤ j) × (skip i j ≡ suc j)) → getElem? (takeOut i m′) j ≡ Option·map (relinked (movedDown i)) (getElem? l (skip i j))
+          go (inl z) = out-low i m′ j (z .0) ∙ found-map (relinked (movedDown i)) l j ∙ ap (λ k. Option·map (relinked (movedDown i)) (getElem? l k)) (sym (z .1))
+          go (inr z) = out-high i m′ j (z .0) ∙ found-map (relinked (movedDown i)) l (suc j) ∙ ap (λ k. Option·map (relinked (movedDown i)) (getElem? l k)) (sym (z .1))
+
+      from : (j : ℕ) (r : Process) → getElem? (takeOut i m′) j ≡ some r → (q : Process) × (getElem? l (skip i j) ≡ some q) × (relinked (movedDown i) q ≡ r)
+      from j r e = map-eq-some-iff {B = Process} (relinked (movedDown i)) (getElem? l (skip i j)) .0 (sym (at-skip j) ∙ e)
+
+      there′ : (j : ℕ) (r : Process) → getElem? (takeOut i m′) j ≡ some r → put (id i) none S (id (skip i j)) ≡ some (relinked (idOut i) r)
+      there′ j r e =
+          let x = from j r e in
+          put-off (id i) none S (id (skip i j)) (λ z. skip-not i j (s .apart (skip i j) i (found-below l (skip i j) (x .1)) h z)) ∙ s .there (skip i j) (x .0) (x .1)
+          ∙ ap (λ o. some (process (x .0 .doing) (x .0 .held) o))
+          (sym (relink-map (idOut i) (movedDown i) (x .0 .link) (λ k y. id-out-down i k (λ z. alone (skip i j) (x .0) (x .1) (y ∙ ap some z)))))
+          ∙ ap (λ r. some (relinked (idOut i) r)) (x .2)
+
+      back′ : (v : ℕ) → v ≢ id i → (r : Process) → S v ≡ some r → (j : ℕ) × (q : Process) × (getElem? (takeOut i m′) j ≡ some q) × (id (skip i j) ≡ v)
+      back′ v n r e =
+          let b = s .back v r e in
+          let z : skip i (movedDown i (b .0)) ≡ b .0 = skip-down i (b .0) (λ z. n (sym (b .3) ∙ ap id z)) in
+          (movedDown i (b .0), relinked (movedDown i) (b .1), at-skip (movedDown i (b .0)) ∙ ap (λ k. Option·map (relinked (movedDown i)) (getElem? l k)) z ∙ ap (Option·map (relinked (movedDown i))) (b .2), ap id z ∙ b .3)
+
+      apart′ : (a b : ℕ) → a < length (takeOut i m′) → b < length (takeOut i m′) → id (skip i a) ≡ id (skip i b) → a ≡ b
+      apart′ a b x y e =
+          let i< : i < suc (length (takeOut i m′)) = omega (arith, len) in
+          skip-one i a b (s .apart (skip i a) (skip i b) (subst (λ n. skip i a < n) len (skip-below i a _ i< x)) (subst (λ n. skip i b < n) len (skip-below i b _ i< y)) e)
+
+      within′ : (j : ℕ) (r : Process) → getElem? (takeOut i m′) j ≡ some r → (a : ℕ) → r .link ≡ some a → a < length (takeOut i m′)
+      within′ j r e a w =
+          let x = from j r e in
+          let y = map-eq-some-iff {B = ℕ} (movedDown i) (x .0 .link) .0 (ap (λ (r : Process). r .link) (x .2) ∙ w) in
+          let b = s .within (skip i j) (x .0) (x .1) (y .0) (y .1) in
+          subst (λ a. a < length (takeOut i m′)) (y .2) (down-below i (y .0) (length (takeOut i m′)) (omega (arith, len)) (omega (arith, len)) (λ z. alone (skip i j) (x .0) (x .1) (y .1 ∙ ap some z)))
