@@ -8,3 +8,4 @@ pub mod Passing
 pub mod Forwarding
 pub mod Growing
 pub mod Places
+pub mod FarEnds
