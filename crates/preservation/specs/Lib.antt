@@ -9,3 +9,6 @@ pub mod Forwarding
 pub mod Growing
 pub mod Places
 pub mod FarEnds
+pub mod Contexts
+pub mod Invariant
+pub mod Alone

@@ -38,6 +38,14 @@ module _ {A : Type 0} where
   set-off (x ∷ l) (suc i) zero a n = refl
   set-off (x ∷ l) (suc i) (suc j) a n = set-off l i j a (λ e. n (ap suc e))
 
+  -- an element after one was replaced: the new one, or an old one elsewhere
+  pub set-cases : (l : List A) (i : ℕ) (a : A) → i < length l → (j : ℕ) (r : A) → getElem? (set l i a) j ≡ some r → ((j ≡ i) × (a ≡ r)) ⊎ ((j ≢ i) × (getElem? l j ≡ some r))
+  set-cases l i a h j r e = go (ℕ-discrete j i)
+    where
+      go : Dec (j ≡ i) → ((j ≡ i) × (a ≡ r)) ⊎ ((j ≢ i) × (getElem? l j ≡ some r))
+      go (yes z) = inl (z, Option·some-injective a r (sym (set-at l i a h) ∙ ap (getElem? (set l i a)) (sym z) ∙ e))
+      go (no n) = inr (n, sym (set-off l i j a n) ∙ e)
+
   -- an element put in at n, and the one at n taken out
   abbrev pub putIn : ℕ → A → List A → List A
   putIn n a l = take n l ++ (a ∷ drop n l)
@@ -164,15 +172,8 @@ module _ {id : ℕ → ℕ} {l : List Process} {S : Roster} (s : Shows id l S) w
       len : length (set l i q) ≡ length l
       len = length-set l i q
 
-      at-cases : (j : ℕ) (r : Process) → getElem? (set l i q) j ≡ some r → ((j ≡ i) × (q ≡ r)) ⊎ ((j ≢ i) × (getElem? l j ≡ some r))
-      at-cases j r e = go (ℕ-discrete j i)
-        where
-          go : Dec (j ≡ i) → ((j ≡ i) × (q ≡ r)) ⊎ ((j ≢ i) × (getElem? l j ≡ some r))
-          go (yes z) = inl (z, Option·some-injective q r (sym (set-at l i q h) ∙ ap (getElem? (set l i q)) (sym z) ∙ e))
-          go (no n) = inr (n, sym (set-off l i j q n) ∙ e)
-
       there′ : (j : ℕ) (r : Process) → getElem? (set l i q) j ≡ some r → put (id i) (some (relinked id q)) S (id j) ≡ some (relinked id r)
-      there′ j r e = go (at-cases j r e)
+      there′ j r e = go (set-cases l i q h j r e)
         where
           go : ((j ≡ i) × (q ≡ r)) ⊎ ((j ≢ i) × (getElem? l j ≡ some r)) → put (id i) (some (relinked id q)) S (id j) ≡ some (relinked id r)
           go (inl z) = put-at (id i) (some (relinked id q)) S (id j) (ap id (z .0)) ∙ ap (λ r. some (relinked id r)) (z .1)
@@ -185,7 +186,7 @@ module _ {id : ℕ → ℕ} {l : List Process} {S : Roster} (s : Shows id l S) w
       apart′ a b x y e = s .apart a b (omega (arith, len)) (omega (arith, len)) e
 
       within′ : (j : ℕ) (r : Process) → getElem? (set l i q) j ≡ some r → (m : ℕ) → r .link ≡ some m → m < length (set l i q)
-      within′ j r e m z = subst (λ n. m < n) (sym len) (go (at-cases j r e))
+      within′ j r e m z = subst (λ n. m < n) (sym len) (go (set-cases l i q h j r e))
         where
           go : ((j ≡ i) × (q ≡ r)) ⊎ ((j ≢ i) × (getElem? l j ≡ some r)) → m < length l
           go (inl y) = k m (ap (λ (r : Process). r .link) (y .1) ∙ z)
@@ -199,9 +200,16 @@ module _ {id : ℕ → ℕ} {l : List Process} {S : Roster} (s : Shows id l S) w
   unfolding idIn
   id-in-up i z h = let e = down-up i h in put-off (suc i) z (λ j. id (movedDown i j)) (movedUp i h) (e .0) ∙ ap id (e .1)
 
-  id-in-new : (i z : ℕ) → idIn i z (suc i) ≡ z
+  pub id-in-new : (i z : ℕ) → idIn i z (suc i) ≡ z
   unfolding idIn
   id-in-new i z = put-at (suc i) z (λ j. id (movedDown i j)) (suc i) refl
+
+  pub id-in-low : (i z : ℕ) → idIn i z i ≡ id i
+  id-in-low i z = go (up-cases i i)
+    where
+      go : ((i < i) × (movedUp i i ≡ suc i)) ⊎ ((i ≤ i) × (movedUp i i ≡ i)) → idIn i z i ≡ id i
+      go (inl h) = let h0 = h .0 in absurd (omega arith)
+      go (inr h) = ap (idIn i z) (sym (h .1)) ∙ id-in-up i z i
 
   relink-map : (f g : ℕ → ℕ) (o : Option ℕ) → ((h : ℕ) → o ≡ some h → f (g h) ≡ id h) → Option·map f (Option·map g o) ≡ Option·map id o
   relink-map f g none e = refl
@@ -264,7 +272,7 @@ module _ {id : ℕ → ℕ} {l : List Process} {S : Roster} (s : Shows id l S) w
   unfolding inserted
   length-inserted i q = length-in (suc i) q (map (relinked (movedUp i)) l) ∙ ap suc (length-map l (relinked (movedUp i)))
 
-  up-below : (i h : ℕ) → h < length l → movedUp i h < suc (length l)
+  pub up-below : (i h : ℕ) → h < length l → movedUp i h < suc (length l)
   up-below i h b = go (up-cases i h)
     where
       go : ((i < h) × (movedUp i h ≡ suc h)) ⊎ ((h ≤ i) × (movedUp i h ≡ h)) → movedUp i h < suc (length l)
