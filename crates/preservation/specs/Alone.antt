@@ -1,7 +1,7 @@
 -- The rules of a term that steps alone, and of a process that folds up or leaves: each keeps the invariant.
 use mathlib.Core.Path.{_≡_, refl, sym, _∙_, ap, subst}
 use mathlib.Core.Logic.{_≢_, _⊎_, inl, inr}
-use mathlib.Core.List.{List, [], _∷_, _++_, map, Sublistᴰ, Sublistᴰ·slnil, Sublistᴰ·cons, Sublistᴰ·refl, List·Memᴰ·head}
+use mathlib.Core.List.{List, [], _∷_, _++_, map, Sublistᴰ, Sublistᴰ·slnil, Sublistᴰ·cons, Sublistᴰ·refl, Sublistᴰ·nil-sublist}
 use mathlib.Core.Option.{Option, some, none, Option·map, map-eq-some-iff, Option·none-ne-some, Option·some-injective}
 use mathlib.Core.Bool.{Bool, true, false, cond, So, not, true≢false, false≢true}
 use Prim.Native.Nat.{ℕ, zero, suc, _≤_, _<_}
@@ -11,24 +11,26 @@ use lib.Dec.{ltb}
 use Rattle.notation.specs.Limits.{processPlaces, channelPlaces, outsideNumbers, heldLimit}
 use Rattle.notation.specs.Tree.{Name, Located, Ty, Proc, plain}
 use Rattle.calculus.specs.Named.{lookup, without, kept, names, isSome}
-use Rattle.calculus.specs.Types.{Side, provided, used}
+use Rattle.calculus.specs.Types.{Side, provided, used, sameType}
 use Rattle.calculus.specs.Program.{slot, Context, Program}
 use Rattle.calculus.specs.Mentions.{mentions, halfMentions, spawnTakes, spawnLeaves, tryTakes, exactlyOne}
 use Rattle.calculus.specs.Typing.{Typed, Brought, bringing}
 use Rattle.calculus.specs.Configuration.{End, end, Doing, running, folding, waiting, Process, process, Outside, Config, config, Far, atProcess, atOutside, givenUp, farEnd, freshChannel, movedUp, relinked, inserted, removed, letGo}
-use Rattle.calculus.specs.Steps.{Outcome, carried, notOpen, lacking, seenAt, outsideAfter, parting, cancelling, spawned, spawning, trying, changedAt, putAt, startedHandler, startedDoing, foldedHandler, raising, leaving, foldingUp}
+use Rattle.calculus.specs.Steps.{Outcome, carried, notOpen, lacking, seenAt, outsideAfter, parting, cancelling, spawned, spawning, trying, changedAt, putAt, startedHandler, startedDoing, foldedHandler, joinedTo, joining, forwarding, raising, leaving, foldingUp}
 use Rattle.calculus.specs.WellFormed.{In, contextOf, isWaiting}
 use Rattle.derivations.specs.Booleans.{ltb-iff, all-iff}
+use Rattle.derivations.specs.Equality.{sameType-iff}
 use Rattle.preservation.specs.Mates.{put}
-use Rattle.preservation.specs.Lists.{names-in, without-sub}
+use Rattle.preservation.specs.Lists.{names-in, in-lookup, without-sub}
 use Rattle.preservation.specs.Roster.{Roster, channelKey, Has, TypedDoing, Fine, Good, profile}
 use Rattle.preservation.specs.LettingGo.{let-go-sub, raised, left, left-alone}
 use Rattle.preservation.specs.Places.{Shows, shows-set, shows-in, shows-out, idIn, id-in-low, id-in-new, relinked-in, up-below, idOut, set-cases, found-below, below-found, length-inserted, length-removed}
-use Rattle.preservation.specs.FarEnds.{fresh-free}
+use Rattle.preservation.specs.FarEnds.{Found, FarIs, at-process, at-outside, at-nobody, far-is, fresh-free}
+use Rattle.preservation.specs.Forwarding.{forwarded, forwarded-out}
 use Rattle.preservation.specs.Witness.{Tip}
 use Rattle.preservation.specs.Growing
-use Rattle.preservation.specs.Contexts.{context-names, context-without, context-kept, context-append, context-length, absent-held}
-use Rattle.preservation.specs.Invariant.{Inv, Keeps, keeps-cond, keeps-held, at-roster, fine-at, typed-at, inv-set, inv-less, handler, unlinked}
+use Rattle.preservation.specs.Contexts.{held-plain, context-names, context-without, context-kept, context-append, context-length, absent-held}
+use Rattle.preservation.specs.Invariant.{Inv, Keeps, keeps-cond, keeps-held, at-roster, fine-at, typed-at, inv-set, inv-less, inv-two, handler, unlinked}
 
 pub outside-after-sub : (f : Far) (k : ℕ) (o : List Outside) → Sublistᴰ (outsideAfter f k o) o
 outside-after-sub (atProcess h) k o = Sublistᴰ·refl o
@@ -253,3 +255,41 @@ module _ {p : Program} {C : Config} (I : Inv p C) (i : ℕ) (q : Process) (at : 
           same j =
               put (sym fi j) (some (process (running P) (kept (mentions P) (q .held)) (some (sym (id-in-new (I .shows) i (I .next)) j))))
               (put (I .next) (some (process (waiting Q) (kept (mentions Q) (q .held)) (sym (relinked-in (I .shows) i (I .next) (q .link)) j))) (I .roster))
+
+  -- ── fwd
+  pub forward-keeps : isWaiting (q .doing) ≡ false → (x c : Located) (A B : Ty Name) → lookup (x .name) (contextOf (q .held)) ≡ some (slot provided A) → lookup (c .name) (contextOf (q .held)) ≡ some (slot used B)
+      → sameType A B ≡ true → Keeps p (forwarding C i q x c)
+  unfolding forwarding
+  forward-keeps w x c A B hx hc ab =
+      keeps-held p (lookup (x .name) (q .held)) _ λ e le. keeps-held p (lookup (c .name) (q .held)) _ λ d ld. joins e d le ld (farEnd C d)
+    where
+      emptied-inv : {o : List Outside} → Sublistᴰ o (C .outside) → Inv p (config (set (C .processes) i (process folding [] (q .link))) o (C .given))
+      emptied-inv = inv-less I i q at folding w (Sublistᴰ·nil-sublist (q .held)) tt
+
+      module-of : (e d : End) → lookup (x .name) (q .held) ≡ some e → lookup (c .name) (q .held) ≡ some d → (e .side ≡ provided) × (d .side ≡ used) × (e .type ≡ d .type)
+      module-of e d le ld =
+          let a = held-plain (x .name) (q .held) provided A hx in
+          let b = held-plain (c .name) (q .held) used B hc in
+          let ea : a .end ≡ e = Option·some-injective _ _ (sym (a .found) ∙ le) in
+          let db : b .end ≡ d = Option·some-injective _ _ (sym (b .found) ∙ ld) in (
+            ap (λ (e : End). e .side) (sym ea) ∙ a .side,
+            ap (λ (e : End). e .side) (sym db) ∙ b .side,
+            ap (λ (e : End). e .type) (sym ea) ∙ a .type ∙ sameType-iff A B .0 ab ∙ sym (b .type) ∙ ap (λ (e : End). e .type) db,
+          )
+
+      joined : (e d : End) → lookup (x .name) (q .held) ≡ some e → lookup (c .name) (q .held) ≡ some d → (f : Far) → FarIs C e f → Keeps p (joinedTo C i q e d f)
+      joined e d le ld _ (at-process h f) =
+          let m = module-of e d le ld in
+          let r = h .process in
+          inv-two I i (h .place) q r at (f .stands) folding (r .doing) [] _
+          (forwarded (I .good) (I .id i) (relinked (I .id) q) (at-roster I i q at) w (x .name) (c .name) e d le ld (m .0) (m .1) (m .2) (I .id (h .place)) (relinked (I .id) r) (at-roster I (h .place) r (f .stands))
+          (h .name) (f .end) (in-lookup (r .held) (fine-at I (h .place) r (f .stands) .names) (h .name, f .end) (f .held)) (f .channel) (f .side))
+      joined e d le ld _ (at-outside n y j z s) =
+          let m = module-of e d le ld in
+          inv-set I i q at folding [] (I .numbers) (forwarded-out (I .good) (I .id i) (relinked (I .id) q) (at-roster I i q at) w (x .name) (c .name) e d le ld (m .0) (m .1) (m .2))
+      joined e d le ld _ (at-nobody a o) = emptied-inv (Sublistᴰ·refl (C .outside))
+
+      joins : (e d : End) → lookup (x .name) (q .held) ≡ some e → lookup (c .name) (q .held) ≡ some d → (f : Far) → Keeps p (joining C i q e d f)
+      joins e d le ld (atProcess h) = joined e d le ld (farEnd C e) (far-is C e)
+      joins e d le ld (atOutside n) = joined e d le ld (farEnd C e) (far-is C e)
+      joins e d le ld givenUp = parting-keeps folding w (Sublistᴰ·nil-sublist (q .held)) tt e

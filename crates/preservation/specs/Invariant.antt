@@ -86,3 +86,21 @@ module _ {p : Program} {C : Config} (I : Inv p C) where
   unlinked i q at w j r e z =
       let h = handler j r e i z in
       true≢false (sym (h .2) ∙ ap (λ (q : Process). isWaiting (q .doing)) (Option·some-injective _ _ (sym (h .1) ∙ at)) ∙ w)
+
+  -- those at i and j change
+  pub inv-two : (i j : ℕ) (q r : Process) → getElem? (C .processes) i ≡ some q → getElem? (C .processes) j ≡ some r → (d d′ : Doing) (l l′ : List (Name × End))
+      → Good p (put (I .id j) (some (process d′ l′ (Option·map (I .id) (r .link)))) (put (I .id i) (some (process d l (Option·map (I .id) (q .link)))) (I .roster))) (C .outside) (C .given) (I .next)
+      → Inv p (config (set (set (C .processes) i (process d l (q .link))) j (process d′ l′ (r .link))) (C .outside) (C .given))
+  inv-two i j q r a b d d′ l l′ g = record {
+    id = I .id;
+    roster = put (I .id j) (some (process d′ l′ (Option·map (I .id) (r .link)))) (put (I .id i) (some (process d l (Option·map (I .id) (q .link)))) (I .roster));
+    next = I .next;
+    shows = shows-set (shows-set (I .shows) i (found-below (C .processes) i a) (process d l (q .link)) (I .shows .within i q a)) j
+        (omega (arith, found-below (C .processes) j b, len)) (process d′ l′ (r .link)) (λ h e. let x = I .shows .within j r b h e in omega (arith, len));
+    good = g;
+    places = subst (λ n. n ≤ processPlaces) (sym (length-set (set (C .processes) i (process d l (q .link))) j (process d′ l′ (r .link)) ∙ len)) (I .places);
+    numbers = I .numbers;
+  }
+    where
+      len : length (set (C .processes) i (process d l (q .link))) ≡ length (C .processes)
+      len = length-set (C .processes) i (process d l (q .link))

@@ -12,3 +12,5 @@ pub mod FarEnds
 pub mod Contexts
 pub mod Invariant
 pub mod Alone
+pub mod Weakening
+pub mod Calling
