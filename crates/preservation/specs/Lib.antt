@@ -14,3 +14,4 @@ pub mod Invariant
 pub mod Alone
 pub mod Weakening
 pub mod Calling
+pub mod Outward
