@@ -15,3 +15,4 @@ pub mod Alone
 pub mod Weakening
 pub mod Calling
 pub mod Outward
+pub mod Sending
