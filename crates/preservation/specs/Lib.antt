@@ -16,3 +16,6 @@ pub mod Weakening
 pub mod Calling
 pub mod Outward
 pub mod Sending
+pub mod Stepping
+pub mod Joints
+pub mod Equivalence
