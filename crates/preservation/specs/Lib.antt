@@ -18,4 +18,5 @@ pub mod Outward
 pub mod Sending
 pub mod Stepping
 pub mod Joints
-pub mod Equivalence
+pub mod Ends
+pub mod WellFormed
