@@ -20,3 +20,5 @@ pub mod Stepping
 pub mod Joints
 pub mod Ends
 pub mod WellFormed
+pub mod Start
+pub mod Preserved

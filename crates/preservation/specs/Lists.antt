@@ -68,6 +68,20 @@ module _ {A : Type 0} where
   length-snoc [] x = refl
   length-snoc (y ∷ l) x = ap suc (length-snoc l x)
 
+-- a search that says what it found
+pub search : {A : Type 0} {Q : A → Type 0} → ((x : A) → Dec (Q x)) → (l : List A) → Dec ((x : A) × In x l × Q x)
+search d [] = no λ r. List·Memᴰ·not-nil (r .1)
+search {A} {Q} d (a ∷ l) = go (d a) (search d l)
+  where
+    go : Dec (Q a) → Dec ((x : A) × In x l × Q x) → Dec ((x : A) × In x (a ∷ l) × Q x)
+    go (yes q) r = yes (a, List·Memᴰ·head refl, q)
+    go (no n) (yes r) = yes (r .0, List·Memᴰ·tail (r .1), r .2)
+    go (no n) (no f) = no λ r. none-of (r .0) (r .2) (List·Memᴰ·cases-cons (r .1))
+      where
+        none-of : (x : A) → Q x → (x ≡ a) ⊎ In x l → ⊥
+        none-of x q (inl e) = n (subst Q e q)
+        none-of x q (inr m) = f (x, m, q)
+
 -- ── names
 -- a goal that depends on the test of two names
 pub by-test : (Q : Bool → Type 0) (c n : Name) → (c ≡ n → Q true) → (c ≢ n → Q false) → Q (same c n)

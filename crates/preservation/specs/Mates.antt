@@ -51,6 +51,9 @@ quiet-some = record {
   active = λ l e. true≢false (sym (ap (λ (x : Option ℕ × Bool). x .1) (Option·some-injective _ _ e)));
 }
 
+pub mates-quiet : {F : ℕ → Profile} → ((v : ℕ) → Quiet (F v)) → Mates F
+mates-quiet q = record { up = λ v h w e. absurd (q v .unlinked h w e); down = λ h l e. absurd (q h .active l e); once = λ u v h w x e. absurd (q u .unlinked h w e) }
+
 module _ {F : ℕ → Profile} (m : Mates F) where
   -- who is without link and waits for none may change so, come or go
   pub mates-put : (u : ℕ) (x : Profile) → Quiet (F u) → Quiet x → Mates (put u x F)

@@ -20,7 +20,7 @@ use Rattle.graphs.specs.Graph.{decIn}
 use Rattle.graphs.specs.Moves.{thin}
 use Rattle.derivations.specs.Equality.{sameType-iff}
 use Rattle.preservation.specs.Witness.{Key, Tip, key-discrete, side-clash, joint, Witness}
-use Rattle.preservation.specs.Lists.{distinct-iff, once-append}
+use Rattle.preservation.specs.Lists.{distinct-iff, once-append, search}
 use Rattle.preservation.specs.Mates.{Profile, Mates}
 use Rattle.preservation.specs.Roster.{Roster, channelKey, linkKey, channel-key-one, link-key-one, channel-no-link, tipOf, linkTip, outsideTip, Tips, holds, links, waits, Has, outside, inside, TypedDoing, keyAt, Fine, Fair, profile, Good}
 use Rattle.preservation.specs.Retyping.{above, owner, one-type, key-of-key}
@@ -144,20 +144,6 @@ module _ {p : Program} {C : Config} (I : Inv p C) where
   inv-named = record { named = λ i q s. distinct-iff (names (q .held)) .1 (fine-at I i q (s .there) .names) }
 
 -- ── to the invariant: the process at place i has the identity i + 1
--- a search that says what it found
-search : {A : Type 0} {Q : A → Type 0} → ((x : A) → Dec (Q x)) → (l : List A) → Dec ((x : A) × In x l × Q x)
-search d [] = no λ r. List·Memᴰ·not-nil (r .1)
-search {A} {Q} d (a ∷ l) = go (d a) (search d l)
-  where
-    go : Dec (Q a) → Dec ((x : A) × In x l × Q x) → Dec ((x : A) × In x (a ∷ l) × Q x)
-    go (yes q) r = yes (a, List·Memᴰ·head refl, q)
-    go (no n) (yes r) = yes (r .0, List·Memᴰ·tail (r .1), r .2)
-    go (no n) (no f) = no λ r. none-of (r .0) (r .2) (List·Memᴰ·cases-cons (r .1))
-      where
-        none-of : (x : A) → Q x → (x ≡ a) ⊎ In x l → ⊥
-        none-of x q (inl e) = n (subst Q e q)
-        none-of x q (inr m) = f (x, m, q)
-
 -- a list with each number once
 abbrev nub : List ℕ → List ℕ
 nub [] = []
