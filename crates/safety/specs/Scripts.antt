@@ -1,11 +1,12 @@
 -- What an accepted script is known to have: exec lines name processes that keep their rule, bodies are typed, names of a signature differ.
 use Prim.Native.Nat.{ℕ}
 use mathlib.Core.Path.{_≡_, refl, sym, _∙_, ap, subst}
+use mathlib.Core.Logic.{Iff·rfl}
 use mathlib.Core.List.{List, [], _∷_, _++_, List·Memᴰ·head, List·Memᴰ·tail, List·Memᴰ·not-nil, cons-ne-nil}
 use mathlib.Core.Option.{some}
 use mathlib.Core.Bool.{Bool, true, false, cond, true≢false, false≢true}
 use Rattle.notation.specs.Bytes.{same}
-use Rattle.notation.specs.Tree.{Ty, Name, Located, Entry, Declaration, declareType, declareProc, declareExec}
+use Rattle.notation.specs.Tree.{Name, Located, Entry, Declaration, declareType, declareProc, declareExec}
 use Rattle.calculus.specs.Named.{lookup, isSome, names, all, any, distinct}
 use Rattle.calculus.specs.Types.{Side, provided, used}
 use Rattle.calculus.specs.Program.{Context, Signature, Program, onSide, entries, signatureContext, programOf}
@@ -14,7 +15,7 @@ use Rattle.calculus.specs.Declarations.{gather, channels, repeats, ownRepeats, 
 use Rattle.calculus.specs.Typing.{namesOf, TypedBody}
 use Rattle.calculus.specs.Accepted.{accepted, checked}
 use Rattle.calculus.specs.WellFormed.{In}
-use Rattle.derivations.specs.Booleans.{isSome-iff, and-iff, all-iff, any-iff, isNil-iff}
+use Rattle.derivations.specs.Booleans.{isSome-iff, and-iff, any-iff, isNil-iff}
 use Rattle.derivations.specs.Equality.{same-sym}
 use Rattle.progress.specs.Held.{lookup-in}
 use Rattle.derivations.specs.Accepts.{accepts}
@@ -92,14 +93,14 @@ exec-keeps p (f ∷ l) e {n} m = go (keepsRule p (lookup (f .name) (p .processes
 -- "An exec process uses nothing. Its provided types reach only 1, * and +"
 pub record KeepsExec (p : Program) (g : Signature) : Type 0 where
   pub uses-nothing : g .uses ≡ []
-  pub provides-outward : (A : Ty Name) → In A (entryTypes (g .provides)) → outward p A ≡ true
+  pub provides-outward : all (outward p) (entryTypes (g .provides)) ≡ true
 
 pub exec-rule : (text : List ℕ) (ds : List Declaration) → checked text ≡ accepted ds → {n : Located} → In n (programOf ds .execs) → {g : Signature}
     → lookup (n .name) (programOf ds .processes) ≡ some g → KeepsExec (programOf ds) g
 unfolding wrongExecs
 exec-rule text ds e m {g} h =
     let k = sym (ap (keepsRule (programOf ds)) h) ∙ exec-keeps (programOf ds) (programOf ds .execs) (passed text e .execs-right) m in
-    let r = and-iff (isNil (g .uses)) (all (outward (programOf ds)) (entryTypes (g .provides))) (isNil-iff (g .uses)) (all-iff (outward (programOf ds)) (entryTypes (g .provides))) .0 k in
+    let r = and-iff (isNil (g .uses)) (all (outward (programOf ds)) (entryTypes (g .provides))) (isNil-iff (g .uses)) Iff·rfl .0 k in
     record { uses-nothing = r .0; provides-outward = r .1 }
 
 -- ── bodies
