@@ -63,7 +63,7 @@ symbol-long f n le t w l =
     let q : w ≡ getD symbols (symbol w - 0) [] = same→eq _ _ e in
     let z : symbol w - 0 ≡ symbol w = omega arith in
     let m : f (symbol w - 0) ≤ length (getD symbols (symbol w - 0) []) =
-          leb→le _ _ (below-at (λ k. leb (f k) (length (getD symbols k []))) n t (symbol w - 0) (omega arith)) in
+    leb→le _ _ (below-at (λ k. leb (f k) (length (getD symbols k []))) n t (symbol w - 0) (omega arith)) in
     subst (λ k. f k ≤ length w) z (omega (arith, ap length q))
 
 symbol-wide : (w : List ℕ) → symbol w < 30 → width (symbol w) ≤ length w

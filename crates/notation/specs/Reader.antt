@@ -93,6 +93,19 @@ processTerm s k c = limited (expect s k c) mayProcess withProcess
 abbrev pub closed : Cursor → Cursor → Cursor
 closed c d = record { at = d .at; types = d .types; terms = d .terms; depth = c .depth }
 
+-- two tokens in a row: the first one's offset, past the second
+abbrev pub onwardFrom : ℕ → Taken → Taken
+onwardFrom i (At j d) = At i d
+onwardFrom i (Refused n j) = Refused n j
+
+abbrev pub thenToken : Taken → (Cursor → Taken) → Taken
+thenToken (At i d) f = onwardFrom i (f d)
+thenToken (Refused n i) f = Refused n i
+
+abbrev pub closedTaken : Cursor → Taken → Taken
+closedTaken c (At i d) = At i (closed c d)
+closedTaken c (Refused n i) = Refused n i
+
 -- the name at an offset; the label whose apostrophe stands there
 abbrev pub nameIn : List ℕ → ℕ → Located
 nameIn s i = record { at = i; name = nameAt s i }

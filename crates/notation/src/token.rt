@@ -17,26 +17,60 @@ pub struct Token {
 }
 
 impl Token {
+    pub const SEND: usize = 3;
+
+    pub const RECV: usize = 4;
+
+    pub const FWD: usize = 5;
+
+    pub const CALL: usize = 6;
+
+    pub const CANCEL: usize = 7;
+
+    pub const RAISE: usize = 8;
+
+    pub const TRY: usize = 9;
+
     pub const CATCH: usize = 10;
+
     pub const LOLLI: usize = 11;
+
     pub const FROM: usize = 12;
+
     pub const THEN: usize = 13;
+
     pub const ROUND_OPEN: usize = 14;
+
     pub const ROUND_CLOSE: usize = 15;
+
     pub const SQUARE_OPEN: usize = 16;
+
     pub const SQUARE_CLOSE: usize = 17;
+
     pub const BRACE_OPEN: usize = 18;
+
     pub const BRACE_CLOSE: usize = 19;
+
     pub const COLON: usize = 20;
+
     pub const COMMA: usize = 21;
+
     pub const SEMICOLON: usize = 22;
+
     pub const EQUALS: usize = 23;
+
     pub const BAR: usize = 24;
+
     pub const ONE: usize = 25;
+
     pub const STAR: usize = 26;
+
     pub const AT: usize = 27;
+
     pub const PLUS: usize = 28;
+
     pub const WITH: usize = 29;
+
     pub const NAME: usize = 30;
 
     pub const LABEL: usize = 31;

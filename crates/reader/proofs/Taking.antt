@@ -1,20 +1,29 @@
 -- A step that is taken, and one that is refused.
 use mathlib.Core.Path.{_≡_, refl, sym, ap, subst, _∙_}
 use mathlib.Core.List.{List}
-use mathlib.Core.Bool.{Bool, true, false, cond}
+use mathlib.Core.Bool.{Bool, true, false, cond, _||_}
 use Prim.Native.Nat.{ℕ, _+_, _*_, _<_, _≤_}
 use native.Mathlib.Omega.{arith}
 use lib.Dec.{eqb}
 use lib.ListN.{length}
 use borrow.Author.Tests.{eq-eqb, ne-eqb}
-use Rattle.notation.specs.Token.{tokenAt, kFault, width, Onward}
-use Rattle.notation.specs.Reader.{expect, limited, past, fault}
+use Rattle.notation.specs.Token.{tokenAt, kFault, kThen, kLabel, width, Onward}
+use Rattle.notation.specs.Reader.{expect, limited, past, fault, thenToken, closed, closedTaken}
 use Rattle.notation.specs.declared.token.Token.{Token}
 use Rattle.notation.specs.declared.reading.Cursor.{Cursor}
 use Rattle.notation.specs.declared.reading.Taken.{Taken}
 use Rattle.notation.specs.declared.reading.Taken.the-variants.{At, Refused}
 use Rattle.reader.specs.Filling.{Further, Stepped, misfitOut}
+use Rattle.reader.specs.Processes.{misfitTaken}
 use Rattle.reader.specs.declared.steps.Out.the-variants.{Not}
+
+-- every token has a byte
+pub width-pos : (k : ℕ) → 1 ≤ width k
+width-pos k = go (eqb k kThen || eqb k kLabel)
+  where
+    go : (b : Bool) → 1 ≤ cond b 2 1
+    go true = omega arith
+    go false = omega arith
 
 -- a refusal goes on nowhere
 pub never : {P : Type 0} {n j i : ℕ} {d : Cursor} → Refused n j ≡ At i d → P
@@ -66,3 +75,34 @@ module _ {s : List ℕ} {c : Cursor} {n : ℕ} {want r : Taken} (u : Stepped s c
 -- no token fits: the next one is t
 pub misfit-out : (s : List ℕ) (c : Cursor) (t : Token) → t ≡ tokenAt s (c .at) → (n : ℕ) → n ≡ fault t → Not n (t .start) ≡ misfitOut s c
 misfit-out s c t e n q = rw (← e) (ap (λ m. Not m (t .start)) q)
+
+-- two tokens in a row
+module _ {s : List ℕ} {c : Cursor} {n types terms : ℕ} {want r : Taken} (u : Stepped s c n types terms want r) (n′ types′ : ℕ) (f : Cursor → Taken) where
+  pub first-no : {m j : ℕ} → r ≡ Refused m j → Stepped s c n′ types′ terms (thenToken want f) r
+  first-no {m} {j} e = rw e (stepped-no m j (rw (← u .is, e)))
+
+  module _ {i : ℕ} {d : Cursor} (e : r ≡ At i d) {k : ℕ} {q : Taken} (v : Stepped s d k 0 0 (f d) q) where
+    pub second-no : {m j : ℕ} → q ≡ Refused m j → Stepped s c n′ types′ terms (thenToken want f) q
+    second-no {m} {j} g = rw g (stepped-no m j (rw (← u .is, e, ← v .is, g)))
+
+    pub both-at : {j : ℕ} {b : Cursor} → q ≡ At j b → Further s c n′ types′ terms i b → Stepped s c n′ types′ terms (thenToken want f) (At i b)
+    both-at g o = stepped-at i _ (rw (← u .is, e, ← v .is, g)) o
+
+-- as many brackets are open afterwards as before
+module _ {s : List ℕ} {c : Cursor} {n types terms : ℕ} {want r : Taken} (u : Stepped s c n types terms want r) where
+  pub closing-no : {m j : ℕ} → r ≡ Refused m j → Stepped s c n types terms (closedTaken c want) r
+  closing-no {m} {j} e = rw e (stepped-no m j (rw (← u .is, e)))
+
+  pub closing-at : {i : ℕ} {d : Cursor} → r ≡ At i d → Stepped s c n types terms (closedTaken c want) (At i (closed c d))
+  closing-at {i} {d} e = stepped-at i (closed c d) (rw (← u .is, e)) (u .on i d e)
+
+  -- a wider step is a narrower one
+  pub narrower : (n′ : ℕ) → n′ ≤ n → Stepped s c n′ types terms want r
+  narrower n′ l = record { is = u .is; on = λ i d e. let o = u .on i d e in (omega arith, o .1, o .2, o .3, o .4, o .5, o .6) }
+
+-- a refusal of a step, whatever it would have been
+pub refused-step : {s : List ℕ} {c : Cursor} {n types terms m j : ℕ} {r : Taken} → r ≡ Refused m j → Stepped s c n types terms (Refused m j) r
+refused-step e = rw e (stepped-no _ _ refl)
+
+pub misfit-token : (s : List ℕ) (c : Cursor) (t : Token) → t ≡ tokenAt s (c .at) → (n : ℕ) → n ≡ fault t → Refused n (t .start) ≡ misfitTaken s c
+misfit-token s c t e n q = rw (← e) (ap (λ m. Refused m (t .start)) q)

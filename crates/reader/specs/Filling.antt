@@ -2,15 +2,18 @@
 use mathlib.Core.Path.{_≡_}
 use Prim.Native.Nat.{ℕ, _+_, _-_, _*_, _<_, _≤_}
 use mathlib.Core.List.{List}
+use mathlib.Core.Bool.{cond}
 use lib.ListN.{length}
+use lib.Dec.{eqb}
 use Rattle.notation.specs.Limits.{textLimit, typeTermLimit, processTermLimit}
-use Rattle.notation.specs.Token.{tokenAt, kColon, kBraceOpen}
+use Rattle.notation.specs.Token.{tokenAt, kColon, kBraceOpen, kStar, kAt, kOne, kName, kPlus}
 use Rattle.notation.specs.Tree.{Located, Ty, unit, named, tensor, par, lolli, plus, with, Alternatives, alternative}
-use Rattle.notation.specs.Reader.{Result, got, refused, fault, expect, opening, typeTerm}
-use Rattle.notation.specs.Types.{readType, readAtom, readAlternatives, labelTerm}
-use Rattle.notation.specs.Tables.{afterType, afterAlternatives, writeType, writeAlternatives}
+use Rattle.notation.specs.Reader.{Result, got, refused, take, fault, expect, opening, typeTerm, thenToken, nameIn}
+use Rattle.notation.specs.Types.{readType, readAtom, readAlternatives, labelTerm, rightBy, roundBy, choiceBy, moreBy}
+use Rattle.notation.specs.Tables.{afterType, afterAlternatives, writeType, writeAlternatives, moreNodes, putInfix}
 use Rattle.notation.specs.declared.reading.Tally.{Tally}
 use Rattle.notation.specs.declared.reading.TypeNode.{TypeNode}
+use Rattle.notation.specs.declared.reading.TermNode.{TermNode}
 use Rattle.notation.specs.declared.reading.Cursor.{Cursor}
 use Rattle.notation.specs.declared.reading.Taken.{Taken}
 use Rattle.notation.specs.declared.reading.Taken.the-variants.{At, Refused}
@@ -41,14 +44,13 @@ asOut (Refused n i) = Not n i
 abbrev pub misfitOut : List ℕ → Cursor → Out
 misfitOut s c = Not (fault (tokenAt s (c .at))) (tokenAt s (c .at) .start)
 
--- two tokens in a row: the first one's offset, past the second
-abbrev pub onwardFrom : ℕ → Taken → Taken
-onwardFrom i (At j d) = At i d
-onwardFrom i (Refused n j) = Refused n j
+-- a label within its list's limit, and its colon
+unfoldable pub labelColon : List ℕ → ℕ → Cursor → Taken
+labelColon s n c = thenToken (labelTerm s n c) (expect s kColon)
 
-abbrev pub thenToken : Taken → (Cursor → Taken) → Taken
-thenToken (At i d) f = onwardFrom i (f d)
-thenToken (Refused n i) f = Refused n i
+-- the mark of a choice, and its brace
+unfoldable pub choiceOpening : List ℕ → ℕ → Cursor → Taken
+choiceOpening s k c = thenToken (typeTerm s k c) (opening s kBraceOpen)
 
 -- ── the tables
 -- words are put: the tally r and the words v
@@ -60,6 +62,10 @@ pub record Put (w x : List ℕ) (k r : Tally) (v : List ℕ) : Type 0 where
 -- what fits a type node's word
 abbrev pub Fits : TypeNode → Type 0
 Fits n = (n .kind < 8) × (n .first < 1024) × (n .second < 524288)
+
+-- what fits a process node's two words
+abbrev pub FitsTerm : TermNode → Type 0
+FitsTerm n = (n .kind < 16) × (n .at < 8192) × (n .first < 32768) × (n .second < 16384) × (n .third < 262144)
 
 -- the words of the tables' area are there
 abbrev pub Area : List ℕ → Type 0
@@ -138,27 +144,84 @@ AheadType own s c k d l =
 
 abbrev pub typeForm : Form (Ty Located)
 typeForm = record {
-    after = afterType;
-    write = writeType;
-    Fine = FineType;
-    Ahead = λ s c k d l. AheadType 0 s c k d l × (l .last < l .nodes) }
+  after = afterType;
+  write = writeType;
+  Fine = FineType;
+  Ahead = λ s c k d l. AheadType 0 s c k d l × (l .last < l .nodes);
+}
 
 -- a list of which n labels came before
 abbrev pub alternativesForm : ℕ → Form (Alternatives Located)
 alternativesForm n = record {
-    after = afterAlternatives;
-    write = writeAlternatives;
-    Fine = λ r. FineAlternatives r × Some r;
-    Ahead = λ s c k d l. AheadType 1 s c k d l × (l .last + n ≤ 16) }
+  after = afterAlternatives;
+  write = writeAlternatives;
+  Fine = λ r. FineAlternatives r × Some r;
+  Ahead = λ s c k d l. AheadType 1 s c k d l × (l .last + n ≤ 16);
+}
 
 abbrev pub unread : List ℕ → Cursor → ℕ
 unread s c = length s - c .at
 
 abbrev pub TypeRead : List ℕ → List ℕ → Cursor → Tally → Out → List ℕ → Type 0
-TypeRead s w c k = Meets typeForm s w c k (2 * unread s c + 1) (λ m. readType m s c)
+TypeRead s w c k = Meets typeForm s w c k (3 * unread s c + 2) (λ m. readType m s c)
 
 abbrev pub AtomRead : List ℕ → List ℕ → Cursor → Tally → Out → List ℕ → Type 0
-AtomRead s w c k = Meets typeForm s w c k (2 * unread s c) (λ m. readAtom m s c)
+AtomRead s w c k = Meets typeForm s w c k (3 * unread s c + 1) (λ m. readAtom m s c)
 
 abbrev pub AlternativesRead : ℕ → List ℕ → List ℕ → Cursor → Tally → Out → List ℕ → Type 0
-AlternativesRead n s w c k = Meets (alternativesForm n) s w c k (2 * unread s c) (λ m. readAlternatives m s n c)
+AlternativesRead n s w c k = Meets (alternativesForm n) s w c k (3 * unread s c + 1) (λ m. readAlternatives m s n c)
+
+-- ── the parts of these
+abbrev pub OneRead : List ℕ → List ℕ → Cursor → Tally → Out → List ℕ → Type 0
+OneRead s w c k = Meets typeForm s w c k 0 (λ m. take (typeTerm s kOne c) λ _ d. got unit d)
+
+abbrev pub NameRead : List ℕ → List ℕ → Cursor → Tally → Out → List ℕ → Type 0
+NameRead s w c k = Meets typeForm s w c k 0 (λ m. take (typeTerm s kName c) λ i d. got (named (nameIn s i)) d)
+
+abbrev pub RoundRead : List ℕ → List ℕ → Cursor → Tally → Out → List ℕ → Type 0
+RoundRead s w c k = Meets typeForm s w c k (3 * unread s c) (λ m. roundBy (λ d. readType m s d) s c)
+
+-- the type that a choice's mark makes of its alternatives
+unfoldable pub choiceOf : ℕ → Alternatives Located → Ty Located
+choiceOf k r = cond (eqb k kPlus) (plus r) (with r)
+
+abbrev pub ChoiceRead : ℕ → List ℕ → List ℕ → Cursor → Tally → Out → List ℕ → Type 0
+ChoiceRead kind s w c k =
+    Meets typeForm s w c k (3 * unread s c) (λ m. choiceBy (λ d. readAlternatives m s 0 d) s kind (choiceOf kind) c)
+
+-- what follows an alternative, none or more, of which n came before
+abbrev pub moreForm : ℕ → Form (Alternatives Located)
+moreForm n = record {
+  after = afterAlternatives;
+  write = writeAlternatives;
+  Fine = FineAlternatives;
+  Ahead = λ s c k d l.
+      (c .at ≤ d .at)
+      × (d .at ≤ length s)
+      × (c .types ≤ d .types)
+      × (d .types ≤ typeTermLimit)
+      × (l .nodes + c .types ≤ d .types + k .nodes)
+      × (l .alternatives + c .types ≤ d .types + k .alternatives)
+      × (k .nodes ≤ l .nodes)
+      × OthersSame c k d l
+      × (l .last + n ≤ 16);
+}
+
+abbrev pub MoreRead : ℕ → List ℕ → List ℕ → Cursor → Tally → Out → List ℕ → Type 0
+MoreRead n s w c k = Meets (moreForm n) s w c k (3 * unread s c + 2) (λ m. moreBy (λ d. readAlternatives m s n d) s c)
+
+-- the node kind of an infix mark
+unfoldable pub infixKind : ℕ → ℕ
+infixKind k = cond (eqb k kStar) 2 (cond (eqb k kAt) 3 4)
+
+-- the right part of an infix: its own words, and the node over it and the type whose node was read last
+abbrev pub rightForm : ℕ → Form (Ty Located)
+rightForm kind = record {
+  after = λ B k. moreNodes (afterType B k);
+  write = λ B k w. putInfix (infixKind kind) k (afterType B k) (writeType B k w);
+  Fine = FineType;
+  Ahead = typeForm .Ahead;
+}
+
+abbrev pub RightRead : ℕ → List ℕ → List ℕ → Cursor → Tally → Out → List ℕ → Type 0
+RightRead kind s w c k = Meets (rightForm kind) s w c k (3 * unread s c) (λ m. rightBy (λ d. readType m s d) s kind c)

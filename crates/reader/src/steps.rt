@@ -1,13 +1,19 @@
 // The steps that every reading is made of: a token that is wanted, and what a token begins.
-use notation::reading::{Cursor, Taken, Tally};
+use notation::reading::Cursor;
+use notation::reading::Taken;
+use notation::reading::Tally;
 use notation::script::Script;
-use notation::token::{next_token, Token, TypeHead};
-
+use notation::token::Payload;
+use notation::token::TermHead;
+use notation::token::Token;
+use notation::token::TypeHead;
+use notation::token::next_token;
 ghost use mathlib.Core.Path.{_≡_};
 ghost use Prim.Native.Nat.{_≤_};
 ghost use Rattle.notation.specs.Token.{kindAt, width};
-ghost use Rattle.notation.specs.Reader.{expect, opening, typeTerm};
+ghost use Rattle.notation.specs.Reader.{expect, opening, typeTerm, processTerm};
 ghost use Rattle.notation.specs.Types.{typeHead, isInfix, labelTerm};
+ghost use Rattle.notation.specs.Processes.{termHead, payload};
 ghost use Rattle.reader.specs.Filling.{Stepped, asOut, misfitOut};
 
 // Where a reading went on to, with the fill of the tables; or the refusal's number and offset.
@@ -94,6 +100,29 @@ pub fn type_term(text: &[u8], c: Cursor, kind: usize) -> Taken
     Taken::Refused(5, i)
 }
 
+// A token that begins a process term.
+pub fn process_term(text: &[u8], c: Cursor, kind: usize) -> Taken
+    requires { ⌜ kind ≤ 31 ⌝ }
+    ensures { λ r. ⌜ Stepped (now (text .entry)) c (width kind) 0 1 (processTerm (now (text .entry)) kind c) r ⌝ }
+{
+    let taken = expect(text, c, kind);
+    let Taken::At(i, d) = taken else {
+        return taken;
+    };
+    if d.terms < Script::PROCESS_TERMS {
+        return Taken::At(
+            i,
+            Cursor {
+                at: d.at,
+                types: d.types,
+                terms: d.terms + 1,
+                depth: d.depth,
+            },
+        );
+    }
+    Taken::Refused(5, i)
+}
+
 // A label of a list in which n came before.
 pub fn label_term(text: &[u8], c: Cursor, n: usize) -> Taken
     ensures { λ r. ⌜ Stepped (now (text .entry)) c 2 0 0 (labelTerm (now (text .entry)) n c) r ⌝ }
@@ -162,4 +191,51 @@ pub fn is_infix(kind: usize) -> bool
         return true;
     }
     kind == Token::LOLLI
+}
+
+// What a token of this kind begins where a process may stand.
+pub fn term_head(kind: usize) -> TermHead
+    ensures { λ r. ⌜ r ≡ termHead kind ⌝ }
+{
+    if kind == Token::SEND {
+        return TermHead::Send;
+    }
+    if kind == Token::RECV {
+        return TermHead::Recv;
+    }
+    if kind == Token::FWD {
+        return TermHead::Fwd;
+    }
+    if kind == Token::CALL {
+        return TermHead::Call;
+    }
+    if kind == Token::CANCEL {
+        return TermHead::Cancel;
+    }
+    if kind == Token::RAISE {
+        return TermHead::Raise;
+    }
+    if kind == Token::TRY {
+        return TermHead::Try;
+    }
+    if kind == Token::NAME {
+        return TermHead::Spawn;
+    }
+    TermHead::Empty
+}
+
+// What follows the channel of a send, or the bracket of a recv.
+pub fn payload_head(kind: usize) -> Payload
+    ensures { λ r. ⌜ r ≡ payload kind ⌝ }
+{
+    if kind == Token::ROUND_OPEN {
+        return Payload::Unit;
+    }
+    if kind == Token::NAME {
+        return Payload::Channel;
+    }
+    if kind == Token::LABEL {
+        return Payload::Label;
+    }
+    Payload::Other
 }

@@ -1,3 +1,6 @@
+use mathlib.Core.Path.{refl}
+use lib.ListN.{length-set}
+use Rattle.notation.specs.Tables.{putAlternative, pairWord}
 use borrow.Author.Needs.{needs}
 use Rattle.reader.proofs.store.put_alternative.Statement.{statement}
 use Rattle.reader.proofs.store.put_alternative.Tie as tie
@@ -42,7 +45,8 @@ same-length c = search needs
 
 -- src/store.rt:32:1
 returns : tie.Need-returns
-returns c = ?
+unfolding putAlternative pairWord
+returns c = record { is = refl; words = refl; long = simp length-set }
 
 pub put-alternative-spec : {M : Type 1} → statement M
 put-alternative-spec =

@@ -1,3 +1,6 @@
+use mathlib.Core.Path.{refl}
+use lib.ListN.{length-set}
+use Rattle.notation.specs.Tables.{putNode, typeWord}
 use borrow.Author.Needs.{needs}
 use Rattle.reader.proofs.store.put_node.Statement.{statement}
 use Rattle.reader.proofs.store.put_node.Tie as tie
@@ -46,7 +49,8 @@ same-length c = search needs
 
 -- src/store.rt:10:1
 returns : tie.Need-returns
-returns c = ?
+unfolding putNode typeWord
+returns c = record { is = refl; words = refl; long = simp length-set }
 
 pub put-node-spec : {M : Type 1} → statement M
 put-node-spec =
