@@ -1,0 +1,4 @@
+pub mod Demand
+pub mod Replies
+pub mod Safety
+pub mod Scripts
