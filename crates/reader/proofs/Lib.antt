@@ -1,4 +1,5 @@
 pub mod Taking
 pub mod Filled
 pub mod TypePaths
+pub mod NamePaths
 pub mod ProcessPaths

@@ -1,13 +1,14 @@
 -- What the code that reads processes promises.
 use mathlib.Core.Path.{_≡_}
 use Prim.Native.Nat.{ℕ, _+_, _-_, _*_, _<_, _≤_}
-use mathlib.Core.List.{List}
+use mathlib.Core.List.{List, []}
 use mathlib.Core.Bool.{cond}
+use lib.Dec.{eqb}
 use lib.ListN.{length}
 use Rattle.notation.specs.Limits.{textLimit, typeTermLimit, processTermLimit}
 use Rattle.notation.specs.Token.{tokenAt, kindAt, kName, kLabel, kThen, kColon}
 use Rattle.notation.specs.Tree.{Located, Ty, Proc, empty, sendUnit, sendChannel, sendLabel, cancel, spawn, recvUnit, recvChannel, recvLabel, fwd, call, raise, try, Branches, branch}
-use Rattle.notation.specs.Reader.{Result, got, refused, take, lastly, part, fault, expect, processTerm, thenToken, nameIn, labelIn}
+use Rattle.notation.specs.Reader.{Result, got, refused, take, lastly, part, choose, fault, expect, processTerm, thenToken, nameIn, labelIn}
 use Rattle.notation.specs.Types.{readType, labelTerm}
 use Rattle.notation.specs.Processes.{payload, unitTaken, bracketedBy, sendBy, recvBy, processBy, moreBranchesBy, readProcess, readRest, readBranches, readNames, nameList}
 use Rattle.notation.specs.Tables.{afterProcess, afterBranches, writeProcess, writeBranches, moreTerms, putOver, termNode}
@@ -195,15 +196,21 @@ abbrev pub forgetNames : ℕ → Result (List Located) → Taken
 forgetNames i (got xs d) = At i d
 forgetNames i (refused n j) = Refused n j
 
--- the names up to the bracket that closes, as a step
-pub record NamesTaken (s : List ℕ) (c : Cursor) (close : ℕ) (r : Taken) : Type 0 where
-  pub is : (m : ℕ) → unread s c < m → r ≡ forgetNames 0 (readNames m s close c)
-  pub on : (i : ℕ) (d : Cursor) → r ≡ At i d → (c .at < d .at) × (d .at ≤ length s) × (d .types ≡ c .types) × (d .terms ≡ c .terms)
+-- where a list of names goes on
+abbrev pub AheadNames : List ℕ → Cursor → ℕ → Cursor → Type 0
+AheadNames s c i d = (c .at < d .at) × (d .at ≤ length s) × (i < length s) × (d .types ≡ c .types) × (d .terms ≡ c .terms)
 
--- a list of names in brackets, with the offset of its bracket
-pub record ListTaken (s : List ℕ) (c : Cursor) (open′ close : ℕ) (r : Taken) : Type 0 where
-  pub is : (m : ℕ) → unread s c < m → r ≡ forgetNames (tokenAt s (c .at) .start) (nameList m s open′ close c)
-  pub on : (i : ℕ) (d : Cursor) → r ≡ At i d → (c .at < d .at) × (d .at ≤ length s) × (i < length s) × (d .types ≡ c .types) × (d .terms ≡ c .terms)
+-- a list f of names is read, with the offset i
+pub record NamesTaken (s : List ℕ) (c : Cursor) (i : ℕ) (f : ℕ → Result (List Located)) (r : Taken) : Type 0 where
+  pub is : (m : ℕ) → unread s c < m → r ≡ forgetNames i (f m)
+  pub on : (j : ℕ) (d : Cursor) → r ≡ At j d → AheadNames s c j d
+
+-- what stands in a list's brackets: names, or none
+abbrev pub listEnd : List ℕ → ℕ → Cursor → Result (List Located)
+listEnd s close d = take (expect s close d) λ _ e. got [] e
+
+abbrev pub namesOrNone : ℕ → List ℕ → ℕ → Cursor → Result (List Located)
+namesOrNone m s close d = choose (eqb (kindAt s (d .at)) kName) (readNames m s close) (listEnd s close) d
 
 -- ── the parts of a spawn after its arrow: x is at i, and its type's node was read last
 abbrev pub partsForm : ℕ → Form (Proc × Proc)

@@ -22,10 +22,11 @@ use notation::token::Token;
 use notation::token::next_token;
 ghost use mathlib.Core.Path.{_≡_};
 ghost use Prim.Native.Nat.{_<_, _≤_};
-ghost use Rattle.notation.specs.Processes.{unitTaken};
+ghost use Rattle.notation.specs.Token.{tokenAt};
+ghost use Rattle.notation.specs.Processes.{unitTaken, readNames, nameList};
 ghost use Rattle.notation.specs.declared.token.TermHead.the-variants.{Send, Recv, Fwd, Call, Cancel, Raise, Try, Spawn};
 ghost use Rattle.reader.specs.Filling.{Stepped, Room, FitsTerm};
-ghost use Rattle.reader.specs.Processes.{misfitTaken, payloadTaken, payloadThen, labelThen, nameColon, sentNode, recvdNode, TermRead, SentRead, HandlerRead, OneRead, LabelsRead, BracketedRead, PartsRead, ProcessRead, RestRead, BranchesRead, MoreBranchesRead};
+ghost use Rattle.reader.specs.Processes.{NamesTaken, listEnd, namesOrNone, misfitTaken, payloadTaken, payloadThen, labelThen, nameColon, sentNode, recvdNode, TermRead, SentRead, HandlerRead, OneRead, LabelsRead, BracketedRead, PartsRead, ProcessRead, RestRead, BranchesRead, MoreBranchesRead};
 
 // The mark ().
 fn unit_mark(text: &[u8], c: Cursor) -> Taken
@@ -195,6 +196,109 @@ fn received_node(k: Tally, at: usize, i: usize, j: usize, head: Payload) -> Term
             third,
         },
     }
+}
+
+// Names with commas between them, up to the bracket that closes.
+fn read_names(text: &[u8], c: Cursor, close: usize) -> Taken
+    requires { ⌜ close ≤ 31 ⌝ }
+    ensures { λ r. ⌜ NamesTaken (now (text .entry)) c 0 (λ m. readNames m (now (text .entry)) close c) r ⌝ }
+{
+    let named = expect(text, c, Token::NAME);
+    let Taken::At(_, d) = named else {
+        return named;
+    };
+    let next = d.at;
+    if kind_at(text, next) == Token::COMMA {
+        let comma = expect(text, d, Token::COMMA);
+        let Taken::At(_, e) = comma else {
+            return comma;
+        };
+        return read_names(text, e, close);
+    }
+    list_end(text, d, close)
+}
+
+// The bracket that closes a list of names.
+fn list_end(text: &[u8], c: Cursor, close: usize) -> Taken
+    requires { ⌜ close ≤ 31 ⌝ }
+    ensures { λ r. ⌜ NamesTaken (now (text .entry)) c 0 (λ m. listEnd (now (text .entry)) close c) r ⌝ }
+{
+    let closed = expect(text, c, close);
+    let Taken::At(_, d) = closed else {
+        return closed;
+    };
+    Taken::At(0, d)
+}
+
+// What stands in a list's brackets, and the one that closes it.
+fn names_or_none(text: &[u8], c: Cursor, close: usize) -> Taken
+    requires { ⌜ close ≤ 31 ⌝ }
+    ensures { λ r. ⌜ NamesTaken (now (text .entry)) c 0 (λ m. namesOrNone m (now (text .entry)) close c) r ⌝ }
+{
+    let next = c.at;
+    if kind_at(text, next) == Token::NAME {
+        return read_names(text, c, close);
+    }
+    list_end(text, c, close)
+}
+
+// A list of names in brackets; it is known by where it opens.
+fn name_list(text: &[u8], c: Cursor, opens: usize, closes: usize) -> Taken
+    requires { ⌜ (opens ≤ 31) × (closes ≤ 31) ⌝ }
+    ensures { λ r. ⌜ NamesTaken (now (text .entry)) c (tokenAt (now (text .entry)) (c .at) .start) (λ m. nameList m (now (text .entry)) opens closes c) r ⌝ }
+{
+    let opened = opening(text, c, opens);
+    let Taken::At(i, d) = opened else {
+        return opened;
+    };
+    let names = names_or_none(text, d, closes);
+    let Taken::At(_, e) = names else {
+        return names;
+    };
+    Taken::At(
+        i,
+        Cursor {
+            at: e.at,
+            types: e.types,
+            terms: e.terms,
+            depth: c.depth,
+        },
+    )
+}
+
+// call p (x, ..) [y, ..]
+fn read_call(text: &[u8], scratch: &mut [u32], c: Cursor, k: Tally) -> Out
+    requires { ⌜ Room (now text) (now scratch) c k ⌝ }
+    ensures { λ r. ⌜ TermRead Call (now (text .entry)) (now (scratch .entry)) c k r (now (scratch .exit)) ⌝ }
+{
+    let term = process_term(text, c, Token::CALL);
+    let Taken::At(at, d) = term else {
+        return refusal(term);
+    };
+    let named = expect(text, d, Token::NAME);
+    let Taken::At(i, e) = named else {
+        return refusal(named);
+    };
+    let provided = name_list(text, e, Token::ROUND_OPEN, Token::ROUND_CLOSE);
+    let Taken::At(bracket, f) = provided else {
+        return refusal(provided);
+    };
+    let used = name_list(text, f, Token::SQUARE_OPEN, Token::SQUARE_CLOSE);
+    let Taken::At(_, g) = used else {
+        return refusal(used);
+    };
+    let q = put_term(
+        scratch,
+        k,
+        TermNode {
+            kind: 10,
+            at,
+            first: i,
+            second: bracket,
+            third: 0,
+        },
+    );
+    Out::Got(g, q)
 }
 
 // fwd x c
