@@ -5,11 +5,11 @@ use mathlib.Core.Bool.{Bool, true, false, cond}
 use Prim.Native.Nat.{ℕ, zero, suc, _+_, _-_, _*_, _<_, _≤_}
 use native.Mathlib.Omega.{arith}
 use lib.ListN.{length}
-use lib.Dec.{eqb}
-use borrow.Author.Tests.{eq-eqb, ne-eqb}
+use lib.Dec.{eqb, ltb}
+use borrow.Author.Tests.{eq-eqb, ne-eqb, ltb-true}
 use Rattle.notation.specs.declared.token.Token.{Token}
 use Rattle.notation.specs.Limits.{textLimit}
-use Rattle.notation.specs.Token.{kindAt, tokenAt, width, kFwd, kName, kThen, kRoundOpen, kRoundClose, kCancel, kRaise, kSend, kRecv, kSemicolon, kBar, kTry, kCatch, kFrom, kColon, Onward}
+use Rattle.notation.specs.Token.{kindAt, tokenAt, width, kFwd, kName, kThen, kRoundOpen, kRoundClose, kCancel, kRaise, kSend, kRecv, kSemicolon, kBar, kTry, kCatch, kFrom, kColon, kLabel, Onward}
 use Rattle.notation.specs.Tree.{Located, Ty, Proc, empty, sendUnit, sendChannel, sendLabel, cancel, spawn, recvUnit, recvChannel, recvLabel, fwd, call, raise, try, Branches, branch}
 use Rattle.notation.specs.Reader.{Result, got, refused, take, part, lastly, choose, expect, misfit, opening, processTerm, closed, thenToken, nameIn, labelIn}
 use Rattle.notation.specs.Types.{readType, labelTerm}
@@ -28,7 +28,7 @@ use Rattle.reader.specs.Filling.{TypeRead, Stepped, asOut, misfitOut, Pu
 use Rattle.reader.specs.Processes.{payloadTaken, payloadThen, labelThen, nameColon, misfitTaken, sentOf, sentNode, recvdOf, recvdNode, FineProcess, FineBranches, SomeBranch, processForm, sentForm, handlerForm, branchesForm, moreBranchesForm, partsForm, termBy, handlerBy, TermRead, SentRead, HandlerRead, OneRead, LabelsRead, BracketedRead, PartsRead, ProcessRead, RestRead, BranchesRead, MoreBranchesRead}
 use Rattle.notation.specs.declared.token.Payload.{Payload}
 use Rattle.notation.specs.declared.token.Payload.the-variants.{Unit as UnitPayload, Channel, Label, Other}
-use Rattle.reader.proofs.TypePaths.{then-take}
+use Rattle.reader.proofs.TypePaths.{then-take, within-limit}
 use Rattle.reader.proofs.Filled.{took, refused-out, made-no, made-got, gone-on, stopped, meets-no, meets-got, more-no, more-got, more-made}
 
 -- the definition at one more fuel
@@ -626,3 +626,8 @@ module _ (s w : List ℕ) (c : Cursor) (k : Tally) (room : Room s w c k) {q : Ta
               (ap (Got b₂) bl ∙ (λ j. Got b₂ ((partsForm i) .after B (al j))))
               (bv ∙ (λ j. (partsForm i) .write B (al j) (av j)))
               (omega arith, fi, fi₂ .0, fi₂ .1)))
+
+-- a branch that is read comes within its list's limit
+pub branch-few : (s : List ℕ) (n : ℕ) (c : Cursor) {q : Taken} {i : ℕ} {d : Cursor} → Stepped s c 4 0 0 (labelThen s n c) q → q ≡ At i d → n < 16
+unfolding labelThen labelTerm
+branch-few s n c {i = i} {d} u e = ltb-true n 16 (within-limit (ltb n 16) (expect s kLabel c) (expect s kThen) i d (took u e))

@@ -371,7 +371,7 @@ infix-most k e = go (eqb k kStar) refl (eqb k kAt) refl e
     go false x false y e = omega (arith, eqb-true k kLolli e)
 
 -- a label that was taken is within its list's limit
-within-limit : (b : Bool) (x : Taken) (g : Cursor → Taken) (i : ℕ) (d : Cursor) → thenToken (limited x (λ _. b) (λ e. e)) g ≡ At i d → b ≡ true
+pub within-limit : (b : Bool) (x : Taken) (g : Cursor → Taken) (i : ℕ) (d : Cursor) → thenToken (limited x (λ _. b) (λ e. e)) g ≡ At i d → b ≡ true
 within-limit true x g i d z = refl
 within-limit false (At j c) g i d z = never z
 within-limit false (Refused m j) g i d z = never z
