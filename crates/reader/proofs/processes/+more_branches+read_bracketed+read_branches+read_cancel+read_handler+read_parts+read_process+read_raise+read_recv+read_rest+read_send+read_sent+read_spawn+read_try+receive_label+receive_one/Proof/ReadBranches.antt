@@ -39,7 +39,7 @@ read-branches-met t =
     -- add-more-branches
     (λ c. omega (arith, branch-few _ _ _ (c .before .before .before .before .before .before .before .before .before .before .before .label-then .ensures) (c .before .before .before .before .before .before .before .before .before .labelled .given .1)))
     -- more-branches-requires
-    (λ c κs. (omega (arith, c .before .before .before .before .before .before .before .before .before .before .before .before .before .before .pre, c .before .before .before .before .before .before .before .before .before .before .before .label-then .ensures .on _ _ (c .before .before .before .before .before .before .before .before .before .labelled .given .1), c .before .before .before .before .before .before .read-process .ensures .on _ _ (c .before .before .inner .given .1), c .before .before .before .before .before .before .read-process .ensures .long, branch-few _ _ _ (c .before .before .before .before .before .before .before .before .before .before .before .label-then .ensures) (c .before .before .before .before .before .before .before .before .before .labelled .given .1)), omega (arith, c .before .before .before .before .before .before .before .before .before .before .before .before .before .before .pre, c .before .before .before .before .before .before .before .before .before .before .before .label-then .ensures .on _ _ (c .before .before .before .before .before .before .before .before .before .labelled .given .1), c .before .before .before .before .before .before .read-process .ensures .on _ _ (c .before .before .inner .given .1), c .before .before .before .before .before .before .read-process .ensures .long, branch-few _ _ _ (c .before .before .before .before .before .before .before .before .before .before .before .label-then .ensures) (c .before .before .before .before .before .before .before .before .before .labelled .given .1))))
+    (λ c κs. (omega (arith, c .before .before .before .before .before .before .before .before .before .before .before .before .before .before .pre, c .before .before .before .before .before .before .before .before .before .before .before .label-then .ensures .on _ _ (c .before .before .before .before .before .before .before .before .before .labelled .given .1), c .before .before .before .before .before .before .read-process .ensures .on _ _ (c .before .before .inner .given .1), c .before .before .before .before .before .before .read-process .ensures .kept .long, branch-few _ _ _ (c .before .before .before .before .before .before .before .before .before .before .before .label-then .ensures) (c .before .before .before .before .before .before .before .before .before .labelled .given .1)), omega (arith, c .before .before .before .before .before .before .before .before .before .before .before .before .before .before .pre, c .before .before .before .before .before .before .before .before .before .before .before .label-then .ensures .on _ _ (c .before .before .before .before .before .before .before .before .before .labelled .given .1), c .before .before .before .before .before .before .read-process .ensures .on _ _ (c .before .before .inner .given .1), c .before .before .before .before .before .before .read-process .ensures .kept .long, branch-few _ _ _ (c .before .before .before .before .before .before .before .before .before .before .before .label-then .ensures) (c .before .before .before .before .before .before .before .before .before .labelled .given .1))))
     -- enum-known-rest
     (λ c. search needs)
     -- enum-told-3
@@ -49,8 +49,8 @@ read-branches-met t =
     -- returns-3
     (λ c. branches-more-no _ _ _ _ (c .before .before .before .before .before .before .before .before .before .before .before .before .before .before .before .before .before .before .before .pre .1) _ (c .before .before .before .before .before .before .before .before .before .before .before .before .before .before .before .before .label-then .ensures) (c .before .before .before .before .before .before .before .before .before .before .before .before .before .before .labelled .given .1) (c .before .before .before .before .before .before .before .before .before .before .before .read-process .ensures) (c .before .before .before .before .before .before .before .inner .given .1) (c .before .before .before .before .more-branches .ensures) (c .enum-told3 .given .1))
     -- put-branch-requires
-    (λ c κs. omega (arith, c .before .before .before .before .before .before .before .before .before .before .before .before .before .before .before .before .before .before .before .before .before .pre, c .before .before .before .before .before .before .before .before .before .before .before .before .before .before .before .before .before .before .label-then .ensures .on _ _ (c .before .before .before .before .before .before .before .before .before .before .before .before .before .before .before .before .labelled .given .1), c .before .before .before .before .before .before .before .before .before .before .before .before .before .read-process .ensures .on _ _ (c .before .before .before .before .before .before .before .before .before .inner .given .1), c .before .before .before .before .before .before .before .before .before .before .before .before .before .read-process .ensures .long, c .before .before .before .before .before .before .more-branches .ensures .on _ _ (c .before .before .rest .given .1), c .before .before .before .before .before .before .more-branches .ensures .long))
+    (λ c κs. omega (arith, c .before .before .before .before .before .before .before .before .before .before .before .before .before .before .before .before .before .before .before .before .before .pre, c .before .before .before .before .before .before .before .before .before .before .before .before .before .before .before .before .before .before .label-then .ensures .on _ _ (c .before .before .before .before .before .before .before .before .before .before .before .before .before .before .before .before .labelled .given .1), c .before .before .before .before .before .before .before .before .before .before .before .before .before .read-process .ensures .on _ _ (c .before .before .before .before .before .before .before .before .before .inner .given .1), c .before .before .before .before .before .before .before .before .before .before .before .before .before .read-process .ensures .kept .long, c .before .before .before .before .before .before .more-branches .ensures .on _ _ (c .before .before .rest .given .1), c .before .before .before .before .before .before .more-branches .ensures .kept .long))
     -- same-length-3
-    (λ c. c .before .before .put-branch .ensures .long ∙ c .before .before .before .before .before .before .before .before .before .more-branches .ensures .long ∙ c .before .before .before .before .before .before .before .before .before .before .before .before .before .before .before .before .read-process .ensures .long)
+    (λ c. c .before .before .put-branch .ensures .kept .long ∙ c .before .before .before .before .before .before .before .before .before .more-branches .ensures .kept .long ∙ c .before .before .before .before .before .before .before .before .before .before .before .before .before .before .before .before .read-process .ensures .kept .long)
     -- returns-4
     (λ c. branches-got _ _ _ _ (c .before .before .before .before .before .before .before .before .before .before .before .before .before .before .before .before .before .before .before .before .before .before .before .before .pre .1) _ (c .before .before .before .before .before .before .before .before .before .before .before .before .before .before .before .before .before .before .before .before .before .label-then .ensures) (c .before .before .before .before .before .before .before .before .before .before .before .before .before .before .before .before .before .before .before .labelled .given .1) (c .before .before .before .before .before .before .before .before .before .before .before .before .before .before .before .before .read-process .ensures) (c .before .before .before .before .before .before .before .before .before .before .before .before .inner .given .1) (c .before .before .before .before .before .before .before .before .before .more-branches .ensures) (c .before .before .before .before .before .rest .given .1) (c .before .before .put-branch .ensures))

@@ -46,7 +46,7 @@ read-cancel-met t =
     -- returns-3
     (λ c. cancel-rest-no _ _ _ _ (c .before .before .before .before .before .before .before .before .before .before .before .before .before .before .before .before .pre .1) (c .before .before .before .before .before .before .before .before .before .before .before .before .before .process-term .ensures) (c .before .before .before .before .before .before .before .before .before .before .before .term .given .1) (c .before .before .before .before .before .before .before .before .before .expect .ensures) (c .before .before .before .before .before .before .before .named .given .1) (c .before .before .before .before .read-rest .ensures) (c .enum-told3 .given .1))
     -- put-term-requires
-    (λ c κs. (omega (arith, c .before .before .before .before .before .before .before .before .before .before .before .before .before .before .before .before .before .before .pre, c .before .before .before .before .before .before .before .before .before .before .before .before .before .before .before .process-term .ensures .on _ _ (c .before .before .before .before .before .before .before .before .before .before .before .before .before .term .given .1), c .before .before .before .before .before .before .before .before .before .before .before .expect .ensures .on _ _ (c .before .before .before .before .before .before .before .before .before .named .given .1), c .before .before .before .before .before .before .read-rest .ensures .on _ _ (c .before .before .rest .given .1), c .before .before .before .before .before .before .read-rest .ensures .long), omega (arith, c .before .before .before .before .before .before .before .before .before .before .before .before .before .before .before .before .before .before .pre, c .before .before .before .before .before .before .before .before .before .before .before .before .before .before .before .process-term .ensures .on _ _ (c .before .before .before .before .before .before .before .before .before .before .before .before .before .term .given .1), c .before .before .before .before .before .before .before .before .before .before .before .expect .ensures .on _ _ (c .before .before .before .before .before .before .before .before .before .named .given .1), c .before .before .before .before .before .before .read-rest .ensures .on _ _ (c .before .before .rest .given .1), c .before .before .before .before .before .before .read-rest .ensures .long)))
+    (λ c κs. (omega (arith, c .before .before .before .before .before .before .before .before .before .before .before .before .before .before .before .before .before .before .pre, c .before .before .before .before .before .before .before .before .before .before .before .before .before .before .before .process-term .ensures .on _ _ (c .before .before .before .before .before .before .before .before .before .before .before .before .before .term .given .1), c .before .before .before .before .before .before .before .before .before .before .before .expect .ensures .on _ _ (c .before .before .before .before .before .before .before .before .before .named .given .1), c .before .before .before .before .before .before .read-rest .ensures .on _ _ (c .before .before .rest .given .1), c .before .before .before .before .before .before .read-rest .ensures .kept .long), omega (arith, c .before .before .before .before .before .before .before .before .before .before .before .before .before .before .before .before .before .before .pre, c .before .before .before .before .before .before .before .before .before .before .before .before .before .before .before .process-term .ensures .on _ _ (c .before .before .before .before .before .before .before .before .before .before .before .before .before .term .given .1), c .before .before .before .before .before .before .before .before .before .before .before .expect .ensures .on _ _ (c .before .before .before .before .before .before .before .before .before .named .given .1), c .before .before .before .before .before .before .read-rest .ensures .on _ _ (c .before .before .rest .given .1), c .before .before .before .before .before .before .read-rest .ensures .kept .long)))
     -- same-length-2
     (λ c. search needs)
     -- returns-4

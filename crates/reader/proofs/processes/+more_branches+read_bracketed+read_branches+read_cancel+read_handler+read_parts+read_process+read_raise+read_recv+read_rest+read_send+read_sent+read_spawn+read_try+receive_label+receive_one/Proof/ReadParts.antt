@@ -25,7 +25,7 @@ read-parts-met t =
     -- returns
     (λ c. parts-no _ _ _ _ (c .before .before .before .before .before .before .before .before .pre .1 .0 .0) (c .before .before .before .before .before .before .before .before .pre .1 .0 .1) _ (c .before .before .before .before .read-bracketed .ensures) (c .enum-told .given .1))
     -- read-rest-requires
-    (λ c κs. (omega (arith, c .before .before .before .before .before .before .before .before .before .before .pre, c .before .before .before .before .before .before .read-bracketed .ensures .on _ _ (c .before .before .new .given .1), c .before .before .before .before .before .before .read-bracketed .ensures .long), omega (arith, c .before .before .before .before .before .before .before .before .before .before .pre, c .before .before .before .before .before .before .read-bracketed .ensures .on _ _ (c .before .before .new .given .1), c .before .before .before .before .before .before .read-bracketed .ensures .long)))
+    (λ c κs. (omega (arith, c .before .before .before .before .before .before .before .before .before .before .pre, c .before .before .before .before .before .before .read-bracketed .ensures .on _ _ (c .before .before .new .given .1), c .before .before .before .before .before .before .read-bracketed .ensures .kept .long), omega (arith, c .before .before .before .before .before .before .before .before .before .before .pre, c .before .before .before .before .before .before .read-bracketed .ensures .on _ _ (c .before .before .new .given .1), c .before .before .before .before .before .before .read-bracketed .ensures .kept .long)))
     -- enum-known-rest
     (λ c. search needs)
     -- enum-told-2
@@ -35,8 +35,8 @@ read-parts-met t =
     -- returns-2
     (λ c. parts-rest-no _ _ _ _ (c .before .before .before .before .before .before .before .before .before .before .before .before .before .before .before .pre .1 .0 .0) (c .before .before .before .before .before .before .before .before .before .before .before .before .before .before .before .pre .1 .0 .1) _ (c .before .before .before .before .before .before .before .before .before .before .before .read-bracketed .ensures) (c .before .before .before .before .before .before .before .new .given .1) (c .before .before .before .before .read-rest .ensures) (c .enum-told2 .given .1))
     -- put-term-requires
-    (λ c κs. (omega (arith, c .before .before .before .before .before .before .before .before .before .before .before .before .before .before .before .before .before .pre, c .before .before .before .before .before .before .before .before .before .before .before .before .before .read-bracketed .ensures .on _ _ (c .before .before .before .before .before .before .before .before .before .new .given .1), c .before .before .before .before .before .before .read-rest .ensures .on _ _ (c .before .before .rest .given .1), c .before .before .before .before .before .before .before .before .before .before .before .before .before .read-bracketed .ensures .long, c .before .before .before .before .before .before .read-rest .ensures .long), omega (arith, c .before .before .before .before .before .before .before .before .before .before .before .before .before .before .before .before .before .pre, c .before .before .before .before .before .before .before .before .before .before .before .before .before .read-bracketed .ensures .on _ _ (c .before .before .before .before .before .before .before .before .before .new .given .1), c .before .before .before .before .before .before .read-rest .ensures .on _ _ (c .before .before .rest .given .1), c .before .before .before .before .before .before .before .before .before .before .before .before .before .read-bracketed .ensures .long, c .before .before .before .before .before .before .read-rest .ensures .long)))
+    (λ c κs. (omega (arith, c .before .before .before .before .before .before .before .before .before .before .before .before .before .before .before .before .before .pre, c .before .before .before .before .before .before .before .before .before .before .before .before .before .read-bracketed .ensures .on _ _ (c .before .before .before .before .before .before .before .before .before .new .given .1), c .before .before .before .before .before .before .read-rest .ensures .on _ _ (c .before .before .rest .given .1), c .before .before .before .before .before .before .before .before .before .before .before .before .before .read-bracketed .ensures .kept .long, c .before .before .before .before .before .before .read-rest .ensures .kept .long), omega (arith, c .before .before .before .before .before .before .before .before .before .before .before .before .before .before .before .before .before .pre, c .before .before .before .before .before .before .before .before .before .before .before .before .before .read-bracketed .ensures .on _ _ (c .before .before .before .before .before .before .before .before .before .new .given .1), c .before .before .before .before .before .before .read-rest .ensures .on _ _ (c .before .before .rest .given .1), c .before .before .before .before .before .before .before .before .before .before .before .before .before .read-bracketed .ensures .kept .long, c .before .before .before .before .before .before .read-rest .ensures .kept .long)))
     -- same-length-3
-    (λ c. c .before .before .put-term .ensures .long ∙ c .before .before .before .before .before .before .before .before .before .read-rest .ensures .long ∙ c .before .before .before .before .before .before .before .before .before .before .before .before .before .before .before .before .read-bracketed .ensures .long)
+    (λ c. c .before .before .put-term .ensures .kept .long ∙ c .before .before .before .before .before .before .before .before .before .read-rest .ensures .kept .long ∙ c .before .before .before .before .before .before .before .before .before .before .before .before .before .before .before .before .read-bracketed .ensures .kept .long)
     -- returns-3
     (λ c. parts-got _ _ _ _ (c .before .before .before .before .before .before .before .before .before .before .before .before .before .before .before .before .before .before .before .before .pre .1 .0 .0) (c .before .before .before .before .before .before .before .before .before .before .before .before .before .before .before .before .before .before .before .before .pre .1 .0 .1) _ (c .before .before .before .before .before .before .before .before .before .before .before .before .before .before .before .before .read-bracketed .ensures) (c .before .before .before .before .before .before .before .before .before .before .before .before .new .given .1) (c .before .before .before .before .before .before .before .before .before .read-rest .ensures) (c .before .before .before .before .before .rest .given .1) (c .before .before .put-term .ensures))

@@ -35,7 +35,7 @@ read-raise-met t =
     -- returns-2
     (λ c. raise-inner-no _ _ _ _ (c .before .before .before .before .before .before .before .before .before .before .before .before .pre .1) (c .before .before .before .before .before .before .before .before .before .process-term .ensures) (c .before .before .before .before .before .before .before .term .given .1) (c .before .before .before .before .read-process .ensures) (c .enum-told2 .given .1))
     -- put-term-requires
-    (λ c κs. (omega (arith, c .before .before .before .before .before .before .before .before .before .before .before .before .before .before .pre, c .before .before .before .before .before .before .before .before .before .before .before .process-term .ensures .on _ _ (c .before .before .before .before .before .before .before .before .before .term .given .1), c .before .before .before .before .before .before .read-process .ensures .on _ _ (c .before .before .inner .given .1), c .before .before .before .before .before .before .read-process .ensures .long), omega (arith, c .before .before .before .before .before .before .before .before .before .before .before .before .before .before .pre, c .before .before .before .before .before .before .before .before .before .before .before .process-term .ensures .on _ _ (c .before .before .before .before .before .before .before .before .before .term .given .1), c .before .before .before .before .before .before .read-process .ensures .on _ _ (c .before .before .inner .given .1), c .before .before .before .before .before .before .read-process .ensures .long)))
+    (λ c κs. (omega (arith, c .before .before .before .before .before .before .before .before .before .before .before .before .before .before .pre, c .before .before .before .before .before .before .before .before .before .before .before .process-term .ensures .on _ _ (c .before .before .before .before .before .before .before .before .before .term .given .1), c .before .before .before .before .before .before .read-process .ensures .on _ _ (c .before .before .inner .given .1), c .before .before .before .before .before .before .read-process .ensures .kept .long), omega (arith, c .before .before .before .before .before .before .before .before .before .before .before .before .before .before .pre, c .before .before .before .before .before .before .before .before .before .before .before .process-term .ensures .on _ _ (c .before .before .before .before .before .before .before .before .before .term .given .1), c .before .before .before .before .before .before .read-process .ensures .on _ _ (c .before .before .inner .given .1), c .before .before .before .before .before .before .read-process .ensures .kept .long)))
     -- same-length-2
     (λ c. search needs)
     -- returns-3

@@ -38,7 +38,7 @@ read-sent-met t =
     -- sent-node-requires
     (λ c κs. omega (arith, c .before .before .before .before .before .before .before .before .before .before .before .before .before .pre, c .before .before .before .before .before .before .before .before .before .before .payload-token .ensures .on _ _ (c .before .before .before .before .before .before .before .before .sent .given .1), c .before .before .before .before .before .read-rest .ensures .on _ _ (c .before .rest .given .1)))
     -- put-term-requires
-    (λ c κs. (omega (arith, c .before .before .before .before .before .before .before .before .before .before .before .before .before .before .before .pre, c .before .before .before .before .before .before .before .before .before .before .before .before .payload-token .ensures .on _ _ (c .before .before .before .before .before .before .before .before .before .before .sent .given .1), c .before .before .before .before .before .before .before .read-rest .ensures .on _ _ (c .before .before .before .rest .given .1), c .before .before .before .before .before .before .before .read-rest .ensures .long), c .before .sent-node .ensures .1))
+    (λ c κs. (omega (arith, c .before .before .before .before .before .before .before .before .before .before .before .before .before .before .before .pre, c .before .before .before .before .before .before .before .before .before .before .before .before .payload-token .ensures .on _ _ (c .before .before .before .before .before .before .before .before .before .before .sent .given .1), c .before .before .before .before .before .before .before .read-rest .ensures .on _ _ (c .before .before .before .rest .given .1), c .before .before .before .before .before .before .before .read-rest .ensures .kept .long), c .before .sent-node .ensures .1))
     -- same-length-2
     (λ c. search needs)
     -- returns-3

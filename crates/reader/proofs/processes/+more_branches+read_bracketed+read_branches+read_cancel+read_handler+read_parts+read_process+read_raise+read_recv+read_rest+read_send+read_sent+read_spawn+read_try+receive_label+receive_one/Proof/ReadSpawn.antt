@@ -48,7 +48,7 @@ read-spawn-met t =
     -- returns-3
     (λ c. spawn-arrow-no _ _ _ _ (c .before .before .before .before .before .before .before .before .before .before .before .before .before .before .before .before .before .pre .1) (c .before .before .before .before .before .before .before .before .before .before .before .before .before .before .name-colon .ensures) (c .before .before .before .before .before .before .before .before .before .before .before .before .named .given .1) (c .before .before .before .before .before .before .before .before .before .read-type .ensures) (c .before .before .before .before .before .typed .given .1) (c .before .before .before .expect .ensures) (c .before .enum-told3 .given .1) (c .refusal2 .ensures))
     -- read-parts-requires
-    (λ c κs. (omega (arith, c .before .before .before .before .before .before .before .before .before .before .before .before .before .before .before .before .before .before .pre, c .before .before .before .before .before .before .before .before .before .before .before .before .before .before .before .name-colon .ensures .on _ _ (c .before .before .before .before .before .before .before .before .before .before .before .before .before .named .given .1), c .before .before .before .before .before .before .before .before .before .before .read-type .ensures .on _ _ (c .before .before .before .before .before .before .typed .given .1), c .before .before .before .before .expect .ensures .on _ _ (c .before .before .arrow .given .1), c .before .before .before .before .before .before .before .before .before .before .read-type .ensures .long), omega (arith, c .before .before .before .before .before .before .before .before .before .before .before .before .before .before .before .before .before .before .pre, c .before .before .before .before .before .before .before .before .before .before .before .before .before .before .before .name-colon .ensures .on _ _ (c .before .before .before .before .before .before .before .before .before .before .before .before .before .named .given .1), c .before .before .before .before .before .before .before .before .before .before .read-type .ensures .on _ _ (c .before .before .before .before .before .before .typed .given .1), c .before .before .before .before .expect .ensures .on _ _ (c .before .before .arrow .given .1), c .before .before .before .before .before .before .before .before .before .before .read-type .ensures .long)))
+    (λ c κs. (omega (arith, c .before .before .before .before .before .before .before .before .before .before .before .before .before .before .before .before .before .before .pre, c .before .before .before .before .before .before .before .before .before .before .before .before .before .before .before .name-colon .ensures .on _ _ (c .before .before .before .before .before .before .before .before .before .before .before .before .before .named .given .1), c .before .before .before .before .before .before .before .before .before .before .read-type .ensures .on _ _ (c .before .before .before .before .before .before .typed .given .1), c .before .before .before .before .expect .ensures .on _ _ (c .before .before .arrow .given .1), c .before .before .before .before .before .before .before .before .before .before .read-type .ensures .kept .long), omega (arith, c .before .before .before .before .before .before .before .before .before .before .before .before .before .before .before .before .before .before .pre, c .before .before .before .before .before .before .before .before .before .before .before .before .before .before .before .name-colon .ensures .on _ _ (c .before .before .before .before .before .before .before .before .before .before .before .before .before .named .given .1), c .before .before .before .before .before .before .before .before .before .before .read-type .ensures .on _ _ (c .before .before .before .before .before .before .typed .given .1), c .before .before .before .before .expect .ensures .on _ _ (c .before .before .arrow .given .1), c .before .before .before .before .before .before .before .before .before .before .read-type .ensures .kept .long)))
     -- same-length-3
     (λ c. search needs)
     -- returns-4

@@ -49,7 +49,7 @@ read-try-met t =
     -- returns-3
     (λ c. try-catch-no _ _ _ _ (c .before .before .before .before .before .before .before .before .before .before .before .before .before .before .before .before .before .pre .1) (c .before .before .before .before .before .before .before .before .before .before .before .before .before .before .process-term .ensures) (c .before .before .before .before .before .before .before .before .before .before .before .before .term .given .1) (c .before .before .before .before .before .before .before .before .before .read-bracketed .ensures) (c .before .before .before .before .before .main .given .1) (c .before .before .before .expect .ensures) (c .before .enum-told3 .given .1) (c .refusal2 .ensures))
     -- read-bracketed-requires-2
-    (λ c κs. (omega (arith, c .before .before .before .before .before .before .before .before .before .before .before .before .before .before .before .before .before .before .pre, c .before .before .before .before .before .before .before .before .before .before .before .before .before .before .before .process-term .ensures .on _ _ (c .before .before .before .before .before .before .before .before .before .before .before .before .before .term .given .1), c .before .before .before .before .before .before .before .before .before .before .read-bracketed .ensures .on _ _ (c .before .before .before .before .before .before .main .given .1), c .before .before .before .before .expect .ensures .on _ _ (c .before .before .word .given .1), c .before .before .before .before .before .before .before .before .before .before .read-bracketed .ensures .long), omega (arith, c .before .before .before .before .before .before .before .before .before .before .before .before .before .before .before .before .before .before .pre, c .before .before .before .before .before .before .before .before .before .before .before .before .before .before .before .process-term .ensures .on _ _ (c .before .before .before .before .before .before .before .before .before .before .before .before .before .term .given .1), c .before .before .before .before .before .before .before .before .before .before .read-bracketed .ensures .on _ _ (c .before .before .before .before .before .before .main .given .1), c .before .before .before .before .expect .ensures .on _ _ (c .before .before .word .given .1), c .before .before .before .before .before .before .before .before .before .before .read-bracketed .ensures .long)))
+    (λ c κs. (omega (arith, c .before .before .before .before .before .before .before .before .before .before .before .before .before .before .before .before .before .before .pre, c .before .before .before .before .before .before .before .before .before .before .before .before .before .before .before .process-term .ensures .on _ _ (c .before .before .before .before .before .before .before .before .before .before .before .before .before .term .given .1), c .before .before .before .before .before .before .before .before .before .before .read-bracketed .ensures .on _ _ (c .before .before .before .before .before .before .main .given .1), c .before .before .before .before .expect .ensures .on _ _ (c .before .before .word .given .1), c .before .before .before .before .before .before .before .before .before .before .read-bracketed .ensures .kept .long), omega (arith, c .before .before .before .before .before .before .before .before .before .before .before .before .before .before .before .before .before .before .pre, c .before .before .before .before .before .before .before .before .before .before .before .before .before .before .before .process-term .ensures .on _ _ (c .before .before .before .before .before .before .before .before .before .before .before .before .before .term .given .1), c .before .before .before .before .before .before .before .before .before .before .read-bracketed .ensures .on _ _ (c .before .before .before .before .before .before .main .given .1), c .before .before .before .before .expect .ensures .on _ _ (c .before .before .word .given .1), c .before .before .before .before .before .before .before .before .before .before .read-bracketed .ensures .kept .long)))
     -- enum-known-handler
     (λ c. search needs)
     -- enum-told-4
@@ -59,8 +59,8 @@ read-try-met t =
     -- returns-4
     (λ c. try-handler-no _ _ _ _ (c .before .before .before .before .before .before .before .before .before .before .before .before .before .before .before .before .before .before .before .before .before .before .before .pre .1) (c .before .before .before .before .before .before .before .before .before .before .before .before .before .before .before .before .before .before .before .before .process-term .ensures) (c .before .before .before .before .before .before .before .before .before .before .before .before .before .before .before .before .before .before .term .given .1) (c .before .before .before .before .before .before .before .before .before .before .before .before .before .before .before .read-bracketed .ensures) (c .before .before .before .before .before .before .before .before .before .before .before .main .given .1) (c .before .before .before .before .before .before .before .before .before .expect .ensures) (c .before .before .before .before .before .before .before .word .given .1) (c .before .before .before .before .read-bracketed2 .ensures) (c .enum-told4 .given .1))
     -- put-term-requires
-    (λ c κs. (omega (arith, c .before .before .before .before .before .before .before .before .before .before .before .before .before .before .before .before .before .before .before .before .before .before .before .before .before .pre, c .before .before .before .before .before .before .before .before .before .before .before .before .before .before .before .before .before .before .before .before .before .before .process-term .ensures .on _ _ (c .before .before .before .before .before .before .before .before .before .before .before .before .before .before .before .before .before .before .before .before .term .given .1), c .before .before .before .before .before .before .before .before .before .before .before .before .before .before .before .before .before .read-bracketed .ensures .on _ _ (c .before .before .before .before .before .before .before .before .before .before .before .before .before .main .given .1), c .before .before .before .before .before .before .before .before .before .before .before .expect .ensures .on _ _ (c .before .before .before .before .before .before .before .before .before .word .given .1), c .before .before .before .before .before .before .read-bracketed2 .ensures .on _ _ (c .before .before .handler .given .1), c .before .before .before .before .before .before .before .before .before .before .before .before .before .before .before .before .before .read-bracketed .ensures .long, c .before .before .before .before .before .before .read-bracketed2 .ensures .long), omega (arith, c .before .before .before .before .before .before .before .before .before .before .before .before .before .before .before .before .before .before .before .before .before .before .before .before .before .pre, c .before .before .before .before .before .before .before .before .before .before .before .before .before .before .before .before .before .before .before .before .before .before .process-term .ensures .on _ _ (c .before .before .before .before .before .before .before .before .before .before .before .before .before .before .before .before .before .before .before .before .term .given .1), c .before .before .before .before .before .before .before .before .before .before .before .before .before .before .before .before .before .read-bracketed .ensures .on _ _ (c .before .before .before .before .before .before .before .before .before .before .before .before .before .main .given .1), c .before .before .before .before .before .before .before .before .before .before .before .expect .ensures .on _ _ (c .before .before .before .before .before .before .before .before .before .word .given .1), c .before .before .before .before .before .before .read-bracketed2 .ensures .on _ _ (c .before .before .handler .given .1), c .before .before .before .before .before .before .before .before .before .before .before .before .before .before .before .before .before .read-bracketed .ensures .long, c .before .before .before .before .before .before .read-bracketed2 .ensures .long)))
+    (λ c κs. (omega (arith, c .before .before .before .before .before .before .before .before .before .before .before .before .before .before .before .before .before .before .before .before .before .before .before .before .before .pre, c .before .before .before .before .before .before .before .before .before .before .before .before .before .before .before .before .before .before .before .before .before .before .process-term .ensures .on _ _ (c .before .before .before .before .before .before .before .before .before .before .before .before .before .before .before .before .before .before .before .before .term .given .1), c .before .before .before .before .before .before .before .before .before .before .before .before .before .before .before .before .before .read-bracketed .ensures .on _ _ (c .before .before .before .before .before .before .before .before .before .before .before .before .before .main .given .1), c .before .before .before .before .before .before .before .before .before .before .before .expect .ensures .on _ _ (c .before .before .before .before .before .before .before .before .before .word .given .1), c .before .before .before .before .before .before .read-bracketed2 .ensures .on _ _ (c .before .before .handler .given .1), c .before .before .before .before .before .before .before .before .before .before .before .before .before .before .before .before .before .read-bracketed .ensures .kept .long, c .before .before .before .before .before .before .read-bracketed2 .ensures .kept .long), omega (arith, c .before .before .before .before .before .before .before .before .before .before .before .before .before .before .before .before .before .before .before .before .before .before .before .before .before .pre, c .before .before .before .before .before .before .before .before .before .before .before .before .before .before .before .before .before .before .before .before .before .before .process-term .ensures .on _ _ (c .before .before .before .before .before .before .before .before .before .before .before .before .before .before .before .before .before .before .before .before .term .given .1), c .before .before .before .before .before .before .before .before .before .before .before .before .before .before .before .before .before .read-bracketed .ensures .on _ _ (c .before .before .before .before .before .before .before .before .before .before .before .before .before .main .given .1), c .before .before .before .before .before .before .before .before .before .before .before .expect .ensures .on _ _ (c .before .before .before .before .before .before .before .before .before .word .given .1), c .before .before .before .before .before .before .read-bracketed2 .ensures .on _ _ (c .before .before .handler .given .1), c .before .before .before .before .before .before .before .before .before .before .before .before .before .before .before .before .before .read-bracketed .ensures .kept .long, c .before .before .before .before .before .before .read-bracketed2 .ensures .kept .long)))
     -- same-length-4
-    (λ c. c .before .before .put-term .ensures .long ∙ c .before .before .before .before .before .before .before .before .before .read-bracketed2 .ensures .long ∙ c .before .before .before .before .before .before .before .before .before .before .before .before .before .before .before .before .before .before .before .before .read-bracketed .ensures .long)
+    (λ c. c .before .before .put-term .ensures .kept .long ∙ c .before .before .before .before .before .before .before .before .before .read-bracketed2 .ensures .kept .long ∙ c .before .before .before .before .before .before .before .before .before .before .before .before .before .before .before .before .before .before .before .before .read-bracketed .ensures .kept .long)
     -- returns-5
     (λ c. try-got _ _ _ _ (c .before .before .before .before .before .before .before .before .before .before .before .before .before .before .before .before .before .before .before .before .before .before .before .before .before .before .before .before .pre .1) (c .before .before .before .before .before .before .before .before .before .before .before .before .before .before .before .before .before .before .before .before .before .before .before .before .before .process-term .ensures) (c .before .before .before .before .before .before .before .before .before .before .before .before .before .before .before .before .before .before .before .before .before .before .before .term .given .1) (c .before .before .before .before .before .before .before .before .before .before .before .before .before .before .before .before .before .before .before .before .read-bracketed .ensures) (c .before .before .before .before .before .before .before .before .before .before .before .before .before .before .before .before .main .given .1) (c .before .before .before .before .before .before .before .before .before .before .before .before .before .before .expect .ensures) (c .before .before .before .before .before .before .before .before .before .before .before .before .word .given .1) (c .before .before .before .before .before .before .before .before .before .read-bracketed2 .ensures) (c .before .before .before .before .before .handler .given .1) (c .before .before .put-term .ensures))

@@ -23,7 +23,7 @@ receive-label-met t =
     -- returns
     (λ c. labels-no _ _ _ _ (c .before .before .before .before .before .before .before .before .pre .1 .0 .0) (c .before .before .before .before .before .before .before .before .pre .1 .0 .1) _ _ (c .before .before .before .before .before .before .before .before .pre .1 .1 .0) (c .before .before .before .before .before .before .before .before .pre .1 .1 .1) (c .before .before .before .before .read-branches .ensures) (c .enum-told .given .1))
     -- put-term-requires
-    (λ c κs. (omega (arith, c .before .before .before .before .before .before .before .before .before .before .pre, c .before .before .before .before .before .before .read-branches .ensures .on _ _ (c .before .before .inner .given .1), c .before .before .before .before .before .before .read-branches .ensures .long), omega (arith, c .before .before .before .before .before .before .before .before .before .before .pre, c .before .before .before .before .before .before .read-branches .ensures .on _ _ (c .before .before .inner .given .1), c .before .before .before .before .before .before .read-branches .ensures .long)))
+    (λ c κs. (omega (arith, c .before .before .before .before .before .before .before .before .before .before .pre, c .before .before .before .before .before .before .read-branches .ensures .on _ _ (c .before .before .inner .given .1), c .before .before .before .before .before .before .read-branches .ensures .kept .long), omega (arith, c .before .before .before .before .before .before .before .before .before .before .pre, c .before .before .before .before .before .before .read-branches .ensures .on _ _ (c .before .before .inner .given .1), c .before .before .before .before .before .before .read-branches .ensures .kept .long)))
     -- same-length-2
     (λ c. search needs)
     -- returns-2

@@ -38,7 +38,7 @@ receive-one-met t =
     -- received-node-requires
     (λ c κs. omega (arith, c .before .before .before .before .before .before .before .before .before .before .before .before .before .pre, c .before .before .before .before .before .before .before .before .before .before .payload-then .ensures .on _ _ (c .before .before .before .before .before .before .before .before .taken .given .1), c .before .before .before .before .before .read-process .ensures .on _ _ (c .before .inner .given .1)))
     -- put-term-requires
-    (λ c κs. (omega (arith, c .before .before .before .before .before .before .before .before .before .before .before .before .before .before .before .pre, c .before .before .before .before .before .before .before .before .before .before .before .before .payload-then .ensures .on _ _ (c .before .before .before .before .before .before .before .before .before .before .taken .given .1), c .before .before .before .before .before .before .before .read-process .ensures .on _ _ (c .before .before .before .inner .given .1), c .before .before .before .before .before .before .before .read-process .ensures .long), c .before .received-node .ensures .1))
+    (λ c κs. (omega (arith, c .before .before .before .before .before .before .before .before .before .before .before .before .before .before .before .pre, c .before .before .before .before .before .before .before .before .before .before .before .before .payload-then .ensures .on _ _ (c .before .before .before .before .before .before .before .before .before .before .taken .given .1), c .before .before .before .before .before .before .before .read-process .ensures .on _ _ (c .before .before .before .inner .given .1), c .before .before .before .before .before .before .before .read-process .ensures .kept .long), c .before .received-node .ensures .1))
     -- same-length-2
     (λ c. search needs)
     -- returns-3
