@@ -4,3 +4,4 @@ pub mod TypePaths
 pub mod NamePaths
 pub mod ProcessPaths
 pub mod SignaturePaths
+pub mod ScriptPaths

@@ -19,7 +19,7 @@ use Rattle.notation.specs.declared.reading.Taken.{Taken}
 use Rattle.notation.specs.declared.reading.Taken.the-variants.{At, Refused}
 use Rattle.reader.specs.declared.steps.Out.{Out}
 use Rattle.reader.specs.declared.steps.Out.the-variants.{Got, Not}
-use Rattle.reader.specs.Filling.{TypeRead, Stepped, asOut, Put, Room, unread}
+use Rattle.reader.specs.Filling.{SameDeclared, TypeRead, Stepped, asOut, Put, Room, unread}
 use Rattle.reader.specs.Scripts.{entryName, FineEntries, entriesForm, closeBy, moreEntriesBy, entriesOrNone, EntriesRead}
 use Rattle.reader.proofs.TypePaths.{then-take}
 use Rattle.reader.proofs.Filled.{same, _upon_, put-kept, took, refused-out, made-got, gone-on, stopped, meets-no, meets-got, more-no, more-got}
@@ -49,6 +49,12 @@ unfolding readEntries entryName
 entries-suc m s close c =
     (λ j. take (expect s kName c) λ i d. take (expect s kColon d) λ _ e. part (readType m s e) λ A f. entries-last m s close (entry s i A) f j)
     ∙ sym (then-take (expect s kName c) (expect s kColon) _)
+
+-- an entry more changes nothing else
+entry-added : (k l : Tally) → l ≡ moreEntries k
+    → (l .entries ≡ k .entries + 1) × (l .nodes ≡ k .nodes) × (l .alternatives ≡ k .alternatives) × (l .terms ≡ k .terms) × (l .branches ≡ k .branches) × SameDeclared k l
+entry-added k l e =
+    (ap (λ x. x .entries) e, ap (λ x. x .nodes) e, ap (λ x. x .alternatives) e, ap (λ x. x .terms) e, ap (λ x. x .branches) e, (ap (λ x. x .types) e, ap (λ x. x .processes) e, ap (λ x. x .execs) e))
 
 -- ── the bracket that closes
 module _ (s w : List ℕ) (c : Cursor) (k : Tally) (room : Room s w c k) (close n : ℕ) {q : Taken} (u : Stepped s c n 0 0 (expect s close c) q) where
@@ -110,11 +116,7 @@ module _ (s w : List ℕ) (c : Cursor) (k : Tally) (room : Room s w c k) (close 
               let o = u .on i d e in
               let o₂ = t .on f l g in
               let o₃ = y .on b l₃ z in
-              let count : l₂ .entries ≡ l .entries + 1 = ap (λ x. x .entries) (pt .is) in
-              let nodes : l₂ .nodes ≡ l .nodes = ap (λ x. x .nodes) (pt .is) in
-              let alternatives : l₂ .alternatives ≡ l .alternatives = ap (λ x. x .alternatives) (pt .is) in
-              let terms : l₂ .terms ≡ l .terms = ap (λ x. x .terms) (pt .is) in
-              let branches : l₂ .branches ≡ l .branches = ap (λ x. x .branches) (pt .is) in
+              let added = entry-added l l₂ (pt .is) in
               rw z
               (more-got entriesForm s w c k (λ m. readEntries m s close c) (omega arith) (y .kept upon pt .kept upon t .kept)
               (λ m lo. gone-on (readType m s d) (t .is m (omega arith)) g λ A a al av fi.

@@ -136,9 +136,13 @@ unfoldable mutual
   FineAlternatives Alternatives.none = 0 ≤ 0
   FineAlternatives (alternative l A r) = (l .at < textLimit) × FineType A × FineAlternatives r
 
+-- no declaration was appended
+abbrev pub SameDeclared : Tally → Tally → Type 0
+SameDeclared k l = (l .types ≡ k .types) × (l .processes ≡ k .processes) × (l .execs ≡ k .execs)
+
 -- the other tables, and the process terms, are as they were
 abbrev pub OthersSame : Cursor → Tally → Cursor → Tally → Type 0
-OthersSame c k d l = (d .terms ≡ c .terms) × (l .entries ≡ k .entries) × (l .terms ≡ k .terms) × (l .branches ≡ k .branches)
+OthersSame c k d l = (d .terms ≡ c .terms) × (l .entries ≡ k .entries) × (l .terms ≡ k .terms) × (l .branches ≡ k .branches) × SameDeclared k l
 
 -- past a type: `own` is 1 for a list of alternatives, of which each has a type term more than alternatives
 abbrev pub AheadType : ℕ → List ℕ → Cursor → Tally → Cursor → Tally → Type 0
