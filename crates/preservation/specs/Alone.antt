@@ -1,36 +1,36 @@
 -- The rules of a term that steps alone, and of a process that folds up or leaves: each keeps the invariant.
 use mathlib.Core.Path.{_≡_, refl, sym, _∙_, ap, subst}
 use mathlib.Core.Logic.{_≢_, _⊎_, inl, inr}
-use mathlib.Core.List.{List, [], _∷_, _++_, map, Sublistᴰ, Sublistᴰ·slnil, Sublistᴰ·cons, Sublistᴰ·refl, Sublistᴰ·nil-sublist}
+use mathlib.Core.List.{List, [], _∷_, _++_, Sublistᴰ, Sublistᴰ·cons, Sublistᴰ·refl, Sublistᴰ·nil-sublist}
 use mathlib.Core.Option.{Option, some, none, Option·map, map-eq-some-iff, Option·none-ne-some, Option·some-injective}
-use mathlib.Core.Bool.{Bool, true, false, cond, So, not, true≢false, false≢true}
-use Prim.Native.Nat.{ℕ, zero, suc, _≤_, _<_}
+use mathlib.Core.Bool.{Bool, true, false, cond, So, not, false≢true}
+use Prim.Native.Nat.{ℕ, suc, _≤_, _<_}
 use native.Mathlib.Omega.{arith}
 use lib.ListN.{length, set, getElem?, length-set}
 use lib.Dec.{ltb}
-use Rattle.notation.specs.Limits.{processPlaces, channelPlaces, outsideNumbers, heldLimit}
+use Rattle.notation.specs.Limits.{processPlaces, channelPlaces, heldLimit}
 use Rattle.notation.specs.Tree.{Name, Located, Ty, Proc, plain}
 use Rattle.calculus.specs.Named.{lookup, without, kept, names, isSome}
-use Rattle.calculus.specs.Types.{Side, provided, used, sameType}
+use Rattle.calculus.specs.Types.{provided, used, sameType}
 use Rattle.calculus.specs.Program.{slot, Context, Program}
 use Rattle.calculus.specs.Mentions.{mentions, halfMentions, spawnTakes, spawnLeaves, tryTakes, exactlyOne}
 use Rattle.calculus.specs.Typing.{Typed, Brought, bringing}
-use Rattle.calculus.specs.Configuration.{End, end, Doing, running, folding, waiting, Process, process, Outside, Config, config, Far, atProcess, atOutside, givenUp, farEnd, freshChannel, movedUp, relinked, inserted, removed, letGo}
-use Rattle.calculus.specs.Steps.{Outcome, carried, notOpen, lacking, seenAt, outsideAfter, parting, cancelling, spawned, spawning, trying, changedAt, putAt, startedHandler, startedDoing, foldedHandler, joinedTo, joining, forwarding, raising, leaving, foldingUp}
+use Rattle.calculus.specs.Configuration.{End, end, Doing, running, folding, waiting, Process, process, Outside, Config, config, Far, atProcess, atOutside, givenUp, farEnd, freshChannel, movedUp, relinked, inserted, removed}
+use Rattle.calculus.specs.Steps.{lacking, outsideAfter, parting, cancelling, spawned, spawning, trying, changedAt, putAt, startedHandler, startedDoing, foldedHandler, joinedTo, joining, forwarding, raising, leaving, foldingUp}
 use Rattle.calculus.specs.WellFormed.{In, contextOf, isWaiting}
 use Rattle.derivations.specs.Booleans.{ltb-iff, all-iff}
 use Rattle.derivations.specs.Equality.{sameType-iff}
 use Rattle.preservation.specs.Mates.{put}
 use Rattle.preservation.specs.Lists.{names-in, in-lookup, without-sub}
-use Rattle.preservation.specs.Roster.{Roster, channelKey, Has, TypedDoing, Fine, Good, profile}
+use Rattle.preservation.specs.Roster.{channelKey, Has, TypedDoing, Good}
 use Rattle.preservation.specs.LettingGo.{let-go-sub, raised, left, left-alone}
 use Rattle.preservation.specs.Places.{Shows, shows-set, shows-in, shows-out, idIn, id-in-low, id-in-new, relinked-in, up-below, idOut, set-cases, found-below, below-found, length-inserted, length-removed}
-use Rattle.preservation.specs.FarEnds.{Found, FarIs, at-process, at-outside, at-nobody, far-is, fresh-free}
+use Rattle.preservation.specs.FarEnds.{FarIs, at-process, at-outside, at-nobody, far-is, fresh-free}
 use Rattle.preservation.specs.Forwarding.{forwarded, forwarded-out}
 use Rattle.preservation.specs.Witness.{Tip}
 use Rattle.preservation.specs.Growing
 use Rattle.preservation.specs.Contexts.{held-plain, context-names, context-without, context-kept, context-append, context-length, absent-held}
-use Rattle.preservation.specs.Invariant.{Inv, Keeps, keeps-cond, keeps-held, at-roster, fine-at, typed-at, inv-set, inv-less, inv-two, handler, unlinked}
+use Rattle.preservation.specs.Invariant.{Inv, Keeps, keeps-cond, keeps-held, at-roster, fine-at, inv-set, inv-less, inv-two, handler, unlinked}
 
 pub outside-after-sub : (f : Far) (k : ℕ) (o : List Outside) → Sublistᴰ (outsideAfter f k o) o
 outside-after-sub (atProcess h) k o = Sublistᴰ·refl o

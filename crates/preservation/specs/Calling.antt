@@ -1,26 +1,25 @@
 -- A call: the process holds the same ends, under the names of the signature.
 use mathlib.Core.Path.{_≡_, refl, sym, _∙_, ap, subst}
-use mathlib.Core.Logic.{_≢_, _⊎_, inl, inr}
-use mathlib.Core.List.{List, [], _∷_, _++_, map, Sublistᴰ·refl, List·Memᴰ·head, List·Memᴰ·tail, List·Memᴰ·not-nil, Memᴰ·map, Memᴰ·of-map, Memᴰ·cast}
-use mathlib.Core.Option.{Option, some, none, Option·map, Option·none-ne-some, Option·some-injective}
-use mathlib.Core.Bool.{Bool, true, false, _&&_, false≢true, and-eq-true-iff}
-use Prim.Native.Nat.{ℕ, _≤_, _<_}
-use lib.ListN.{length, set, getElem?}
-use Rattle.notation.specs.Limits.{heldLimit, channelPlaces}
+use mathlib.Core.List.{List, [], _∷_, _++_, map, Sublistᴰ·refl, List·Memᴰ·head, List·Memᴰ·tail, List·Memᴰ·not-nil, Memᴰ·of-map, Memᴰ·cast}
+use mathlib.Core.Option.{Option, some, none, Option·map}
+use mathlib.Core.Bool.{true, false, and-eq-true-iff}
+use Prim.Native.Nat.{ℕ, _≤_}
+use lib.ListN.{length, getElem?}
+use Rattle.notation.specs.Limits.{heldLimit}
 use Rattle.notation.specs.Tree.{Name, Located, Ty}
 use Rattle.calculus.specs.Named.{lookup, names, distinct, isSome}
 use Rattle.calculus.specs.Types.{Side, provided, used, sameSide, sameType}
 use Rattle.calculus.specs.Program.{Slot, slot, Context, Signature, Program, onSide, signatureContext}
 use Rattle.calculus.specs.Typing.{Typed, TypedBody, namesOf, entryFits, listFits}
-use Rattle.calculus.specs.Configuration.{End, end, Doing, running, Process, process, relinked, Outside, Config, config}
+use Rattle.calculus.specs.Configuration.{End, end, running, Process, process, relinked, Config}
 use Rattle.calculus.specs.Steps.{renamedEnd, renamed, entering, calling}
 use Rattle.calculus.specs.WellFormed.{In, NoneTwice, contextOf, key, isWaiting}
 use Rattle.derivations.specs.Booleans.{never}
 use Rattle.derivations.specs.Equality.{sameSide-iff, sameType-iff}
 use Rattle.preservation.specs.Lists.{once-by, lookup-in, distinct-iff}
-use Rattle.preservation.specs.Roster.{keyAt, Fine, Good}
+use Rattle.preservation.specs.Roster.{keyAt, Fine}
 use Rattle.preservation.specs.LettingGo.{less}
-use Rattle.preservation.specs.Contexts.{context-names, context-length, held-plain, Held, context-lookup}
+use Rattle.preservation.specs.Contexts.{context-names, context-length, held-plain, Held}
 use Rattle.preservation.specs.Invariant.{Inv, Keeps, at-roster, fine-at, inv-set}
 use Rattle.preservation.specs.Weakening.{weakened}
 

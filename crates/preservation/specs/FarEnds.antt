@@ -1,22 +1,22 @@
 -- What the machine finds in the list: the far end of an end, and a channel that is free.
 use mathlib.Core.Path.{_≡_, refl, sym, _∙_, ap, subst}
 use mathlib.Core.Logic.{_≢_, _⊎_, inl, inr}
-use mathlib.Core.List.{List, [], _∷_, _++_, map, List·Memᴰ·head, List·Memᴰ·tail, List·Memᴰ·not-nil, Memᴰ·map}
+use mathlib.Core.List.{List, [], _∷_, map, List·Memᴰ·head, List·Memᴰ·tail, List·Memᴰ·not-nil, Memᴰ·map}
 use mathlib.Core.Option.{Option, some, none, Option·none-ne-some, Option·some-injective}
-use mathlib.Core.Bool.{Bool, true, false, cond, So, _&&_, true≢false, false≢true, and-eq-true-iff}
-use Prim.Native.Nat.{ℕ, zero, suc, _+_, _≤_, _<_}
+use mathlib.Core.Bool.{Bool, true, false, cond, So, _&&_, false≢true, and-eq-true-iff}
+use Prim.Native.Nat.{ℕ, zero, suc, _+_, _<_}
 use native.Mathlib.Omega.{arith}
-use lib.ListN.{length, getElem?}
+use lib.ListN.{getElem?}
 use lib.Dec.{eqb}
 use Rattle.notation.specs.Limits.{channelPlaces}
 use Rattle.notation.specs.Tree.{Name, Ty}
 use Rattle.calculus.specs.Types.{Side, provided, used, other, sameSide}
 use Rattle.calculus.specs.Configuration.{End, Process, relinked, Outside, Config, heldAs, Holder, holderHere, holderFrom, outsideOf, Far, atProcess, atOutside, givenUp, orOutside, farFrom, farEnd, heldChannels, processChannels, channelsHeld, among, freeFrom, freshChannel}
 use Rattle.calculus.specs.WellFormed.{In}
-use Rattle.derivations.specs.Booleans.{bool-cases, never, cond-true, cond-false, eqb-iff}
+use Rattle.derivations.specs.Booleans.{bool-cases, cond-true, cond-false, eqb-iff}
 use Rattle.derivations.specs.Equality.{sameSide-iff}
-use Rattle.preservation.specs.Witness.{Key, Tip, side-clash}
-use Rattle.preservation.specs.Roster.{Roster, channelKey, linkKey, channel-key-one, channel-no-link, tipOf, Tips, holds, links, waits, Has, outside, inside}
+use Rattle.preservation.specs.Witness.{Tip, side-clash}
+use Rattle.preservation.specs.Roster.{Roster, channelKey, channel-key-one, channel-no-link, holds, links, waits, Has, outside, inside}
 use Rattle.preservation.specs.Places.{Shows}
 
 -- ── who holds an end

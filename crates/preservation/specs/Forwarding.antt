@@ -1,26 +1,24 @@
 -- A forwarder: its two channels become one, and it is left empty.
 use mathlib.Core.Path.{_≡_, refl, sym, _∙_, ap, subst}
 use mathlib.Core.Logic.{_≢_, _⊎_, inl, inr}
-use mathlib.Core.List.{List, [], _∷_, _++_, map, Sublistᴰ·nil-sublist, List·Memᴰ·head, List·Memᴰ·tail, List·Memᴰ·not-nil, List·Memᴰ·eq-of-singleton, Memᴰ·map, Memᴰ·of-map, Memᴰ·cast}
-use mathlib.Core.Option.{Option, some, none}
-use mathlib.Core.Bool.{Bool, true, false, cond, So}
-use Prim.Native.Nat.{ℕ, zero, suc, _+_, _≤_, _<_}
-use lib.ListN.{length}
+use mathlib.Core.List.{List, [], _∷_, map, Sublistᴰ·nil-sublist, List·Memᴰ·head, List·Memᴰ·tail, List·Memᴰ·not-nil, List·Memᴰ·eq-of-singleton, Memᴰ·map, Memᴰ·of-map, Memᴰ·cast}
+use mathlib.Core.Option.{Option, some}
+use mathlib.Core.Bool.{Bool, true, false, cond}
+use Prim.Native.Nat.{ℕ, _≤_, _<_}
 use lib.Dec.{eqb}
 use Rattle.notation.specs.Limits.{heldLimit, channelPlaces}
-use Rattle.notation.specs.Tree.{Name, Ty}
+use Rattle.notation.specs.Tree.{Name}
 use Rattle.calculus.specs.Named.{lookup, changed, names, isSome}
 use Rattle.calculus.specs.Types.{Side, provided, used, other}
 use Rattle.calculus.specs.Program.{slot, Program}
 use Rattle.calculus.specs.Declarations.{outward}
-use Rattle.calculus.specs.Configuration.{End, end, Doing, folding, Process, process, Outside, changedOutside, movedOutside}
+use Rattle.calculus.specs.Configuration.{End, end, folding, Process, process, Outside, changedOutside, movedOutside}
 use Rattle.calculus.specs.WellFormed.{In, NoneTwice, Rising, contextOf, key, isWaiting}
-use Rattle.derivations.specs.Booleans.{bool-cases, cond-true, cond-false, eqb-iff}
 use Rattle.preservation.specs.Witness.{Key, Tip, Rel, Witness, side-clash, Moved, over, outing}
 use Rattle.preservation.specs.Lists.{by-test, lookup-in, changed-cases, changed-names, changed-length}
 use Rattle.preservation.specs.Mates.{put}
-use Rattle.preservation.specs.Roster.{Roster, channelKey, linkKey, channel-no-link, keyOf, tipOf, linkTip, outsideTip, Has, outside, inside, TypedDoing, keyAt, Fine, fine-less, Fair, Good, Change, becomes, one-good, two-good}
-use Rattle.preservation.specs.Retyping.{key-cases, key-of-key, above, owner, one-type, joins, far-owner, near-owner, ends-apart, held-tip, outside-cases, outside-map}
+use Rattle.preservation.specs.Roster.{Roster, channelKey, channel-no-link, keyOf, tipOf, linkTip, outsideTip, Has, outside, TypedDoing, keyAt, Fine, fine-less, Good, Change, becomes, one-good, two-good}
+use Rattle.preservation.specs.Retyping.{key-cases, above, owner, one-type, joins, far-owner, near-owner, ends-apart, held-tip, outside-cases, outside-map}
 
 -- ── lists in which one key is new
 module _ {X B : Type 0} (g : X → B) (c : Name) (f : X → X) where

@@ -1,26 +1,26 @@
 -- Rules that make a process: the new one takes some ends of its maker, and is joined to it by a new channel or link.
 use mathlib.Core.Path.{_≡_, refl, sym, _∙_, ap, subst}
 use mathlib.Core.Logic.{_≢_, _⊎_, inl, inr}
-use mathlib.Core.List.{List, [], _∷_, _++_, map, List·Memᴰ·head, List·Memᴰ·tail, List·Memᴰ·not-nil, List·Memᴰ·append-cases, List·Memᴰ·eq-of-singleton, Memᴰ·map, Memᴰ·of-map, Memᴰ·cast, Memᴰ·append-left, Memᴰ·append-right}
+use mathlib.Core.List.{List, [], _∷_, _++_, map, List·Memᴰ·head, List·Memᴰ·not-nil, List·Memᴰ·append-cases, List·Memᴰ·eq-of-singleton, Memᴰ·map, Memᴰ·of-map, Memᴰ·cast, Memᴰ·append-left, Memᴰ·append-right}
 use mathlib.Core.Option.{Option, some, none, Option·none-ne-some, Option·some-injective}
-use mathlib.Core.Bool.{Bool, true, false, cond, So, not, true≢false}
-use Prim.Native.Nat.{ℕ, zero, suc, _+_, _≤_, _<_}
+use mathlib.Core.Bool.{Bool, true, false, So, not, true≢false}
+use Prim.Native.Nat.{ℕ, suc, _≤_, _<_}
 use native.Mathlib.Omega.{arith}
 use lib.ListN.{length}
 use Rattle.notation.specs.Limits.{heldLimit, channelPlaces}
 use Rattle.notation.specs.Tree.{Name, Ty, Proc}
 use Rattle.calculus.specs.Named.{lookup, kept, names, isSome}
-use Rattle.calculus.specs.Types.{Side, provided, used, other}
+use Rattle.calculus.specs.Types.{Side, provided, used}
 use Rattle.calculus.specs.Program.{Program}
 use Rattle.calculus.specs.Typing.{Typed}
 use Rattle.calculus.specs.Configuration.{End, end, Doing, running, folding, waiting, Process, process, Outside}
 use Rattle.calculus.specs.WellFormed.{In, NoneTwice, contextOf, key, isWaiting}
 use Rattle.preservation.specs.Witness.{Key, Tip, Rel, Witness, fewer, Moved, Joined, sides, Between, over, joined-uses, joined-provides}
-use Rattle.preservation.specs.Lists.{once-by, sub-in, sub-once, sub-length, lookup-in, absent, kept-sub, kept-in, names-map, names-in, names-append, once-snoc, length-snoc}
-use Rattle.preservation.specs.Mates.{put, put-elim, put-at, put-off, Profile, Mates, mates-same, mates-put, mates-new, Quiet, quiet-none, quiet-some}
-use Rattle.preservation.specs.Roster.{Roster, channelKey, linkKey, channel-key-one, link-key-one, channel-no-link, keyOf, tipOf, linkTip, outsideTip, Tips, holds, links, waits, Has, outside, inside, TypedDoing, keyAt, Fine, fine-less, Fair, profile, Good}
-use Rattle.preservation.specs.LettingGo.{profile-put, profile-put-two}
-use Rattle.preservation.specs.Retyping.{key-of-key, key-from-key, above, owner, held-tip}
+use Rattle.preservation.specs.Lists.{once-by, sub-in, sub-once, absent, kept-sub, kept-in, names-map, names-in, names-append, once-snoc, length-snoc}
+use Rattle.preservation.specs.Mates.{put, put-elim, Profile, Mates, mates-same, mates-put, mates-new, Quiet, quiet-none, quiet-some}
+use Rattle.preservation.specs.Roster.{Roster, channelKey, linkKey, link-key-one, channel-no-link, keyOf, tipOf, linkTip, Tips, holds, links, waits, Has, outside, inside, TypedDoing, keyAt, Fine, fine-less, profile, Good}
+use Rattle.preservation.specs.LettingGo.{profile-put-two}
+use Rattle.preservation.specs.Retyping.{key-from-key, above, owner, held-tip}
 use Rattle.preservation.specs.Passing.{map-append}
 
 abbrev linkKeys : Option ℕ → List Key

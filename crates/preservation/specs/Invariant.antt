@@ -2,11 +2,11 @@
 -- Why identities: inserting or removing a process shifts places and links, and under identities nothing of the forest changes then;
 -- only the map from places to identities does. So each rule is proved on rosters, and read off the list by one of three laws of Places.
 use mathlib.Core.Path.{_≡_, refl, sym, _∙_, ap, subst}
-use mathlib.Core.Logic.{_≢_, _⊎_, inl, inr}
-use mathlib.Core.List.{List, [], _∷_, _++_, map, Sublistᴰ, Sublistᴰ·refl}
+use mathlib.Core.Logic.{_≢_}
+use mathlib.Core.List.{List, Sublistᴰ}
 use mathlib.Core.Option.{Option, some, none, Option·map, Option·some-injective}
 use mathlib.Core.Bool.{Bool, true, false, cond, true≢false}
-use Prim.Native.Nat.{ℕ, zero, suc, _≤_, _<_}
+use Prim.Native.Nat.{ℕ, _≤_}
 use native.Mathlib.Omega.{arith}
 use lib.ListN.{length, set, getElem?, length-set}
 use Rattle.notation.specs.Limits.{processPlaces, outsideNumbers}

@@ -1,22 +1,21 @@
 -- The joints of a configuration by their numbers: what `joints` lists, with identities for places.
 use mathlib.Core.Path.{_≡_, refl, sym, _∙_, ap, subst}
 use mathlib.Core.Logic.{_≢_, _⊎_, inl, inr}
-use mathlib.Core.List.{List, [], _∷_, _++_, map, map-map, List·Memᴰ·head, List·Memᴰ·tail, List·Memᴰ·not-nil, List·Memᴰ·append-cases, List·Memᴰ·eq-of-singleton, Memᴰ·map, Memᴰ·of-map, Memᴰ·cast, Memᴰ·append-left, Memᴰ·append-right}
+use mathlib.Core.List.{List, [], _∷_, _++_, map, map-map, List·Memᴰ·head, List·Memᴰ·tail, List·Memᴰ·not-nil, List·Memᴰ·append-cases, List·Memᴰ·eq-of-singleton, Memᴰ·map, Memᴰ·cast, Memᴰ·append-left, Memᴰ·append-right}
 use mathlib.Core.Option.{Option, some, none, Option·map, Option·none-ne-some, Option·some-injective, map-eq-some-iff}
-use mathlib.Core.Bool.{Bool, true, false}
-use Prim.Native.Nat.{ℕ, zero, suc, _+_, _≤_, _<_}
+use mathlib.Core.Bool.{true}
+use Prim.Native.Nat.{ℕ, zero, suc, _+_, _≤_}
 use native.Mathlib.Omega.{arith}
-use lib.ListN.{length, getElem?}
+use lib.ListN.{getElem?}
 use Rattle.notation.specs.Tree.{Name}
 use Rattle.calculus.specs.Types.{Side, provided, used, other}
 use Rattle.calculus.specs.Configuration.{End, Process, relinked, Config, Holder, Far, atProcess, atOutside, givenUp, farEnd}
 use Rattle.calculus.specs.Forest.{Joint, Connected, here, past, over, back, Forest, jointAt, channelJoints, linkJoint, jointsFrom, joints}
-use Rattle.calculus.specs.WellFormed.{In, NoneTwice, key, isWaiting}
-use Rattle.graphs.specs.Moves.{map-cong}
+use Rattle.calculus.specs.WellFormed.{In, NoneTwice, isWaiting}
 use Rattle.preservation.specs.Witness.{Key, Tip, side-clash, joint}
-use Rattle.preservation.specs.Lists.{once-append, once-by}
+use Rattle.preservation.specs.Lists.{once-append}
 use Rattle.preservation.specs.Passing.{map-append}
-use Rattle.preservation.specs.Roster.{Roster, channelKey, linkKey, channel-key-one, channel-no-link, tipOf, linkTip, Tips, holds, links, waits, Has, outside, inside, keyAt}
+use Rattle.preservation.specs.Roster.{Roster, channelKey, linkKey, channel-key-one, channel-no-link, tipOf, linkTip, holds, links, waits, Has, outside, inside, keyAt}
 use Rattle.preservation.specs.Places.{Shows, found-below}
 use Rattle.preservation.specs.FarEnds.{held-back, nobody-has, Found, FarIs, at-process, at-outside, at-nobody, far-is}
 

@@ -1,25 +1,23 @@
 -- Rules that only let go: of channels, of a link, of a place in the list.
 use mathlib.Core.Path.{_≡_, refl, sym, _∙_, ap, subst}
-use mathlib.Core.Logic.{_≢_, _⊎_, inl, inr, ite, apply-ite}
-use mathlib.Core.List.{List, [], _∷_, map, List·Memᴰ·not-nil, Sublistᴰ, Sublistᴰ·slnil, Sublistᴰ·cons, Sublistᴰ·cons-cons, Sublistᴰ·refl}
+use mathlib.Core.Logic.{ite, apply-ite}
+use mathlib.Core.List.{List, [], _∷_, map, Sublistᴰ, Sublistᴰ·slnil, Sublistᴰ·cons, Sublistᴰ·cons-cons}
 use mathlib.Core.Option.{Option, some, none, Option·none-ne-some, Option·some-injective}
 use mathlib.Core.Bool.{Bool, true, false, cond, true≢false}
-use Prim.Native.Nat.{ℕ, zero, suc, _+_, _≤_, _<_}
+use Prim.Native.Nat.{ℕ, suc, _≤_}
 use native.Mathlib.Omega.{arith}
 use native.Mathlib.Decide.{ℕ-discrete}
 use lib.Dec.{eqb}
-use Rattle.notation.specs.Tree.{Name, Ty, Proc}
+use Rattle.notation.specs.Tree.{Name, Proc}
 use Rattle.calculus.specs.Named.{isSome}
-use Rattle.calculus.specs.Types.{Side, provided, used}
 use Rattle.calculus.specs.Program.{Program}
 use Rattle.calculus.specs.Typing.{Typed}
-use Rattle.calculus.specs.Configuration.{End, Doing, running, folding, waiting, Process, process, Outside, letGo}
-use Rattle.calculus.specs.Steps.{startedDoing, startedHandler, foldedHandler}
-use Rattle.calculus.specs.WellFormed.{In, NoneTwice, Rising, contextOf, isWaiting}
-use Rattle.preservation.specs.Witness.{Tip, Witness, fewer}
+use Rattle.calculus.specs.Configuration.{End, Doing, running, Process, process, Outside, letGo}
+use Rattle.calculus.specs.WellFormed.{In, Rising, contextOf, isWaiting}
+use Rattle.preservation.specs.Witness.{Tip, fewer}
 use Rattle.preservation.specs.Lists.{sub-in, sub-once}
 use Rattle.preservation.specs.Mates.{put, put-elim, put-at, Profile, Mates, mates-same, mates-put, mates-cut, Quiet, quiet-none, quiet-some}
-use Rattle.preservation.specs.Roster.{Roster, tipOf, linkTip, outsideTip, Tips, holds, links, waits, Has, outside, inside, TypedDoing, Fine, fine-less, Fair, profile, Good, becomes, one-good}
+use Rattle.preservation.specs.Roster.{Roster, Tips, holds, links, waits, Has, outside, inside, TypedDoing, Fine, fine-less, Fair, profile, Good, becomes, one-good}
 
 -- ── the outside lets go
 rising-from : {low high : ℕ} (l : List ℕ) → low ≤ high → Rising high l → Rising low l

@@ -1,21 +1,21 @@
 -- A type that reaches only 1, * and + does so after each message too, and through a name.
 use mathlib.Core.Path.{_≡_, refl, sym, _∙_, ap, subst}
-use mathlib.Core.Logic.{_≢_, _⊎_, inl, inr}
-use mathlib.Core.List.{List, [], _∷_, List·Memᴰ·head, List·Memᴰ·tail, List·Memᴰ·not-nil, Sublistᴰ, Sublistᴰ·slnil, Sublistᴰ·cons, Sublistᴰ·cons-cons, Sublistᴰ·nil-sublist}
+use mathlib.Core.Logic.{_⊎_, inl, inr}
+use mathlib.Core.List.{List, [], _∷_, List·Memᴰ·head, List·Memᴰ·tail, Sublistᴰ, Sublistᴰ·slnil, Sublistᴰ·cons, Sublistᴰ·cons-cons, Sublistᴰ·nil-sublist}
 use mathlib.Core.Option.{Option, some, none, Option·none-ne-some, Option·some-injective, Option·getD}
-use mathlib.Core.Bool.{Bool, true, false, cond, So, not, _||_, true≢false, false≢true}
-use Prim.Native.Nat.{ℕ, zero, suc, _≤_, _<_}
+use mathlib.Core.Bool.{Bool, true, false, cond, So, not, _||_}
+use Prim.Native.Nat.{ℕ, zero, suc, _≤_}
 use native.Mathlib.Omega.{arith}
 use lib.ListN.{length}
 use native.Mathlib.Decide.{ℕ-discrete}
 use Rattle.notation.specs.Bytes.{same}
 use Rattle.notation.specs.Tree.{Name, Ty, unit, named, tensor, par, lolli, plus, with, Alternatives, alternative}
 use Rattle.calculus.specs.Named.{lookup, any}
-use Rattle.calculus.specs.Types.{Side, provided, used, standing, Passing, passing, Choosing, choosing, labelled}
+use Rattle.calculus.specs.Types.{provided, used, standing, Passing, passing, Choosing, choosing, labelled}
 use Rattle.calculus.specs.Program.{Program}
 use Rattle.calculus.specs.Declarations.{hasOther, haveOther, namesWithOther, reachOther, outward}
 use Rattle.calculus.specs.WellFormed.{In}
-use Rattle.derivations.specs.Booleans.{never, bool-cases, any-iff, cond-true, not-iff}
+use Rattle.derivations.specs.Booleans.{never, any-iff, cond-true}
 use Rattle.derivations.specs.Equality.{same-iff}
 use Rattle.preservation.specs.Lists.{by-test, lookup-in, sub-in, sub-length}
 

@@ -1,26 +1,26 @@
 -- A channel goes over a channel.
 use mathlib.Core.Path.{_≡_, refl, sym, _∙_, ap, subst}
 use mathlib.Core.Logic.{_≢_, _⊎_, inl, inr}
-use mathlib.Core.List.{List, [], _∷_, _++_, map, append-nil, Sublistᴰ, List·Memᴰ·head, List·Memᴰ·tail, List·Memᴰ·not-nil, List·Memᴰ·append-cases, List·Memᴰ·eq-of-singleton, Memᴰ·map, Memᴰ·of-map, Memᴰ·cast}
+use mathlib.Core.List.{List, [], _∷_, _++_, map, append-nil, Sublistᴰ, List·Memᴰ·head, List·Memᴰ·tail, List·Memᴰ·append-cases, List·Memᴰ·eq-of-singleton, Memᴰ·of-map}
 use mathlib.Core.Option.{Option, some, none}
-use mathlib.Core.Bool.{Bool, true, false, cond, So}
-use Prim.Native.Nat.{ℕ, zero, suc, _+_, _≤_, _<_}
+use mathlib.Core.Bool.{true, cond}
+use Prim.Native.Nat.{ℕ, suc, _≤_, _<_}
 use native.Mathlib.Omega.{arith}
 use lib.ListN.{length}
 use Rattle.notation.specs.Limits.{heldLimit, channelPlaces}
 use Rattle.notation.specs.Bytes.{same}
 use Rattle.notation.specs.Tree.{Name, Ty}
-use Rattle.calculus.specs.Named.{lookup, without, changed, names, isSome}
+use Rattle.calculus.specs.Named.{lookup, without, names, isSome}
 use Rattle.calculus.specs.Types.{Side, provided, used, other}
 use Rattle.calculus.specs.Program.{Program}
 use Rattle.calculus.specs.Declarations.{outward}
-use Rattle.calculus.specs.Configuration.{End, end, Doing, folding, Process, process, Outside, changedOutside, retypedOutside}
+use Rattle.calculus.specs.Configuration.{End, end, Doing, folding, Process, process, Outside, retypedOutside}
 use Rattle.calculus.specs.Steps.{retypedEnd}
 use Rattle.calculus.specs.WellFormed.{In, NoneTwice, Rising, contextOf, key, isWaiting}
 use Rattle.preservation.specs.Witness.{Key, Tip, Rel, Witness, Retyped, retyping, Moved, Between, over, outing}
 use Rattle.preservation.specs.Lists.{by-test, sub-in, sub-once, lookup-in, absent, without-sub, without-cases, changed-cases, changed-names, changed-length, names-append, once-snoc, length-snoc}
 use Rattle.preservation.specs.Mates.{put}
-use Rattle.preservation.specs.Roster.{Roster, channelKey, linkKey, channel-key-one, channel-no-link, keyOf, tipOf, linkTip, outsideTip, Has, outside, inside, TypedDoing, keyAt, Fine, fine-less, Fair, Good, Change, becomes, one-good, two-good}
+use Rattle.preservation.specs.Roster.{Roster, channelKey, channel-no-link, keyOf, tipOf, linkTip, outsideTip, Has, outside, TypedDoing, keyAt, Fine, fine-less, Fair, Good, Change, becomes, one-good, two-good}
 use Rattle.preservation.specs.LettingGo.{fair-less}
 use Rattle.preservation.specs.Retyping.{retyped-off, key-cases, retyped-tip, key-of-key, key-from-key, retyped-keys, retyped-channels, fine-retyped, above, owner, joins, far-owner, near-owner, ends-apart, whose, held-tip, out-retyped, out-far, fair-retyped, other-other}
 

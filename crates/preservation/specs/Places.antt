@@ -4,10 +4,10 @@ use mathlib.Core.Logic.{_≢_, _⊎_, inl, inr}
 use mathlib.Core.List.{List, [], _∷_, _++_, map}
 use mathlib.Core.Option.{Option, some, none, Option·map, Option·none-ne-some, Option·some-injective, map-eq-some-iff}
 use mathlib.Core.Bool.{Bool, true, false, cond}
-use Prim.Native.Nat.{ℕ, zero, suc, _+_, _-_, _≤_, _<_}
+use Prim.Native.Nat.{ℕ, zero, suc, _-_, _≤_, _<_}
 use native.Mathlib.Omega.{arith}
 use native.Mathlib.Decide.{ℕ-discrete}
-use lib.ListN.{length, take, drop, set, getElem?, length-set, length-map, length-append, length-take, length-drop}
+use lib.ListN.{length, take, drop, set, getElem?, length-set, length-map}
 use lib.Dec.{ltb}
 use Rattle.calculus.specs.Configuration.{Process, process, movedUp, movedDown, relinked, inserted, removed}
 use Rattle.derivations.specs.Booleans.{bool-cases, cond-true, cond-false, ltb-iff}

@@ -1,12 +1,12 @@
 -- Preservation: what a step leaves is well formed.
-use mathlib.Core.Path.{_≡_, sym, subst}
+use mathlib.Core.Path.{_≡_, subst}
 use Prim.Native.Nat.{ℕ}
 use Rattle.calculus.specs.Program.{Program}
 use Rattle.calculus.specs.Configuration.{Config}
 use Rattle.calculus.specs.Steps.{carried, step}
 use Rattle.calculus.specs.WellFormed.{WellFormed}
 use Rattle.calculus.specs.declared.answers.Seen.{Seen}
-use Rattle.preservation.specs.Invariant.{Inv, Keeps}
+use Rattle.preservation.specs.Invariant.{Keeps}
 use Rattle.preservation.specs.Stepping.{Bodies, step-keeps}
 use Rattle.preservation.specs.WellFormed.{Named, inv-iff}
 

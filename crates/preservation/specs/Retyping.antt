@@ -2,15 +2,14 @@
 use mathlib.Core.Path.{_≡_, refl, sym, _∙_, ap, subst}
 use mathlib.Core.Logic.{_≢_, _⊎_, inl, inr}
 use mathlib.Core.List.{List, [], _∷_, map, List·Memᴰ·head, List·Memᴰ·tail, List·Memᴰ·not-nil, Memᴰ·map, Memᴰ·of-map, Memᴰ·cast}
-use mathlib.Core.Option.{Option, some, none}
-use mathlib.Core.Bool.{Bool, true, false, cond, So}
-use Prim.Native.Nat.{ℕ, zero, suc, _+_, _≤_, _<_}
+use mathlib.Core.Option.{Option, some}
+use mathlib.Core.Bool.{Bool, true, false, cond}
+use Prim.Native.Nat.{ℕ, _≤_, _<_}
 use native.Mathlib.Omega.{arith}
 use lib.Dec.{eqb}
-use lib.ListN.{length}
 use Rattle.notation.specs.Limits.{heldLimit, channelPlaces}
 use Rattle.notation.specs.Tree.{Name, Ty}
-use Rattle.calculus.specs.Named.{lookup, changed, names, isSome}
+use Rattle.calculus.specs.Named.{lookup, names, isSome}
 use Rattle.calculus.specs.Types.{Side, provided, used, other}
 use Rattle.calculus.specs.Program.{Program}
 use Rattle.calculus.specs.Declarations.{outward}
@@ -19,10 +18,10 @@ use Rattle.calculus.specs.Steps.{retypedEnd}
 use Rattle.calculus.specs.WellFormed.{In, NoneTwice, Rising, contextOf, key, isWaiting}
 use Rattle.graphs.specs.Moves.{no-loop}
 use Rattle.derivations.specs.Booleans.{bool-cases, cond-true, cond-false, eqb-iff}
-use Rattle.preservation.specs.Witness.{Key, Tip, Rel, Witness, side-discrete, joint, Retyped, retyping}
+use Rattle.preservation.specs.Witness.{Key, Tip, Rel, side-discrete, joint, Retyped, retyping}
 use Rattle.preservation.specs.Lists.{lookup-in, changed-cases, changed-names, changed-length, changed-map}
 use Rattle.preservation.specs.Mates.{put}
-use Rattle.preservation.specs.Roster.{Roster, channelKey, linkKey, channel-key-one, channel-no-link, keyOf, tipOf, linkTip, outsideTip, Tips, holds, Has, outside, inside, TypedDoing, keyAt, Fine, Fair, Good, Change, becomes, one-good, two-good}
+use Rattle.preservation.specs.Roster.{Roster, channelKey, channel-key-one, channel-no-link, keyOf, tipOf, linkTip, outsideTip, holds, Has, outside, inside, TypedDoing, keyAt, Fine, Fair, Good, Change, becomes, one-good, two-good}
 
 pub other-side : (s t : Side) → s ≢ t → s ≡ other t
 other-side provided provided n = absurd (n refl)

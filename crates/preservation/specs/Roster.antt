@@ -1,17 +1,17 @@
 -- The invariant that the rules keep, on identities: a process keeps its identity while places shift, and a link is the handler's identity.
 use mathlib.Core.Path.{_≡_, refl, sym, _∙_, ap, subst}
-use mathlib.Core.Logic.{_≢_, _⊎_, inl, inr}
-use mathlib.Core.List.{List, [], _∷_, _++_, map, List·Memᴰ·not-nil, Sublistᴰ}
+use mathlib.Core.Logic.{_≢_}
+use mathlib.Core.List.{List, map, Sublistᴰ}
 use mathlib.Core.Option.{Option, some, none, Option·none-ne-some, Option·some-injective}
-use mathlib.Core.Bool.{Bool, true, false, true≢false}
-use Prim.Native.Nat.{ℕ, zero, suc, _+_, _≤_, _<_}
+use mathlib.Core.Bool.{Bool, true}
+use Prim.Native.Nat.{ℕ, suc, _+_, _≤_, _<_}
 use native.Mathlib.Omega.{arith}
 use lib.ListN.{length}
 use Rattle.notation.specs.Limits.{heldLimit, channelPlaces}
-use Rattle.notation.specs.Tree.{Name, Ty}
+use Rattle.notation.specs.Tree.{Name}
 use Rattle.calculus.specs.Named.{names, isSome}
 use Rattle.calculus.specs.Types.{Side, provided, used}
-use Rattle.calculus.specs.Program.{Slot, slot, Context, Program}
+use Rattle.calculus.specs.Program.{Context, Program}
 use Rattle.calculus.specs.Declarations.{outward}
 use Rattle.calculus.specs.Typing.{Typed}
 use Rattle.calculus.specs.Configuration.{End, end, Doing, running, folding, waiting, Process, process, Outside}

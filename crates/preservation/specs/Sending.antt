@@ -1,36 +1,36 @@
 -- A send and its recv, or the outside, or nobody: each message keeps the invariant.
 use mathlib.Core.Path.{_≡_, refl, sym, _∙_, ap, subst}
-use mathlib.Core.Logic.{_≢_, _⊎_, inl, inr}
+use mathlib.Core.Logic.{_≢_}
 use mathlib.Core.List.{List, [], _∷_, _++_, Sublistᴰ, Sublistᴰ·refl}
 use mathlib.Core.Option.{Option, some, none, Option·map, Option·getD, Option·none-ne-some, Option·some-injective}
-use mathlib.Core.Bool.{Bool, true, false, cond, So, false≢true}
-use Prim.Native.Nat.{ℕ, zero, suc, _≤_, _<_}
-use lib.ListN.{length, set, getElem?}
+use mathlib.Core.Bool.{Bool, true, false, cond, false≢true}
+use Prim.Native.Nat.{ℕ, suc, _≤_, _<_}
+use lib.ListN.{set, getElem?}
 use lib.Dec.{ltb}
 use Rattle.notation.specs.Limits.{outsideNumbers, heldLimit}
 use Rattle.notation.specs.Bytes.{same}
-use Rattle.notation.specs.Tree.{Name, Located, Ty, unit, Alternatives, Proc, empty, sendUnit, sendChannel, sendLabel, cancel, spawn, recvUnit, recvChannel, recvLabel, fwd, call, raise, try, Branches, branch}
+use Rattle.notation.specs.Tree.{Name, Located, Ty, Alternatives, Proc, empty, sendUnit, sendChannel, sendLabel, cancel, spawn, recvUnit, recvChannel, recvLabel, fwd, call, raise, try, Branches}
 use Rattle.calculus.specs.Named.{lookup, without, isSome}
-use Rattle.calculus.specs.Types.{Side, provided, used, other, standing, sameType, Passing, passing, Choosing, choosing, labelled}
+use Rattle.calculus.specs.Types.{Side, used, other, standing, sameType, Passing, passing, Choosing, choosing, labelled}
 use Rattle.calculus.specs.Program.{slot, Context, Program}
 use Rattle.calculus.specs.Declarations.{outward}
-use Rattle.calculus.specs.Typing.{acting, Typed, sends-unit, recvs-unit, sends-channel, recvs-channel, sends-label, recvs-label, TypedBranches, last-branch, one-branch, Brought, bringing, retyped}
-use Rattle.calculus.specs.Configuration.{End, end, Doing, running, folding, waiting, Process, process, relinked, Outside, Config, config, Holder, Far, atProcess, atOutside, givenUp, farEnd, retypedOutside}
-use Rattle.calculus.specs.Steps.{Outcome, carried, notOpen, lacking, Message, closing, passes, chooses, Wanted, onClose, onChannel, onLabel, Turn, sends, receives, alone, turnOf, afterPassing, afterChoosing, afterMessage, retypedEnd, afterSend, branchOf, takesClose, takesChannel, takesLabel, bound, afterReceive, passedEnd, parting, bothTo, meeting, isGivenUp, passedOut, toOutside, unheard, sending, send, answering, receiving, receive}
+use Rattle.calculus.specs.Typing.{acting, Typed, sends-unit, recvs-unit, sends-channel, recvs-channel, sends-label, recvs-label, TypedBranches, last-branch, one-branch, bringing, retyped}
+use Rattle.calculus.specs.Configuration.{End, end, Doing, running, folding, waiting, Process, process, relinked, Outside, Config, config, Holder, Far, farEnd}
+use Rattle.calculus.specs.Steps.{notOpen, lacking, Message, closing, passes, chooses, Wanted, onClose, onChannel, onLabel, Turn, sends, receives, alone, turnOf, afterPassing, afterChoosing, afterMessage, retypedEnd, afterSend, branchOf, takesClose, takesChannel, takesLabel, afterReceive, parting, bothTo, meeting, isGivenUp, passedOut, sending, send, answering, receiving, receive}
 use Rattle.calculus.specs.WellFormed.{In, contextOf, isWaiting}
 use Rattle.derivations.specs.Booleans.{ltb-iff}
 use Rattle.derivations.specs.Equality.{same-iff, sameType-iff}
 use Rattle.preservation.specs.Lists.{by-test, lookup-in, in-lookup, without-sub}
-use Rattle.preservation.specs.Roster.{TypedDoing, Has, outside, tipOf, Good}
+use Rattle.preservation.specs.Roster.{Has, outside, tipOf}
 use Rattle.preservation.specs.LettingGo.{let-go-sub}
-use Rattle.preservation.specs.Retyping.{above, one-type, ends-apart, held-tip, chosen, chosen-unheard, chosen-out, out-far}
+use Rattle.preservation.specs.Retyping.{above, one-type, ends-apart, held-tip, chosen, chosen-unheard, chosen-out}
 use Rattle.preservation.specs.Passing.{passed, passed-unheard, passed-gone, passed-out}
 use Rattle.preservation.specs.Places.{set-off}
 use Rattle.preservation.specs.FarEnds.{Found, FarIs, at-process, at-outside, at-nobody, far-is, nobody-has}
-use Rattle.preservation.specs.Contexts.{context-without, context-retyped, context-append, context-length, absent-held, held-plain, Acts, held-acts}
+use Rattle.preservation.specs.Contexts.{context-without, context-retyped, context-append, context-length, absent-held, held-plain, held-acts}
 use Rattle.preservation.specs.Outward.{outward-standing, outward-passing, outward-choosing}
 use Rattle.preservation.specs.Invariant.{Inv, Keeps, keeps-cond, keeps-held, at-roster, fine-at, typed-at, inv-set, inv-less, inv-two}
-use Rattle.preservation.specs.Alone.{parting-keeps, outside-after-sub}
+use Rattle.preservation.specs.Alone.{outside-after-sub}
 
 -- ── a process that sends, and one that receives
 pub data Sends : Doing → Located → Message → Proc → Type 0 where

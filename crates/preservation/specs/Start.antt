@@ -1,31 +1,30 @@
 -- The configuration that a start makes keeps the invariant.
 use mathlib.Core.Path.{_≡_, refl, sym, _∙_, ap, subst}
 use mathlib.Core.Logic.{_≢_, _⊎_, inl, inr}
-use mathlib.Core.List.{List, [], _∷_, _++_, map, append-nil, List·Memᴰ·head, List·Memᴰ·tail, List·Memᴰ·not-nil, Memᴰ·map, Memᴰ·of-map, Memᴰ·cast}
+use mathlib.Core.List.{List, [], _∷_, _++_, map, append-nil, List·Memᴰ·head, List·Memᴰ·tail, List·Memᴰ·not-nil, Memᴰ·of-map}
 use mathlib.Core.Option.{Option, some, none, Option·none-ne-some, Option·some-injective}
-use mathlib.Core.Bool.{Bool, true, false, true≢false}
+use mathlib.Core.Bool.{true, false, true≢false}
 use Prim.Native.Nat.{ℕ, zero, suc, _+_, _≤_, _<_}
 use native.Mathlib.Omega.{arith}
 use native.Mathlib.Decide.{ℕ-discrete}
 use lib.ListN.{length, getElem?}
 use lib.Dec.{lit≤}
-use Rattle.notation.specs.Limits.{heldLimit, processPlaces, channelPlaces, outsideNumbers}
+use Rattle.notation.specs.Limits.{heldLimit, channelPlaces, outsideNumbers}
 use Rattle.notation.specs.Tree.{Name, Ty}
 use Rattle.calculus.specs.Named.{names, distinct, all}
 use Rattle.calculus.specs.Types.{Side, provided, used}
-use Rattle.calculus.specs.Program.{slot, Context, Signature, Program, onSide, signatureContext}
+use Rattle.calculus.specs.Program.{slot, Signature, Program, onSide, signatureContext}
 use Rattle.calculus.specs.Declarations.{outward, entryTypes}
 use Rattle.calculus.specs.Typing.{Typed, TypedBody}
-use Rattle.calculus.specs.Configuration.{End, end, running, Process, process, relinked, Outside, Config}
+use Rattle.calculus.specs.Configuration.{End, end, running, Process, process, relinked, Outside}
 use Rattle.calculus.specs.Runs.{startHeld, startOutside, startConfig}
-use Rattle.calculus.specs.WellFormed.{In, NoneTwice, Rising, contextOf, key, isWaiting, WellFormed}
+use Rattle.calculus.specs.WellFormed.{In, NoneTwice, Rising, contextOf, isWaiting, WellFormed}
 use Rattle.derivations.specs.Booleans.{all-iff}
 use Rattle.preservation.specs.Witness.{Key, Tip, Witness, side-clash}
 use Rattle.preservation.specs.Lists.{distinct-iff, once-by, search}
 use Rattle.preservation.specs.Mates.{Quiet, quiet-none, quiet-some, mates-quiet}
-use Rattle.preservation.specs.Roster.{Roster, channelKey, channel-key-one, tipOf, outsideTip, Tips, holds, links, waits, Has, outside, inside, keyAt, Fine, Fair, profile, Good}
+use Rattle.preservation.specs.Roster.{Roster, channelKey, channel-key-one, Tips, holds, links, waits, Has, outside, inside, keyAt, Fine, Fair, profile}
 use Rattle.preservation.specs.Contexts.{context-names, context-length}
-use Rattle.preservation.specs.Places.{Shows}
 use Rattle.preservation.specs.Invariant.{Inv}
 use Rattle.preservation.specs.WellFormed.{Named, inv-well-formed, inv-named}
 

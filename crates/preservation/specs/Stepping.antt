@@ -1,6 +1,5 @@
 -- A step keeps the invariant: the dispatch over what a process does.
-use mathlib.Core.Path.{_≡_, refl, sym, ap}
-use mathlib.Core.List.{_++_}
+use mathlib.Core.Path.{_≡_, refl, ap}
 use mathlib.Core.Option.{Option, some, none, Option·map}
 use mathlib.Core.Bool.{true}
 use Prim.Native.Nat.{ℕ}

@@ -1,34 +1,34 @@
 -- The invariant is well-formedness, where the names that each process holds are distinct.
 use mathlib.Core.Path.{_≡_, refl, sym, _∙_, ap, subst}
 use mathlib.Core.Logic.{_↔_, _≢_, _⊎_, inl, inr, ite}
-use mathlib.Core.List.{List, [], _∷_, _++_, map, List·Memᴰ·head, List·Memᴰ·tail, List·Memᴰ·not-nil, List·Memᴰ·cases-cons, List·Memᴰ·append-cases, List·Memᴰ·eq-of-singleton, Memᴰ·map, Memᴰ·of-map, Memᴰ·cast, Memᴰ·append-left, Memᴰ·append-right}
+use mathlib.Core.List.{List, [], _∷_, _++_, map, List·Memᴰ·head, List·Memᴰ·tail, List·Memᴰ·not-nil, List·Memᴰ·append-cases, List·Memᴰ·eq-of-singleton, Memᴰ·map, Memᴰ·of-map, Memᴰ·cast, Memᴰ·append-left, Memᴰ·append-right}
 use mathlib.Core.Option.{Option, some, none, Option·map, Option·none-ne-some, Option·some-injective, map-eq-some-iff}
-use mathlib.Core.Bool.{Bool, true, false, true≢false, false≢true}
-use Prim.Native.Nat.{ℕ, zero, suc, pred, _+_, _≤_, _<_}
+use mathlib.Core.Bool.{Bool, true, false≢true}
+use Prim.Native.Nat.{ℕ, zero, suc, pred, _+_, _<_}
 use native.Mathlib.Omega.{arith}
 use native.Mathlib.Decide.{ℕ-discrete}
 use lib.ListN.{length, getElem?}
 use Rattle.notation.specs.Limits.{channelPlaces}
 use Rattle.notation.specs.Tree.{Name, Ty}
 use Rattle.calculus.specs.Named.{names, distinct, isSome}
-use Rattle.calculus.specs.Types.{Side, provided, used, sameType}
+use Rattle.calculus.specs.Types.{Side, provided, used}
 use Rattle.calculus.specs.Program.{Context, Program}
 use Rattle.calculus.specs.Configuration.{End, end, Doing, running, folding, waiting, Process, relinked, Outside, Config}
-use Rattle.calculus.specs.Forest.{Joint, Forest, joints}
+use Rattle.calculus.specs.Forest.{Forest, joints}
 use Rattle.calculus.specs.WellFormed.{In, NoneTwice, contextOf, processEnds, outsideEnds, ends, key, TypedAs, isWaiting, Stands, WellFormed}
 use Rattle.graphs.specs.Graph.{decIn}
 use Rattle.graphs.specs.Moves.{thin}
 use Rattle.derivations.specs.Equality.{sameType-iff}
 use Rattle.preservation.specs.Witness.{Key, Tip, key-discrete, side-clash, joint, Witness}
 use Rattle.preservation.specs.Lists.{distinct-iff, once-append, search}
-use Rattle.preservation.specs.Mates.{Profile, Mates}
+use Rattle.preservation.specs.Mates.{Mates}
 use Rattle.preservation.specs.Roster.{Roster, channelKey, linkKey, channel-key-one, link-key-one, channel-no-link, tipOf, linkTip, outsideTip, Tips, holds, links, waits, Has, outside, inside, TypedDoing, keyAt, Fine, Fair, profile, Good}
 use Rattle.preservation.specs.Retyping.{above, owner, one-type, key-of-key}
 use Rattle.preservation.specs.Passing.{map-append}
 use Rattle.preservation.specs.Places.{Shows, found-below}
 use Rattle.preservation.specs.Contexts.{context-names}
 use Rattle.preservation.specs.Invariant.{Inv, at-roster, fine-at, handler}
-use Rattle.preservation.specs.Joints.{both, forest-back, forest-along, numbers, joints-are, numbers-once, numbers-live, numbers-all}
+use Rattle.preservation.specs.Joints.{forest-back, forest-along, numbers, joints-are, numbers-once, numbers-live, numbers-all}
 use Rattle.preservation.specs.Ends.{once-left, once-right, once-apart, process-end, end-process, keys-of-process, one-holder, keys-once, outside-end, end-outside, outside-keys, keys-outside}
 
 -- the names that a process holds are distinct, also where it folds up
