@@ -2,7 +2,7 @@
 use mathlib.Core.Path.{_≡_, refl, sym, _∙_, ap, subst}
 use mathlib.Core.Logic.{_≢_, _⊎_, inl, inr}
 use mathlib.Core.List.{List, [], _∷_, map, Sublistᴰ·nil-sublist, List·Memᴰ·head, List·Memᴰ·tail, List·Memᴰ·not-nil, List·Memᴰ·eq-of-singleton, Memᴰ·map, Memᴰ·of-map, Memᴰ·cast}
-use mathlib.Core.Option.{Option, some}
+use mathlib.Core.Option.{Option, some, Option·some-injective}
 use mathlib.Core.Bool.{Bool, true, false, cond}
 use Prim.Native.Nat.{ℕ, _≤_, _<_}
 use lib.Dec.{eqb}
@@ -18,7 +18,7 @@ use Rattle.preservation.specs.Witness.{Key, Tip, Rel, Witness, side-clas
 use Rattle.preservation.specs.Lists.{by-test, lookup-in, changed-cases, changed-names, changed-length}
 use Rattle.preservation.specs.Mates.{put}
 use Rattle.preservation.specs.Roster.{Roster, channelKey, channel-no-link, keyOf, tipOf, linkTip, outsideTip, Has, outside, TypedDoing, keyAt, Fine, fine-less, Good, Change, becomes, one-good, two-good}
-use Rattle.preservation.specs.Retyping.{key-cases, above, owner, one-type, joins, far-owner, near-owner, ends-apart, held-tip, outside-cases, outside-map}
+use Rattle.preservation.specs.Retyping.{key-cases, above, owner, one-type, joins, far-owner, near-owner, ends-apart, held-tip, outside-cases, outside-map, Changed}
 
 -- ── lists in which one key is new
 module _ {X B : Type 0} (g : X → B) (c : Name) (f : X → X) where
@@ -28,7 +28,7 @@ module _ {X B : Type 0} (g : X → B) (c : Name) (f : X → X) where
   changed-once [] e u z n = tt
   changed-once (a ∷ l) e u z n =
       by-test (λ b. cond b (some (a .1)) (lookup c l) ≡ some e → NoneTwice (map (λ (x : Name × X). g (x .1)) (cond b ((a .0, f (a .1)) ∷ l) (a ∷ changed c f l)))) c (a .0)
-      (λ _ h. ((λ m. n (List·Memᴰ·tail (subst (λ x. In (g (f x)) (map (λ (x : Name × X). g (x .1)) l)) (mathlib.Core.Option.Option·some-injective _ _ h) m))), u .1))
+      (λ _ h. ((λ m. n (List·Memᴰ·tail (subst (λ x. In (g (f x)) (map (λ (x : Name × X). g (x .1)) l)) (Option·some-injective _ _ h) m))), u .1))
       (λ _ h. ((λ m. let y = Memᴰ·of-map (λ (x : Name × X). g (x .1)) (changed c f l) m in other (y .0) (y .2) (changed-cases g c f l e (u .1) h (y .0) (y .1))), changed-once l e (u .1) h (λ m. n (List·Memᴰ·tail m)))) z
     where
       other : (y : Name × X) → g (y .1) ≡ g (a .1) → (y .1 ≡ f e) ⊎ (In y l × (g (y .1) ≢ g e)) → ⊥
@@ -41,7 +41,7 @@ unfolding changedOutside
 outside-once k f j h [] u n = tt
 outside-once k f j h (a ∷ o) u n = go (eqb k (a .channel)) (outside-once k f j h o (u .1) (λ m. n (List·Memᴰ·tail m)))
   where
-    other : (y : Outside) → y .channel ≡ a .channel → ((x : Outside) × In x o × (x .channel ≡ k) × (y ≡ f x)) ⊎ (In y o × (y .channel ≢ k)) → ⊥
+    other : (y : Outside) → y .channel ≡ a .channel → Changed k f o y → ⊥
     other y z (inl x) = n (List·Memᴰ·head (sym (h (x .0)) ∙ ap (λ (y : Outside). y .channel) (sym (x .3)) ∙ z))
     other y z (inr x) = u .0 (Memᴰ·cast (sym z) (Memᴰ·map (λ (y : Outside). y .channel) (x .0)))
 
@@ -162,22 +162,22 @@ module _ {p : Program} {S : Roster} {o : List Outside} {given next : ℕ} (G : G
         move : Outside → Outside
         move y = record { number = y .number; channel = d .channel; type = y .type }
 
-        cases : (y : Outside) → In y (movedOutside (e .channel) (d .channel) o) → ((x : Outside) × In x o × (x .channel ≡ e .channel) × (y ≡ move x)) ⊎ (In y o × (y .channel ≢ e .channel))
+        cases : (y : Outside) → In y (movedOutside (e .channel) (d .channel) o) → Changed (e .channel) move o y
         cases = outside-cases (e .channel) move o (G .fair .keys)
 
-        out : (y : Outside) → ((x : Outside) × In x o × (x .channel ≡ e .channel) × (y ≡ move x)) ⊎ (In y o × (y .channel ≢ e .channel)) → R 0 0 (outsideTip y)
+        out : (y : Outside) → Changed (e .channel) move o y → R 0 0 (outsideTip y)
         out y (inl h) = moves 0 (end used (h .0 .channel) (h .0 .type)) (end used (y .channel) (y .type)) (outside refl (h .0) (h .1) refl) (h .2) refl (λ i. end used (h .3 i .channel) (h .3 i .type))
         out y (inr h) = stays 0 0 (outsideTip y) (λ k. u0 (sym k)) (outside refl y (h .0) refl)
 
-        outw : (y : Outside) → ((x : Outside) × In x o × (x .channel ≡ e .channel) × (y ≡ move x)) ⊎ (In y o × (y .channel ≢ e .channel)) → outward p (y .type) ≡ true
+        outw : (y : Outside) → Changed (e .channel) move o y → outward p (y .type) ≡ true
         outw y (inl h) = ap (λ (y : Outside). outward p (y .type)) (h .3) ∙ G .fair .outwards (h .0) (h .1)
         outw y (inr h) = G .fair .outwards y (h .0)
 
-        num : (y : Outside) → ((x : Outside) × In x o × (x .channel ≡ e .channel) × (y ≡ move x)) ⊎ (In y o × (y .channel ≢ e .channel)) → y .number < given
+        num : (y : Outside) → Changed (e .channel) move o y → y .number < given
         num y (inl h) = subst (λ (y : Outside). y .number < given) (sym (h .3)) (G .fair .below (h .0) (h .1))
         num y (inr h) = G .fair .below y (h .0)
 
-        chan : (y : Outside) → ((x : Outside) × In x o × (x .channel ≡ e .channel) × (y ≡ move x)) ⊎ (In y o × (y .channel ≢ e .channel)) → y .channel < channelPlaces
+        chan : (y : Outside) → Changed (e .channel) move o y → y .channel < channelPlaces
         chan y (inl h) = subst (λ (y : Outside). y .channel < channelPlaces) (sym (h .3)) (G .fine u r su .channels (c, d) (lookup-in c (r .held) d lc))
         chan y (inr h) = G .fair .channels y (h .0)
 

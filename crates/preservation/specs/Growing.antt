@@ -1,7 +1,7 @@
 -- Rules that make a process: the new one takes some ends of its maker, and is joined to it by a new channel or link.
 use mathlib.Core.Path.{_≡_, refl, sym, _∙_, ap, subst}
 use mathlib.Core.Logic.{_≢_, _⊎_, inl, inr}
-use mathlib.Core.List.{List, [], _∷_, _++_, map, List·Memᴰ·head, List·Memᴰ·not-nil, List·Memᴰ·append-cases, List·Memᴰ·eq-of-singleton, Memᴰ·map, Memᴰ·of-map, Memᴰ·cast, Memᴰ·append-left, Memᴰ·append-right}
+use mathlib.Core.List.{List, [], _∷_, _++_, map, List·Memᴰ·head, List·Memᴰ·not-nil, List·Memᴰ·append-cases, List·Memᴰ·eq-of-singleton, Memᴰ·map, Memᴰ·of-map, Memᴰ·cast, Memᴰ·append-left, Memᴰ·append-right, Sublistᴰ}
 use mathlib.Core.Option.{Option, some, none, Option·none-ne-some, Option·some-injective}
 use mathlib.Core.Bool.{Bool, true, false, So, not, true≢false}
 use Prim.Native.Nat.{ℕ, suc, _≤_, _<_}
@@ -204,7 +204,7 @@ module _ {p : Program} {S : Roster} {o : List Outside} {given next : ℕ} (G : G
       l : List (Name × End)
       l = kept t (r .held)
 
-      sub : mathlib.Core.List.Sublistᴰ (kept t (r .held)) (r .held)
+      sub : Sublistᴰ (kept t (r .held)) (r .held)
       sub = kept-sub t (r .held)
 
       no-name : ¬ In x (names (kept t (r .held)))

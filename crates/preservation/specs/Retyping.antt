@@ -2,8 +2,8 @@
 use mathlib.Core.Path.{_≡_, refl, sym, _∙_, ap, subst}
 use mathlib.Core.Logic.{_≢_, _⊎_, inl, inr}
 use mathlib.Core.List.{List, [], _∷_, map, List·Memᴰ·head, List·Memᴰ·tail, List·Memᴰ·not-nil, Memᴰ·map, Memᴰ·of-map, Memᴰ·cast}
-use mathlib.Core.Option.{Option, some}
-use mathlib.Core.Bool.{Bool, true, false, cond}
+use mathlib.Core.Option.{Option, some, Option·some-injective}
+use mathlib.Core.Bool.{Bool, true, false, cond, false≢true}
 use Prim.Native.Nat.{ℕ, _≤_, _<_}
 use native.Mathlib.Omega.{arith}
 use lib.Dec.{eqb}
@@ -85,30 +85,34 @@ fine-retyped {p} {r} f d c A t = record {
 }
 
 -- ── the outside with one type changed
+-- an entry afterwards: the changed one of the channel k, or another
+abbrev pub Changed : ℕ → (Outside → Outside) → List Outside → Outside → Type 0
+Changed k f o y = ((x : Outside) × In x o × (x .channel ≡ k) × (y ≡ f x)) ⊎ (In y o × (y .channel ≢ k))
+
 module _ (k : ℕ) (f : Outside → Outside) where
   pub outside-cases : (o : List Outside) → NoneTwice (map (λ (y : Outside). y .channel) o) → (y : Outside) → In y (changedOutside k f o)
-      → ((x : Outside) × In x o × (x .channel ≡ k) × (y ≡ f x)) ⊎ (In y o × (y .channel ≢ k))
+      → Changed k f o y
   unfolding changedOutside
   outside-cases [] u y i = absurd (List·Memᴰ·not-nil i)
   outside-cases (a ∷ o) u y i = go (bool-cases (eqb k (a .channel))) (outside-cases o (u .1) y) i
     where
-      further : ((x : Outside) × In x o × (x .channel ≡ k) × (y ≡ f x)) ⊎ (In y o × (y .channel ≢ k)) → ((x : Outside) × In x (a ∷ o) × (x .channel ≡ k) × (y ≡ f x)) ⊎ (In y (a ∷ o) × (y .channel ≢ k))
+      further : Changed k f o y → Changed k f (a ∷ o) y
       further (inl r) = inl (r .0, List·Memᴰ·tail (r .1), r .2, r .3)
       further (inr r) = inr (List·Memᴰ·tail (r .0), r .1)
 
-      here : k ≡ a .channel → In y (f a ∷ o) → ((x : Outside) × In x (a ∷ o) × (x .channel ≡ k) × (y ≡ f x)) ⊎ (In y (a ∷ o) × (y .channel ≢ k))
+      here : k ≡ a .channel → In y (f a ∷ o) → Changed k f (a ∷ o) y
       here z (List·Memᴰ·head h) = inl (a, List·Memᴰ·head refl, sym z, h)
       here z (List·Memᴰ·tail j) = inr (List·Memᴰ·tail j, λ w. u .0 (Memᴰ·cast (sym z ∙ sym w) (Memᴰ·map (λ (y : Outside). y .channel) j)))
 
-      past : k ≢ a .channel → (In y (changedOutside k f o) → ((x : Outside) × In x o × (x .channel ≡ k) × (y ≡ f x)) ⊎ (In y o × (y .channel ≢ k))) → In y (a ∷ changedOutside k f o)
-          → ((x : Outside) × In x (a ∷ o) × (x .channel ≡ k) × (y ≡ f x)) ⊎ (In y (a ∷ o) × (y .channel ≢ k))
+      past : k ≢ a .channel → (In y (changedOutside k f o) → Changed k f o y) → In y (a ∷ changedOutside k f o)
+          → Changed k f (a ∷ o) y
       past n r (List·Memᴰ·head h) = inr (List·Memᴰ·head h, λ w. n (sym w ∙ ap (λ (y : Outside). y .channel) h))
       past n r (List·Memᴰ·tail j) = further (r j)
 
-      go : (eqb k (a .channel) ≡ true) ⊎ (eqb k (a .channel) ≡ false) → (In y (changedOutside k f o) → ((x : Outside) × In x o × (x .channel ≡ k) × (y ≡ f x)) ⊎ (In y o × (y .channel ≢ k)))
-          → In y (cond (eqb k (a .channel)) (f a ∷ o) (a ∷ changedOutside k f o)) → ((x : Outside) × In x (a ∷ o) × (x .channel ≡ k) × (y ≡ f x)) ⊎ (In y (a ∷ o) × (y .channel ≢ k))
+      go : (eqb k (a .channel) ≡ true) ⊎ (eqb k (a .channel) ≡ false) → (In y (changedOutside k f o) → Changed k f o y)
+          → In y (cond (eqb k (a .channel)) (f a ∷ o) (a ∷ changedOutside k f o)) → Changed k f (a ∷ o) y
       go (inl e) r j = here (eqb-iff k (a .channel) .0 e) (subst (In y) (cond-true _ _ e) j)
-      go (inr e) r j = past (λ z. mathlib.Core.Bool.false≢true (sym e ∙ eqb-iff k (a .channel) .1 z)) r (subst (In y) (cond-false _ _ e) j)
+      go (inr e) r j = past (λ z. false≢true (sym e ∙ eqb-iff k (a .channel) .1 z)) r (subst (In y) (cond-false _ _ e) j)
 
   pub outside-map : {B : Type 0} (g : Outside → B) → ((y : Outside) → g (f y) ≡ g y) → (o : List Outside) → map g (changedOutside k f o) ≡ map g o
   unfolding changedOutside
@@ -131,15 +135,15 @@ fair-retyped {p} {given} {o} f k A a = record {
     re : Outside → Outside
     re y = record { number = y .number; channel = y .channel; type = A }
 
-    out : (y : Outside) → ((x : Outside) × In x o × (x .channel ≡ k) × (y ≡ re x)) ⊎ (In y o × (y .channel ≢ k)) → outward p (y .type) ≡ true
+    out : (y : Outside) → Changed k re o y → outward p (y .type) ≡ true
     out y (inl r) = ap (λ (y : Outside). outward p (y .type)) (r .3) ∙ a
     out y (inr r) = f .outwards y (r .0)
 
-    num : (y : Outside) → ((x : Outside) × In x o × (x .channel ≡ k) × (y ≡ re x)) ⊎ (In y o × (y .channel ≢ k)) → y .number < given
+    num : (y : Outside) → Changed k re o y → y .number < given
     num y (inl r) = subst (λ n. n < given) (ap (λ (y : Outside). y .number) (sym (r .3))) (f .below (r .0) (r .1))
     num y (inr r) = f .below y (r .0)
 
-    chan : (y : Outside) → ((x : Outside) × In x o × (x .channel ≡ k) × (y ≡ re x)) ⊎ (In y o × (y .channel ≢ k)) → y .channel < channelPlaces
+    chan : (y : Outside) → Changed k re o y → y .channel < channelPlaces
     chan y (inl r) = subst (λ n. n < channelPlaces) (ap (λ (y : Outside). y .channel) (sym (r .3))) (f .channels (r .0) (r .1))
     chan y (inr r) = f .channels y (r .0)
 
@@ -154,7 +158,7 @@ module _ {p : Program} {S : Roster} {o : List Outside} {given next : ℕ} (G : G
 
   -- both ends, one type
   pub one-type : (u v : ℕ) (e d : End) → e .channel ≡ d .channel → Has S o u (tipOf e) → Has S o v (tipOf d) → e .type ≡ d .type
-  one-type u v e d z h g = mathlib.Core.Option.Option·some-injective _ _ (sym (G .witness .typ u (tipOf e) h) ∙ ap (λ k. G .witness .ty (channelKey k)) z ∙ G .witness .typ v (tipOf d) g)
+  one-type u v e d z h g = Option·some-injective _ _ (sym (G .witness .typ u (tipOf e) h) ∙ ap (λ k. G .witness .ty (channelKey k)) z ∙ G .witness .typ v (tipOf d) g)
 
   -- a channel with processes at both ends is a joint, and these are two
   module _ (u w : ℕ) (e d : End) (c : d .channel ≡ e .channel) (s : d .side ≡ other (e .side)) (hu : Has S o u (tipOf e)) (hw : Has S o w (tipOf d)) (u0 : u ≢ 0) (w0 : w ≢ 0) where
@@ -258,7 +262,7 @@ module _ {p : Program} {S : Roster} {o : List Outside} {given next : ℕ} (G : G
       re : Outside → Outside
       re y = record { number = y .number; channel = y .channel; type = A }
 
-      go : ((x : Outside) × In x o × (x .channel ≡ k) × (y ≡ re x)) ⊎ (In y o × (y .channel ≢ k)) → Retyped (Has S o) (channelKey k) (some A) 0 (outsideTip y)
+      go : Changed k re o y → Retyped (Has S o) (channelKey k) (some A) 0 (outsideTip y)
       go (inl x) =
           let z : y .channel ≡ x .0 .channel = ap (λ (y : Outside). y .channel) (x .3) in
           (some (x .0 .type), outside refl (x .0) (x .1) (λ i. ((channelKey (z i), used), some (x .0 .type))), inl (ap channelKey (z ∙ x .2), ap (λ (y : Outside). some (y .type)) (x .3)))
