@@ -1,4 +1,5 @@
 -- The list of all ends: who holds each, and when none is held twice.
+use Rattle.preservation.specs.Witness.{keyNumber}
 use mathlib.Core.Path.{_≡_, refl, sym, _∙_, ap, subst}
 use mathlib.Core.Logic.{_≢_, _⊎_, inl, inr}
 use mathlib.Core.List.{List, [], _∷_, _++_, map, List·Memᴰ·head, List·Memᴰ·tail, List·Memᴰ·not-nil, List·Memᴰ·append-cases, Memᴰ·map, Memᴰ·of-map, Memᴰ·cast, Memᴰ·append-left, Memᴰ·append-right}
@@ -122,6 +123,6 @@ pub keys-outside : (o : List Outside) → NoneTwice (map (λ (y : Outside). y .c
 keys-outside [] u = tt
 keys-outside (x ∷ o) u = (
   (λ m. let e = Memᴰ·of-map key (outsideEnds o) m in let y = end-outside o (e .0) (e .1) in
-      u .0 (Memᴰ·cast (ap (λ (k : ℕ × Side). k .0) (sym (e .2)) ∙ ap (λ (e : End). e .channel) (sym (y .2))) (Memᴰ·map (λ (y : Outside). y .channel) (y .1)))),
+      u .0 (Memᴰ·cast (ap keyNumber (sym (e .2)) ∙ ap (λ (e : End). e .channel) (sym (y .2))) (Memᴰ·map (λ (y : Outside). y .channel) (y .1)))),
   keys-outside o (u .1),
 )

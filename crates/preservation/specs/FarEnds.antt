@@ -15,7 +15,7 @@ use Rattle.calculus.specs.Configuration.{End, Process, relinked, Outside, Confi
 use Rattle.calculus.specs.WellFormed.{In}
 use Rattle.derivations.specs.Booleans.{bool-cases, cond-true, cond-false, eqb-iff}
 use Rattle.derivations.specs.Equality.{sameSide-iff}
-use Rattle.preservation.specs.Witness.{Tip, side-clash}
+use Rattle.preservation.specs.Witness.{Tip, side-clash, tipNumber, tipSide}
 use Rattle.preservation.specs.Roster.{Roster, channelKey, channel-key-one, channel-no-link, holds, links, waits, Has, outside, inside}
 use Rattle.preservation.specs.Places.{Shows}
 
@@ -143,16 +143,16 @@ module _ (C : Config) {id : ℕ → ℕ} {S : Roster} (s : Shows id (C .processe
   -- nobody has the far end of e
   pub nobody-has : (e : End) → ((j : ℕ) (q : Process) → getElem? (C .processes) j ≡ some q → (x : Name × End) → In x (q .held) → x .1 .channel ≡ e .channel → x .1 .side ≡ other (e .side) → ⊥)
       → (e .side ≡ provided → (y : Outside) → In y (C .outside) → y .channel ≢ e .channel) → (v : ℕ) (t : Option (Ty Name)) → ¬ Has S (C .outside) v ((channelKey (e .channel), other (e .side)), t)
-  nobody-has e a b v t (outside _ y i h) = b (sides (e .side) (ap (λ (t : Tip). t .0 .1) h)) y i (sym (channel-key-one (e .channel) (y .channel) (ap (λ (t : Tip). t .0 .0) h)))
+  nobody-has e a b v t (outside _ y i h) = b (sides (e .side) (ap tipSide h)) y i (sym (channel-key-one (e .channel) (y .channel) (ap tipNumber h)))
     where
       sides : (s : Side) → other s ≡ used → s ≡ provided
       sides provided z = refl
       sides used z = absurd (side-clash z)
   nobody-has e a b v t (inside r w (holds x i h)) =
       let q = held-back v r w x i in
-      a (q .0) (q .1) (q .2) x (q .3) (sym (channel-key-one (e .channel) (x .1 .channel) (ap (λ (t : Tip). t .0 .0) h))) (sym (ap (λ (t : Tip). t .0 .1) h))
-  nobody-has e a b v t (inside r w (links k _ h)) = channel-no-link (e .channel) k (ap (λ (t : Tip). t .0 .0) h)
-  nobody-has e a b v t (inside r w (waits _ h)) = channel-no-link (e .channel) v (ap (λ (t : Tip). t .0 .0) h)
+      a (q .0) (q .1) (q .2) x (q .3) (sym (channel-key-one (e .channel) (x .1 .channel) (ap tipNumber h))) (sym (ap tipSide h))
+  nobody-has e a b v t (inside r w (links k _ h)) = channel-no-link (e .channel) k (ap tipNumber h)
+  nobody-has e a b v t (inside r w (waits _ h)) = channel-no-link (e .channel) v (ap tipNumber h)
 
 -- ── a free channel
 among-in : (k : ℕ) (l : List ℕ) → In k l → So (among k l)
@@ -200,9 +200,9 @@ module _ (C : Config) {id : ℕ → ℕ} {S : Roster} (s : Shows id (C .processe
 
       busy : (v : ℕ) (t : Tip) → Has S (C .outside) v t → t .0 .0 ≡ channelKey k → In k (channelsHeld C)
       busy v t (outside _ y i h) z =
-          subst (λ k. In k (channelsHeld C)) (channel-key-one (y .channel) k (sym (ap (λ (t : Tip). t .0 .0) h) ∙ z)) (all .1 (y .channel) (Memᴰ·map (λ (o : Outside). o .channel) i))
+          subst (λ k. In k (channelsHeld C)) (channel-key-one (y .channel) k (sym (ap tipNumber h) ∙ z)) (all .1 (y .channel) (Memᴰ·map (λ (o : Outside). o .channel) i))
       busy v t (inside r w (holds x i h)) z =
           let q = held-back C s v r w x i in
-          subst (λ k. In k (channelsHeld C)) (channel-key-one (x .1 .channel) k (sym (ap (λ (t : Tip). t .0 .0) h) ∙ z)) (all .0 (q .0) (q .1) (q .2) x (q .3))
-      busy v t (inside r w (links h _ y)) z = absurd (channel-no-link k h (sym z ∙ ap (λ (t : Tip). t .0 .0) y))
-      busy v t (inside r w (waits _ y)) z = absurd (channel-no-link k v (sym z ∙ ap (λ (t : Tip). t .0 .0) y))
+          subst (λ k. In k (channelsHeld C)) (channel-key-one (x .1 .channel) k (sym (ap tipNumber h) ∙ z)) (all .0 (q .0) (q .1) (q .2) x (q .3))
+      busy v t (inside r w (links h _ y)) z = absurd (channel-no-link k h (sym z ∙ ap tipNumber y))
+      busy v t (inside r w (waits _ y)) z = absurd (channel-no-link k v (sym z ∙ ap tipNumber y))

@@ -2,19 +2,19 @@
 use mathlib.Core.Path.{_≡_, refl, sym, _∙_, ap, subst}
 use mathlib.Core.Logic.{_≢_, _⊎_, inl, inr}
 use mathlib.Core.List.{List, [], _∷_, map, Sublistᴰ·nil-sublist, List·Memᴰ·head, List·Memᴰ·tail, List·Memᴰ·not-nil, List·Memᴰ·eq-of-singleton, Memᴰ·map, Memᴰ·of-map, Memᴰ·cast}
-use mathlib.Core.Option.{Option, some, Option·some-injective}
+use mathlib.Core.Option.{some, Option·some-injective}
 use mathlib.Core.Bool.{Bool, true, false, cond}
 use Prim.Native.Nat.{ℕ, _≤_, _<_}
 use lib.Dec.{eqb}
 use Rattle.notation.specs.Limits.{heldLimit, channelPlaces}
 use Rattle.notation.specs.Tree.{Name}
 use Rattle.calculus.specs.Named.{lookup, changed, names, isSome}
-use Rattle.calculus.specs.Types.{Side, provided, used, other}
+use Rattle.calculus.specs.Types.{provided, used, other}
 use Rattle.calculus.specs.Program.{slot, Program}
 use Rattle.calculus.specs.Declarations.{outward}
 use Rattle.calculus.specs.Configuration.{End, end, folding, Process, process, Outside, changedOutside, movedOutside}
 use Rattle.calculus.specs.WellFormed.{In, NoneTwice, Rising, contextOf, key, isWaiting}
-use Rattle.preservation.specs.Witness.{Key, Tip, Rel, Witness, side-clash, Moved, over, outing}
+use Rattle.preservation.specs.Witness.{Tip, Rel, Witness, side-clash, Moved, over, outing, tipKey, keyNumber, keySide}
 use Rattle.preservation.specs.Lists.{by-test, lookup-in, changed-cases, changed-names, changed-length}
 use Rattle.preservation.specs.Mates.{put}
 use Rattle.preservation.specs.Roster.{Roster, channelKey, channel-no-link, keyOf, tipOf, linkTip, outsideTip, Has, outside, TypedDoing, keyAt, Fine, fine-less, Good, Change, becomes, one-good, two-good}
@@ -80,13 +80,13 @@ module _ {p : Program} {S : Roster} {o : List Outside} {given next : ℕ} (G : G
     emptied : (w : ℕ) → Change p (R w) u (S u) (some (process folding [] (r .link)))
     emptied w =
         becomes G (R w) u r su folding [] wr (fine-less (G .fine u r su) folding (Sublistᴰ·nil-sublist (r .held)) tt) (λ y i. absurd (List·Memᴰ·not-nil i))
-        (λ h s t. inl ((λ m. channel-no-link (d .channel) h (sym (ap (λ (q : Key). q .0) (List·Memᴰ·eq-of-singleton m)))), t))
+        (λ h s t. inl ((λ m. channel-no-link (d .channel) h (sym (ap keyNumber (List·Memᴰ·eq-of-singleton m)))), t))
 
     -- the far end of e takes the place of d
     moves : (w : ℕ) (f g : End) → Has S o w (tipOf f) → f .channel ≡ e .channel → f .side ≡ used → g ≡ end (f .side) (d .channel) (f .type) → R w w (tipOf g)
     moves w f g hf z s h =
         let t : tipOf g ≡ tipOf d = λ i. ((channelKey (h i .channel), (ap (λ (e : End). e .side) h ∙ s ∙ sym sd) i), some ((ap (λ (e : End). e .type) h ∙ one-type G w u f e z hf hx ∙ ed) i)) in
-        inr (List·Memᴰ·head (ap (λ (t : Tip). t .0) t), refl, subst (Has S o u) (sym t) hc)
+        inr (List·Memᴰ·head (ap tipKey t), refl, subst (Has S o u) (sym t) hc)
 
     -- ── the far end of e is at the process q of w
     module _ (w : ℕ) (q : Process) (sw : S w ≡ some q) (n : Name) (f : End) (lf : lookup n (q .held) ≡ some f) (z : f .channel ≡ e .channel) (s : f .side ≡ other (e .side)) where
@@ -108,11 +108,11 @@ module _ {p : Program} {S : Roster} {o : List Outside} {given next : ℕ} (G : G
       W : Witness (R w) next
       W =
           over (G .witness) (keyOf d ∷ []) u w (λ y m. ap (G .witness .own) (List·Memᴰ·eq-of-singleton m) ∙ G .witness .sound u (tipOf d) hc) u0 (channelKey (e .channel))
-          (joins G u w e f z s hx hw u0 w0) (λ t m. off (key-cases e (keyOf d) (sym (ap (λ (q : Key). q .0) (List·Memᴰ·eq-of-singleton m)))))
+          (joins G u w e f z s hx hw u0 w0) (λ t m. off (key-cases e (keyOf d) (sym (ap keyNumber (List·Memᴰ·eq-of-singleton m)))))
           (inl (ap (λ t. G .witness .own (channelKey (e .channel), t)) (sym se) ∙ near-owner G u w e f z s hx hw u0 w0, ap (λ t. G .witness .own (channelKey (e .channel), other t)) (sym se) ∙ far-owner G u w e f z s hx hw u0 w0))
         where
           off : (keyOf d ≡ keyOf e) ⊎ (keyOf d ≡ (channelKey (e .channel), other (e .side))) → ⊥
-          off (inl h) = side-clash (sym se ∙ ap (λ (q : Key). q .1) (sym h) ∙ sd)
+          off (inl h) = side-clash (sym se ∙ ap keySide (sym h) ∙ sd)
           off (inr h) = uw (owner G u w (keyOf d) (some (d .type)) (some (f .type)) hc (subst (λ k. Has S o w (k, some (f .type))) ((λ i. (channelKey (z i), s i)) ∙ sym h) hw))
 
       q-fine : Fine p (process (q .doing) l′ (q .link))
@@ -131,7 +131,7 @@ module _ {p : Program} {S : Roster} {o : List Outside} {given next : ℕ} (G : G
           fresh m =
               let y = Memᴰ·of-map keyAt (q .held) m in
               uw (owner G u w (keyOf d) (some (d .type)) (some (y .0 .1 .type)) hc
-              (subst (λ k. Has S o w (k, some (y .0 .1 .type))) (λ i. (channelKey (y .2 i .0), (ap (λ (k : ℕ × Side). k .1) (y .2) ∙ sf ∙ sym sd) i)) (held-tip G w q sw (y .0) (y .1))))
+              (subst (λ k. Has S o w (k, some (y .0 .1 .type))) (λ i. (channelKey (y .2 i .0), (ap keySide (y .2) ∙ sf ∙ sym sd) i)) (held-tip G w q sw (y .0) (y .1))))
 
           chan : (y : Name × End) → (y .1 ≡ end (f .side) (d .channel) (f .type)) ⊎ (In y (q .held) × (key (y .1) ≢ key f)) → y .1 .channel < channelPlaces
           chan y (inl h) = subst (λ (e : End). e .channel < channelPlaces) (sym h) (G .fine u r su .channels (c, d) (lookup-in c (r .held) d lc))

@@ -15,7 +15,7 @@ use Rattle.calculus.specs.Program.{Program}
 use Rattle.calculus.specs.Typing.{Typed}
 use Rattle.calculus.specs.Configuration.{End, end, Doing, running, folding, waiting, Process, process, Outside}
 use Rattle.calculus.specs.WellFormed.{In, NoneTwice, contextOf, key, isWaiting}
-use Rattle.preservation.specs.Witness.{Key, Tip, Rel, Witness, fewer, Moved, Joined, sides, Between, over, joined-uses, joined-provides}
+use Rattle.preservation.specs.Witness.{Key, Tip, Rel, Witness, fewer, Moved, Joined, sides, Between, over, joined-uses, joined-provides, tipNumber, keyNumber}
 use Rattle.preservation.specs.Lists.{once-by, sub-in, sub-once, absent, kept-sub, kept-in, names-map, names-in, names-append, once-snoc, length-snoc}
 use Rattle.preservation.specs.Mates.{put, put-elim, Profile, Mates, mates-same, mates-put, mates-new, Quiet, quiet-none, quiet-some}
 use Rattle.preservation.specs.Roster.{Roster, channelKey, linkKey, link-key-one, channel-no-link, keyOf, tipOf, linkTip, Tips, holds, links, waits, Has, outside, inside, TypedDoing, keyAt, Fine, fine-less, profile, Good}
@@ -57,13 +57,13 @@ module _ {p : Program} {S : Roster} {o : List Outside} {given next : ℕ} (G : G
       go (some r) e = let b = G .placed next r e .1 in absurd (omega arith)
 
   link-free : (v : ℕ) (t : Tip) → Has S o v t → t .0 .0 ≢ linkKey next
-  link-free v t (outside _ y _ h) z = channel-no-link (y .channel) next (sym (ap (λ (t : Tip). t .0 .0) h) ∙ z)
-  link-free v t (inside r s (holds x _ h)) z = channel-no-link (x .1 .channel) next (sym (ap (λ (t : Tip). t .0 .0) h) ∙ z)
+  link-free v t (outside _ y _ h) z = channel-no-link (y .channel) next (sym (ap tipNumber h) ∙ z)
+  link-free v t (inside r s (holds x _ h)) z = channel-no-link (x .1 .channel) next (sym (ap tipNumber h) ∙ z)
   link-free v t (inside r s (waits _ h)) z =
       let b = G .placed v r s .1 in
-      let e = link-key-one v next (sym (ap (λ (t : Tip). t .0 .0) h) ∙ z) in omega arith
+      let e = link-key-one v next (sym (ap tipNumber h) ∙ z) in omega arith
   link-free v t (inside r s (links k l h)) z =
-      let e = link-key-one k next (sym (ap (λ (t : Tip). t .0 .0) h) ∙ z) in
+      let e = link-key-one k next (sym (ap tipNumber h) ∙ z) in
       let m = G .mates .up v k (isWaiting (r .doing)) (ap profile s ∙ ap (λ l. some (l, isWaiting (r .doing))) l) in
       Option·none-ne-some (m .0, true) (sym (ap profile nobody) ∙ ap (λ k. profile (S k)) (sym e) ∙ m .1)
 
@@ -95,7 +95,7 @@ module _ {p : Program} {S : Roster} {o : List Outside} {given next : ℕ} (G : G
 
     link-key : (l : Option ℕ) (q : Key) → In q (linkKeys l) → (h : ℕ) × (q .0 ≡ linkKey h)
     link-key none q i = absurd (List·Memᴰ·not-nil i)
-    link-key (some h) q i = (h, ap (λ (q : Key). q .0) (List·Memᴰ·eq-of-singleton i))
+    link-key (some h) q i = (h, ap keyNumber (List·Memᴰ·eq-of-singleton i))
 
     stays : (x : Name × End) → In x (kept F.keeps (F.r .held)) → R F.u (tipOf (x .1))
     stays x i = inl ((λ m. go (List·Memᴰ·append-cases (keysOf (kept F.goes (F.r .held))) m)), inl (held-tip G F.u F.r F.there x xin))
@@ -121,7 +121,7 @@ module _ {p : Program} {S : Roster} {o : List Outside} {given next : ℕ} (G : G
     link-stays n h e = inl ((λ m. go (List·Memᴰ·append-cases (keysOf (kept F.goes (F.r .held))) m)), inl (inside F.r F.there (links h e refl)))
       where
         go : In (linkKey h, provided) (keysOf (kept F.goes (F.r .held))) ⊎ In (linkKey h, provided) (linkKeys F.given) → ⊥
-        go (inl j) = let y = Memᴰ·of-map (λ (x : Name × End). keyOf (x .1)) (kept F.goes (F.r .held)) j in channel-no-link (y .0 .1 .channel) h (ap (λ (q : Key). q .0) (y .2))
+        go (inl j) = let y = Memᴰ·of-map (λ (x : Name × End). keyOf (x .1)) (kept F.goes (F.r .held)) j in channel-no-link (y .0 .1 .channel) h (ap keyNumber (y .2))
         go (inr j) = List·Memᴰ·not-nil (subst (λ l. In (linkKey h, provided) (linkKeys l)) n j)
 
     joint-at : (s : Side) → R (F.ends s) ((F.k, s), F.T)

@@ -12,7 +12,7 @@ use Rattle.calculus.specs.Types.{Side, provided, used, other}
 use Rattle.calculus.specs.Configuration.{End, Process, relinked, Config, Holder, Far, atProcess, atOutside, givenUp, farEnd}
 use Rattle.calculus.specs.Forest.{Joint, Connected, here, past, over, back, Forest, jointAt, channelJoints, linkJoint, jointsFrom, joints}
 use Rattle.calculus.specs.WellFormed.{In, NoneTwice, isWaiting}
-use Rattle.preservation.specs.Witness.{Key, Tip, side-clash, joint}
+use Rattle.preservation.specs.Witness.{Key, Tip, side-clash, joint, tipNumber, tipSide}
 use Rattle.preservation.specs.Lists.{once-append}
 use Rattle.preservation.specs.Passing.{map-append}
 use Rattle.preservation.specs.Roster.{Roster, channelKey, linkKey, channel-key-one, channel-no-link, tipOf, linkTip, holds, links, waits, Has, outside, inside, keyAt}
@@ -243,21 +243,21 @@ module _ (C : Config) {id : ℕ → ℕ} {S : Roster} (s : Shows id (C .processe
 
   pub numbers-all : (u v : ℕ) (e f : Tip) → Has S (C .outside) u e → Has S (C .outside) v f → u ≢ 0 → v ≢ 0 → e .0 .0 ≡ f .0 .0 → e .0 .1 ≡ provided → f .0 .1 ≡ used → In (e .0 .0) numbers
   numbers-all u v e f (outside z _ _ _) g u0 v0 p a b = absurd (u0 z)
-  numbers-all u v e f (inside r w (waits _ h)) g u0 v0 p a b = absurd (side-clash (sym a ∙ ap (λ (t : Tip). t .0 .1) h))
+  numbers-all u v e f (inside r w (waits _ h)) g u0 v0 p a b = absurd (side-clash (sym a ∙ ap tipSide h))
   numbers-all u v e f (inside r w (links h l y)) g u0 v0 p a b =
       let x = s .back u r w in
       let z : relinked id (x .1) ≡ r = Option·some-injective _ _ (sym (s .there (x .0) (x .1) (x .2)) ∙ ap S (x .3) ∙ w) in
       let k = map-eq-some-iff {B = ℕ} id (x .1 .link) .0 (ap (λ (r : Process). r .link) z ∙ l) in
-      Memᴰ·cast (ap (λ (t : Tip). t .0 .0) y ∙ ap linkKey (sym (k .2)))
+      Memᴰ·cast (ap tipNumber y ∙ ap linkKey (sym (k .2)))
       (in-numbers (C .processes) (x .0) (x .1) (x .2) _ (Memᴰ·append-right (heldKeys C (x .1 .held)) (subst (λ o. In (linkKey (id (k .0))) (linkNumbers id o)) (sym (k .1)) (List·Memᴰ·head refl))))
   numbers-all u v e f (inside r w (holds x m y)) g u0 v0 p a b =
       let q = held-back C s u r w x m in
-      Memᴰ·cast (ap (λ (t : Tip). t .0 .0) y)
+      Memᴰ·cast (ap tipNumber y)
       (in-numbers (C .processes) (q .0) (q .1) (q .2) (channelKey (x .1 .channel))
-      (Memᴰ·append-left (linkNumbers id (q .1 .link)) (in-held (q .1 .held) x (q .3) _ (at-far (x .1 .side) (sym (ap (λ (t : Tip). t .0 .1) y) ∙ a) (farEnd C (x .1)) (far-is C (x .1))))))
+      (Memᴰ·append-left (linkNumbers id (q .1 .link)) (in-held (q .1 .held) x (q .3) _ (at-far (x .1 .side) (sym (ap tipSide y) ∙ a) (farEnd C (x .1)) (far-is C (x .1))))))
     where
       far : f .0 ≡ (channelKey (x .1 .channel), used)
-      far i = ((sym p ∙ ap (λ (t : Tip). t .0 .0) y) i, b i)
+      far i = ((sym p ∙ ap tipNumber y) i, b i)
 
       at-far : (t : Side) → t ≡ provided → (d : Far) → FarIs C (x .1) d → In (channelKey (x .1 .channel)) (farKey (x .1) t d)
       at-far used z d k = absurd (side-clash (sym z))
@@ -265,4 +265,4 @@ module _ (C : Config) {id : ℕ → ℕ} {S : Roster} (s : Shows id (C .processe
       at-far provided z _ (at-outside n o i c _) =
           absurd (v0 (sym (sound v f g) ∙ ap own far ∙ sound 0 ((channelKey (x .1 .channel), used), some (o .type)) (outside refl o i (λ j. ((channelKey (sym c j), used), some (o .type))))))
       at-far provided z _ (at-nobody n o) =
-          absurd (nobody-has C s (x .1) n o v (f .1) (subst (λ k. Has S (C .outside) v (k, f .1)) (far ∙ (λ i. (channelKey (x .1 .channel), other ((sym a ∙ ap (λ (t : Tip). t .0 .1) y) i)))) g))
+          absurd (nobody-has C s (x .1) n o v (f .1) (subst (λ k. Has S (C .outside) v (k, f .1)) (far ∙ (λ i. (channelKey (x .1 .channel), other ((sym a ∙ ap tipSide y) i)))) g))

@@ -17,7 +17,7 @@ use Rattle.calculus.specs.Declarations.{outward}
 use Rattle.calculus.specs.Configuration.{End, end, Doing, folding, Process, process, Outside, retypedOutside}
 use Rattle.calculus.specs.Steps.{retypedEnd}
 use Rattle.calculus.specs.WellFormed.{In, NoneTwice, Rising, contextOf, key, isWaiting}
-use Rattle.preservation.specs.Witness.{Key, Tip, Rel, Witness, Retyped, retyping, Moved, Between, over, outing}
+use Rattle.preservation.specs.Witness.{Tip, Rel, Witness, Retyped, retyping, Moved, Between, over, outing, keyNumber}
 use Rattle.preservation.specs.Lists.{by-test, sub-in, sub-once, lookup-in, absent, without-sub, without-cases, changed-cases, changed-names, changed-length, names-append, once-snoc, length-snoc}
 use Rattle.preservation.specs.Mates.{put}
 use Rattle.preservation.specs.Roster.{Roster, channelKey, channel-no-link, keyOf, tipOf, linkTip, outsideTip, Has, outside, TypedDoing, keyAt, Fine, fine-less, Fair, Good, Change, becomes, one-good, two-good}
@@ -91,7 +91,7 @@ module _ {p : Program} {S : Roster} {o : List Outside} {given next : ℕ} (G : G
       sender v =
           becomes G (Moved R (keyOf d ∷ []) u v) u r su P (retypedEnd c B (without a (r .held))) wP sender-fine
           (λ x i. let t = sender-end x i in inl ((λ m. t .1 (key-from-key (x .1) d (List·Memᴰ·eq-of-singleton m))), t .0))
-          (λ h s t. inl ((λ m. channel-no-link (d .channel) h (sym (ap (λ (q : Key). q .0) (List·Memᴰ·eq-of-singleton m)))), retyped-off (Has S o) u (linkTip h s) t (λ z. channel-no-link (e .channel) h (sym z))))
+          (λ h s t. inl ((λ m. channel-no-link (d .channel) h (sym (ap keyNumber (List·Memᴰ·eq-of-singleton m)))), retyped-off (Has S o) u (linkTip h s) t (λ z. channel-no-link (e .channel) h (sym z))))
 
     -- another's end stays, where it is no end of c
     else-stays : (v w : ℕ) (t : Tip) → v ≢ u → Has S o v t → t .0 .0 ≢ k → Moved R (keyOf d ∷ []) u w v t
@@ -182,7 +182,7 @@ module _ {p : Program} {S : Roster} {o : List Outside} {given next : ℕ} (G : G
           off s m = go (passed-end far-u .2)
             where
               same : channelKey (d .channel) ≡ k
-              same = sym (ap (λ (q : Key). q .0) (List·Memᴰ·eq-of-singleton m))
+              same = sym (ap keyNumber (List·Memᴰ·eq-of-singleton m))
 
               go : ((channelKey (d .channel) ≡ k) × (some (d .type) ≡ some B)) ⊎ ((channelKey (d .channel) ≢ k) × (some (d .type) ≡ passed-end far-u .0)) → ⊥
               go (inr y) = y .0 same

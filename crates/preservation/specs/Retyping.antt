@@ -18,7 +18,7 @@ use Rattle.calculus.specs.Steps.{retypedEnd}
 use Rattle.calculus.specs.WellFormed.{In, NoneTwice, Rising, contextOf, key, isWaiting}
 use Rattle.graphs.specs.Moves.{no-loop}
 use Rattle.derivations.specs.Booleans.{bool-cases, cond-true, cond-false, eqb-iff}
-use Rattle.preservation.specs.Witness.{Key, Tip, Rel, side-discrete, joint, Retyped, retyping}
+use Rattle.preservation.specs.Witness.{Key, Tip, Rel, side-discrete, joint, Retyped, retyping, keyNumber}
 use Rattle.preservation.specs.Lists.{lookup-in, changed-cases, changed-names, changed-length, changed-map}
 use Rattle.preservation.specs.Mates.{put}
 use Rattle.preservation.specs.Roster.{Roster, channelKey, channel-key-one, channel-no-link, keyOf, tipOf, linkTip, outsideTip, holds, Has, outside, inside, TypedDoing, keyAt, Fine, Fair, Good, Change, becomes, one-good, two-good}
@@ -45,7 +45,7 @@ pub key-of-key : (x e : End) → key x ≡ key e → keyOf x ≡ keyOf e
 key-of-key x e h i = (channelKey (h i .0), h i .1)
 
 pub key-from-key : (x e : End) → keyOf x ≡ keyOf e → key x ≡ key e
-key-from-key x e h i = (channel-key-one (x .channel) (e .channel) (ap (λ (k : Key). k .0) h) i, h i .1)
+key-from-key x e h i = (channel-key-one (x .channel) (e .channel) (ap keyNumber h) i, h i .1)
 
 -- ── what is kept of the ends when those of e's channel get the type A
 pub retyped-off : (H : Rel) {k : ℕ} {T : Option (Ty Name)} (v : ℕ) (t : Tip) → H v t → t .0 .0 ≢ k → Retyped H k T v t
@@ -72,7 +72,7 @@ retyped-keys c A l = changed-map key c (λ e. end (e .side) (e .channel) A) (ret
 pub retyped-channels : (c : Name) (A : Ty Name) (l : List (Name × End)) (n : ℕ) → ((x : Name × End) → In x l → x .1 .channel < n) → (x : Name × End) → In x (retypedEnd c A l) → x .1 .channel < n
 retyped-channels c A l n h x i =
     let r = Memᴰ·of-map keyAt l (subst (In (keyAt x)) (retyped-keys c A l) (Memᴰ·map keyAt i)) in
-    subst (λ k. k < n) (ap (λ (q : ℕ × Side). q .0) (r .2)) (h (r .0) (r .1))
+    subst (λ k. k < n) (ap keyNumber (r .2)) (h (r .0) (r .1))
 
 pub fine-retyped : {p : Program} {r : Process} → Fine p r → (d : Doing) (c : Name) (A : Ty Name) → TypedDoing p (contextOf (retypedEnd c A (r .held))) (isSome (r .link)) d
     → Fine p (process d (retypedEnd c A (r .held)) (r .link))

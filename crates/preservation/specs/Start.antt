@@ -12,7 +12,7 @@ use lib.Dec.{lit≤}
 use Rattle.notation.specs.Limits.{heldLimit, channelPlaces, outsideNumbers}
 use Rattle.notation.specs.Tree.{Name, Ty}
 use Rattle.calculus.specs.Named.{names, distinct, all}
-use Rattle.calculus.specs.Types.{Side, provided, used}
+use Rattle.calculus.specs.Types.{provided, used}
 use Rattle.calculus.specs.Program.{slot, Signature, Program, onSide, signatureContext}
 use Rattle.calculus.specs.Declarations.{outward, entryTypes}
 use Rattle.calculus.specs.Typing.{Typed, TypedBody}
@@ -20,7 +20,7 @@ use Rattle.calculus.specs.Configuration.{End, end, running, Process, process, r
 use Rattle.calculus.specs.Runs.{startHeld, startOutside, startConfig}
 use Rattle.calculus.specs.WellFormed.{In, NoneTwice, Rising, contextOf, isWaiting, WellFormed}
 use Rattle.derivations.specs.Booleans.{all-iff}
-use Rattle.preservation.specs.Witness.{Key, Tip, Witness, side-clash}
+use Rattle.preservation.specs.Witness.{Key, Tip, Witness, side-clash, tipNumber, tipSide, tipType, keyNumber}
 use Rattle.preservation.specs.Lists.{distinct-iff, once-by, search}
 use Rattle.preservation.specs.Mates.{Quiet, quiet-none, quiet-some, mates-quiet}
 use Rattle.preservation.specs.Roster.{Roster, channelKey, channel-key-one, Tips, holds, links, waits, Has, outside, inside, keyAt, Fine, Fair, profile}
@@ -43,7 +43,7 @@ start-end k (e ∷ l) x (List·Memᴰ·tail i) = let r = start-end (suc k) l x i
 start-keys : (k : ℕ) (l : List (Name × Ty Name)) → NoneTwice (map keyAt (startHeld k l))
 start-keys k [] = tt
 start-keys k (e ∷ l) = (
-  (λ m. let x = Memᴰ·of-map keyAt (startHeld (suc k) l) m in let b = start-end (suc k) l (x .0) (x .1) .0 in let c = ap (λ (q : ℕ × Side). q .0) (x .2) in omega arith),
+  (λ m. let x = Memᴰ·of-map keyAt (startHeld (suc k) l) m in let b = start-end (suc k) l (x .0) (x .1) .0 in let c = ap keyNumber (x .2) in omega arith),
   start-keys (suc k) l,
 )
 
@@ -106,13 +106,13 @@ module _ (p : Program) (s : Signature) (d : distinct (names (signatureContext s)
   ends-are : (v : ℕ) (e : Tip) → Has S O v e → (x : Name × End) × In x (startHeld 0 l) × (e .0 .0 ≡ channelKey (x .1 .channel)) × (e .1 ≡ some (x .1 .type)) × (((v ≡ 1) × (e .0 .1 ≡ provided)) ⊎ ((v ≡ 0) × (e .0 .1 ≡ used)))
   ends-are v e (outside z y i h) =
       let x = start-other 0 l y i in
-      (x .0, x .1, ap (λ (t : Tip). t .0 .0) h ∙ ap channelKey (sym (x .2)), ap (λ (t : Tip). t .1) h ∙ ap some (sym (x .3)), inr (z, ap (λ (t : Tip). t .0 .1) h))
+      (x .0, x .1, ap tipNumber h ∙ ap channelKey (sym (x .2)), ap tipType h ∙ ap some (sym (x .3)), inr (z, ap tipSide h))
   ends-are v e (inside r w h) = go (at-one v r w) h
     where
       go : (v ≡ 1) × (q ≡ r) → Tips v r e → (x : Name × End) × In x (startHeld 0 l) × (e .0 .0 ≡ channelKey (x .1 .channel)) × (e .1 ≡ some (x .1 .type)) × (((v ≡ 1) × (e .0 .1 ≡ provided)) ⊎ ((v ≡ 0) × (e .0 .1 ≡ used)))
       go (z, y) (holds x i k) =
           let m : In x (startHeld 0 l) = subst (λ (r : Process). In x (r .held)) (sym y) i in
-          (x, m, ap (λ (t : Tip). t .0 .0) k, ap (λ (t : Tip). t .1) k, inl (z, ap (λ (t : Tip). t .0 .1) k ∙ start-end 0 l x m .2))
+          (x, m, ap tipNumber k, ap tipType k, inl (z, ap tipSide k ∙ start-end 0 l x m .2))
       go (z, y) (links h k _) = absurd (Option·none-ne-some h (ap (λ (r : Process). r .link) y ∙ k))
       go (z, y) (waits k _) = absurd (true≢false (sym k ∙ ap (λ (r : Process). isWaiting (r .doing)) (sym y)))
 

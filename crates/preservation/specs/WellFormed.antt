@@ -19,9 +19,9 @@ use Rattle.calculus.specs.WellFormed.{In, NoneTwice, contextOf, processEnds, ou
 use Rattle.graphs.specs.Graph.{decIn}
 use Rattle.graphs.specs.Moves.{thin}
 use Rattle.derivations.specs.Equality.{sameType-iff}
-use Rattle.preservation.specs.Witness.{Key, Tip, key-discrete, side-clash, joint, Witness}
+use Rattle.preservation.specs.Witness.{Key, Tip, key-discrete, side-clash, joint, Witness, tipNumber, tipKey, tipType, keyNumber, keySide}
 use Rattle.preservation.specs.Lists.{distinct-iff, once-append, search}
-use Rattle.preservation.specs.Mates.{Mates}
+use Rattle.preservation.specs.Mates.{Mates, link-of}
 use Rattle.preservation.specs.Roster.{Roster, channelKey, linkKey, channel-key-one, link-key-one, channel-no-link, tipOf, linkTip, outsideTip, Tips, holds, links, waits, Has, outside, inside, TypedDoing, keyAt, Fine, Fair, profile, Good}
 use Rattle.preservation.specs.Retyping.{above, owner, one-type, key-of-key}
 use Rattle.preservation.specs.Passing.{map-append}
@@ -107,7 +107,7 @@ module _ {p : Program} {C : Config} (I : Inv p C) where
       go v none z y = absurd (Option·none-ne-some _ (sym (ap profile z) ∙ y))
       go v (some r′) z y =
           let b = I .shows .back v r′ z in
-          let k : Option·map (I .id) (b .1 .link) ≡ some (I .id h) = ap (λ (x : Option ℕ × Bool). x .0) (Option·some-injective _ _ (sym (profile-of (b .0) (b .1) (b .2)) ∙ ap (λ v. profile (S v)) (b .3) ∙ y)) in
+          let k : Option·map (I .id) (b .1 .link) ≡ some (I .id h) = link-of (sym (profile-of (b .0) (b .1) (b .2)) ∙ ap (λ v. profile (S v)) (b .3) ∙ y) in
           let n = map-eq-some-iff {B = ℕ} (I .id) (b .1 .link) .0 k in
           (b .0, b .1, record { there = b .2 }, n .1 ∙ ap some (I .shows .apart (n .0) h (I .shows .within (b .0) (b .1) (b .2) (n .0) (n .1)) (found-below (C .processes) h e) (n .2)))
 
@@ -311,34 +311,34 @@ module _ {p : Program} {C : Config} (w : WellFormed p C) where
   process-keys = once-left (map key (processEnds (C .processes))) (map key (outsideEnds (C .outside))) keys-apart
 
   key-back : (e d : End) (k : Key) → k ≡ (tipOf e) .0 → k ≡ (tipOf d) .0 → key e ≡ key d
-  key-back e d k a b i = (channel-key-one (e .channel) (d .channel) (ap (λ (k : Key). k .0) (sym a ∙ b)) i, ap (λ (k : Key). k .1) (sym a ∙ b) i)
+  key-back e d k a b i = (channel-key-one (e .channel) (d .channel) (ap keyNumber (sym a ∙ b)) i, ap keySide (sym a ∙ b) i)
 
   not-both : (y : Outside) → In y (C .outside) → (i : ℕ) (q : Process) → getElem? (C .processes) i ≡ some q → (x : Name × End) → In x (q .held) → key (x .1) ≢ (y .channel, used)
   not-both y m i q e x n = once-apart (map key (processEnds (C .processes))) (map key (outsideEnds (C .outside))) keys-apart (Memᴰ·map key (process-end (C .processes) i q e x n)) (Memᴰ·map key (outside-end (C .outside) y m))
 
   mixed : (k : Key) (c v : ℕ) (s t : Side) → k ≡ (channelKey c, s) → k ≡ (linkKey v, t) → ⊥
-  mixed k c v s t a b = channel-no-link c v (ap (λ (k : Key). k .0) (sym a ∙ b))
+  mixed k c v s t a b = channel-no-link c v (ap keyNumber (sym a ∙ b))
 
   seat-one : (u v : ℕ) (e f : Tip) → Seat C u e → Seat C v f → (k : Key) → k ≡ e .0 → k ≡ f .0 → u ≡ v
   seat-one u v e f (of-outside z _ _ _) (of-outside y _ _ _) k a b = z ∙ sym y
-  seat-one u v e f (of-outside z o m g) (of-held j r y n x l h) k a b = absurd (not-both o m j r n x l (key-back (x .1) (end used (o .channel) (o .type)) k (b ∙ ap (λ (t : Tip). t .0) h) (a ∙ ap (λ (t : Tip). t .0) g)))
-  seat-one u v e f (of-outside z o m g) (of-link _ _ _ _ h _ l) k a b = absurd (mixed k _ _ _ _ (a ∙ ap (λ (t : Tip). t .0) g) (b ∙ ap (λ (t : Tip). t .0) l))
-  seat-one u v e f (of-outside z o m g) (of-wait _ _ _ _ _ l) k a b = absurd (mixed k _ _ _ _ (a ∙ ap (λ (t : Tip). t .0) g) (b ∙ ap (λ (t : Tip). t .0) l))
-  seat-one u v e f (of-held j r y n x l h) (of-outside z o m g) k a b = absurd (not-both o m j r n x l (key-back (x .1) (end used (o .channel) (o .type)) k (a ∙ ap (λ (t : Tip). t .0) h) (b ∙ ap (λ (t : Tip). t .0) g)))
+  seat-one u v e f (of-outside z o m g) (of-held j r y n x l h) k a b = absurd (not-both o m j r n x l (key-back (x .1) (end used (o .channel) (o .type)) k (b ∙ ap tipKey h) (a ∙ ap tipKey g)))
+  seat-one u v e f (of-outside z o m g) (of-link _ _ _ _ h _ l) k a b = absurd (mixed k _ _ _ _ (a ∙ ap tipKey g) (b ∙ ap tipKey l))
+  seat-one u v e f (of-outside z o m g) (of-wait _ _ _ _ _ l) k a b = absurd (mixed k _ _ _ _ (a ∙ ap tipKey g) (b ∙ ap tipKey l))
+  seat-one u v e f (of-held j r y n x l h) (of-outside z o m g) k a b = absurd (not-both o m j r n x l (key-back (x .1) (end used (o .channel) (o .type)) k (a ∙ ap tipKey h) (b ∙ ap tipKey g)))
   seat-one u v e f (of-held i q z m x l g) (of-held j r y n x′ l′ h) k a b =
-      z ∙ ap suc (one-holder (C .processes) process-keys i j q r m n x x′ l l′ (key-back (x .1) (x′ .1) k (a ∙ ap (λ (t : Tip). t .0) g) (b ∙ ap (λ (t : Tip). t .0) h))) ∙ sym y
-  seat-one u v e f (of-held _ _ _ _ x _ g) (of-link _ _ _ _ h _ l) k a b = absurd (mixed k _ _ _ _ (a ∙ ap (λ (t : Tip). t .0) g) (b ∙ ap (λ (t : Tip). t .0) l))
-  seat-one u v e f (of-held _ _ _ _ x _ g) (of-wait _ _ _ _ _ l) k a b = absurd (mixed k _ _ _ _ (a ∙ ap (λ (t : Tip). t .0) g) (b ∙ ap (λ (t : Tip). t .0) l))
-  seat-one u v e f (of-link _ _ _ _ h _ l) (of-outside z o m g) k a b = absurd (mixed k _ _ _ _ (b ∙ ap (λ (t : Tip). t .0) g) (a ∙ ap (λ (t : Tip). t .0) l))
-  seat-one u v e f (of-link _ _ _ _ h _ l) (of-held _ _ _ _ x _ g) k a b = absurd (mixed k _ _ _ _ (b ∙ ap (λ (t : Tip). t .0) g) (a ∙ ap (λ (t : Tip). t .0) l))
+      z ∙ ap suc (one-holder (C .processes) process-keys i j q r m n x x′ l l′ (key-back (x .1) (x′ .1) k (a ∙ ap tipKey g) (b ∙ ap tipKey h))) ∙ sym y
+  seat-one u v e f (of-held _ _ _ _ x _ g) (of-link _ _ _ _ h _ l) k a b = absurd (mixed k _ _ _ _ (a ∙ ap tipKey g) (b ∙ ap tipKey l))
+  seat-one u v e f (of-held _ _ _ _ x _ g) (of-wait _ _ _ _ _ l) k a b = absurd (mixed k _ _ _ _ (a ∙ ap tipKey g) (b ∙ ap tipKey l))
+  seat-one u v e f (of-link _ _ _ _ h _ l) (of-outside z o m g) k a b = absurd (mixed k _ _ _ _ (b ∙ ap tipKey g) (a ∙ ap tipKey l))
+  seat-one u v e f (of-link _ _ _ _ h _ l) (of-held _ _ _ _ x _ g) k a b = absurd (mixed k _ _ _ _ (b ∙ ap tipKey g) (a ∙ ap tipKey l))
   seat-one u v e f (of-link i q z m h l g) (of-link j r y n h′ l′ g′) k a b =
-      let e = link-key-one (suc h) (suc h′) (ap (λ (k : Key). k .0) (sym (a ∙ ap (λ (t : Tip). t .0) g) ∙ b ∙ ap (λ (t : Tip). t .0) g′)) in
+      let e = link-key-one (suc h) (suc h′) (ap keyNumber (sym (a ∙ ap tipKey g) ∙ b ∙ ap tipKey g′)) in
       z ∙ ap suc (w .linkedOnce i j q r (record { there = m }) (record { there = n }) h l (l′ ∙ ap some (omega arith))) ∙ sym y
-  seat-one u v e f (of-link _ _ _ _ h _ l) (of-wait _ _ _ _ _ g) k a b = absurd (side-clash (ap (λ (k : Key). k .1) (sym (a ∙ ap (λ (t : Tip). t .0) l) ∙ b ∙ ap (λ (t : Tip). t .0) g)))
-  seat-one u v e f (of-wait _ _ _ _ _ l) (of-outside z o m g) k a b = absurd (mixed k _ _ _ _ (b ∙ ap (λ (t : Tip). t .0) g) (a ∙ ap (λ (t : Tip). t .0) l))
-  seat-one u v e f (of-wait _ _ _ _ _ l) (of-held _ _ _ _ x _ g) k a b = absurd (mixed k _ _ _ _ (b ∙ ap (λ (t : Tip). t .0) g) (a ∙ ap (λ (t : Tip). t .0) l))
-  seat-one u v e f (of-wait _ _ _ _ _ g) (of-link _ _ _ _ h _ l) k a b = absurd (side-clash (ap (λ (k : Key). k .1) (sym (b ∙ ap (λ (t : Tip). t .0) l) ∙ a ∙ ap (λ (t : Tip). t .0) g)))
-  seat-one u v e f (of-wait i _ z _ _ l) (of-wait j _ y _ _ g) k a b = z ∙ link-key-one (suc i) (suc j) (ap (λ (k : Key). k .0) (sym (a ∙ ap (λ (t : Tip). t .0) l) ∙ b ∙ ap (λ (t : Tip). t .0) g)) ∙ sym y
+  seat-one u v e f (of-link _ _ _ _ h _ l) (of-wait _ _ _ _ _ g) k a b = absurd (side-clash (ap keySide (sym (a ∙ ap tipKey l) ∙ b ∙ ap tipKey g)))
+  seat-one u v e f (of-wait _ _ _ _ _ l) (of-outside z o m g) k a b = absurd (mixed k _ _ _ _ (b ∙ ap tipKey g) (a ∙ ap tipKey l))
+  seat-one u v e f (of-wait _ _ _ _ _ l) (of-held _ _ _ _ x _ g) k a b = absurd (mixed k _ _ _ _ (b ∙ ap tipKey g) (a ∙ ap tipKey l))
+  seat-one u v e f (of-wait _ _ _ _ _ g) (of-link _ _ _ _ h _ l) k a b = absurd (side-clash (ap keySide (sym (b ∙ ap tipKey l) ∙ a ∙ ap tipKey g)))
+  seat-one u v e f (of-wait i _ z _ _ l) (of-wait j _ y _ _ g) k a b = z ∙ link-key-one (suc i) (suc j) (ap keyNumber (sym (a ∙ ap tipKey l) ∙ b ∙ ap tipKey g)) ∙ sym y
 
   -- an end is a channel's or a link's
   seat-kind : (v : ℕ) (t : Tip) → Seat C v t → ((e : End) × In e (ends C) × (t ≡ tipOf e)) ⊎ ((h : ℕ) × (s : Side) × (t ≡ linkTip h s))
@@ -352,11 +352,11 @@ module _ {p : Program} {C : Config} (w : WellFormed p C) where
     where
       go : ((d : End) × In d (ends C) × (e ≡ tipOf d)) ⊎ ((h : ℕ) × (s : Side) × (e ≡ linkTip h s)) → ((d : End) × In d (ends C) × (f ≡ tipOf d)) ⊎ ((h : ℕ) × (s : Side) × (f ≡ linkTip h s)) → e .1 ≡ f .1
       go (inl x) (inl y) =
-          let c = channel-key-one (x .0 .channel) (y .0 .channel) (ap (λ (t : Tip). t .0 .0) (sym (x .2)) ∙ z ∙ ap (λ (t : Tip). t .0 .0) (y .2)) in
-          ap (λ (t : Tip). t .1) (x .2) ∙ ap some (sameType-iff (x .0 .type) (y .0 .type) .0 (w .oneType (x .0) (y .0) (x .1) (y .1) c)) ∙ ap (λ (t : Tip). t .1) (sym (y .2))
-      go (inl x) (inr y) = absurd (channel-no-link (x .0 .channel) (y .0) (ap (λ (t : Tip). t .0 .0) (sym (x .2)) ∙ z ∙ ap (λ (t : Tip). t .0 .0) (y .2)))
-      go (inr x) (inl y) = absurd (channel-no-link (y .0 .channel) (x .0) (ap (λ (t : Tip). t .0 .0) (sym (y .2)) ∙ sym z ∙ ap (λ (t : Tip). t .0 .0) (x .2)))
-      go (inr x) (inr y) = ap (λ (t : Tip). t .1) (x .2 ∙ (λ j. linkTip (x .0) (x .1))) ∙ ap (λ (t : Tip). t .1) (sym (y .2))
+          let c = channel-key-one (x .0 .channel) (y .0 .channel) (ap tipNumber (sym (x .2)) ∙ z ∙ ap tipNumber (y .2)) in
+          ap tipType (x .2) ∙ ap some (sameType-iff (x .0 .type) (y .0 .type) .0 (w .oneType (x .0) (y .0) (x .1) (y .1) c)) ∙ ap tipType (sym (y .2))
+      go (inl x) (inr y) = absurd (channel-no-link (x .0 .channel) (y .0) (ap tipNumber (sym (x .2)) ∙ z ∙ ap tipNumber (y .2)))
+      go (inr x) (inl y) = absurd (channel-no-link (y .0 .channel) (x .0) (ap tipNumber (sym (y .2)) ∙ sym z ∙ ap tipNumber (x .2)))
+      go (inr x) (inr y) = ap tipType (x .2 ∙ (λ j. linkTip (x .0) (x .1))) ∙ ap tipType (sym (y .2))
 
   -- ── the owner of a key and the type of a number, found in the list of all ends
   abbrev vertexIf : {Q : ℕ × Tip → Type 0} → Dec ((x : ℕ × Tip) × In x (allTips C) × Q x) → ℕ
