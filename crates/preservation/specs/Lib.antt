@@ -21,4 +21,5 @@ pub mod Joints
 pub mod Ends
 pub mod WellFormed
 pub mod Start
+pub mod Running
 pub mod Preserved
