@@ -1,8 +1,8 @@
 -- What the Boolean tests of the definitions say.
 use Prim.Native.Nat.{ℕ, _≤_, _<_}
-use mathlib.Core.Path.{_≡_, refl, sym, ap}
-use mathlib.Core.Logic.{_↔_, _≢_, _⊎_, inl, inr, ⊎-elim}
-use mathlib.Core.List.{List, [], _∷_, List·Memᴰ, List·Memᴰ·head, List·Memᴰ·tail}
+use mathlib.Core.Path.{_≡_, refl, sym, ap, subst}
+use mathlib.Core.Logic.{_↔_, _⊎_, inl, inr, ⊎-elim, Iff·rfl, Iff·trans, Iff·and}
+use mathlib.Core.List.{List, [], _∷_, List·Memᴰ·head, List·Memᴰ·tail, List·Memᴰ·cases-cons}
 use mathlib.Core.Bool.{Bool, true, false, So, false≢true, not, cond, _&&_, and-eq-true-iff}
 use mathlib.Core.Option.{Option, some, none, Option·none-ne-some}
 use borrow.Author.Tests.{eqb-true, eq-eqb, ltb-true, lt-ltb, leb-true, le-leb}
@@ -20,20 +20,36 @@ pub bool-cases : (b : Bool) → (b ≡ true) ⊎ (b ≡ false)
 bool-cases true = inl refl
 bool-cases false = inr refl
 
+-- tests that pass together are equal
+pub bool-ext : {a b : Bool} → (So a → So b) → (So b → So a) → a ≡ b
+bool-ext {a = true} f g = sym (f refl)
+bool-ext {a = false} {b = true} f g = g refl
+bool-ext {a = false} {b = false} f g = refl
+
 pub not-iff : (b : Bool) → So (not b) ↔ (b ≡ false)
 not-iff true = (λ e. sym e, λ e. sym e)
 not-iff false = (λ e. refl, λ e. refl)
 
--- two tests, each with what it says
+-- a test that says no more than that it passes
+pub itself : (b : Bool) → So b ↔ So b
+itself b = Iff·rfl
+
+-- two tests, each with what it says; infix where the two can be read off
 pub and-iff : {A B : Type 0} (a b : Bool) → So a ↔ A → So b ↔ B → So (a && b) ↔ (A × B)
-and-iff a b f g =
-    let h = and-eq-true-iff a b in
-    (λ e. (f .0 (h .0 e .0), g .0 (h .0 e .1)), λ e. h .1 (f .1 (e .0), g .1 (e .1)))
+and-iff a b f g = Iff·trans (and-eq-true-iff a b) (Iff·and f g)
+
+infixl 35 _and_
+pub _and_ : {A B : Type 0} {a b : Bool} → So a ↔ A → So b ↔ B → So (a && b) ↔ (A × B)
+_and_ {a = a} {b} = and-iff a b
 
 -- the same with `cond`, as `all` and `any` are written
 pub and-cond : (a b : Bool) → So (cond a b false) ↔ (So a × So b)
 and-cond true b = (λ e. (refl, e), λ h. h .1)
 and-cond false b = (never, λ h. h .0)
+
+pub unless-cond : (a b : Bool) → So (cond a false b) ↔ ((a ≡ false) × So b)
+unless-cond true b = (never, λ h. sym (h .0))
+unless-cond false b = (λ e. (refl, e), λ h. h .1)
 
 pub or-cond : (a b : Bool) → So (cond a true b) ↔ (So a ⊎ So b)
 or-cond true b = (λ e. inl refl, λ h. refl)
@@ -67,16 +83,16 @@ module _ {X : Type 0} where
   isNone-iff none = (λ e. refl, λ e. refl)
   isNone-iff (some x) = (never, λ e. absurd (Option·none-ne-some x (sym e)))
 
-  all-in : (p : X → Bool) {x : X} {l : List X} → In x l → So (all p l) → So (p x)
-  all-in p (List·Memᴰ·head {x = y} {xs = l} h) e = rw h (and-cond (p y) (all p l) .0 e .0)
-  all-in p (List·Memᴰ·tail {x = y} {xs = l} m) e = all-in p m (and-cond (p y) (all p l) .0 e .1)
-
-  in-all : (p : X → Bool) (l : List X) → ((x : X) → In x l → So (p x)) → So (all p l)
-  in-all p [] h = refl
-  in-all p (x ∷ l) h = and-cond (p x) (all p l) .1 (h x (List·Memᴰ·head refl), in-all p l (λ y m. h y (List·Memᴰ·tail m)))
+  -- what holds of each element of a list with one more
+  pub each-cons : (P : X → Type 0) (x : X) (l : List X) → (P x × ((y : X) → In y l → P y)) ↔ ((y : X) → In y (x ∷ l) → P y)
+  each-cons P x l = (
+    λ h y m. ⊎-elim (λ e. subst P (sym e) (h .0)) (h .1 y) (List·Memᴰ·cases-cons m),
+    λ h. (h x (List·Memᴰ·head refl), λ y m. h y (List·Memᴰ·tail m)),
+  )
 
   pub all-iff : (p : X → Bool) (l : List X) → So (all p l) ↔ ((x : X) → In x l → So (p x))
-  all-iff p l = (λ e x m. all-in p m e, in-all p l)
+  all-iff p [] = (λ e x m. elim m [ ], λ h. refl)
+  all-iff p (x ∷ l) = Iff·trans (and-cond (p x) (all p l)) (Iff·trans (Iff·and Iff·rfl (all-iff p l)) (each-cons (λ y. So (p y)) x l))
 
   in-any : (p : X → Bool) {x : X} {l : List X} → In x l → So (p x) → So (any p l)
   in-any p (List·Memᴰ·head {x = y} {xs = l} h) e = or-cond (p y) (any p l) .1 (inl (rw (← h) e))
@@ -84,7 +100,10 @@ module _ {X : Type 0} where
 
   any-in : (p : X → Bool) (l : List X) → So (any p l) → (x : X) × In x l × So (p x)
   any-in p [] e = never e
-  any-in p (x ∷ l) e = ⊎-elim (λ h. (x, List·Memᴰ·head refl, h)) (λ h. let r = any-in p l h in (r .0, List·Memᴰ·tail (r .1), r .2)) (or-cond (p x) (any p l) .0 e)
+  any-in p (x ∷ l) e = ⊎-elim
+      (λ h. (x, List·Memᴰ·head refl, h))
+      (λ h. let r = any-in p l h in (r .0, List·Memᴰ·tail (r .1), r .2))
+      (or-cond (p x) (any p l) .0 e)
 
   pub any-iff : (p : X → Bool) (l : List X) → So (any p l) ↔ ((x : X) × In x l × So (p x))
   any-iff p l = (any-in p l, λ h. in-any p (h .1) (h .2))

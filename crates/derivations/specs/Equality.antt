@@ -1,14 +1,14 @@
 -- The tests for equal names, sides and types decide equality.
 use Prim.Native.Nat.{ℕ}
 use mathlib.Core.Path.{_≡_, refl, sym, _∙_, ap, subst}
-use mathlib.Core.Logic.{_↔_, _≢_, _⊎_, inl, inr, Iff·rfl}
+use mathlib.Core.Logic.{_↔_, _≢_, _⊎_, ⊎-elim, ⊎-map}
 use mathlib.Core.List.{List, [], _∷_}
 use mathlib.Core.Bool.{Bool, true, false, So, true≢false, cond, _&&_, and-eq-true-iff}
 use lib.Dec.{eqb}
 use Rattle.notation.specs.Bytes.{same}
 use Rattle.notation.specs.Tree.{Name, Ty, unit, named, tensor, par, lolli, plus, with, Alternatives, alternative}
 use Rattle.calculus.specs.Types.{Side, provided, used, sameSide, Shape, leaf, word, pair, choice, shape, atLeaf, atWord, atPair, atChoice, atAlternative, atNone, sameType, sameAlternatives}
-use Rattle.derivations.specs.Booleans.{never, bool-cases, and-iff, eqb-iff}
+use Rattle.derivations.specs.Booleans.{never, bool-cases, bool-ext, itself, _and_, eqb-iff}
 
 -- ── a test that passes exactly for equal things
 pub record Decides {A : Type 0} (test : A → A → Bool) : Type 0 where
@@ -19,21 +19,21 @@ module _ {A : Type 0} {test : A → A → Bool} (d : Decides test) where
   pub decides-iff : (a b : A) → So (test a b) ↔ (a ≡ b)
   decides-iff a b = (d .sound a b, λ e. subst (λ c. So (test a c)) e (d .self a))
 
+  pub decides-not : (a b : A) → (test a b ≡ false) ↔ (a ≢ b)
+  decides-not a b = (
+    λ e h. true≢false (sym (decides-iff a b .1 h) ∙ e),
+    λ n. ⊎-elim (λ e. absurd (n (d .sound a b e))) (λ e. e) (bool-cases (test a b)),
+  )
+
   pub decides-cases : (a b : A) → (So (test a b) × (a ≡ b)) ⊎ ((test a b ≡ false) × (a ≢ b))
-  decides-cases a b = go (bool-cases (test a b))
-    where
-      go : So (test a b) ⊎ (test a b ≡ false) → (So (test a b) × (a ≡ b)) ⊎ ((test a b ≡ false) × (a ≢ b))
-      go (inl e) = inl (e, d .sound a b e)
-      go (inr e) = inr (e, λ h. true≢false (sym (decides-iff a b .1 h) ∙ e))
+  decides-cases a b = ⊎-map (λ e. (e, decides-iff a b .0 e)) (λ e. (e, decides-not a b .0 e)) (bool-cases (test a b))
 
   pub decides-sym : (a b : A) → test a b ≡ test b a
-  decides-sym a b = go (decides-cases a b) (decides-cases b a)
-    where
-      go : (So (test a b) × (a ≡ b)) ⊎ ((test a b ≡ false) × (a ≢ b)) → (So (test b a) × (b ≡ a)) ⊎ ((test b a ≡ false) × (b ≢ a)) → test a b ≡ test b a
-      go (inl h) (inl k) = h .0 ∙ sym (k .0)
-      go (inl h) (inr k) = absurd (k .1 (sym (h .1)))
-      go (inr h) (inl k) = absurd (h .1 (sym (k .1)))
-      go (inr h) (inr k) = h .0 ∙ sym (k .0)
+  decides-sym a b = bool-ext (λ e. decides-iff b a .1 (sym (d .sound a b e))) (λ e. decides-iff a b .1 (sym (d .sound b a e)))
+
+-- ── numbers
+pub eqb-decides : Decides eqb
+eqb-decides = record { sound = λ m n. eqb-iff m n .0; self = λ n. eqb-iff n n .1 refl }
 
 -- ── names
 same-cons : (x y : ℕ) (xs ys : List ℕ) → same (x ∷ xs) (y ∷ ys) ≡ (eqb x y && same xs ys)
@@ -50,7 +50,7 @@ same-sound [] [] e = refl
 same-sound [] (y ∷ ys) e = never e
 same-sound (x ∷ xs) [] e = never e
 same-sound (x ∷ xs) (y ∷ ys) e =
-    let h = and-iff (eqb x y) (same xs ys) (eqb-iff x y) Iff·rfl .0 (sym (same-cons x y xs ys) ∙ e) in
+    let h = (eqb-iff x y and itself (same xs ys)) .0 (sym (same-cons x y xs ys) ∙ e) in
     λ i. h .0 i ∷ same-sound xs ys (h .1) i
 
 pub same-refl : (a : List ℕ) → So (same a a)
@@ -188,6 +188,9 @@ mutual
 
 pub sameType-decides : Decides sameType
 sameType-decides = record { sound = sameType-sound; self = sameType-refl }
+
+pub atLeaf-iff : (A : Ty Name) → So (atLeaf (shape A)) ↔ (A ≡ unit)
+atLeaf-iff A = (λ e. sym (by-shape unit leaf-sound A e), λ e. ap (λ B. atLeaf (shape B)) e)
 
 pub sameType-iff : (A B : Ty Name) → So (sameType A B) ↔ (A ≡ B)
 sameType-iff = decides-iff sameType-decides

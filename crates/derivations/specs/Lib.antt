@@ -1,2 +1,7 @@
 pub mod Booleans
 pub mod Equality
+pub mod Fine
+pub mod Parts
+pub mod Rules
+pub mod Accepts
+pub mod Demand

@@ -5,9 +5,10 @@ use mathlib.Core.Bool.{cond}
 use lib.Dec.{eqb}
 use Rattle.notation.specs.Token.{tokenAt, nameAt, kindAt, kSend, kRecv, kFwd, kCall, kCancel, kRaise, kTry, kCatch, kName, kLabel, kRoundOpen, kRoundClose, kSquareOpen, kSquareClose, kColon, kComma, kSemicolon, kFrom, kThen, kBar}
 use Rattle.notation.specs.Tree.{Located, Ty, Proc, empty, sendUnit, sendChannel, sendLabel, cancel, spawn, recvUnit, recvChannel, recvLabel, fwd, call, raise, try, Branches, branch}
-use Rattle.notation.specs.Reader.{Result, got, refused, take, part, lastly, choose, expect, misfit, opening, processTerm, closed, nameIn, labelIn}
+use Rattle.notation.specs.Reader.{Result, got, refused, take, part, lastly, choose, expect, misfit, opening, processTerm, closed, thenToken, closedTaken, nameIn, labelIn}
 use Rattle.notation.specs.Types.{readType, labelTerm}
 use Rattle.notation.specs.declared.reading.Cursor.{Cursor}
+use Rattle.notation.specs.declared.reading.Taken.{Taken}
 use Rattle.notation.specs.declared.token.TermHead.{TermHead}
 use Rattle.notation.specs.declared.token.TermHead.the-variants.{Send, Recv, Fwd, Call, Cancel, Raise, Try, Spawn, Empty}
 use Rattle.notation.specs.declared.token.Payload.{Payload}
@@ -32,17 +33,15 @@ payload k =
     (cond (eqb k kLabel) Label Other))
 
 -- ()
-abbrev pub unitMark : {A : Type 0} → List ℕ → Cursor → (Cursor → Result A) → Result A
-unitMark s c k =
-    take (opening s kRoundOpen c) λ _ d.
-    take (expect s kRoundClose d) λ _ e. k (closed c e)
+unfoldable pub unitTaken : List ℕ → Cursor → Taken
+unitTaken s c = closedTaken c (thenToken (opening s kRoundOpen c) (expect s kRoundClose))
 
 -- (P)
-abbrev pub bracketed : {A : Type 0} → (Cursor → Result Proc) → List ℕ → Cursor → (Proc → Cursor → Result A) → Result A
-bracketed process s c k =
+unfoldable pub bracketedBy : (Cursor → Result Proc) → List ℕ → Cursor → Result Proc
+bracketedBy process s c =
     take (opening s kRoundOpen c) λ _ d.
     part (process d) λ P e.
-    take (expect s kRoundClose e) λ _ f. k P (closed c f)
+    take (expect s kRoundClose e) λ _ f. got P (closed c f)
 
 -- names with commas between them, up to the bracket that closes; none or more
 unfoldable pub readNames : ℕ → List ℕ → ℕ → Cursor → Result (List Located)
@@ -62,7 +61,7 @@ nameList n s open′ close c =
 
 -- send c (), send c a, send c 'l: what follows the channel c, whose name is read, in a term from `at` on
 unfoldable pub sendBy : (Cursor → Result Proc) → List ℕ → ℕ → Located → Cursor → Payload → Result Proc
-sendBy rest s at c d UnitPayload = unitMark s d λ e. lastly (sendUnit at c) (rest e)
+sendBy rest s at c d UnitPayload = take (unitTaken s d) λ _ e. lastly (sendUnit at c) (rest e)
 sendBy rest s at c d Channel = take (expect s kName d) λ i e. lastly (sendChannel at c (nameIn s i)) (rest e)
 sendBy rest s at c d Label = take (expect s kLabel d) λ i e. lastly (sendLabel at c (labelIn s i)) (rest e)
 sendBy rest s at c d Other = misfit s d
@@ -70,7 +69,7 @@ sendBy rest s at c d Other = misfit s d
 -- recv c (() => P), recv c (x => P), recv c ('l => P | ..): what follows the bracket, which the caller closes
 unfoldable pub recvBy : (Cursor → Result Proc) → (Cursor → Result Branches) → List ℕ → ℕ → Located → Cursor → Payload → Result Proc
 recvBy process branches s at c d UnitPayload =
-    unitMark s d λ e.
+    take (unitTaken s d) λ _ e.
     take (expect s kThen e) λ _ f. lastly (recvUnit at c) (process f)
 recvBy process branches s at c d Channel =
     take (expect s kName d) λ i e.
@@ -105,15 +104,15 @@ processBy type process rest branches n s c Cancel =
 processBy type process rest branches n s c Raise = take (processTerm s kRaise c) λ at d. lastly (raise at) (process d)
 processBy type process rest branches n s c Try =
     take (processTerm s kTry c) λ at d.
-    bracketed process s d λ P e.
+    part (bracketedBy process s d) λ P e.
     take (expect s kCatch e) λ _ f.
-    bracketed process s f λ Q g. got (try at P Q) g
+    part (bracketedBy process s f) λ Q g. got (try at P Q) g
 processBy type process rest branches n s c Spawn =
     take (processTerm s kName c) λ i d.
     take (expect s kColon d) λ _ e.
     part (type e) λ A f.
     take (expect s kFrom f) λ _ g.
-    bracketed process s g λ P h. lastly (spawn (nameIn s i) A P) (rest h)
+    part (bracketedBy process s g) λ P h. lastly (spawn (nameIn s i) A P) (rest h)
 processBy type process rest branches n s c Empty = got (empty (tokenAt s (c .at) .start)) c
 
 -- "followed by nothing or by `;` and a process"
@@ -124,16 +123,20 @@ restBy process s c =
     (λ c. got (empty (tokenAt s (c .at) .start)) c)
     c
 
+-- after a branch: a bar and more, or none
+abbrev pub moreBranchesBy : (Cursor → Result Branches) → List ℕ → Cursor → Result Branches
+moreBranchesBy more s c =
+    choose (eqb (kindAt s (c .at)) kBar)
+    (λ c. take (expect s kBar c) λ _ d. more d)
+    (λ c. got Branches.none c)
+    c
+
 -- 'l => P | .., of which n came before
 unfoldable pub branchesBy : (Cursor → Result Proc) → (Cursor → Result Branches) → List ℕ → ℕ → Cursor → Result Branches
 branchesBy process more s n c =
     take (labelTerm s n c) λ i d.
     take (expect s kThen d) λ _ e.
-    part (process e) λ P f.
-    choose (eqb (kindAt s (f .at)) kBar)
-    (λ f. take (expect s kBar f) λ _ g. lastly (branch (labelIn s i) P) (more g))
-    (λ f. got (branch (labelIn s i) P Branches.none) f)
-    f
+    part (process e) λ P f. lastly (branch (labelIn s i) P) (moreBranchesBy more s f)
 
 unfoldable mutual
   pub readProcess : ℕ → List ℕ → Cursor → Result Proc

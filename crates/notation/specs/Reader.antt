@@ -60,26 +60,51 @@ limited (At i c) fits more = cond (fits c) (At i (more c)) (Refused 5 i)
 limited (Refused n i) fits more = Refused n i
 
 -- a bracket that opens
+abbrev pub mayOpen : Cursor → Bool
+mayOpen d = ltb (d .depth) bracketLimit
+
+abbrev pub deeper : Cursor → Cursor
+deeper d = record { at = d .at; types = d .types; terms = d .terms; depth = d .depth + 1 }
+
 unfoldable pub opening : List ℕ → ℕ → Cursor → Taken
-opening s k c =
-    limited (expect s k c) (λ d. ltb (d .depth) bracketLimit)
-    (λ d. record { at = d .at; types = d .types; terms = d .terms; depth = d .depth + 1 })
+opening s k c = limited (expect s k c) mayOpen deeper
 
 -- "A type term is a `1`, a name, an infix mark, a `+` or a `&` in a type"
+abbrev pub mayType : Cursor → Bool
+mayType d = ltb (d .types) typeTermLimit
+
+abbrev pub withType : Cursor → Cursor
+withType d = record { at = d .at; types = d .types + 1; terms = d .terms; depth = d .depth }
+
 unfoldable pub typeTerm : List ℕ → ℕ → Cursor → Taken
-typeTerm s k c =
-    limited (expect s k c) (λ d. ltb (d .types) typeTermLimit)
-    (λ d. record { at = d .at; types = d .types + 1; terms = d .terms; depth = d .depth })
+typeTerm s k c = limited (expect s k c) mayType withType
 
 -- "a process term counts at its first token"
+abbrev pub mayProcess : Cursor → Bool
+mayProcess d = ltb (d .terms) processTermLimit
+
+abbrev pub withProcess : Cursor → Cursor
+withProcess d = record { at = d .at; types = d .types; terms = d .terms + 1; depth = d .depth }
+
 unfoldable pub processTerm : List ℕ → ℕ → Cursor → Taken
-processTerm s k c =
-    limited (expect s k c) (λ d. ltb (d .terms) processTermLimit)
-    (λ d. record { at = d .at; types = d .types; terms = d .terms + 1; depth = d .depth })
+processTerm s k c = limited (expect s k c) mayProcess withProcess
 
 -- past a bracket that closes, as many are open as before the one that opened: those of c
 abbrev pub closed : Cursor → Cursor → Cursor
 closed c d = record { at = d .at; types = d .types; terms = d .terms; depth = c .depth }
+
+-- two tokens in a row: the first one's offset, past the second
+abbrev pub onwardFrom : ℕ → Taken → Taken
+onwardFrom i (At j d) = At i d
+onwardFrom i (Refused n j) = Refused n j
+
+abbrev pub thenToken : Taken → (Cursor → Taken) → Taken
+thenToken (At i d) f = onwardFrom i (f d)
+thenToken (Refused n i) f = Refused n i
+
+abbrev pub closedTaken : Cursor → Taken → Taken
+closedTaken c (At i d) = At i (closed c d)
+closedTaken c (Refused n i) = Refused n i
 
 -- the name at an offset; the label whose apostrophe stands there
 abbrev pub nameIn : List ℕ → ℕ → Located

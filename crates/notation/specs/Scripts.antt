@@ -99,7 +99,7 @@ start = record { at = 0; types = 0; terms = 0; depth = 0 }
 
 -- more than any reading of this text can use
 abbrev pub fuel : List ℕ → ℕ
-fuel s = 2 * length s + 4
+fuel s = 4 * length s + 8
 
 -- the declarations of a text, or its refusal among 2 to 5: 2 where it is too long, else the first fault of one pass
 unfoldable pub readText : List ℕ → Result (List Declaration)

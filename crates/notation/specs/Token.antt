@@ -1,7 +1,7 @@
 -- The token at an offset of a text: total over every text and offset.
-use Prim.Native.Nat.{ℕ, _+_, _-_}
+use Prim.Native.Nat.{ℕ, _+_, _-_, _≤_, _<_}
 use mathlib.Core.List.{List, [], _∷_}
-use mathlib.Core.Bool.{not, cond}
+use mathlib.Core.Bool.{not, cond, _||_}
 use lib.ListN.{length, getD, take, drop}
 use lib.Dec.{leb, ltb, eqb}
 use Rattle.notation.specs.Limits.{nameLimit}
@@ -200,3 +200,12 @@ tokenAt s at =
 
 abbrev pub kindAt : List ℕ → ℕ → ℕ
 kindAt s at = tokenAt s at .kind
+
+-- how many bytes a token of this kind has at least, as far as the tables' room turns on it: a label and => have two
+abbrev pub width : ℕ → ℕ
+width k = cond (eqb k kThen || eqb k kLabel) 2 1
+
+-- a token that is neither a fault nor the end lies past its offset, within the text: what a reading goes on by
+pub record Onward (s : List ℕ) (at : ℕ) (t : Token) : Type 0 where
+  pub starts : t .start ≤ length s
+  pub goes : t .kind < kFault → (at + width (t .kind) ≤ t .end) × (t .end ≤ length s) × (t .start < length s)

@@ -29,13 +29,23 @@ unfoldable pub infixOf : ℕ → Ty Located → Ty Located → Ty Located
 infixOf k A B = cond (eqb k kStar) (tensor A B) (cond (eqb k kAt) (par A B) (lolli A B))
 
 -- A type is an atom, or an atom, an infix mark and a type.
+abbrev pub rightBy : (Cursor → Result (Ty Located)) → List ℕ → ℕ → Cursor → Result (Ty Located)
+rightBy type s k c = take (typeTerm s k c) λ _ d. type d
+
 unfoldable pub typeBy : (Cursor → Result (Ty Located)) → (Cursor → Result (Ty Located)) → List ℕ → Cursor → Result (Ty Located)
 typeBy atom type s c =
     part (atom c) λ A d.
     choose (isInfix (kindAt s (d .at)))
-    (λ d. take (typeTerm s (kindAt s (d .at)) d) λ _ e. lastly (infixOf (kindAt s (d .at)) A) (type e))
+    (λ d. lastly (infixOf (kindAt s (d .at)) A) (rightBy type s (kindAt s (d .at)) d))
     (λ d. got A d)
     d
+
+-- a type in round brackets
+abbrev pub roundBy : (Cursor → Result (Ty Located)) → List ℕ → Cursor → Result (Ty Located)
+roundBy type s c =
+    take (opening s kRoundOpen c) λ _ d.
+    part (type d) λ A e.
+    take (expect s kRoundClose e) λ _ f. got A (closed c f)
 
 -- a choice: its mark, and its labels in braces
 abbrev pub choiceBy : (Cursor → Result (Alternatives Located)) → List ℕ → ℕ → (Alternatives Located → Ty Located) → Cursor → Result (Ty Located)
@@ -43,16 +53,13 @@ choiceBy alternatives s k choice c =
     take (typeTerm s k c) λ _ d.
     take (opening s kBraceOpen d) λ _ e.
     part (alternatives e) λ r f.
-    take (expect s kBraceClose f) λ _ g. got (choice r) (closed d g)
+    take (expect s kBraceClose f) λ _ g. got (choice r) (closed c g)
 
 -- an atom, by what begins it
 unfoldable pub atomBy : (Cursor → Result (Ty Located)) → (Cursor → Result (Alternatives Located)) → List ℕ → Cursor → TypeHead → Result (Ty Located)
 atomBy type alternatives s c One = take (typeTerm s kOne c) λ _ d. got unit d
 atomBy type alternatives s c Name = take (typeTerm s kName c) λ i d. got (named (nameIn s i)) d
-atomBy type alternatives s c Round =
-    take (opening s kRoundOpen c) λ _ d.
-    part (type d) λ A e.
-    take (expect s kRoundClose e) λ _ f. got A (closed c f)
+atomBy type alternatives s c Round = roundBy type s c
 atomBy type alternatives s c Plus = choiceBy alternatives s kPlus plus c
 atomBy type alternatives s c With = choiceBy alternatives s kWith with c
 atomBy type alternatives s c Other = misfit s c
@@ -61,16 +68,20 @@ atomBy type alternatives s c Other = misfit s c
 unfoldable pub labelTerm : List ℕ → ℕ → Cursor → Taken
 labelTerm s n c = limited (expect s kLabel c) (λ _. ltb n labelLimit) (λ d. d)
 
+-- after an alternative: a comma and more, or none
+abbrev pub moreBy : (Cursor → Result (Alternatives Located)) → List ℕ → Cursor → Result (Alternatives Located)
+moreBy more s c =
+    choose (eqb (kindAt s (c .at)) kComma)
+    (λ c. take (expect s kComma c) λ _ d. more d)
+    (λ c. got Alternatives.none c)
+    c
+
 -- one label or more, of which n came before: 'l : A, ..
 unfoldable pub alternativesBy : (Cursor → Result (Ty Located)) → (Cursor → Result (Alternatives Located)) → List ℕ → ℕ → Cursor → Result (Alternatives Located)
 alternativesBy type more s n c =
     take (labelTerm s n c) λ i d.
     take (expect s kColon d) λ _ e.
-    part (type e) λ A f.
-    choose (eqb (kindAt s (f .at)) kComma)
-    (λ f. take (expect s kComma f) λ _ g. lastly (alternative (labelIn s i) A) (more g))
-    (λ f. got (alternative (labelIn s i) A Alternatives.none) f)
-    f
+    part (type e) λ A f. lastly (alternative (labelIn s i) A) (moreBy more s f)
 
 unfoldable mutual
   pub readType : ℕ → List ℕ → Cursor → Result (Ty Located)

@@ -1,3 +1,13 @@
+// Tokens: what stands at an offset of a text.
+ghost use mathlib.Core.Path.{_≡_};
+ghost use Prim.Native.Nat.{ℕ, _+_, _-_, _≤_, _<_};
+ghost use mathlib.Core.Bool.{not};
+ghost use mathlib.Core.List.{[]};
+ghost use lib.ListN.{length, getD, take, drop};
+ghost use Rattle.notation.specs.Bytes.{letter, nameByte, blank, same};
+ghost use Rattle.notation.specs.Token.{symbols, symbol, skip, nameEnd, nameAt, named, wordAt, labelAt, markAt, firstAt, tokenAt, Onward};
+use crate::script::Script;
+
 // A token: its kind, where its first byte stands, and where the byte after its last one stands.
 // Kinds 0 to 10 are the reserved words, 11 to 29 the marks, in the order of the definition's table.
 pub struct Token {
@@ -7,6 +17,60 @@ pub struct Token {
 }
 
 impl Token {
+    pub const SEND: usize = 3;
+
+    pub const RECV: usize = 4;
+
+    pub const FWD: usize = 5;
+
+    pub const CALL: usize = 6;
+
+    pub const CANCEL: usize = 7;
+
+    pub const RAISE: usize = 8;
+
+    pub const TRY: usize = 9;
+
+    pub const CATCH: usize = 10;
+
+    pub const LOLLI: usize = 11;
+
+    pub const FROM: usize = 12;
+
+    pub const THEN: usize = 13;
+
+    pub const ROUND_OPEN: usize = 14;
+
+    pub const ROUND_CLOSE: usize = 15;
+
+    pub const SQUARE_OPEN: usize = 16;
+
+    pub const SQUARE_CLOSE: usize = 17;
+
+    pub const BRACE_OPEN: usize = 18;
+
+    pub const BRACE_CLOSE: usize = 19;
+
+    pub const COLON: usize = 20;
+
+    pub const COMMA: usize = 21;
+
+    pub const SEMICOLON: usize = 22;
+
+    pub const EQUALS: usize = 23;
+
+    pub const BAR: usize = 24;
+
+    pub const ONE: usize = 25;
+
+    pub const STAR: usize = 26;
+
+    pub const AT: usize = 27;
+
+    pub const PLUS: usize = 28;
+
+    pub const WITH: usize = 29;
+
     pub const NAME: usize = 30;
 
     pub const LABEL: usize = 31;
@@ -54,4 +118,237 @@ pub enum DeclarationHead {
     ExecWord,
     End,
     Other,
+}
+
+// The class of each byte: a letter a, another byte of a name b, a blank d, any other c.
+const CLASS: [u8; 256] =
+    *b"cccccccccddccdccccccccccccccccccdcccccccccccccccbbbbbbbbbbcccccccaaaaaaaaaaaaaaaaaaaaaaaaaaccccbcaaaaaaaaaaaaaaaaaaaaaaaaaaccccccccccccccccccccccccccccccccccccccccccccccccccccccccccccccccccccccccccccccccccccccccccccccccccccccccccccccccccccccccccccccccccccc";
+
+// "The eleven reserved words stand in one table": each with its length, in a row of seven bytes; then the marks.
+const SYMBOLS: [u8; 210] =
+    *b"\x04type\x00\x00\x04proc\x00\x00\x04exec\x00\x00\x04send\x00\x00\x04recv\x00\x00\x03fwd\x00\x00\x00\x04call\x00\x00\x06cancel\x05raise\x00\x03try\x00\x00\x00\x05catch\x00\x02-o\x00\x00\x00\x00\x02<-\x00\x00\x00\x00\x02=>\x00\x00\x00\x00\x01(\x00\x00\x00\x00\x00\x01)\x00\x00\x00\x00\x00\x01[\x00\x00\x00\x00\x00\x01]\x00\x00\x00\x00\x00\x01{\x00\x00\x00\x00\x00\x01}\x00\x00\x00\x00\x00\x01:\x00\x00\x00\x00\x00\x01,\x00\x00\x00\x00\x00\x01;\x00\x00\x00\x00\x00\x01=\x00\x00\x00\x00\x00\x01|\x00\x00\x00\x00\x00\x011\x00\x00\x00\x00\x00\x01*\x00\x00\x00\x00\x00\x01@\x00\x00\x00\x00\x00\x01+\x00\x00\x00\x00\x00\x01&\x00\x00\x00\x00\x00";
+
+fn is_letter(b: u8) -> bool
+    ensures { λ r. ⌜ r ≡ letter b ⌝ }
+{
+    CLASS[b as usize] == b'a'
+}
+
+fn is_name_byte(b: u8) -> bool
+    ensures { λ r. ⌜ r ≡ nameByte b ⌝ }
+{
+    CLASS[b as usize] <= b'b'
+}
+
+fn is_blank(b: u8) -> bool
+    ensures { λ r. ⌜ r ≡ blank b ⌝ }
+{
+    CLASS[b as usize] == b'd'
+}
+
+// The byte at i, and 0 past the end.
+fn byte_at(text: &[u8], i: usize) -> u8
+    ensures { λ r. ⌜ r ≡ getD (now (text .entry)) i 0 ⌝ }
+{
+    if i < text.len() { text[i] } else { 0 }
+}
+
+// Where the next byte stands that is no blank.
+fn skip(text: &[u8], at: usize) -> usize
+    ensures { λ r. ⌜ r ≡ skip (now (text .entry)) at ⌝ }
+{
+    let mut i = at;
+    while i < text.len() {
+        if !is_blank(text[i]) {
+            return i;
+        }
+        i += 1;
+    }
+    i
+}
+
+// Where the name ends that begins at `at`.
+fn name_end(text: &[u8], at: usize) -> usize
+    ensures { λ r. ⌜ r ≡ nameEnd (now (text .entry)) at ⌝ }
+    ensures { λ r. ⌜ at ≤ r ⌝ }
+{
+    let mut i = at;
+    while i < text.len() {
+        if !is_name_byte(text[i]) {
+            return i;
+        }
+        i += 1;
+    }
+    i
+}
+
+fn same_bytes(a: &[u8], b: &[u8]) -> bool
+    ensures { λ r. ⌜ r ≡ same (now (a .entry)) (now (b .entry)) ⌝ }
+{
+    if a.len() != b.len() {
+        return false;
+    }
+    let mut i = 0;
+    while i < a.len() {
+        if a[i] != b[i] {
+            return false;
+        }
+        i += 1;
+    }
+    true
+}
+
+// The bytes w are the k-th symbol.
+fn is_symbol(w: &[u8], k: usize) -> bool
+    requires { ⌜ k < 30 ⌝ }
+    ensures { λ r. ⌜ r ≡ same (now (w .entry)) (getD symbols k []) ⌝ }
+{
+    let row = k * 7;
+    let n = SYMBOLS[row] as usize;
+    let from = row + 1;
+    let to = from + n;
+    same_bytes(w, &SYMBOLS[from..to])
+}
+
+// The kind of the bytes w: a symbol's place in the table, or a name's kind.
+fn symbol(w: &[u8]) -> usize
+    ensures { λ r. ⌜ r ≡ symbol (now (w .entry)) ⌝ }
+{
+    let mut k = 0;
+    while k < 30 {
+        if is_symbol(w, k) {
+            return k;
+        }
+        k += 1;
+    }
+    k
+}
+
+// The n bytes from i, or as many as there are.
+fn part(text: &[u8], i: usize, n: usize) -> &[u8]
+    ensures { λ r. ⌜ now r ≡ take n (drop i (now (text .entry))) ⌝ }
+{
+    if text.len() <= i {
+        return &text[..0];
+    }
+    if text.len() - i <= n {
+        return &text[i..];
+    }
+    let e = i + n;
+    &text[i..e]
+}
+
+// The bytes of the name that begins at `at`.
+pub fn name_of(text: &[u8], at: usize) -> &[u8]
+    ensures { λ r. ⌜ now r ≡ nameAt (now (text .entry)) at ⌝ }
+{
+    let e = name_end(text, at);
+    part(text, at, e - at)
+}
+
+// The names that begin at a and at b have the same bytes.
+pub fn names_equal(text: &[u8], a: usize, b: usize) -> bool
+    ensures { λ r. ⌜ r ≡ same (nameAt (now (text .entry)) a) (nameAt (now (text .entry)) b) ⌝ }
+{
+    same_bytes(name_of(text, a), name_of(text, b))
+}
+
+// A token of this kind whose name stands from `from` to `end`; a name that is too long is at fault.
+fn named(kind: usize, start: usize, from: usize, end: usize) -> Token
+    requires { ⌜ from ≤ end ⌝ }
+    ensures { λ r. ⌜ r ≡ named kind start from end ⌝ }
+{
+    if end - from <= Script::NAME {
+        Token { kind, start, end }
+    } else {
+        Token {
+            kind: Token::FAULT,
+            start,
+            end,
+        }
+    }
+}
+
+// A letter stands at i.
+fn word_at(text: &[u8], i: usize) -> Token
+    ensures { λ r. ⌜ r ≡ wordAt (now (text .entry)) i ⌝ }
+{
+    let k = symbol(name_of(text, i));
+    let e = name_end(text, i);
+    named(k, i, i, e)
+}
+
+// An apostrophe stands at i.
+fn label_at(text: &[u8], i: usize) -> Token
+    requires { ⌜ i < length (now text) ⌝ }
+    ensures { λ r. ⌜ r ≡ labelAt (now (text .entry)) i ⌝ }
+{
+    let j = i + 1;
+    if is_letter(byte_at(text, j)) {
+        let e = name_end(text, j);
+        return named(Token::LABEL, i, j, e);
+    }
+    Token {
+        kind: Token::FAULT,
+        start: i,
+        end: j,
+    }
+}
+
+// Another byte stands at i: a mark of two bytes, else of one, else no token.
+fn mark_at(text: &[u8], i: usize) -> Token
+    requires { ⌜ i < length (now text) ⌝ }
+    ensures { λ r. ⌜ r ≡ markAt (now (text .entry)) i ⌝ }
+{
+    let k = symbol(part(text, i, 2));
+    if k < 14 {
+        return Token {
+            kind: k,
+            start: i,
+            end: i + 2,
+        };
+    }
+    let m = symbol(part(text, i, 1));
+    if m < 30 {
+        return Token {
+            kind: m,
+            start: i,
+            end: i + 1,
+        };
+    }
+    Token {
+        kind: Token::FAULT,
+        start: i,
+        end: i + 1,
+    }
+}
+
+fn first_at(text: &[u8], i: usize) -> Token
+    requires { ⌜ i < length (now text) ⌝ }
+    ensures { λ r. ⌜ r ≡ firstAt (now (text .entry)) i ⌝ }
+{
+    let b = text[i];
+    if is_letter(b) {
+        return word_at(text, i);
+    }
+    if b == b'\'' {
+        return label_at(text, i);
+    }
+    mark_at(text, i)
+}
+
+// The next token from `at` on.
+pub fn next_token(text: &[u8], at: usize) -> Token
+    ensures { λ r. ⌜ r ≡ tokenAt (now (text .entry)) at ⌝ }
+    ensures { λ r. ⌜ Onward (now (text .entry)) at r ⌝ }
+{
+    let i = skip(text, at);
+    if i < text.len() {
+        return first_at(text, i);
+    }
+    Token {
+        kind: Token::END,
+        start: text.len(),
+        end: text.len(),
+    }
 }

@@ -1,0 +1,5 @@
+pub mod Lists
+pub mod Circles
+pub mod Ends
+pub mod Links
+pub mod Decide

@@ -1,0 +1,98 @@
+-- The constant tables of the code: each one's rule is a test that is computed over the whole table.
+use Prim.Native.Nat.{ℕ, zero, suc, _+_, _*_, _≤_, _<_}
+use mathlib.Core.Path.{_≡_, refl, sym, ap, _∙_, subst}
+use mathlib.Core.List.{List, [], _∷_, _++_}
+use mathlib.Core.Bool.{Bool, true, false, cond, not, _&&_}
+use mathlib.Core.Logic.{⊎-elim}
+use native.Mathlib.Nat.{le-of-suc-le-suc, not-suc-le-zero, eq-or-lt-of-le, add-zero, zero-add, add-suc, suc-add}
+use lib.Dec.{T, leb, eqb, eqb→eq, leb→le}
+use lib.ListN.{length, getD, take, drop}
+use Rattle.notation.specs.Bytes.{letter, nameByte, blank, same}
+use Rattle.notation.specs.Token.{symbols}
+
+and-left : (a b : Bool) → T (a && b) → T a
+and-left true b t = tt
+and-left false b t = t
+
+and-right : (a b : Bool) → T (a && b) → T b
+and-right true b t = t
+and-right false b t = absurd t
+
+-- the test passes at every number below n
+abbrev pub below : (ℕ → Bool) → ℕ → Bool
+below f zero = true
+below f (suc n) = f n && below f n
+
+pub below-at : (f : ℕ → Bool) (n : ℕ) → T (below f n) → (k : ℕ) → k < n → T (f k)
+below-at f zero t k h = absurd (not-suc-le-zero h)
+below-at f (suc n) t k h =
+    ⊎-elim (λ e. subst (λ (m : ℕ). T (f m)) (sym e) (and-left (f n) (below f n) t))
+    (λ l. below-at f n (and-right (f n) (below f n) t) k l) (eq-or-lt-of-le (le-of-suc-le-suc h))
+
+-- f's values at n numbers from i: a table that the code writes out
+abbrev pub tab : (ℕ → ℕ) → ℕ → ℕ → List ℕ
+tab f i zero = []
+tab f i (suc n) = f i ∷ tab f (suc i) n
+
+tab-from : (f : ℕ → ℕ) (i n k : ℕ) → k < n → getD (tab f i n) k 0 ≡ f (i + k)
+tab-from f i zero k h = absurd (not-suc-le-zero h)
+tab-from f i (suc n) zero h = rw add-zero
+tab-from f i (suc n) (suc k) h = rw (add-suc, ← suc-add) (tab-from f (suc i) n k (le-of-suc-le-suc h))
+
+-- ── the classes of bytes
+unfoldable pub classOf : ℕ → ℕ
+classOf b = cond (letter b) 97 (cond (nameByte b) 98 (cond (blank b) 100 99))
+
+-- two tests agree
+abbrev pub alike : Bool → Bool → Bool
+alike true b = b
+alike false b = not b
+
+alike-eq : (a b : Bool) → T (alike a b) → a ≡ b
+alike-eq true true t = refl
+alike-eq true false t = absurd t
+alike-eq false true t = absurd t
+alike-eq false false t = refl
+
+-- a test f of a byte's class, read from the table, is the test g of the byte
+pub by-class : (f g : ℕ → Bool) → T (below (λ b. alike (f (classOf b)) (g b)) 256) → (b : ℕ) → b < 256 → f (getD (tab classOf 0 256) b 0) ≡ g b
+by-class f g t b h =
+    ap f (tab-from classOf 0 256 b h ∙ ap classOf (zero-add b))
+    ∙ alike-eq (f (classOf b)) (g b) (below-at (λ b. alike (f (classOf b)) (g b)) 256 t b h)
+
+pub same→eq : (xs ys : List ℕ) → T (same xs ys) → xs ≡ ys
+unfolding same
+same→eq [] [] t = refl
+same→eq [] (y ∷ ys) t = absurd t
+same→eq (x ∷ xs) [] t = absurd t
+same→eq (x ∷ xs) (y ∷ ys) t = go (eqb x y) refl (same→eq xs ys) t
+  where
+    go : (b : Bool) → eqb x y ≡ b → (T (same xs ys) → xs ≡ ys) → T (elim b [ true ↦ same xs ys | false ↦ false ]) → Path (List ℕ) (x ∷ xs) (y ∷ ys)
+    go true e rest t =
+        let p : x ≡ y = eqb→eq x y (subst T (sym e) tt) in
+        let q : xs ≡ ys = rest t in
+        cc
+    go false e rest t = absurd t
+
+-- ── the symbols' table: for each its length and its bytes, in a row of seven
+abbrev pub pad : ℕ → List ℕ → List ℕ
+pad zero xs = []
+pad (suc n) [] = 0 ∷ pad n []
+pad (suc n) (x ∷ xs) = x ∷ pad n xs
+
+abbrev pub rows : List (List ℕ) → List ℕ
+rows [] = []
+rows (w ∷ ws) = length w ∷ pad 6 w ++ rows ws
+
+abbrev pub rowLength : ℕ → ℕ
+rowLength k = getD (rows symbols) (k * 7) 0
+
+module _ (k : ℕ) (h : k < 30) where
+  pub row-length : rowLength k ≤ 6
+  unfolding symbols
+  row-length = leb→le (rowLength k) 6 (below-at (λ k. leb (rowLength k) 6) 30 tt k h)
+
+  pub row-symbol : take (rowLength k) (drop (k * 7 + 1) (rows symbols)) ≡ getD symbols k []
+  unfolding symbols same
+  row-symbol =
+      same→eq _ _ (below-at (λ k. same (take (rowLength k) (drop (k * 7 + 1) (rows symbols))) (getD symbols k [])) 30 tt k h)

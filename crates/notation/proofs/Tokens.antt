@@ -1,0 +1,156 @@
+-- Where tokens lie: past their offset, within the text.
+use Prim.Native.Nat.{ℕ, suc, _+_, _-_, _≤_, _<_, min}
+use mathlib.Core.Path.{_≡_, refl, sym, _∙_, ap, subst}
+use mathlib.Core.List.{List, [], _∷_}
+use mathlib.Core.Logic.{_⊎_, inl, inr}
+use mathlib.Core.Bool.{Bool, true, false, false≢true, not, cond, _||_}
+use native.Mathlib.Nat.{le-refl, eq-or-lt-of-le}
+use native.Mathlib.Decide.{decLt}
+use native.Mathlib.Omega.{arith}
+use lib.Dec.{T, leb, ltb, eqb, leb→le}
+use lib.ListN.{length, getD, take, drop, length-drop, length-take, List·getD-eq-default}
+use lib.Seq.{drop-cons}
+use borrow.Author.Tests.{ltb-true}
+use Rattle.notation.specs.Bytes.{letter, nameByte, blank, find, same}
+use Rattle.notation.specs.Token.{symbols, symbol, skip, nameEnd, nameAt, named, wordAt, labelAt, markAt, firstAt, tokenAt, width, Onward}
+use Rattle.notation.specs.declared.token.Token.{Token}
+use Rattle.notation.proofs.ByteTables.{below, below-at, same→eq}
+
+module _ {A : Type 0} (p : A → Bool) where
+  find-case : (P : ℕ → Type 0) (x : A) (xs : List A) (k : ℕ) → (p x ≡ true → P k) → (p x ≡ false → P (find p xs (suc k))) → P (find p (x ∷ xs) k)
+  unfolding find
+  find-case P x xs k f g = go (p x) refl
+    where
+      go : (b : Bool) → p x ≡ b → P (elim b [ true ↦ k | false ↦ find p xs (suc k) ])
+      go true e = f e
+      go false e = g e
+
+  pub find-ge : (xs : List A) (k : ℕ) → k ≤ find p xs k
+  unfolding find
+  find-ge [] k = le-refl k
+  find-ge (x ∷ xs) k = find-case (λ j. k ≤ j) x xs k (λ _. le-refl k) (λ _. omega (arith, find-ge xs (suc k)))
+
+  pub find-le : (xs : List A) (k : ℕ) → find p xs k ≤ k + length xs
+  unfolding find
+  find-le [] k = omega arith
+  find-le (x ∷ xs) k = find-case (λ j. j ≤ k + length (x ∷ xs)) x xs k (λ _. omega arith) (λ _. omega (arith, find-le xs (suc k)))
+
+  find-at : (d : A) (xs : List A) (k : ℕ) → find p xs k < k + length xs → p (getD xs (find p xs k - k) d) ≡ true
+  unfolding find
+  find-at d [] k = λ h. absurd (omega arith)
+  find-at d (x ∷ xs) k =
+      find-case (λ j. j < k + length (x ∷ xs) → p (getD (x ∷ xs) (j - k) d) ≡ true) x xs k
+      (λ e h. let z : k - k ≡ 0 = omega arith in rw z e)
+      (λ e h.
+      let l : suc k ≤ find p xs (suc k) = find-ge xs (suc k) in
+      let z : find p xs (suc k) - k ≡ suc (find p xs (suc k) - suc k) = omega arith in
+      rw z (find-at d xs (suc k) (omega arith)))
+
+-- what holds of each of two cases holds of the one that a test picks
+cond-both : {A : Type 0} (P : A → Type 0) (b : Bool) (x y : A) → (b ≡ true → P x) → (b ≡ false → P y) → P (cond b x y)
+cond-both P true x y f g = f refl
+cond-both P false x y f g = g refl
+
+-- a token whose first byte stands at i lies within the text
+abbrev Goes : ℕ → ℕ → Token → Type 0
+Goes i n t = (t .start ≡ i) × (t .kind < 32 → (i + width (t .kind) ≤ t .end) × (t .end ≤ n))
+
+-- bytes that are one of the first n symbols are as many as f says of their kind, where f says so of the table
+symbol-long : (f : ℕ → ℕ) (n : ℕ) → n ≤ 30 → T (below (λ k. leb (f k) (length (getD symbols k []))) n) → (w : List ℕ) → symbol w < n → f (symbol w) ≤ length w
+unfolding symbol symbols
+symbol-long f n le t w l =
+    let e : T (same w (getD symbols (symbol w - 0) [])) = subst T (sym (find-at (same w) [] symbols 0 (omega arith))) tt in
+    let q : w ≡ getD symbols (symbol w - 0) [] = same→eq _ _ e in
+    let z : symbol w - 0 ≡ symbol w = omega arith in
+    let m : f (symbol w - 0) ≤ length (getD symbols (symbol w - 0) []) =
+    leb→le _ _ (below-at (λ k. leb (f k) (length (getD symbols k []))) n t (symbol w - 0) (omega arith)) in
+    subst (λ k. f k ≤ length w) z (omega (arith, ap length q))
+
+symbol-wide : (w : List ℕ) → symbol w < 30 → width (symbol w) ≤ length w
+unfolding symbols
+symbol-wide = symbol-long width 30 (le-refl 30) tt
+
+symbol-two : (w : List ℕ) → symbol w < 14 → 2 ≤ length w
+unfolding symbols
+symbol-two = symbol-long (λ _. 2) 14 (omega arith) tt
+
+symbol-most : (w : List ℕ) → symbol w ≤ 30
+unfolding symbol symbols
+symbol-most w = find-le (same w) symbols 0
+
+module _ (s : List ℕ) (i : ℕ) (h : i < length s) where
+  named-goes : (k f e : ℕ) → i + width k ≤ e → e ≤ length s → Goes i (length s) (named k i f e)
+  unfolding named
+  named-goes k f e l m =
+      cond-both (λ j. (i ≡ i) × (j < 32 → (i + width j ≤ e) × (e ≤ length s))) (leb (e - f) 32) k 32
+      (λ _. (refl, λ _. (l, m)))
+      (λ _. (refl, λ z. absurd (omega arith)))
+
+  end-ge : (j : ℕ) → j ≤ nameEnd s j
+  unfolding nameEnd
+  end-ge j = find-ge (λ b. not (nameByte b)) (drop j s) j
+
+  end-le : (j : ℕ) → j ≤ length s → nameEnd s j ≤ length s
+  unfolding nameEnd
+  end-le j l = let z : length (drop j s) ≡ length s - j = length-drop j s in omega (arith, find-le (λ b. not (nameByte b)) (drop j s) j)
+
+  letter-goes : (j : ℕ) → j < length s → letter (getD s j 0) ≡ true → j < nameEnd s j
+  unfolding nameEnd find nameByte
+  letter-goes j l e = rw (drop-cons s j 0, find, e) (find-ge (λ b. not (nameByte b)) (drop (suc j) s) (suc j))
+
+  -- past the text there is no letter
+  letter-in : (j : ℕ) → letter (getD s j 0) ≡ true → j < length s
+  unfolding letter
+  letter-in j e = go (decLt j (length s))
+    where
+      go : Dec (j < length s) → j < length s
+      go (yes l) = l
+      go (no n) = absurd (false≢true (sym (ap letter (List·getD-eq-default s 0 (omega arith))) ∙ e))
+
+  word-wide : (w : List ℕ) (e : ℕ) → i < e → length w ≤ e - i → i + width (symbol w) ≤ e
+  word-wide w e l m = go (eq-or-lt-of-le (symbol-most w))
+    where
+      go : (symbol w ≡ 30) ⊎ (symbol w < 30) → i + width (symbol w) ≤ e
+      go (inl z) = subst (λ k. i + width k ≤ e) (sym z) (omega arith)
+      go (inr z) = omega (arith, symbol-wide w z)
+
+  mark-in : (n : ℕ) → symbol (take n (drop i s)) < 30 → width (symbol (take n (drop i s))) ≤ min n (length s - i)
+  mark-in n l = omega (arith, symbol-wide _ l, length-take n (drop i s), length-drop i s)
+
+  first-goes : Goes i (length s) (firstAt s i)
+  unfolding firstAt wordAt labelAt markAt nameAt
+  first-goes =
+      cond-both (Goes i (length s)) (letter (getD s i 0)) _ _
+      (λ e. named-goes _ _ (nameEnd s i) (word-wide _ _ (letter-goes i h e) (omega (arith, length-take (nameEnd s i - i) (drop i s)))) (end-le i (omega arith)))
+      (λ _. cond-both (Goes i (length s)) (eqb (getD s i 0) 39) _ _
+      (λ _. cond-both (Goes i (length s)) (letter (getD s (i + 1) 0)) _ _
+      (λ e. let l = letter-in (i + 1) e in named-goes _ _ (nameEnd s (i + 1)) (omega (arith, letter-goes (i + 1) l e)) (end-le (i + 1) (omega arith)))
+      (λ _. (refl, λ z. absurd (omega arith))))
+      (λ _. cond-both (Goes i (length s)) (ltb (symbol (take 2 (drop i s))) 14) _ _
+      (λ e.
+      let l = ltb-true _ _ e in
+      let w = mark-in 2 (omega arith) in
+      let t = symbol-two (take 2 (drop i s)) l in
+      (refl, λ _. omega (arith, length-take 2 (drop i s), length-drop i s)))
+      (λ _. cond-both (Goes i (length s)) (ltb (symbol (take 1 (drop i s))) 30) _ _
+      (λ e. let w = mark-in 1 (ltb-true _ _ e) in (refl, λ _. omega arith))
+      (λ _. (refl, λ z. absurd (omega arith))))))
+
+skip-ge : (s : List ℕ) (at : ℕ) → at ≤ skip s at
+unfolding skip
+skip-ge s at = find-ge (λ b. not (blank b)) (drop at s) at
+
+pub token-onward : (s : List ℕ) (at : ℕ) → Onward s at (tokenAt s at)
+unfolding tokenAt
+token-onward s at =
+    cond-both (Onward s at) (ltb (skip s at) (length s)) _ _
+    (λ e.
+    let l = ltb-true _ _ e in
+    let r = first-goes s (skip s at) l in
+    let m = skip-ge s at in
+    record { starts = omega (arith, r .0); goes = λ k. let g = r .1 k in (omega arith, g .1, omega (arith, r .0)) })
+    (λ _. record { starts = le-refl _; goes = λ k. absurd (omega arith) })
+
+-- what is the token lies so
+pub lies-onward : (s : List ℕ) (at : ℕ) (t : Token) → t ≡ tokenAt s at → (t ≡ tokenAt s at) × Onward s at t
+lies-onward s at t e = (e, subst (Onward s at) (sym e) (token-onward s at))

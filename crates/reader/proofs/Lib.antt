@@ -1,0 +1,4 @@
+pub mod Taking
+pub mod Filled
+pub mod TypePaths
+pub mod ProcessPaths

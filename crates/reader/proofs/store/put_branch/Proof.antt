@@ -1,0 +1,64 @@
+use mathlib.Core.Path.{refl}
+use lib.ListN.{length-set}
+use Rattle.notation.specs.Tables.{putBranch, pairWord}
+use borrow.Author.Needs.{needs}
+use Rattle.reader.proofs.store.put_branch.Statement.{statement}
+use Rattle.reader.proofs.store.put_branch.Tie as tie
+use Rattle.reader.proofs.store.put_branch.Reads as reads
+use Rattle.reader.proofs.store.put_branch.Lts as lts
+
+-- src/store.rt:83:31
+mul-scratch : tie.Need-mul-scratch
+mul-scratch c = search needs
+
+-- src/store.rt:83:26
+add-scratch : tie.Need-add-scratch
+add-scratch c = search needs
+
+-- src/store.rt:83:25
+cast-scratch : tie.Need-cast-scratch
+cast-scratch c = search needs
+
+-- src/store.rt:83:13
+add-scratch-2 : tie.Need-add-scratch-2
+add-scratch-2 c = search needs
+
+-- src/store.rt:83:5
+mul-scratch-2 : tie.Need-mul-scratch-2
+mul-scratch-2 c = search needs
+
+-- src/store.rt:83:5
+slice-write-scratch : tie.Need-slice-write-scratch
+slice-write-scratch c = search needs
+
+-- src/store.rt:92:19
+add-t6 : tie.Need-add-t6
+add-t6 c = search needs
+
+-- src/store.rt:93:15
+add-t10 : tie.Need-add-t10
+add-t10 c = search needs
+
+-- src/store.rt:78:1
+same-length : tie.Need-same-length
+same-length c = search needs
+
+-- src/store.rt:78:1
+returns : tie.Need-returns
+unfolding putBranch pairWord
+returns c = record { is = refl; words = refl; long = simp length-set }
+
+pub put-branch-spec : {M : Type 1} → statement M
+put-branch-spec =
+    tie.close
+    (tie.spec
+    mul-scratch
+    add-scratch
+    cast-scratch
+    add-scratch-2
+    mul-scratch-2
+    slice-write-scratch
+    add-t6
+    add-t10
+    same-length
+    returns)

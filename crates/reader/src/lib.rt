@@ -1,0 +1,5 @@
+// The reader: from a text to the tables.
+pub mod processes;
+pub mod steps;
+pub mod store;
+pub mod types;

@@ -1,0 +1,1 @@
+// Runs: the records of the run slice.
