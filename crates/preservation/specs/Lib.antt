@@ -23,3 +23,4 @@ pub mod WellFormed
 pub mod Start
 pub mod Running
 pub mod Preserved
+pub mod Accepted
