@@ -23,7 +23,7 @@ use Rattle.derivations.specs.Fine.{refuted}
 use Rattle.derivations.specs.Accepts.{accepts}
 use Rattle.preservation.specs.Lists.{lookup-in, distinct-iff, names-append}
 use Rattle.preservation.specs.Stepping.{Bodies}
-use Rattle.preservation.specs.WellFormed.{Named}
+use Rattle.preservation.specs.Folding.{Named}
 use Rattle.preservation.specs.Start.{start-well-formed, start-named}
 
 -- ── no fault, no offsets

@@ -17,7 +17,7 @@ use Rattle.calculus.specs.WellFormed.{In, NoneTwice, Rising, contextOf, key, is
 use Rattle.preservation.specs.Witness.{Tip, Rel, Witness, side-clash, Moved, over, outing, tipKey, keyNumber, keySide}
 use Rattle.preservation.specs.Lists.{by-test, lookup-in, changed-cases, changed-names, changed-length}
 use Rattle.preservation.specs.Mates.{put}
-use Rattle.preservation.specs.Roster.{Roster, channelKey, channel-no-link, keyOf, tipOf, linkTip, outsideTip, Has, outside, TypedDoing, keyAt, Fine, fine-less, Good, Change, becomes, one-good, two-good}
+use Rattle.preservation.specs.Roster.{Roster, channelKey, channel-no-link, keyOf, tipOf, linkTip, outsideTip, Has, outside, TypedDoing, keyAt, Fine, fine-less, Good, Change, becomes, one-good, two-good, NamesOf, folds}
 use Rattle.preservation.specs.Retyping.{key-cases, above, owner, one-type, joins, far-owner, near-owner, ends-apart, held-tip, outside-cases, outside-map, Changed}
 
 -- ── lists in which one key is new
@@ -79,7 +79,7 @@ module _ {p : Program} {S : Roster} {o : List Outside} {given next : ℕ} (G : G
 
     emptied : (w : ℕ) → Change p (R w) u (S u) (some (process folding [] (r .link)))
     emptied w =
-        becomes G (R w) u r su folding [] wr (fine-less (G .fine u r su) folding (Sublistᴰ·nil-sublist (r .held)) tt) (λ y i. absurd (List·Memᴰ·not-nil i))
+        becomes G (R w) u r su folding [] wr (fine-less (G .fine u r su) folding (folds wr) (Sublistᴰ·nil-sublist (r .held)) tt) (λ y i. absurd (List·Memᴰ·not-nil i))
         (λ h s t. inl ((λ m. channel-no-link (d .channel) h (sym (ap keyNumber (List·Memᴰ·eq-of-singleton m)))), t))
 
     -- the far end of e takes the place of d
@@ -118,7 +118,7 @@ module _ {p : Program} {S : Roster} {o : List Outside} {given next : ℕ} (G : G
       q-fine : Fine p (process (q .doing) l′ (q .link))
       q-fine = record {
         typed = subst (λ C. TypedDoing p C (isSome (q .link)) (q .doing)) (sym (moved-context n (d .channel) (q .held))) (g .typed);
-        names = subst NoneTwice (sym (changed-names n _ (q .held))) (g .names);
+        names = subst (NamesOf (q .doing)) (sym (changed-names n _ (q .held))) (g .names);
         keys = changed-once key n (λ (f : End). end (f .side) (d .channel) (f .type)) (q .held) f (g .keys) lf fresh;
         room = subst (λ n. n ≤ heldLimit) (sym (changed-length n _ (q .held))) (g .room);
         channels = λ y i. chan y (changed-cases key n _ (q .held) f (g .keys) lf y i);

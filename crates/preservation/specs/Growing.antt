@@ -18,7 +18,7 @@ use Rattle.calculus.specs.WellFormed.{In, NoneTwice, contextOf, key, isWaiting}
 use Rattle.preservation.specs.Witness.{Key, Tip, Rel, Witness, fewer, Moved, Joined, sides, Between, over, joined-uses, joined-provides, tipNumber, keyNumber}
 use Rattle.preservation.specs.Lists.{once-by, sub-in, sub-once, absent, kept-sub, kept-in, names-map, names-in, names-append, once-snoc, length-snoc}
 use Rattle.preservation.specs.Mates.{put, put-elim, Profile, Mates, mates-same, mates-put, mates-new, Quiet, quiet-none, quiet-some}
-use Rattle.preservation.specs.Roster.{Roster, channelKey, linkKey, link-key-one, channel-no-link, keyOf, tipOf, linkTip, Tips, holds, links, waits, Has, outside, inside, TypedDoing, keyAt, Fine, fine-less, profile, Good}
+use Rattle.preservation.specs.Roster.{Roster, channelKey, linkKey, link-key-one, channel-no-link, keyOf, tipOf, linkTip, Tips, holds, links, waits, Has, outside, inside, TypedDoing, keyAt, Fine, fine-less, profile, Good, NamesOf, Goes, Runs, runs-on, runs-awake, folds, names-less, names-snoc}
 use Rattle.preservation.specs.LettingGo.{profile-put-two}
 use Rattle.preservation.specs.Retyping.{key-from-key, above, owner, held-tip}
 use Rattle.preservation.specs.Passing.{map-append}
@@ -189,13 +189,12 @@ module _ {p : Program} {S : Roster} {o : List Outside} {given next : ℕ} (G : G
     next-place = let b = un in (omega arith, omega arith)
 
   -- ── a process that holds less and one more channel
-  brought : (r : Process) → Fine p r → (d : Doing) (k : Option ℕ) (t : Name → Bool) (x : Name) (e : End) → lookup x (r .held) ≡ none → ¬ In (key e) (map keyAt (r .held)) → length (kept t (r .held)) < heldLimit
+  brought : (r : Process) → Fine p r → (d : Doing) → Goes (r .doing) d → (k : Option ℕ) (t : Name → Bool) (x : Name) (e : End) → lookup x (r .held) ≡ none → ¬ In (key e) (map keyAt (r .held)) → length (kept t (r .held)) < heldLimit
       → e .channel < channelPlaces → TypedDoing p (contextOf (kept t (r .held) ++ ((x, e) ∷ []))) (isSome k) d → Fine p (process d (kept t (r .held) ++ ((x, e) ∷ [])) k)
   unfolding names
-  brought r f d k t x e new nk room lt td = record {
+  brought r f d w k t x e new nk room lt td = record {
     typed = td;
-    names = subst NoneTwice (sym (names-append l ((x, e) ∷ [])))
-        (once-snoc (names l) x (subst NoneTwice (sym (names-map l)) (sub-once (λ (y : Name × End). y .0) sub (subst NoneTwice (names-map (r .held)) (f .names)))) no-name);
+    names = subst (NamesOf d) (sym (names-append l ((x, e) ∷ []))) (names-snoc d (names l) x (names-less d sub (w .names (names (r .held)) (f .names))) no-name);
     keys = subst NoneTwice (sym (map-append keyAt l ((x, e) ∷ []))) (once-snoc (map keyAt l) (key e) (sub-once keyAt sub (f .keys)) no-key);
     room = subst (λ n. n ≤ heldLimit) (sym (length-snoc l (x, e))) room;
     channels = λ y i. chan y (List·Memᴰ·append-cases l i);
@@ -220,7 +219,7 @@ module _ {p : Program} {S : Roster} {o : List Outside} {given next : ℕ} (G : G
       chan y (inr i) = subst (λ (y : Name × End). y .1 .channel < channelPlaces) (sym (List·Memᴰ·eq-of-singleton i)) lt
 
   -- ── spawn: the new process takes what t picks, and provides x on the channel n
-  module _ (u : ℕ) (r : Process) (su : S u ≡ some r) (wr : isWaiting (r .doing) ≡ false) (t : Name → Bool) (x : Name) (A : Ty Name) (n : ℕ) (free : (v : ℕ) (e : Tip) → Has S o v e → e .0 .0 ≢ channelKey n)
+  module _ (u : ℕ) (r : Process) (su : S u ≡ some r) (wr : Runs (r .doing)) (t : Name → Bool) (x : Name) (A : Ty Name) (n : ℕ) (free : (v : ℕ) (e : Tip) → Has S o v e → e .0 .0 ≢ channelKey n)
       (lt : n < channelPlaces) (new : lookup x (r .held) ≡ none) (P Q : Proc) where
     abbrev rest : Name → Bool
     rest m = not (t m)
@@ -257,10 +256,10 @@ module _ {p : Program} {S : Roster} {o : List Outside} {given next : ℕ} (G : G
         (grown fork (joined-provides (G .witness) (channelKey n) u next (some A) free (omega arith) (G .placed u r su .1)) (inr (refl, refl)))
         (put-elim (Grows fork) next (some made) (put u (some maker) S)
         (at-one fork next (next-place fork) made
-        (brought r (G .fine u r su) (running P) none t x (end provided n A) new (no-key provided) roomP lt tP) made-tips)
+        (brought r (G .fine u r su) (running P) (runs-on wr P) none t x (end provided n A) new (no-key provided) roomP lt tP) made-tips)
         (λ v _. put-elim (Grows fork) u (some maker) S
         (at-one fork u (u-place fork) maker
-        (brought r (G .fine u r su) (running Q) (r .link) rest x (end used n A) new (no-key used) roomQ lt tQ) maker-tips)
+        (brought r (G .fine u r su) (running Q) (runs-on wr Q) (r .link) rest x (end used n A) new (no-key used) roomQ lt tQ) maker-tips)
         (old fork) v))
         mates′
       where
@@ -286,7 +285,7 @@ module _ {p : Program} {S : Roster} {o : List Outside} {given next : ℕ} (G : G
         F v = profile (S v)
 
         same : (v : ℕ) → F v ≡ put u (some (r .link, false)) F v
-        same = put-elim (λ v y. F v ≡ y) u (some (r .link, false)) F (ap profile su ∙ ap (λ b. some (r .link, b)) wr) (λ v _. refl)
+        same = put-elim (λ v y. F v ≡ y) u (some (r .link, false)) F (ap profile su ∙ ap (λ b. some (r .link, b)) (runs-awake wr)) (λ v _. refl)
 
         mates′ : Mates (λ v. profile (put next (some made) (put u (some maker) S) v))
         mates′ =
@@ -294,7 +293,7 @@ module _ {p : Program} {S : Roster} {o : List Outside} {given next : ℕ} (G : G
             (mates-put (mates-same same (G .mates)) next (some (none, false)) (subst Quiet (sym (sym (same next) ∙ ap profile nobody)) quiet-none) quiet-some)
 
   -- ── try: the new process takes what t₂ picks, and waits as the handler
-  module _ (u : ℕ) (r : Process) (su : S u ≡ some r) (wr : isWaiting (r .doing) ≡ false) (t₁ t₂ : Name → Bool) (disjoint : (x : Name × End) → In x (r .held) → So (t₁ (x .0)) → So (t₂ (x .0)) → ⊥) (P Q : Proc) where
+  module _ (u : ℕ) (r : Process) (su : S u ≡ some r) (wr : Runs (r .doing)) (t₁ t₂ : Name → Bool) (disjoint : (x : Name × End) → In x (r .held) → So (t₁ (x .0)) → So (t₂ (x .0)) → ⊥) (P Q : Proc) where
     abbrev tryer : Process
     tryer = process (running P) (kept t₁ (r .held)) (some next)
 
@@ -307,8 +306,10 @@ module _ {p : Program} {S : Roster} {o : List Outside} {given next : ℕ} (G : G
     abbrev R₂ : Rel
     R₂ = R fork′
 
-    half : (d : Doing) (k : Option ℕ) (t : Name → Bool) → TypedDoing p (contextOf (kept t (r .held))) (isSome k) d → Fine p (process d (kept t (r .held)) k)
-    half d k t td = let f = fine-less (G .fine u r su) folding (kept-sub t (r .held)) tt in record { typed = td; names = f .names; keys = f .keys; room = f .room; channels = f .channels }
+    half : (d : Doing) → NamesOf d (names (r .held)) → (k : Option ℕ) (t : Name → Bool) → TypedDoing p (contextOf (kept t (r .held))) (isSome k) d → Fine p (process d (kept t (r .held)) k)
+    half d n k t td =
+        let f = fine-less (G .fine u r su) folding (folds (runs-awake wr)) (kept-sub t (r .held)) tt in
+        record { typed = td; names = names-less d (kept-sub t (r .held)) n; keys = f .keys; room = f .room; channels = f .channels }
 
     pub tried : Typed p (contextOf (kept t₁ (r .held))) true P → Typed p (contextOf (kept t₂ (r .held))) (isSome (r .link)) Q → Good p (put u (some tryer) (put next (some waiter) S)) o given (suc next)
     tried tP tQ =
@@ -316,13 +317,13 @@ module _ {p : Program} {S : Roster} {o : List Outside} {given next : ℕ} (G : G
         (grown fork′ (joined-uses (G .witness) (linkKey next) u next none link-free (omega arith) (G .placed u r su .1)) (inl (refl, refl)))
         (put-elim (Grows fork′) u (some tryer) (put next (some waiter) S)
         (at-one fork′ u (u-place fork′) tryer
-        (half (running P) (some next) t₁ tP) tryer-tips)
+        (half (running P) (runs-on wr P .names _ (G .fine u r su .names)) (some next) t₁ tP) tryer-tips)
         (λ v nu. put-elim (λ v y. v ≢ u → Grows fork′ v y) next (some waiter) S
         (λ _. at-one fork′ next (next-place fork′) waiter
-        (half (waiting Q) (r .link) t₂ tQ) waiter-tips)
+        (half (waiting Q) (runs-on wr Q .names _ (G .fine u r su .names)) (r .link) t₂ tQ) waiter-tips)
         (λ v _ n. old fork′ v n) v nu))
         (mates-same (λ v. sym (profile-put-two u next (some tryer) (some waiter) S v))
-        (mates-new (G .mates) u next (r .link) (ap profile su ∙ ap (λ b. some (r .link, b)) wr) (ap profile nobody)))
+        (mates-new (G .mates) u next (r .link) (ap profile su ∙ ap (λ b. some (r .link, b)) (runs-awake wr)) (ap profile nobody)))
       where
         tryer-tips : (e : Tip) → Tips u tryer e → R₂ u e
         tryer-tips e (holds y i z) = rw z (stays fork′ y i)

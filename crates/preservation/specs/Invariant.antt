@@ -17,7 +17,7 @@ use Rattle.calculus.specs.Configuration.{End, Doing, Process, process, relinked
 use Rattle.calculus.specs.Steps.{Outcome, carried, notOpen, lacking, onHeld}
 use Rattle.calculus.specs.WellFormed.{contextOf, isWaiting}
 use Rattle.preservation.specs.Mates.{put}
-use Rattle.preservation.specs.Roster.{Roster, TypedDoing, Fine, profile, Good}
+use Rattle.preservation.specs.Roster.{Roster, TypedDoing, Fine, profile, Good, Goes}
 use Rattle.preservation.specs.LettingGo.{lessen}
 use Rattle.preservation.specs.Places.{Shows, shows-set, found-below, below-found}
 
@@ -70,7 +70,7 @@ module _ {p : Program} {C : Config} (I : Inv p C) where
     }
 
     -- it lets go of some of what it holds, and so does the outside
-    pub inv-less : (d : Doing) → isWaiting (q .doing) ≡ isWaiting d → {l : List (Name × End)} → Sublistᴰ l (q .held) → TypedDoing p (contextOf l) (isSome (Option·map (I .id) (q .link))) d
+    pub inv-less : (d : Doing) → Goes (q .doing) d → {l : List (Name × End)} → Sublistᴰ l (q .held) → TypedDoing p (contextOf l) (isSome (Option·map (I .id) (q .link))) d
         → {o : List Outside} → Sublistᴰ o (C .outside) → Inv p (config (set (C .processes) i (process d l (q .link))) o (C .given))
     inv-less d w {l} s t k = inv-set d l (I .numbers) (lessen (I .good) (I .id i) (relinked (I .id) q) at-roster d w s t k)
 

@@ -1,7 +1,7 @@
 -- A label goes over a channel: its ends get another type.
 use mathlib.Core.Path.{_≡_, refl, sym, _∙_, ap, subst}
 use mathlib.Core.Logic.{_≢_, _⊎_, inl, inr}
-use mathlib.Core.List.{List, [], _∷_, map, List·Memᴰ·head, List·Memᴰ·tail, List·Memᴰ·not-nil, Memᴰ·map, Memᴰ·of-map, Memᴰ·cast}
+use mathlib.Core.List.{List, [], _∷_, map, List·Memᴰ·head, List·Memᴰ·tail, List·Memᴰ·not-nil, Memᴰ·map, Memᴰ·of-map, Memᴰ·cast, Sublistᴰ, Sublistᴰ·refl}
 use mathlib.Core.Option.{Option, some, Option·some-injective}
 use mathlib.Core.Bool.{Bool, true, false, cond, false≢true}
 use Prim.Native.Nat.{ℕ, _≤_, _<_}
@@ -15,13 +15,13 @@ use Rattle.calculus.specs.Program.{Program}
 use Rattle.calculus.specs.Declarations.{outward}
 use Rattle.calculus.specs.Configuration.{End, end, Doing, Process, process, Outside, changedOutside, retypedOutside}
 use Rattle.calculus.specs.Steps.{retypedEnd}
-use Rattle.calculus.specs.WellFormed.{In, NoneTwice, Rising, contextOf, key, isWaiting}
+use Rattle.calculus.specs.WellFormed.{In, NoneTwice, Rising, contextOf, key}
 use Rattle.graphs.specs.Moves.{no-loop}
 use Rattle.derivations.specs.Booleans.{bool-cases, cond-true, cond-false, eqb-iff}
 use Rattle.preservation.specs.Witness.{Key, Tip, Rel, side-discrete, joint, Retyped, retyping, keyNumber}
-use Rattle.preservation.specs.Lists.{lookup-in, changed-cases, changed-names, changed-length, changed-map}
+use Rattle.preservation.specs.Lists.{lookup-in, changed-cases, changed-names, changed-length, changed-map, sub-in, sub-once, sub-length}
 use Rattle.preservation.specs.Mates.{put}
-use Rattle.preservation.specs.Roster.{Roster, channelKey, channel-key-one, channel-no-link, keyOf, tipOf, linkTip, outsideTip, holds, Has, outside, inside, TypedDoing, keyAt, Fine, Fair, Good, Change, becomes, one-good, two-good}
+use Rattle.preservation.specs.Roster.{Roster, channelKey, channel-key-one, channel-no-link, keyOf, tipOf, linkTip, outsideTip, holds, Has, outside, inside, TypedDoing, keyAt, Fine, Fair, Good, Change, becomes, one-good, two-good, NamesOf, Goes, names-less}
 
 pub other-side : (s t : Side) → s ≢ t → s ≡ other t
 other-side provided provided n = absurd (n refl)
@@ -74,14 +74,14 @@ retyped-channels c A l n h x i =
     let r = Memᴰ·of-map keyAt l (subst (In (keyAt x)) (retyped-keys c A l) (Memᴰ·map keyAt i)) in
     subst (λ k. k < n) (ap keyNumber (r .2)) (h (r .0) (r .1))
 
-pub fine-retyped : {p : Program} {r : Process} → Fine p r → (d : Doing) (c : Name) (A : Ty Name) → TypedDoing p (contextOf (retypedEnd c A (r .held))) (isSome (r .link)) d
-    → Fine p (process d (retypedEnd c A (r .held)) (r .link))
-fine-retyped {p} {r} f d c A t = record {
+pub fine-retyped : {p : Program} {r : Process} → Fine p r → (d : Doing) → Goes (r .doing) d → {l : List (Name × End)} → Sublistᴰ l (r .held) → (c : Name) (A : Ty Name)
+    → TypedDoing p (contextOf (retypedEnd c A l)) (isSome (r .link)) d → Fine p (process d (retypedEnd c A l) (r .link))
+fine-retyped {p} {r} f d w {l} s c A t = record {
   typed = t;
-  names = subst NoneTwice (sym (changed-names c _ (r .held))) (f .names);
-  keys = subst NoneTwice (sym (retyped-keys c A (r .held))) (f .keys);
-  room = subst (λ n. n ≤ heldLimit) (sym (changed-length c _ (r .held))) (f .room);
-  channels = retyped-channels c A (r .held) channelPlaces (f .channels);
+  names = subst (NamesOf d) (sym (changed-names c _ l)) (names-less d s (w .names (names (r .held)) (f .names)));
+  keys = subst NoneTwice (sym (retyped-keys c A l)) (sub-once keyAt s (f .keys));
+  room = subst (λ n. n ≤ heldLimit) (sym (changed-length c _ l)) (let a = f .room in let b = sub-length s in omega arith);
+  channels = retyped-channels c A l channelPlaces (λ x i. f .channels x (sub-in s i));
 }
 
 -- ── the outside with one type changed
@@ -196,11 +196,11 @@ module _ {p : Program} {S : Roster} {o : List Outside} {given next : ℕ} (G : G
   held-tip u r su x i = inside r su (holds x i refl)
 
   -- the process r of u with the end e of c retyped, where the far end is not at u
-  pub retypes : (u : ℕ) (r : Process) (su : S u ≡ some r) (d : Doing) → isWaiting (r .doing) ≡ isWaiting d → (c : Name) (e : End) (A : Ty Name) → lookup c (r .held) ≡ some e
+  pub retypes : (u : ℕ) (r : Process) (su : S u ≡ some r) (d : Doing) → Goes (r .doing) d → (c : Name) (e : End) (A : Ty Name) → lookup c (r .held) ≡ some e
       → ((t : Option (Ty Name)) → ¬ Has S o u ((channelKey (e .channel), other (e .side)), t)) → TypedDoing p (contextOf (retypedEnd c A (r .held))) (isSome (r .link)) d
       → Change p (Retyped (Has S o) (channelKey (e .channel)) (some A)) u (S u) (some (process d (retypedEnd c A (r .held)) (r .link)))
   retypes u r su d w c e A lc far t =
-      becomes G (Retyped (Has S o) (channelKey (e .channel)) (some A)) u r su d (retypedEnd c A (r .held)) w (fine-retyped (G .fine u r su) d c A t)
+      becomes G (Retyped (Has S o) (channelKey (e .channel)) (some A)) u r su d (retypedEnd c A (r .held)) (w .waits) (fine-retyped (G .fine u r su) d w (Sublistᴰ·refl (r .held)) c A t)
       (λ x i. retyped-tip (Has S o) u e A (held-tip u r su (c, e) (lookup-in c (r .held) e lc)) far (x .1) (entry x (changed-cases key c (λ e. end (e .side) (e .channel) A) (r .held) e (G .fine u r su .keys) lc x i)))
       (λ h s k. retyped-off (Has S o) u (linkTip h s) k (λ z. channel-no-link (e .channel) h (sym z)))
     where
@@ -209,13 +209,13 @@ module _ {p : Program} {S : Roster} {o : List Outside} {given next : ℕ} (G : G
       entry x (inr z) = inr (held-tip u r su x (z .0), z .1)
 
   -- ── the rules: a label goes over the channel of e, from the process r of u
-  module _ (u : ℕ) (r : Process) (su : S u ≡ some r) (d : Doing) (wd : isWaiting (r .doing) ≡ isWaiting d) (c : Name) (e : End) (A : Ty Name) (lc : lookup c (r .held) ≡ some e)
+  module _ (u : ℕ) (r : Process) (su : S u ≡ some r) (d : Doing) (wd : Goes (r .doing) d) (c : Name) (e : End) (A : Ty Name) (lc : lookup c (r .held) ≡ some e)
       (td : TypedDoing p (contextOf (retypedEnd c A (r .held))) (isSome (r .link)) d) where
     hu : Has S o u (tipOf e)
     hu = held-tip u r su (c, e) (lookup-in c (r .held) e lc)
 
     -- to the process q of w
-    pub chosen : (w : ℕ) (q : Process) → S w ≡ some q → (d′ : Doing) → isWaiting (q .doing) ≡ isWaiting d′ → (c′ : Name) (f : End) → lookup c′ (q .held) ≡ some f → f .channel ≡ e .channel
+    pub chosen : (w : ℕ) (q : Process) → S w ≡ some q → (d′ : Doing) → Goes (q .doing) d′ → (c′ : Name) (f : End) → lookup c′ (q .held) ≡ some f → f .channel ≡ e .channel
         → f .side ≡ other (e .side) → TypedDoing p (contextOf (retypedEnd c′ A (q .held))) (isSome (q .link)) d′
         → Good p (put w (some (process d′ (retypedEnd c′ A (q .held)) (q .link))) (put u (some (process d (retypedEnd c A (r .held)) (r .link))) S)) o given next
     chosen w q sw d′ wd′ c′ f lf z s td′ =
@@ -272,7 +272,7 @@ module _ {p : Program} {S : Roster} {o : List Outside} {given next : ℕ} (G : G
   pub out-far : (e : End) (y : Outside) → In y o → y .channel ≡ e .channel → e .side ≡ provided → Has S o 0 ((channelKey (e .channel), other (e .side)), some (y .type))
   out-far e y i z s = outside refl y i (λ i. ((channelKey (sym z i), other (s i)), some (y .type)))
 
-  pub chosen-out : (u : ℕ) (r : Process) → S u ≡ some r → (d : Doing) → isWaiting (r .doing) ≡ isWaiting d → (c : Name) (e : End) (A : Ty Name) → lookup c (r .held) ≡ some e
+  pub chosen-out : (u : ℕ) (r : Process) → S u ≡ some r → (d : Doing) → Goes (r .doing) d → (c : Name) (e : End) (A : Ty Name) → lookup c (r .held) ≡ some e
       → TypedDoing p (contextOf (retypedEnd c A (r .held))) (isSome (r .link)) d → (y : Outside) → In y o → y .channel ≡ e .channel → e .side ≡ provided → outward p A ≡ true
       → Good p (put u (some (process d (retypedEnd c A (r .held)) (r .link))) S) (retypedOutside (e .channel) A o) given next
   chosen-out u r su d wd c e A lc td y i z s a =

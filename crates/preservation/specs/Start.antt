@@ -16,7 +16,7 @@ use Rattle.calculus.specs.Types.{provided, used}
 use Rattle.calculus.specs.Program.{slot, Signature, Program, onSide, signatureContext}
 use Rattle.calculus.specs.Declarations.{outward, entryTypes}
 use Rattle.calculus.specs.Typing.{Typed, TypedBody}
-use Rattle.calculus.specs.Configuration.{End, end, running, Process, process, relinked, Outside}
+use Rattle.calculus.specs.Configuration.{End, end, running, folding, Process, process, relinked, Outside}
 use Rattle.calculus.specs.Runs.{startHeld, startOutside, startConfig}
 use Rattle.calculus.specs.WellFormed.{In, NoneTwice, Rising, contextOf, isWaiting, WellFormed}
 use Rattle.derivations.specs.Booleans.{all-iff}
@@ -26,7 +26,8 @@ use Rattle.preservation.specs.Mates.{Quiet, quiet-none, quiet-some, mate
 use Rattle.preservation.specs.Roster.{Roster, channelKey, channel-key-one, Tips, holds, links, waits, Has, outside, inside, keyAt, Fine, Fair, profile}
 use Rattle.preservation.specs.Contexts.{context-names, context-length}
 use Rattle.preservation.specs.Invariant.{Inv}
-use Rattle.preservation.specs.WellFormed.{Named, inv-well-formed, inv-named}
+use Rattle.preservation.specs.WellFormed.{inv-well-formed}
+use Rattle.preservation.specs.Folding.{Named, named-but-folding, not-folding}
 
 -- ── the channels of a start, from k on
 start-context : (k : ℕ) (l : List (Name × Ty Name)) → contextOf (startHeld k l) ≡ onSide provided l
@@ -210,4 +211,9 @@ module _ (p : Program) (s : Signature) (d : distinct (names (signatureContext s)
   start-well-formed = inv-well-formed start-inv
 
   pub start-named : Named (startConfig s)
-  start-named = inv-named start-inv
+  unfolding startConfig
+  start-named = named-but-folding p (startConfig s) start-well-formed (λ i r h z. absurd (runs i r (h .there) z))
+    where
+      runs : (i : ℕ) (r : Process) → getElem? (q ∷ []) i ≡ some r → r .doing ≡ folding → ⊥
+      runs zero r e z = not-folding (ap (λ (r : Process). r .doing) (Option·some-injective q r e) ∙ z)
+      runs (suc i) r e z = absurd (Option·none-ne-some r e)

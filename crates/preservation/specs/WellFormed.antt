@@ -1,4 +1,4 @@
--- The invariant is well-formedness, where the names that each process holds are distinct.
+-- The invariant is well-formedness.
 use mathlib.Core.Path.{_≡_, refl, sym, _∙_, ap, subst}
 use mathlib.Core.Logic.{_↔_, _≢_, _⊎_, inl, inr, ite}
 use mathlib.Core.List.{List, [], _∷_, _++_, map, List·Memᴰ·head, List·Memᴰ·tail, List·Memᴰ·not-nil, List·Memᴰ·append-cases, List·Memᴰ·eq-of-singleton, Memᴰ·map, Memᴰ·of-map, Memᴰ·cast, Memᴰ·append-left, Memᴰ·append-right}
@@ -10,7 +10,7 @@ use native.Mathlib.Decide.{ℕ-discrete}
 use lib.ListN.{length, getElem?}
 use Rattle.notation.specs.Limits.{channelPlaces}
 use Rattle.notation.specs.Tree.{Name, Ty}
-use Rattle.calculus.specs.Named.{names, distinct, isSome}
+use Rattle.calculus.specs.Named.{names, isSome}
 use Rattle.calculus.specs.Types.{Side, provided, used}
 use Rattle.calculus.specs.Program.{Context, Program}
 use Rattle.calculus.specs.Configuration.{End, end, Doing, running, folding, waiting, Process, relinked, Outside, Config}
@@ -22,7 +22,7 @@ use Rattle.derivations.specs.Equality.{sameType-iff}
 use Rattle.preservation.specs.Witness.{Key, Tip, key-discrete, side-clash, joint, Witness, tipNumber, tipKey, tipType, keyNumber, keySide}
 use Rattle.preservation.specs.Lists.{distinct-iff, once-append, search}
 use Rattle.preservation.specs.Mates.{Mates, link-of}
-use Rattle.preservation.specs.Roster.{Roster, channelKey, linkKey, channel-key-one, link-key-one, channel-no-link, tipOf, linkTip, outsideTip, Tips, holds, links, waits, Has, outside, inside, TypedDoing, keyAt, Fine, Fair, profile, Good}
+use Rattle.preservation.specs.Roster.{Roster, channelKey, linkKey, channel-key-one, link-key-one, channel-no-link, tipOf, linkTip, outsideTip, Tips, holds, links, waits, Has, outside, inside, TypedDoing, keyAt, Fine, Fair, profile, Good, NamesOf}
 use Rattle.preservation.specs.Retyping.{above, owner, one-type, key-of-key}
 use Rattle.preservation.specs.Passing.{map-append}
 use Rattle.preservation.specs.Places.{Shows, found-below}
@@ -31,23 +31,24 @@ use Rattle.preservation.specs.Invariant.{Inv, at-roster, fine-at, handle
 use Rattle.preservation.specs.Joints.{forest-back, forest-along, numbers, joints-are, numbers-once, numbers-live, numbers-all}
 use Rattle.preservation.specs.Ends.{once-left, once-right, once-apart, process-end, end-process, keys-of-process, one-holder, keys-once, outside-end, end-outside, outside-keys, keys-outside}
 
--- the names that a process holds are distinct, also where it folds up
-pub record Named (C : Config) : Type 0 where
-  pub named : (i : ℕ) (q : Process) → Stands C i q → distinct (names (q .held)) ≡ true
-
 is-some-map : {A B : Type 0} (f : A → B) (o : Option A) → isSome (Option·map f o) ≡ isSome o
 is-some-map f none = refl
 is-some-map f (some x) = refl
 
-typed-as : (p : Program) (G : Context) (b : Bool) (d : Doing) → distinct (names G) ≡ true → TypedDoing p G b d → TypedAs p G b d
-typed-as p G b (running P) n t = (n, t)
+typed-as : (p : Program) (G : Context) (b : Bool) (d : Doing) → NamesOf d (names G) → TypedDoing p G b d → TypedAs p G b d
+typed-as p G b (running P) n t = (distinct-iff (names G) .1 n, t)
 typed-as p G b folding n t = tt
-typed-as p G b (waiting P) n t = (n, t)
+typed-as p G b (waiting P) n t = (distinct-iff (names G) .1 n, t)
 
 as-typed : (p : Program) (G : Context) (b : Bool) (d : Doing) → TypedAs p G b d → TypedDoing p G b d
 as-typed p G b (running P) t = t .1
 as-typed p G b folding t = tt
 as-typed p G b (waiting P) t = t .1
+
+as-names : (p : Program) (G : Context) (b : Bool) (d : Doing) → TypedAs p G b d → NamesOf d (names G)
+as-names p G b (running P) t = distinct-iff (names G) .0 (t .0)
+as-names p G b folding t = tt
+as-names p G b (waiting P) t = distinct-iff (names G) .0 (t .0)
 
 -- ── from the invariant
 module _ {p : Program} {C : Config} (I : Inv p C) where
@@ -114,7 +115,7 @@ module _ {p : Program} {C : Config} (I : Inv p C) where
   pub inv-well-formed : WellFormed p C
   inv-well-formed = record {
     typed = λ i q s. let f = fine-at I i q (s .there) in
-        typed-as p (contextOf (q .held)) (isSome (q .link)) (q .doing) (ap distinct (context-names (q .held)) ∙ distinct-iff (names (q .held)) .1 (f .names))
+        typed-as p (contextOf (q .held)) (isSome (q .link)) (q .doing) (subst (NamesOf (q .doing)) (sym (context-names (q .held))) (f .names))
         (subst (λ b. TypedDoing p (contextOf (q .held)) b (q .doing)) (is-some-map (I .id) (q .link)) (f .typed));
     once = none-held-twice;
     oneType = λ e d m n z. let u = end-has e m in let v = end-has d n in sameType-iff (e .type) (d .type) .1 (one-type G (u .0) (v .0) e d z (u .1) (v .1));
@@ -139,9 +140,6 @@ module _ {p : Program} {C : Config} (I : Inv p C) where
           go : In e (processEnds (C .processes)) ⊎ In e (outsideEnds (C .outside)) → e .channel < channelPlaces
           go (inl k) = let x = end-process (C .processes) e k in subst (λ (e : End). e .channel < channelPlaces) (x .5) (fine-at I (x .0) (x .1) (x .2) .channels (x .3) (x .4))
           go (inr k) = let y = end-outside (C .outside) e k in subst (λ (e : End). e .channel < channelPlaces) (y .2) (G .fair .channels (y .0) (y .1))
-
-  pub inv-named : Named C
-  inv-named = record { named = λ i q s. distinct-iff (names (q .held)) .1 (fine-at I i q (s .there) .names) }
 
 -- ── to the invariant: the process at place i has the identity i + 1
 -- a list with each number once
@@ -476,42 +474,41 @@ module _ {p : Program} {C : Config} (w : WellFormed p C) where
           let z : m .0 ≡ k .0 = (let k2 = k .2 in let m2 = m .2 in omega arith) in
           x .2 ∙ ap suc (w .linkedOnce (x .0) (y .0) (x .1) (y .1) (record { there = x .3 }) (record { there = y .3 }) (k .0) (k .1) (m .1 ∙ ap some z)) ∙ sym (y .2)
 
-  module _ (n : Named C) where
-    found-fine : (i : ℕ) (q : Process) → getElem? (C .processes) i ≡ some q → Fine p (relinked suc q)
-    found-fine i q e = record {
-      typed = subst (λ b. TypedDoing p (contextOf (q .held)) b (q .doing)) (sym (is-some-map suc (q .link))) (as-typed p (contextOf (q .held)) (isSome (q .link)) (q .doing) (w .typed i q (record { there = e })));
-      names = distinct-iff (names (q .held)) .0 (n .named i q (record { there = e }));
-      keys = keys-of-process (C .processes) process-keys i q e;
-      room = w .held i q (record { there = e });
-      channels = λ x m. w .channels (x .1) (Memᴰ·append-left (outsideEnds (C .outside)) (process-end (C .processes) i q e x m));
-    }
+  found-fine : (i : ℕ) (q : Process) → getElem? (C .processes) i ≡ some q → Fine p (relinked suc q)
+  found-fine i q e = record {
+    typed = subst (λ b. TypedDoing p (contextOf (q .held)) b (q .doing)) (sym (is-some-map suc (q .link))) (as-typed p (contextOf (q .held)) (isSome (q .link)) (q .doing) (w .typed i q (record { there = e })));
+    names = subst (NamesOf (q .doing)) (context-names (q .held)) (as-names p (contextOf (q .held)) (isSome (q .link)) (q .doing) (w .typed i q (record { there = e })));
+    keys = keys-of-process (C .processes) process-keys i q e;
+    room = w .held i q (record { there = e });
+    channels = λ x m. w .channels (x .1) (Memᴰ·append-left (outsideEnds (C .outside)) (process-end (C .processes) i q e x m));
+  }
 
-    found-fair : Fair p (C .given) (C .outside)
-    found-fair = record {
-      outwards = λ y m. w .outside y m .0;
-      below = λ y m. w .outside y m .1;
-      rising = w .numbers;
-      keys = outside-keys (C .outside) (once-right (map key (processEnds (C .processes))) (map key (outsideEnds (C .outside))) keys-apart);
-      channels = λ y m. w .channels (end used (y .channel) (y .type)) (Memᴰ·append-right (processEnds (C .processes)) (outside-end (C .outside) y m));
-    }
+  found-fair : Fair p (C .given) (C .outside)
+  found-fair = record {
+    outwards = λ y m. w .outside y m .0;
+    below = λ y m. w .outside y m .1;
+    rising = w .numbers;
+    keys = outside-keys (C .outside) (once-right (map key (processEnds (C .processes))) (map key (outsideEnds (C .outside))) keys-apart);
+    channels = λ y m. w .channels (end used (y .channel) (y .type)) (Memᴰ·append-right (processEnds (C .processes)) (outside-end (C .outside) y m));
+  }
 
-    pub well-formed-inv : Inv p C
-    well-formed-inv = record {
-      id = suc;
-      roster = seated (C .processes);
-      next = suc (length (C .processes));
-      shows = shown;
-      good = record {
-        witness = found-witness;
-        fine = λ v r e. let x = seat-back C v r e in subst (Fine p) (x .4) (found-fine (x .0) (x .1) (x .3));
-        placed = λ v r e. let x = seat-back C v r e in let b = found-below (C .processes) (x .0) (x .3) in let z = x .2 in (omega arith, omega arith);
-        mates = found-mates;
-        fair = found-fair;
-      };
-      places = w .processes;
-      numbers = w .given;
-    }
+  pub well-formed-inv : Inv p C
+  well-formed-inv = record {
+    id = suc;
+    roster = seated (C .processes);
+    next = suc (length (C .processes));
+    shows = shown;
+    good = record {
+      witness = found-witness;
+      fine = λ v r e. let x = seat-back C v r e in subst (Fine p) (x .4) (found-fine (x .0) (x .1) (x .3));
+      placed = λ v r e. let x = seat-back C v r e in let b = found-below (C .processes) (x .0) (x .3) in let z = x .2 in (omega arith, omega arith);
+      mates = found-mates;
+      fair = found-fair;
+    };
+    places = w .processes;
+    numbers = w .given;
+  }
 
--- the invariant is well-formedness with distinct names
-pub inv-iff : (p : Program) (C : Config) → Inv p C ↔ (WellFormed p C × Named C)
-inv-iff p C = (λ I. (inv-well-formed I, inv-named I), λ h. well-formed-inv (h .0) (h .1))
+-- the invariant is well-formedness
+pub inv-iff : (p : Program) (C : Config) → Inv p C ↔ WellFormed p C
+inv-iff p C = (inv-well-formed, well-formed-inv)
