@@ -26,7 +26,7 @@ use Rattle.preservation.specs.Roster.{channelKey, Has, TypedDoing, Good,
 use Rattle.preservation.specs.LettingGo.{let-go-sub, raised, left, left-alone}
 use Rattle.preservation.specs.Places.{Shows, shows-set, shows-in, shows-out, idIn, id-in-low, id-in-new, relinked-in, up-below, idOut, set-cases, found-below, below-found, length-inserted, length-removed}
 use Rattle.preservation.specs.FarEnds.{FarIs, at-process, at-outside, at-nobody, far-is, fresh-free, ByName}
-use Rattle.preservation.specs.Forwarding.{forwarded, forwarded-out}
+use Rattle.preservation.specs.Forwarding.{by-name, forwarded, forwarded-out}
 use Rattle.preservation.specs.Witness.{Tip}
 use Rattle.preservation.specs.Growing
 use Rattle.preservation.specs.Contexts.{held-plain, context-names, context-without, context-kept, context-append, context-length, absent-held}
@@ -289,7 +289,7 @@ module _ {p : Program} {C : Config} (I : Inv p C) (i : ℕ) (q : Process) (at : 
           let r = h .process in
           inv-two I i (h .place) q r at (f .stands) folding (r .doing) [] _
           (forwarded (I .good) (I .id i) (relinked (I .id) q) (at-roster I i q at) w (x .name) (c .name) e d le ld (m .0) (m .1) (m .2) (I .id (h .place)) (relinked (I .id) r) (at-roster I (h .place) r (f .stands))
-          (h .name) (f .end) (by .leads _ _ h f) (f .channel) (f .side))
+          (h .name) (f .end) (f .held) (f .channel) (f .side) _ (by-name (h .name) (f .end) (d .channel) (r .held) (fine-at I (h .place) r (f .stands) .keys) (by .leads _ _ h f)))
       joined e d le ld _ (at-outside n y j z s) =
           let m = module-of e d le ld in
           inv-set I i q at folding [] (I .numbers) (forwarded-out (I .good) (I .id i) (relinked (I .id) q) (at-roster I i q at) w (x .name) (c .name) e d le ld (m .0) (m .1) (m .2))

@@ -6,6 +6,7 @@ use mathlib.Core.Option.{some, Option·some-injective}
 use mathlib.Core.Bool.{Bool, true, false, cond}
 use Prim.Native.Nat.{ℕ, _≤_, _<_}
 use lib.Dec.{eqb}
+use lib.ListN.{length}
 use Rattle.notation.specs.Limits.{heldLimit, channelPlaces}
 use Rattle.notation.specs.Tree.{Name}
 use Rattle.calculus.specs.Named.{lookup, changed, names, isSome}
@@ -57,6 +58,24 @@ moved-context n k (a ∷ l) =
     by-test (λ b. contextOf (cond b ((a .0, end (a .1 .side) k (a .1 .type)) ∷ l) (a ∷ changed n (λ (f : End). end (f .side) k (f .type)) l)) ≡ contextOf (a ∷ l)) n (a .0)
     (λ _. refl) (λ _. ap (λ r. (a .0, slot (a .1 .side) (a .1 .type)) ∷ r) (moved-context n k l))
 
+-- l′ is l with the end f on the channel k
+pub record Relocated (f : End) (k : ℕ) (l l′ : List (Name × End)) : Type 0 where
+  pub context : contextOf l′ ≡ contextOf l
+  pub names : names l′ ≡ names l
+  pub long : length l′ ≡ length l
+  pub entry : (y : Name × End) → In y l′ → (y .1 ≡ end (f .side) k (f .type)) ⊎ (In y l × (key (y .1) ≢ key f))
+  pub once : ¬ In (k, f .side) (map keyAt l) → NoneTwice (map keyAt l′)
+
+-- so it is where the name n leads to f
+pub by-name : (n : Name) (f : End) (k : ℕ) (l : List (Name × End)) → NoneTwice (map keyAt l) → lookup n l ≡ some f → Relocated f k l (changed n (λ (f : End). end (f .side) k (f .type)) l)
+by-name n f k l u e = record {
+  context = moved-context n k l;
+  names = changed-names n _ l;
+  long = changed-length n _ l;
+  entry = changed-cases key n (λ (f : End). end (f .side) k (f .type)) l f u e;
+  once = changed-once key n (λ (f : End). end (f .side) k (f .type)) l f u e;
+}
+
 module _ {p : Program} {S : Roster} {o : List Outside} {given next : ℕ} (G : Good p S o given next) where
   -- the process r of u provides x, by the end e, and uses c, by the end d
   module _ (u : ℕ) (r : Process) (su : S u ≡ some r) (wr : isWaiting (r .doing) ≡ false) (x c : Name) (e d : End) (lx : lookup x (r .held) ≡ some e) (lc : lookup c (r .held) ≡ some d)
@@ -89,21 +108,19 @@ module _ {p : Program} {S : Roster} {o : List Outside} {given next : ℕ} (G : G
         inr (List·Memᴰ·head (ap tipKey t), refl, subst (Has S o u) (sym t) hc)
 
     -- ── the far end of e is at the process q of w
-    module _ (w : ℕ) (q : Process) (sw : S w ≡ some q) (n : Name) (f : End) (lf : lookup n (q .held) ≡ some f) (z : f .channel ≡ e .channel) (s : f .side ≡ other (e .side)) where
+    module _ (w : ℕ) (q : Process) (sw : S w ≡ some q) (n : Name) (f : End) (hf : In (n, f) (q .held)) (z : f .channel ≡ e .channel) (s : f .side ≡ other (e .side))
+        (l′ : List (Name × End)) (rl : Relocated f (d .channel) (q .held) l′) where
       w0 : w ≢ 0
       w0 = above G w q sw
 
       hw : Has S o w (tipOf f)
-      hw = held-tip G w q sw (n, f) (lookup-in n (q .held) f lf)
+      hw = held-tip G w q sw (n, f) hf
 
       uw : u ≢ w
       uw = ends-apart G u w e f z s hx hw u0 w0
 
       sf : f .side ≡ used
       sf = s ∙ ap other se
-
-      abbrev l′ : List (Name × End)
-      l′ = changed n (λ (f : End). end (f .side) (d .channel) (f .type)) (q .held)
 
       W : Witness (R w) next
       W =
@@ -117,11 +134,11 @@ module _ {p : Program} {S : Roster} {o : List Outside} {given next : ℕ} (G : G
 
       q-fine : Fine p (process (q .doing) l′ (q .link))
       q-fine = record {
-        typed = subst (λ C. TypedDoing p C (isSome (q .link)) (q .doing)) (sym (moved-context n (d .channel) (q .held))) (g .typed);
-        names = subst (NamesOf (q .doing)) (sym (changed-names n _ (q .held))) (g .names);
-        keys = changed-once key n (λ (f : End). end (f .side) (d .channel) (f .type)) (q .held) f (g .keys) lf fresh;
-        room = subst (λ n. n ≤ heldLimit) (sym (changed-length n _ (q .held))) (g .room);
-        channels = λ y i. chan y (changed-cases key n _ (q .held) f (g .keys) lf y i);
+        typed = subst (λ C. TypedDoing p C (isSome (q .link)) (q .doing)) (sym (rl .context)) (g .typed);
+        names = subst (NamesOf (q .doing)) (sym (rl .names)) (g .names);
+        keys = rl .once fresh;
+        room = subst (λ n. n ≤ heldLimit) (sym (rl .long)) (g .room);
+        channels = λ y i. chan y (rl .entry y i);
       }
         where
           g : Fine p q
@@ -140,7 +157,7 @@ module _ {p : Program} {S : Roster} {o : List Outside} {given next : ℕ} (G : G
       pub forwarded : Good p (put w (some (process (q .doing) l′ (q .link))) (put u (some (process folding [] (r .link))) S)) o given next
       forwarded =
           two-good G W u w (process folding [] (r .link)) (process (q .doing) l′ (q .link)) (emptied w)
-          (becomes G (R w) w q sw (q .doing) l′ refl q-fine (λ y i. end-at y (changed-cases key n _ (q .held) f (G .fine w q sw .keys) lf y i)) (λ h s t. stays w w (linkTip h s) (λ y. uw (sym y)) t))
+          (becomes G (R w) w q sw (q .doing) l′ refl q-fine (λ y i. end-at y (rl .entry y i)) (λ h s t. stays w w (linkTip h s) (λ y. uw (sym y)) t))
           (λ v t nu nw h. stays v w t nu h) u0 w0
         where
           end-at : (y : Name × End) → (y .1 ≡ end (f .side) (d .channel) (f .type)) ⊎ (In y (q .held) × (key (y .1) ≢ key f)) → R w w (tipOf (y .1))
