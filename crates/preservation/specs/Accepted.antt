@@ -79,7 +79,8 @@ process-declared (declareProc m xs ys P ∷ ds) n s (List·Memᴰ·head h) e =
     let own = nil-left (ownRepeats (declareProc m xs ys P)) (gather ownRepeats ds) e in
     let once = repeats-none [] (channels xs ++ channels ys) (nil-left (repeats [] (channels xs ++ channels ys)) _ own) .0 in
     subst NoneTwice
-    (names-of-append (channels xs) (channels ys) ∙ sym (λ j. entry-names provided xs j ++ entry-names used ys j) ∙ sym (names-append (onSide provided (entries xs)) (onSide used (entries ys)))
+    (names-of-append (channels xs) (channels ys) ∙ sym (λ j. entry-names provided xs j ++ entry-names used ys j)
+    ∙ sym (names-append (onSide provided (entries xs)) (onSide used (entries ys)))
     ∙ ap (λ (x : Name × Signature). names (signatureContext (x .1))) (sym h)) once
 
 -- ── what an accepted script gives

@@ -42,7 +42,8 @@ module _ {p : Program} {C : Config} (I : Inv p C) (i : ℕ) (q : Process) (at : 
   b = isSome (Option·map (I .id) (q .link))
 
   -- the process at i has let go of the end e, and perhaps of others
-  pub parting-keeps : (d : Doing) → Goes (q .doing) d → {l : List (Name × End)} → Sublistᴰ l (q .held) → TypedDoing p (contextOf l) b d → (e : End) → Keeps p (parting C i (process d l (q .link)) e)
+  pub parting-keeps : (d : Doing) → Goes (q .doing) d → {l : List (Name × End)} → Sublistᴰ l (q .held) → TypedDoing p (contextOf l) b d → (e : End)
+      → Keeps p (parting C i (process d l (q .link)) e)
   unfolding parting
   parting-keeps d w s t e = inv-less I i q at d w s t (outside-after-sub (farEnd C e) (e .channel) (C .outside))
 
@@ -70,7 +71,8 @@ module _ {p : Program} {C : Config} (I : Inv p C) (i : ℕ) (q : Process) (at : 
     link-id : Option·map (I .id) (q .link) ≡ some (I .id h)
     link-id = ap (Option·map (I .id)) lk
 
-    raised-inv : isWaiting d ≡ false → NamesOf d (names (r .held)) → TypedDoing p (contextOf (r .held)) (isSome (Option·map (I .id) (r .link))) d → (P : Proc) → NoneTwice (names (q .held)) → Typed p (contextOf (q .held)) false P
+    raised-inv : isWaiting d ≡ false → NamesOf d (names (r .held)) → TypedDoing p (contextOf (r .held)) (isSome (Option·map (I .id) (r .link))) d → (P : Proc)
+        → NoneTwice (names (q .held)) → Typed p (contextOf (q .held)) false P
         → Inv p (config (set l₁ i (process (running P) (q .held) none)) (C .outside) (C .given))
     raised-inv wd nd td P n t = record {
       id = I .id;
@@ -82,7 +84,8 @@ module _ {p : Program} {C : Config} (I : Inv p C) (i : ℕ) (q : Process) (at : 
       numbers = I .numbers;
     }
 
-    left-inv : isWaiting d ≡ false → NamesOf d (names (r .held)) → TypedDoing p (contextOf (r .held)) (isSome (Option·map (I .id) (r .link))) d → Inv p (config (removed i l₁) (C .outside) (C .given))
+    left-inv : isWaiting d ≡ false → NamesOf d (names (r .held)) → TypedDoing p (contextOf (r .held)) (isSome (Option·map (I .id) (r .link))) d
+        → Inv p (config (removed i l₁) (C .outside) (C .given))
     left-inv wd nd td = record {
       id = idOut s₁ i;
       roster = put (I .id i) none (put (I .id h) (some (process d (r .held) (Option·map (I .id) (r .link)))) (I .roster));
@@ -124,7 +127,8 @@ module _ {p : Program} {C : Config} (I : Inv p C) (i : ℕ) (q : Process) (at : 
       go (some h) z =
           let r = handler I i q at h z in
           subst (λ o. Inv p (config (set (putAt (C .processes) h (Option·map startedHandler o)) i (process (running P) (q .held) none)) (C .outside) (C .given))) (sym (r .1))
-          (raised-inv (runs-awake w) h z (r .0) (r .1) (r .2) (startedDoing (r .0 .doing)) (started-waits-not (r .0 .doing)) (started-names _ (r .0 .doing) (fine-at I h (r .0) (r .1) .names))
+          (raised-inv (runs-awake w) h z (r .0) (r .1) (r .2) (startedDoing (r .0 .doing)) (started-waits-not (r .0 .doing))
+          (started-names _ (r .0 .doing) (fine-at I h (r .0) (r .1) .names))
           (started-typed _ _ (r .0 .doing) (fine-at I h (r .0) (r .1) .typed)) P (runs-on w P .names _ (fine-at I i q at .names)) t)
 
   pub leave-keeps : isWaiting (q .doing) ≡ false → Keeps p (leaving C i q)
@@ -186,7 +190,8 @@ module _ {p : Program} {C : Config} (I : Inv p C) (i : ℕ) (q : Process) (at : 
         next = suc (I .next);
         shows = shows-in s₁ i (I .next) (omega (arith, inside, len₁)) (λ j h. new-id j (omega (arith, len₁))) made (λ h z. absurd (Option·none-ne-some h z));
         good = Growing.spawned (I .good) (I .id i) (relinked (I .id) q) (at-roster I i q at) w t n (plain A) k (fresh .1) (fresh .0) (absent-held n (q .held) (bP .new)) P Q
-            (room t (bP .room)) (room (λ m. not (t m)) (bQ .room)) (subst (λ G. Typed p G false P) (sym (half t (end provided k (plain A)))) tP) (subst (λ G. Typed p G b Q) (sym (half (λ m. not (t m)) (end used k (plain A)))) tQ);
+            (room t (bP .room)) (room (λ m. not (t m)) (bQ .room)) (subst (λ G. Typed p G false P) (sym (half t (end provided k (plain A)))) tP)
+            (subst (λ G. Typed p G b Q) (sym (half (λ m. not (t m)) (end used k (plain A)))) tQ);
         places = let a = ltb-iff (length (C .processes)) processPlaces .0 lt in let c = length-inserted s₁ i made in omega (arith, len₁);
         numbers = I .numbers;
       }
@@ -232,7 +237,8 @@ module _ {p : Program} {C : Config} (I : Inv p C) (i : ℕ) (q : Process) (at : 
       s₁ = shows-in (I .shows) i (I .next) inside new-id waiter up-within
 
       disjoint : (x : Name × End) → In x (q .held) → So (mentions P (x .0)) → So (mentions Q (x .0)) → ⊥
-      disjoint x m a c = exactly (mentions P (x .0)) (mentions Q (x .0)) (all-iff _ (names (contextOf (q .held))) .0 one (x .0) (subst (In (x .0)) (sym (context-names (q .held))) (names-in (q .held) m))) a c
+      disjoint x m a c = exactly (mentions P (x .0)) (mentions Q (x .0))
+          (all-iff _ (names (contextOf (q .held))) .0 one (x .0) (subst (In (x .0)) (sym (context-names (q .held))) (names-in (q .held) m))) a c
         where
           exactly : (a c : Bool) → So (cond a (not c) c) → So a → So c → ⊥
           exactly true true z _ _ = false≢true z
@@ -256,14 +262,16 @@ module _ {p : Program} {C : Config} (I : Inv p C) (i : ℕ) (q : Process) (at : 
         numbers = I .numbers;
       }
         where
-          same : put (I .id i) (some (process (running P) (kept (mentions P) (q .held)) (some (I .next)))) (put (I .next) (some (process (waiting Q) (kept (mentions Q) (q .held)) (Option·map (I .id) (q .link)))) (I .roster))
+          same : put (I .id i) (some (process (running P) (kept (mentions P) (q .held)) (some (I .next))))
+              (put (I .next) (some (process (waiting Q) (kept (mentions Q) (q .held)) (Option·map (I .id) (q .link)))) (I .roster))
               ≡ put (f i) (some (relinked f tryer)) (put (I .next) (some (relinked f waiter)) (I .roster))
           same j =
               put (sym fi j) (some (process (running P) (kept (mentions P) (q .held)) (some (sym (id-in-new (I .shows) i (I .next)) j))))
               (put (I .next) (some (process (waiting Q) (kept (mentions Q) (q .held)) (sym (relinked-in (I .shows) i (I .next) (q .link)) j))) (I .roster))
 
   -- ── fwd
-  pub forward-keeps : ByName C → isWaiting (q .doing) ≡ false → (x c : Located) (A B : Ty Name) → lookup (x .name) (contextOf (q .held)) ≡ some (slot provided A) → lookup (c .name) (contextOf (q .held)) ≡ some (slot used B)
+  pub forward-keeps : ByName C → isWaiting (q .doing) ≡ false → (x c : Located) (A B : Ty Name) → lookup (x .name) (contextOf (q .held)) ≡ some (slot provided A)
+      → lookup (c .name) (contextOf (q .held)) ≡ some (slot used B)
       → sameType A B ≡ true → Keeps p (forwarding C i q x c)
   unfolding forwarding
   forward-keeps by w x c A B hx hc ab =
@@ -288,7 +296,8 @@ module _ {p : Program} {C : Config} (I : Inv p C) (i : ℕ) (q : Process) (at : 
           let m = module-of e d le ld in
           let r = h .process in
           inv-two I i (h .place) q r at (f .stands) folding (r .doing) [] _
-          (forwarded (I .good) (I .id i) (relinked (I .id) q) (at-roster I i q at) w (x .name) (c .name) e d le ld (m .0) (m .1) (m .2) (I .id (h .place)) (relinked (I .id) r) (at-roster I (h .place) r (f .stands))
+          (forwarded (I .good) (I .id i) (relinked (I .id) q) (at-roster I i q at) w (x .name) (c .name) e d le ld (m .0) (m .1) (m .2) (I .id (h .place))
+          (relinked (I .id) r) (at-roster I (h .place) r (f .stands))
           (h .name) (f .end) (f .held) (f .channel) (f .side) _ (by-name (h .name) (f .end) (d .channel) (r .held) (fine-at I (h .place) r (f .stands) .keys) (by .leads _ _ h f)))
       joined e d le ld _ (at-outside n y j z s) =
           let m = module-of e d le ld in

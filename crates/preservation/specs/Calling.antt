@@ -58,7 +58,8 @@ fits-append l (a ∷ ns) ms (s ∷ G) H f g = (f .0, fits-append l ns ms G H (f 
 renamed-one : (l : List (Name × End)) (a : Name) (s : Name × Slot) (h : Held a l (s .1 .side) (s .1 .type)) → renamedEnd s (lookup a l) ≡ (s .0, h .end) ∷ []
 renamed-one l a s h = ap (renamedEnd s) (h .found) ∙ (λ i. (s .0, end (sym (h .side) i) (h .end .channel) (sym (h .type) i)) ∷ [])
 
-renamed-cons : (l : List (Name × End)) (a : Name) (ns : List Name) (s : Name × Slot) (G : Context) (h : Held a l (s .1 .side) (s .1 .type)) → renamed (a ∷ ns) (s ∷ G) l ≡ (s .0, h .end) ∷ renamed ns G l
+renamed-cons : (l : List (Name × End)) (a : Name) (ns : List Name) (s : Name × Slot) (G : Context) (h : Held a l (s .1 .side) (s .1 .type))
+    → renamed (a ∷ ns) (s ∷ G) l ≡ (s .0, h .end) ∷ renamed ns G l
 renamed-cons l a ns s G h = ap (λ r. r ++ renamed ns G l) (renamed-one l a s h)
 
 renamed-context : (l : List (Name × End)) (ns : List Name) (G : Context) → Fits l ns G → contextOf (renamed ns G l) ≡ G
@@ -100,7 +101,8 @@ module _ {p : Program} {C : Config} (I : Inv p C) (i : ℕ) (q : Process) (at : 
   call-keeps w f xs ys s e fx fy d ds t =
       subst (λ o. Keeps p (entering C i q ns o)) (sym e)
       (inv-set I i q at (running (s .body)) l (I .numbers)
-      (less (I .good) (I .id i) (relinked (I .id) q) (at-roster I i q at) (running (s .body)) l w fine (λ x m. let y = renamed-held (q .held) ns G fits x m in (y .0, y .2)) (Sublistᴰ·refl (C .outside))))
+      (less (I .good) (I .id i) (relinked (I .id) q) (at-roster I i q at) (running (s .body)) l w fine
+      (λ x m. let y = renamed-held (q .held) ns G fits x m in (y .0, y .2)) (Sublistᴰ·refl (C .outside))))
     where
       ns : List Name
       ns = namesOf xs ++ namesOf ys

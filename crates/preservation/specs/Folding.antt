@@ -29,7 +29,10 @@ pub record Named (C : Config) : Type 0 where
   pub named : (i : ℕ) (q : Process) → Stands C i q → distinct (names (q .held)) ≡ true
 
 pub names-lead : (C : Config) → Named C → ByName C
-names-lead C n = record { leads = λ k s h f. in-lookup (h .process .held) (distinct-iff (names (h .process .held)) .0 (n .named (h .place) (h .process) (record { there = f .stands }))) (h .name, f .end) (f .held) }
+names-lead C n = record {
+  leads = λ k s h f. in-lookup (h .process .held)
+      (distinct-iff (names (h .process .held)) .0 (n .named (h .place) (h .process) (record { there = f .stands }))) (h .name, f .end) (f .held);
+}
 
 -- typing asks it of those that do not fold up
 pub named-but-folding : (p : Program) (C : Config) → WellFormed p C → ((i : ℕ) (q : Process) → Stands C i q → q .doing ≡ folding → distinct (names (q .held)) ≡ true) → Named C
@@ -186,9 +189,11 @@ module _ (p : Program) (C : Config) where
     where
       go : (m : Message) (e : End) (f : Far) (x : List (Name × End)) → Comes (sending p C i q (process (running P) x (q .link)) m e f)
       go m e (atProcess h) x = turn-elim (λ T. Comes (meeting p C i q (process (running P) x (q .link)) m e h T)) (h .process .doing) (λ _ _ _ _. tt)
-          (λ c′ w _. comes-cond (same (c′ .name) (h .name)) _ notOpen (both-comes i (h .place) (process (running P) x (q .link)) (from-running l P x (q .link)) _ (received m w (h .name) e (passedEnd m (q .held)) (h .process))) tt) tt
+          (λ c′ w _. comes-cond (same (c′ .name) (h .name)) _ notOpen (both-comes i (h .place) (process (running P) x (q .link)) (from-running l P x (q .link)) _
+          (received m w (h .name) e (passedEnd m (q .held)) (h .process))) tt) tt
       go closing e (atOutside n) x = all-set l l i (process (running P) x (q .link)) (from-running l P x (q .link)) stays
-      go (passes a) e (atOutside n) x = comes-held (lookup (a .name) (q .held)) _ λ d. comes-cond (ltb (C .given) outsideNumbers) _ lacking (all-set l l i (process (running P) x (q .link)) (from-running l P x (q .link)) stays) tt
+      go (passes a) e (atOutside n) x = comes-held (lookup (a .name) (q .held)) _ λ d. comes-cond (ltb (C .given) outsideNumbers) _ lacking
+          (all-set l l i (process (running P) x (q .link)) (from-running l P x (q .link)) stays) tt
       go (chooses k) e (atOutside n) x = all-set l l i (process (running P) x (q .link)) (from-running l P x (q .link)) stays
       go closing e givenUp x = all-set l l i (process (running P) x (q .link)) (from-running l P x (q .link)) stays
       go (passes a) e givenUp x = comes-held (lookup (a .name) (q .held)) _ λ d. parting-comes i (process (running P) x (q .link)) d (from-running l P x (q .link))
@@ -203,7 +208,8 @@ module _ (p : Program) (C : Config) where
     receive-comes c = comes-held (lookup (c .name) (q .held)) _ λ e. go (farEnd C e)
       where
         go : (f : Far) → Comes (receiving p C i q (c .name) f)
-        go (atProcess h) = turn-elim (λ T. Comes (answering p C h T)) (h .process .doing) (λ c′ m P _. comes-cond (same (c′ .name) (h .name)) _ notOpen (send-comes (h .place) (h .process) c′ m P) tt) (λ _ _ _. tt) tt
+        go (atProcess h) = turn-elim (λ T. Comes (answering p C h T)) (h .process .doing)
+            (λ c′ m P _. comes-cond (same (c′ .name) (h .name)) _ notOpen (send-comes (h .place) (h .process) c′ m P) tt) (λ _ _ _. tt) tt
         go (atOutside n) = tt
         go givenUp = all-set l l i _ (from-less q q-in folding (q .link) (without-sub (c .name) (q .held))) stays
 
@@ -214,7 +220,8 @@ module _ (p : Program) (C : Config) where
       where
         go : (o : Option Process) → getElem? l j ≡ o → All l (putAt l j (Option·map f o))
         go none z = stays
-        go (some r) z = all-set l l j (f r) (record { before = λ _. (r, found-in l j r z, subst (λ x. Sublistᴰ (names x) (names (r .held))) (sym (h r)) (Sublistᴰ·refl (names (r .held)))) }) stays
+        go (some r) z = all-set l l j (f r)
+            (record { before = λ _. (r, found-in l j r z, subst (λ x. Sublistᴰ (names x) (names (r .held))) (sym (h r)) (Sublistᴰ·refl (names (r .held)))) }) stays
 
     leave-comes : Comes (leaving C i q)
     unfolding leaving
@@ -235,7 +242,14 @@ module _ (p : Program) (C : Config) where
         joined : (e d : End) (f : Far) → FarIs C e f → Comes (joinedTo C i q e d f)
         joined e d _ (at-process h f) =
             all-set l (set l i (process folding [] (q .link))) (h .place) _
-            (record { before = λ _. (h .process, found-in l (h .place) (h .process) (f .stands), subst (λ ns. Sublistᴰ ns (names (h .process .held))) (sym (changed-names (h .name) _ (h .process .held))) (Sublistᴰ·refl (names (h .process .held)))) })
+            (record {
+              before = λ _. (
+                h .process,
+                found-in l (h .place) (h .process) (f .stands),
+                subst (λ ns. Sublistᴰ ns (names (h .process .held)))
+                    (sym (changed-names (h .name) _ (h .process .held))) (Sublistᴰ·refl (names (h .process .held))),
+              );
+            })
             (all-set l l i _ emptied-from stays)
         joined e d _ (at-outside n y _ _ _) = all-set l l i _ emptied-from stays
         joined e d _ (at-nobody _ _) = all-set l l i _ emptied-from stays

@@ -30,13 +30,18 @@ module _ {X B : Type 0} (g : X → B) (c : Name) (f : X → X) where
   changed-once (a ∷ l) e u z n =
       by-test (λ b. cond b (some (a .1)) (lookup c l) ≡ some e → NoneTwice (map (λ (x : Name × X). g (x .1)) (cond b ((a .0, f (a .1)) ∷ l) (a ∷ changed c f l)))) c (a .0)
       (λ _ h. ((λ m. n (List·Memᴰ·tail (subst (λ x. In (g (f x)) (map (λ (x : Name × X). g (x .1)) l)) (Option·some-injective _ _ h) m))), u .1))
-      (λ _ h. ((λ m. let y = Memᴰ·of-map (λ (x : Name × X). g (x .1)) (changed c f l) m in other (y .0) (y .2) (changed-cases g c f l e (u .1) h (y .0) (y .1))), changed-once l e (u .1) h (λ m. n (List·Memᴰ·tail m)))) z
+      (λ _ h. (
+        (λ m. let y = Memᴰ·of-map (λ (x : Name × X). g (x .1)) (changed c f l) m in other (y .0) (y .2)
+            (changed-cases g c f l e (u .1) h (y .0) (y .1))),
+        changed-once l e (u .1) h (λ m. n (List·Memᴰ·tail m)),
+      )) z
     where
       other : (y : Name × X) → g (y .1) ≡ g (a .1) → (y .1 ≡ f e) ⊎ (In y l × (g (y .1) ≢ g e)) → ⊥
       other y h (inl k) = n (List·Memᴰ·head (ap g (sym k) ∙ h))
       other y h (inr k) = u .0 (Memᴰ·cast (sym h) (Memᴰ·map (λ (x : Name × X). g (x .1)) (k .0)))
 
-outside-once : (k : ℕ) (f : Outside → Outside) (j : ℕ) → ((y : Outside) → f y .channel ≡ j) → (o : List Outside) → NoneTwice (map (λ (y : Outside). y .channel) o) → ¬ In j (map (λ (y : Outside). y .channel) o)
+outside-once : (k : ℕ) (f : Outside → Outside) (j : ℕ) → ((y : Outside) → f y .channel ≡ j) → (o : List Outside) → NoneTwice (map (λ (y : Outside). y .channel) o)
+    → ¬ In j (map (λ (y : Outside). y .channel) o)
     → NoneTwice (map (λ (y : Outside). y .channel) (changedOutside k f o))
 unfolding changedOutside
 outside-once k f j h [] u n = tt
@@ -104,7 +109,10 @@ module _ {p : Program} {S : Roster} {o : List Outside} {given next : ℕ} (G : G
     -- the far end of e takes the place of d
     moves : (w : ℕ) (f g : End) → Has S o w (tipOf f) → f .channel ≡ e .channel → f .side ≡ used → g ≡ end (f .side) (d .channel) (f .type) → R w w (tipOf g)
     moves w f g hf z s h =
-        let t : tipOf g ≡ tipOf d = λ i. ((channelKey (h i .channel), (ap (λ (e : End). e .side) h ∙ s ∙ sym sd) i), some ((ap (λ (e : End). e .type) h ∙ one-type G w u f e z hf hx ∙ ed) i)) in
+        let t : tipOf g ≡ tipOf d = λ i. (
+          (channelKey (h i .channel), (ap (λ (e : End). e .side) h ∙ s ∙ sym sd) i),
+          some ((ap (λ (e : End). e .type) h ∙ one-type G w u f e z hf hx ∙ ed) i),
+        ) in
         inr (List·Memᴰ·head (ap tipKey t), refl, subst (Has S o u) (sym t) hc)
 
     -- ── the far end of e is at the process q of w
@@ -126,7 +134,10 @@ module _ {p : Program} {S : Roster} {o : List Outside} {given next : ℕ} (G : G
       W =
           over (G .witness) (keyOf d ∷ []) u w (λ y m. ap (G .witness .own) (List·Memᴰ·eq-of-singleton m) ∙ G .witness .sound u (tipOf d) hc) u0 (channelKey (e .channel))
           (joins G u w e f z s hx hw u0 w0) (λ t m. off (key-cases e (keyOf d) (sym (ap keyNumber (List·Memᴰ·eq-of-singleton m)))))
-          (inl (ap (λ t. G .witness .own (channelKey (e .channel), t)) (sym se) ∙ near-owner G u w e f z s hx hw u0 w0, ap (λ t. G .witness .own (channelKey (e .channel), other t)) (sym se) ∙ far-owner G u w e f z s hx hw u0 w0))
+          (inl (
+            ap (λ t. G .witness .own (channelKey (e .channel), t)) (sym se) ∙ near-owner G u w e f z s hx hw u0 w0,
+            ap (λ t. G .witness .own (channelKey (e .channel), other t)) (sym se) ∙ far-owner G u w e f z s hx hw u0 w0,
+          ))
         where
           off : (keyOf d ≡ keyOf e) ⊎ (keyOf d ≡ (channelKey (e .channel), other (e .side))) → ⊥
           off (inl h) = side-clash (sym se ∙ ap keySide (sym h) ∙ sd)
@@ -183,7 +194,8 @@ module _ {p : Program} {S : Roster} {o : List Outside} {given next : ℕ} (G : G
         cases = outside-cases (e .channel) move o (G .fair .keys)
 
         out : (y : Outside) → Changed (e .channel) move o y → R 0 0 (outsideTip y)
-        out y (inl h) = moves 0 (end used (h .0 .channel) (h .0 .type)) (end used (y .channel) (y .type)) (outside refl (h .0) (h .1) refl) (h .2) refl (λ i. end used (h .3 i .channel) (h .3 i .type))
+        out y (inl h) = moves 0 (end used (h .0 .channel) (h .0 .type)) (end used (y .channel) (y .type)) (outside refl (h .0) (h .1) refl) (h .2) refl
+            (λ i. end used (h .3 i .channel) (h .3 i .type))
         out y (inr h) = stays 0 0 (outsideTip y) (λ k. u0 (sym k)) (outside refl y (h .0) refl)
 
         outw : (y : Outside) → Changed (e .channel) move o y → outward p (y .type) ≡ true

@@ -115,7 +115,11 @@ module _ {p : Program} {S : Roster} {o : List Outside} {given next : ℕ} (G : G
 
     link-comes : (h : ℕ) → F.given ≡ some h → R next (linkTip h provided)
     link-comes h e =
-        inr (Memᴰ·append-right (keysOf (kept F.goes (F.r .held))) (subst (λ l. In (linkKey h, provided) (linkKeys l)) (sym e) (List·Memᴰ·head refl)), refl, inl (inside F.r F.there (links h (F.own-link h e) refl)))
+        inr (
+          Memᴰ·append-right (keysOf (kept F.goes (F.r .held))) (subst (λ l. In (linkKey h, provided) (linkKeys l)) (sym e) (List·Memᴰ·head refl)),
+          refl,
+          inl (inside F.r F.there (links h (F.own-link h e) refl)),
+        )
 
     link-stays : F.given ≡ none → (h : ℕ) → F.r .link ≡ some h → R F.u (linkTip h provided)
     link-stays n h e = inl ((λ m. go (List·Memᴰ·append-cases (keysOf (kept F.goes (F.r .held))) m)), inl (inside F.r F.there (links h e refl)))
@@ -134,7 +138,8 @@ module _ {p : Program} {S : Roster} {o : List Outside} {given next : ℕ} (G : G
     grown : Witness (Joined (Has S o) F.k F.ends F.T) (suc next) → ((F.ends provided ≡ F.u) × (F.ends used ≡ next)) ⊎ ((F.ends provided ≡ next) × (F.ends used ≡ F.u)) → Witness R (suc next)
     grown W b =
         over W moving F.u next (λ q i. let x = goes-has q i in W .sound F.u (q, x .0) (inl (x .1))) u0 F.k
-        (W .live (F.ends provided) (F.ends used) ((F.k, provided), F.T) ((F.k, used), F.T) (inr (refl, refl, refl)) (inr (refl, refl, refl)) (nonzero provided b) (nonzero used b) refl refl refl)
+        (W .live (F.ends provided) (F.ends used) ((F.k, provided), F.T) ((F.k, used), F.T) (inr (refl, refl, refl)) (inr (refl, refl, refl)) (nonzero provided b)
+        (nonzero used b) refl refl refl)
         (λ s m. let x = goes-has (F.k, s) m in F.free F.u ((F.k, s), x .0) (x .1) refl) (between b)
       where
         n0 : next ≢ 0
@@ -189,7 +194,8 @@ module _ {p : Program} {S : Roster} {o : List Outside} {given next : ℕ} (G : G
     next-place = let b = un in (omega arith, omega arith)
 
   -- ── a process that holds less and one more channel
-  brought : (r : Process) → Fine p r → (d : Doing) → Goes (r .doing) d → (k : Option ℕ) (t : Name → Bool) (x : Name) (e : End) → lookup x (r .held) ≡ none → ¬ In (key e) (map keyAt (r .held)) → length (kept t (r .held)) < heldLimit
+  brought : (r : Process) → Fine p r → (d : Doing) → Goes (r .doing) d → (k : Option ℕ) (t : Name → Bool) (x : Name) (e : End) → lookup x (r .held) ≡ none
+      → ¬ In (key e) (map keyAt (r .held)) → length (kept t (r .held)) < heldLimit
       → e .channel < channelPlaces → TypedDoing p (contextOf (kept t (r .held) ++ ((x, e) ∷ []))) (isSome k) d → Fine p (process d (kept t (r .held) ++ ((x, e) ∷ [])) k)
   unfolding names
   brought r f d w k t x e new nk room lt td = record {
@@ -219,7 +225,8 @@ module _ {p : Program} {S : Roster} {o : List Outside} {given next : ℕ} (G : G
       chan y (inr i) = subst (λ (y : Name × End). y .1 .channel < channelPlaces) (sym (List·Memᴰ·eq-of-singleton i)) lt
 
   -- ── spawn: the new process takes what t picks, and provides x on the channel n
-  module _ (u : ℕ) (r : Process) (su : S u ≡ some r) (wr : Runs (r .doing)) (t : Name → Bool) (x : Name) (A : Ty Name) (n : ℕ) (free : (v : ℕ) (e : Tip) → Has S o v e → e .0 .0 ≢ channelKey n)
+  module _ (u : ℕ) (r : Process) (su : S u ≡ some r) (wr : Runs (r .doing)) (t : Name → Bool) (x : Name) (A : Ty Name) (n : ℕ)
+      (free : (v : ℕ) (e : Tip) → Has S o v e → e .0 .0 ≢ channelKey n)
       (lt : n < channelPlaces) (new : lookup x (r .held) ≡ none) (P Q : Proc) where
     abbrev rest : Name → Bool
     rest m = not (t m)
@@ -249,7 +256,8 @@ module _ {p : Program} {S : Roster} {o : List Outside} {given next : ℕ} (G : G
     abbrev R₁ : Rel
     R₁ = R fork
 
-    pub spawned : length (kept t (r .held)) < heldLimit → length (kept rest (r .held)) < heldLimit → Typed p (contextOf (made .held)) false P → Typed p (contextOf (maker .held)) (isSome (r .link)) Q
+    pub spawned : length (kept t (r .held)) < heldLimit → length (kept rest (r .held)) < heldLimit → Typed p (contextOf (made .held)) false P
+        → Typed p (contextOf (maker .held)) (isSome (r .link)) Q
         → Good p (put next (some made) (put u (some maker) S)) o given (suc next)
     spawned roomP roomQ tP tQ =
         grown-good fork
@@ -293,7 +301,8 @@ module _ {p : Program} {S : Roster} {o : List Outside} {given next : ℕ} (G : G
             (mates-put (mates-same same (G .mates)) next (some (none, false)) (subst Quiet (sym (sym (same next) ∙ ap profile nobody)) quiet-none) quiet-some)
 
   -- ── try: the new process takes what t₂ picks, and waits as the handler
-  module _ (u : ℕ) (r : Process) (su : S u ≡ some r) (wr : Runs (r .doing)) (t₁ t₂ : Name → Bool) (disjoint : (x : Name × End) → In x (r .held) → So (t₁ (x .0)) → So (t₂ (x .0)) → ⊥) (P Q : Proc) where
+  module _ (u : ℕ) (r : Process) (su : S u ≡ some r) (wr : Runs (r .doing)) (t₁ t₂ : Name → Bool)
+      (disjoint : (x : Name × End) → In x (r .held) → So (t₁ (x .0)) → So (t₂ (x .0)) → ⊥) (P Q : Proc) where
     abbrev tryer : Process
     tryer = process (running P) (kept t₁ (r .held)) (some next)
 
@@ -301,7 +310,21 @@ module _ {p : Program} {S : Roster} {o : List Outside} {given next : ℕ} (G : G
     waiter = process (waiting Q) (kept t₂ (r .held)) (r .link)
 
     abbrev fork′ : Fork S o
-    fork′ = record { u = u; r = r; there = su; keeps = t₁; goes = t₂; disjoint = disjoint; given = r .link; own-link = λ h e. e; k = linkKey next; free = link-free; ends = sides u next; T = none }
+    fork′ = record {
+      u = u;
+      r = r;
+      there = su;
+      keeps = t₁;
+      goes = t₂;
+      disjoint = disjoint;
+      given = r .link;
+      own-link =
+          λ h e. e;
+      k = linkKey next;
+      free = link-free;
+      ends = sides u next;
+      T = none;
+    }
 
     abbrev R₂ : Rel
     R₂ = R fork′
@@ -311,7 +334,8 @@ module _ {p : Program} {S : Roster} {o : List Outside} {given next : ℕ} (G : G
         let f = fine-less (G .fine u r su) folding (folds (runs-awake wr)) (kept-sub t (r .held)) tt in
         record { typed = td; names = names-less d (kept-sub t (r .held)) n; keys = f .keys; room = f .room; channels = f .channels }
 
-    pub tried : Typed p (contextOf (kept t₁ (r .held))) true P → Typed p (contextOf (kept t₂ (r .held))) (isSome (r .link)) Q → Good p (put u (some tryer) (put next (some waiter) S)) o given (suc next)
+    pub tried : Typed p (contextOf (kept t₁ (r .held))) true P → Typed p (contextOf (kept t₂ (r .held))) (isSome (r .link)) Q
+        → Good p (put u (some tryer) (put next (some waiter) S)) o given (suc next)
     tried tP tQ =
         grown-good fork′
         (grown fork′ (joined-uses (G .witness) (linkKey next) u next none link-free (omega arith) (G .placed u r su .1)) (inl (refl, refl)))

@@ -89,7 +89,8 @@ module _ {p : Program} {C : Config} (I : Inv p C) where
 
   -- those at i and j change
   pub inv-two : (i j : ℕ) (q r : Process) → getElem? (C .processes) i ≡ some q → getElem? (C .processes) j ≡ some r → (d d′ : Doing) (l l′ : List (Name × End))
-      → Good p (put (I .id j) (some (process d′ l′ (Option·map (I .id) (r .link)))) (put (I .id i) (some (process d l (Option·map (I .id) (q .link)))) (I .roster))) (C .outside) (C .given) (I .next)
+      → Good p (put (I .id j) (some (process d′ l′ (Option·map (I .id) (r .link)))) (put (I .id i) (some (process d l (Option·map (I .id) (q .link)))) (I .roster)))
+      (C .outside) (C .given) (I .next)
       → Inv p (config (set (set (C .processes) i (process d l (q .link))) j (process d′ l′ (r .link))) (C .outside) (C .given))
   inv-two i j q r a b d d′ l l′ g = record {
     id = I .id;

@@ -100,7 +100,8 @@ module _ {p : Program} {S : Roster} {o : List Outside} {given next : ℕ} (G : G
   leaves v = record { fine = λ r e. absurd (Option·none-ne-some r e); tips = λ r s. absurd (Option·none-ne-some r s); was = λ r e. absurd (Option·none-ne-some r e) }
 
   -- the process r of v does d from now on, which is no waiting, with its link or none
-  shrinks : (v : ℕ) (r : Process) → S v ≡ some r → (d : Doing) (k : Option ℕ) → isWaiting d ≡ false → ((h : ℕ) → k ≡ some h → r .link ≡ some h) → NamesOf d (names (r .held)) → TypedDoing p (contextOf (r .held)) (isSome k) d
+  shrinks : (v : ℕ) (r : Process) → S v ≡ some r → (d : Doing) (k : Option ℕ) → isWaiting d ≡ false → ((h : ℕ) → k ≡ some h → r .link ≡ some h)
+      → NamesOf d (names (r .held)) → TypedDoing p (contextOf (r .held)) (isSome k) d
       → Shrinks v (some (process d (r .held) k))
   shrinks v r sv d k w s n t = record {
     fine = λ q e. subst (Fine p) (Option·some-injective _ _ e) fine′;
@@ -128,15 +129,18 @@ module _ {p : Program} {S : Roster} {o : List Outside} {given next : ℕ} (G : G
     handler : Shrinks h (some (process d (s .held) (s .link)))
     handler = shrinks h s sh d (s .link) wd (λ _ e. e) nd td
 
-    rest-same : (x : Option Process) (y : Profile) → profile x ≡ y → (v : ℕ) → put u y (put h (some (s .link, false)) (λ v. profile (S v))) v ≡ profile (put u x (put h (some (process d (s .held) (s .link))) S) v)
+    rest-same : (x : Option Process) (y : Profile) → profile x ≡ y → (v : ℕ)
+        → put u y (put h (some (s .link, false)) (λ v. profile (S v))) v ≡ profile (put u x (put h (some (process d (s .held) (s .link))) S) v)
     rest-same x y e v =
         sym (profile-put-two u h x (some (process d (s .held) (s .link))) S v
         ∙ (λ i. put u (e i) (put h (some (s .link, wd i)) (λ v. profile (S v))) v))
 
-    pub raised : (P : Proc) → NoneTwice (names (r .held)) → Typed p (contextOf (r .held)) false P → Good p (put u (some (process (running P) (r .held) none)) (put h (some (process d (s .held) (s .link))) S)) o given next
+    pub raised : (P : Proc) → NoneTwice (names (r .held)) → Typed p (contextOf (r .held)) false P
+        → Good p (put u (some (process (running P) (r .held) none)) (put h (some (process d (s .held) (s .link))) S)) o given next
     raised P n t =
         shrunk-good
-        (put-elim Shrinks u _ (put h (some (process d (s .held) (s .link))) S) (shrinks u r su (running P) none refl (λ k e. absurd (Option·none-ne-some k e)) n t) (λ v _. put-elim Shrinks h _ S handler (λ v _. stays v) v))
+        (put-elim Shrinks u _ (put h (some (process d (s .held) (s .link))) S) (shrinks u r su (running P) none refl (λ k e. absurd (Option·none-ne-some k e)) n t)
+        (λ v _. put-elim Shrinks h _ S handler (λ v _. stays v) v))
         (mates-same (rest-same (some (process (running P) (r .held) none)) (some (none, false)) refl) cut-mates)
 
     pub left : Good p (put u none (put h (some (process d (s .held) (s .link))) S)) o given next

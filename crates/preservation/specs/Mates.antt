@@ -114,7 +114,8 @@ module _ {F : ℕ → Profile} (m : Mates F) where
       waiting k a n e = past k (λ z. true≢false (sym (waits-of (sym fu ∙ ap F (sym z) ∙ e)))) ∙ put-off h (some (l, false)) F k n ∙ e
 
       waited : (k : ℕ) (a : Option ℕ) → G k ≡ some (a, true) → (k ≢ h) × (F k ≡ some (a, true))
-      waited = put-elim (λ k y. (a : Option ℕ) → y ≡ some (a, true) → (k ≢ h) × (F k ≡ some (a, true))) u (some (none, false)) (put h (some (l, false)) F) (λ a e. absurd (quiet-some .active a e))
+      waited = put-elim (λ k y. (a : Option ℕ) → y ≡ some (a, true) → (k ≢ h) × (F k ≡ some (a, true))) u (some (none, false)) (put h (some (l, false)) F)
+          (λ a e. absurd (quiet-some .active a e))
           (λ k _. put-elim (λ k y. (a : Option ℕ) → y ≡ some (a, true) → (k ≢ h) × (F k ≡ some (a, true))) h (some (l, false)) F
           (λ a e. absurd (true≢false (sym (waits-of e)))) (λ k n a e. (n, e)) k)
 
@@ -171,9 +172,11 @@ module _ {F : ℕ → Profile} (m : Mates F) where
 
       -- a link afterwards: the new one, or an old one, at its heir
       linked : (v k : ℕ) (w : Bool) → G v ≡ some (some k, w) → ((v ≡ u) × (k ≡ z)) ⊎ ((x : ℕ) × (y : Bool) × (F x ≡ some (some k, y)) × (v ≡ heir x))
-      linked = put-elim (λ v y. (k : ℕ) (w : Bool) → y ≡ some (some k, w) → ((v ≡ u) × (k ≡ z)) ⊎ ((x : ℕ) × (y : Bool) × (F x ≡ some (some k, y)) × (v ≡ heir x))) u (some (some z, false)) (put z (some (l, true)) F)
+      linked = put-elim (λ v y. (k : ℕ) (w : Bool) → y ≡ some (some k, w) → ((v ≡ u) × (k ≡ z)) ⊎ ((x : ℕ) × (y : Bool) × (F x ≡ some (some k, y)) × (v ≡ heir x))) u
+          (some (some z, false)) (put z (some (l, true)) F)
           (λ k w e. inl (refl, sym (Option·some-injective _ _ (link-of e))))
-          (λ v n. put-elim (λ v y. v ≢ u → (k : ℕ) (w : Bool) → y ≡ some (some k, w) → ((v ≡ u) × (k ≡ z)) ⊎ ((x : ℕ) × (y : Bool) × (F x ≡ some (some k, y)) × (v ≡ heir x))) z (some (l, true)) F
+          (λ v n. put-elim (λ v y. v ≢ u → (k : ℕ) (w : Bool) → y ≡ some (some k, w) → ((v ≡ u) × (k ≡ z)) ⊎
+          ((x : ℕ) × (y : Bool) × (F x ≡ some (some k, y)) × (v ≡ heir x))) z (some (l, true)) F
           (λ _ k w e. inr (u, false, fu ∙ ap (λ a. some (a, false)) (link-of e), sym (if-pos (ℕ-discrete u u) refl _ _)))
           (λ v _ n k w e. inr (v, w, e, sym (if-neg (ℕ-discrete v u) n _ _))) v n)
 
@@ -196,7 +199,8 @@ module _ {F : ℕ → Profile} (m : Mates F) where
       once′ : (a b k : ℕ) (w y : Bool) → G a ≡ some (some k, w) → G b ≡ some (some k, y) → a ≡ b
       once′ a b k w y e f = go (linked a k w e) (linked b k y f)
         where
-          go : ((a ≡ u) × (k ≡ z)) ⊎ ((x : ℕ) × (y : Bool) × (F x ≡ some (some k, y)) × (a ≡ heir x)) → ((b ≡ u) × (k ≡ z)) ⊎ ((x : ℕ) × (y : Bool) × (F x ≡ some (some k, y)) × (b ≡ heir x)) → a ≡ b
+          go : ((a ≡ u) × (k ≡ z)) ⊎ ((x : ℕ) × (y : Bool) × (F x ≡ some (some k, y)) × (a ≡ heir x))
+              → ((b ≡ u) × (k ≡ z)) ⊎ ((x : ℕ) × (y : Bool) × (F x ≡ some (some k, y)) × (b ≡ heir x)) → a ≡ b
           go (inl r) (inl s) = r .0 ∙ sym (s .0)
           go (inl r) (inr s) = absurd (old k (s .0) (s .1) (s .2) (r .1))
           go (inr r) (inl s) = absurd (old k (r .0) (r .1) (r .2) (s .1))

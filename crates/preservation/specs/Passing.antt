@@ -91,7 +91,11 @@ module _ {p : Program} {S : Roster} {o : List Outside} {given next : ℕ} (G : G
       sender v =
           becomes G (Moved R (keyOf d ∷ []) u v) u r su P (retypedEnd c B (without a (r .held))) (wP .waits) sender-fine
           (λ x i. let t = sender-end x i in inl ((λ m. t .1 (key-from-key (x .1) d (List·Memᴰ·eq-of-singleton m))), t .0))
-          (λ h s t. inl ((λ m. channel-no-link (d .channel) h (sym (ap keyNumber (List·Memᴰ·eq-of-singleton m)))), retyped-off (Has S o) u (linkTip h s) t (λ z. channel-no-link (e .channel) h (sym z))))
+          (λ h s t. inl (
+            (λ m. channel-no-link (d .channel) h (sym (ap keyNumber (List·Memᴰ·eq-of-singleton m)))),
+            retyped-off (Has S o) u (linkTip h s) t
+                (λ z. channel-no-link (e .channel) h (sym z)),
+          ))
 
     -- another's end stays, where it is no end of c
     else-stays : (v w : ℕ) (t : Tip) → v ≢ u → Has S o v t → t .0 .0 ≢ k → Moved R (keyOf d ∷ []) u w v t
@@ -143,7 +147,8 @@ module _ {p : Program} {S : Roster} {o : List Outside} {given next : ℕ} (G : G
       taker-fine = record {
         typed = tQ;
         names = subst (NamesOf Q) (sym (names-append (retypedEnd c′ B (q .held)) ((x, d) ∷ [])))
-            (names-snoc Q (names (retypedEnd c′ B (q .held))) x (subst (NamesOf Q) (sym same-names) (wQ .names (names (q .held)) (g .names))) (λ m. absent x (q .held) new (subst (In x) same-names m)));
+            (names-snoc Q (names (retypedEnd c′ B (q .held))) x (subst (NamesOf Q) (sym same-names) (wQ .names (names (q .held)) (g .names)))
+            (λ m. absent x (q .held) new (subst (In x) same-names m)));
         keys = subst NoneTwice (sym (map-append keyAt (retypedEnd c′ B (q .held)) ((x, d) ∷ [])))
             (once-snoc (map keyAt (retypedEnd c′ B (q .held))) (key d) (subst NoneTwice (sym (retyped-keys c′ B (q .held))) (g .keys)) no-key);
         room = subst (λ n. n ≤ heldLimit) (sym (length-snoc (retypedEnd c′ B (q .held)) (x, d) ∙ ap suc (changed-length c′ _ (q .held)))) room;
@@ -193,10 +198,19 @@ module _ {p : Program} {S : Roster} {o : List Outside} {given next : ℕ} (G : G
                   two (inr h) = far-u (some (d .type)) (subst (λ q. Has S o u (q, some (d .type))) h ha)
 
           between : (t : Side) → e .side ≡ t → Between (G .witness .own) k u w
-          between provided y = inl (ap (λ t. G .witness .own (k, t)) (sym y) ∙ near-owner G u w e f z s hu hw u0 w0, ap (λ t. G .witness .own (k, other t)) (sym y) ∙ far-owner G u w e f z s hu hw u0 w0)
-          between used y = inr (ap (λ t. G .witness .own (k, other t)) (sym y) ∙ far-owner G u w e f z s hu hw u0 w0, ap (λ t. G .witness .own (k, t)) (sym y) ∙ near-owner G u w e f z s hu hw u0 w0)
+          between provided y = inl (
+            ap (λ t. G .witness .own (k, t)) (sym y) ∙ near-owner G u w e f z s hu hw u0 w0,
+            ap (λ t. G .witness .own (k, other t)) (sym y)
+                ∙ far-owner G u w e f z s hu hw u0 w0,
+          )
+          between used y = inr (
+            ap (λ t. G .witness .own (k, other t)) (sym y) ∙ far-owner G u w e f z s hu hw u0 w0,
+            ap (λ t. G .witness .own (k, t)) (sym y)
+                ∙ near-owner G u w e f z s hu hw u0 w0,
+          )
 
-      pub passed : Good p (put w (some (process Q (retypedEnd c′ B (q .held) ++ ((x, d) ∷ [])) (q .link))) (put u (some (process P (retypedEnd c B (without a (r .held))) (r .link))) S)) o given next
+      pub passed : Good p (put w (some (process Q (retypedEnd c′ B (q .held) ++ ((x, d) ∷ [])) (q .link)))
+          (put u (some (process P (retypedEnd c B (without a (r .held))) (r .link))) S)) o given next
       passed =
           two-good G moving u w (process P (retypedEnd c B (without a (r .held))) (r .link)) (process Q (retypedEnd c′ B (q .held) ++ ((x, d) ∷ [])) (q .link))
           (sender far-u w) taker (λ v t nu nw h. else-stays v w t nu h (λ y. rest v t nu nw (whose G u v e hu t h y))) u0 w0
@@ -210,9 +224,11 @@ module _ {p : Program} {S : Roster} {o : List Outside} {given next : ℕ} (G : G
         → Good p (put u (some (process P (retypedEnd c B (without a (r .held))) (r .link))) S) o′ given next
     passed-unheard far {o′} sub =
         one-good G (retyping (G .witness) k (some B)) u (process P (retypedEnd c B (without a (r .held))) (r .link))
-        (becomes G R u r su P (retypedEnd c B (without a (r .held))) (wP .waits) (sender-fine (far u)) (λ x i. sender-end (far u) x i .0) (λ h s t. retyped-off (Has S o) u (linkTip h s) t (λ z. channel-no-link (e .channel) h (sym z))))
+        (becomes G R u r su P (retypedEnd c B (without a (r .held))) (wP .waits) (sender-fine (far u)) (λ x i. sender-end (far u) x i .0)
+        (λ h s t. retyped-off (Has S o) u (linkTip h s) t (λ z. channel-no-link (e .channel) h (sym z))))
         (λ v t nu _ h. retyped-off (Has S o) v t h (λ y. rest v t nu (whose G u v e hu t h y)))
-        (λ y i. let h : Has S o 0 (outsideTip y) = outside refl y (sub-in sub i) refl in retyped-off (Has S o) 0 (outsideTip y) h (λ z. rest 0 (outsideTip y) (λ k. u0 (sym k)) (whose G u 0 e hu (outsideTip y) h z)))
+        (λ y i. let h : Has S o 0 (outsideTip y) = outside refl y (sub-in sub i) refl in retyped-off (Has S o) 0 (outsideTip y) h
+        (λ z. rest 0 (outsideTip y) (λ k. u0 (sym k)) (whose G u 0 e hu (outsideTip y) h z)))
         (fair-less (G .fair) sub)
       where
         rest : (v : ℕ) (t : Tip) → v ≢ u → (v ≡ u) ⊎ Has S o v ((k, other (e .side)), t .1) → ⊥

@@ -166,7 +166,13 @@ pub record Shows (id : ℕ → ℕ) (l : List Process) (S : Roster) : Type 0 whe
 module _ {id : ℕ → ℕ} {l : List Process} {S : Roster} (s : Shows id l S) where
   -- ── the process at place i is replaced
   pub shows-set : (i : ℕ) → i < length l → (q : Process) → ((h : ℕ) → q .link ≡ some h → h < length l) → Shows id (set l i q) (put (id i) (some (relinked id q)) S)
-  shows-set i h q k = record { there = there′; back = put-elim (Back id (set l i q)) (id i) (some (relinked id q)) S (λ r e. (i, q, set-at l i q h, refl)) back′; apart = apart′; within = within′ }
+  shows-set i h q k = record {
+    there = there′;
+    back = put-elim (Back id (set l i q)) (id i) (some (relinked id q)) S
+        (λ r e. (i, q, set-at l i q h, refl)) back′;
+    apart = apart′;
+    within = within′;
+  }
     where
       len : length (set l i q) ≡ length l
       len = length-set l i q
@@ -384,7 +390,13 @@ module _ {id : ℕ → ℕ} {l : List Process} {S : Roster} (s : Shows id l S) w
 
   pub shows-out : (i : ℕ) → i < length l → ((j : ℕ) (r : Process) → getElem? l j ≡ some r → r .link ≢ some i) → Shows (idOut i) (removed i l) (put (id i) none S)
   unfolding removed idOut
-  shows-out i h alone = record { there = there′; back = put-elim (Back (idOut i) (takeOut i m′)) (id i) none S (λ r e. absurd (Option·none-ne-some r e)) back′; apart = apart′; within = within′ }
+  shows-out i h alone = record {
+    there = there′;
+    back = put-elim (Back (idOut i) (takeOut i m′)) (id i) none S
+        (λ r e. absurd (Option·none-ne-some r e)) back′;
+    apart = apart′;
+    within = within′;
+  }
     where
       m′ : List Process
       m′ = map (relinked (movedDown i)) l
@@ -413,8 +425,13 @@ module _ {id : ℕ → ℕ} {l : List Process} {S : Roster} (s : Shows id l S) w
       back′ : (v : ℕ) → v ≢ id i → (r : Process) → S v ≡ some r → (j : ℕ) × (q : Process) × (getElem? (takeOut i m′) j ≡ some q) × (id (skip i j) ≡ v)
       back′ v n r e =
           let b = s .back v r e in
-          let z : skip i (movedDown i (b .0)) ≡ b .0 = skip-down i (b .0) (λ z. n (sym (b .3) ∙ ap id z)) in
-          (movedDown i (b .0), relinked (movedDown i) (b .1), at-skip (movedDown i (b .0)) ∙ ap (λ k. Option·map (relinked (movedDown i)) (getElem? l k)) z ∙ ap (Option·map (relinked (movedDown i))) (b .2), ap id z ∙ b .3)
+          let z : skip i (movedDown i (b .0)) ≡ b .0 = skip-down i (b .0) (λ z. n (sym (b .3) ∙ ap id z)) in (
+            movedDown i (b .0),
+            relinked (movedDown i) (b .1),
+            at-skip (movedDown i (b .0)) ∙ ap (λ k. Option·map (relinked (movedDown i)) (getElem? l k)) z
+                ∙ ap (Option·map (relinked (movedDown i))) (b .2),
+            ap id z ∙ b .3,
+          )
 
       apart′ : (a b : ℕ) → a < length (takeOut i m′) → b < length (takeOut i m′) → id (skip i a) ≡ id (skip i b) → a ≡ b
       apart′ a b x y e =
@@ -426,4 +443,5 @@ module _ {id : ℕ → ℕ} {l : List Process} {S : Roster} (s : Shows id l S) w
           let x = from j r e in
           let y = map-eq-some-iff {B = ℕ} (movedDown i) (x .0 .link) .0 (ap (λ (r : Process). r .link) (x .2) ∙ w) in
           let b = s .within (skip i j) (x .0) (x .1) (y .0) (y .1) in
-          subst (λ a. a < length (takeOut i m′)) (y .2) (down-below i (y .0) (length (takeOut i m′)) (omega (arith, len)) (omega (arith, len)) (λ z. alone (skip i j) (x .0) (x .1) (y .1 ∙ ap some z)))
+          subst (λ a. a < length (takeOut i m′)) (y .2) (down-below i (y .0) (length (takeOut i m′)) (omega (arith, len)) (omega (arith, len))
+          (λ z. alone (skip i j) (x .0) (x .1) (y .1 ∙ ap some z)))

@@ -54,8 +54,11 @@ retyped-off H v t h n = (t .1, h, inr (n, refl))
 -- e itself, and each other end of u, where the far end of e is not at u
 pub retyped-tip : (H : Rel) (u : ℕ) (e : End) (A : Ty Name) → H u (tipOf e) → ((t : Option (Ty Name)) → ¬ H u ((channelKey (e .channel), other (e .side)), t))
     → (x : End) → (x ≡ end (e .side) (e .channel) A) ⊎ (H u (tipOf x) × (key x ≢ key e)) → Retyped H (channelKey (e .channel)) (some A) u (tipOf x)
-retyped-tip H u e A he far x (inl z) =
-    (some (e .type), subst (λ k. H u (k, some (e .type))) (λ i. (channelKey (sym z i .channel), sym z i .side)) he, inl (ap (λ (x : End). channelKey (x .channel)) z, ap (λ (x : End). some (x .type)) z))
+retyped-tip H u e A he far x (inl z) = (
+  some (e .type),
+  subst (λ k. H u (k, some (e .type))) (λ i. (channelKey (sym z i .channel), sym z i .side)) he,
+  inl (ap (λ (x : End). channelKey (x .channel)) z, ap (λ (x : End). some (x .type)) z),
+)
 retyped-tip H u e A he far x (inr h) = retyped-off H u (tipOf x) (h .0) (λ z. go (key-cases e (keyOf x) z))
   where
     go : (keyOf x ≡ keyOf e) ⊎ (keyOf x ≡ (channelKey (e .channel), other (e .side))) → ⊥
@@ -69,7 +72,8 @@ retype-key A x = refl
 pub retyped-keys : (c : Name) (A : Ty Name) (l : List (Name × End)) → map keyAt (retypedEnd c A l) ≡ map keyAt l
 retyped-keys c A l = changed-map key c (λ e. end (e .side) (e .channel) A) (retype-key A) l
 
-pub retyped-channels : (c : Name) (A : Ty Name) (l : List (Name × End)) (n : ℕ) → ((x : Name × End) → In x l → x .1 .channel < n) → (x : Name × End) → In x (retypedEnd c A l) → x .1 .channel < n
+pub retyped-channels : (c : Name) (A : Ty Name) (l : List (Name × End)) (n : ℕ) → ((x : Name × End) → In x l → x .1 .channel < n) → (x : Name × End)
+    → In x (retypedEnd c A l) → x .1 .channel < n
 retyped-channels c A l n h x i =
     let r = Memᴰ·of-map keyAt l (subst (In (keyAt x)) (retyped-keys c A l) (Memᴰ·map keyAt i)) in
     subst (λ k. k < n) (ap keyNumber (r .2)) (h (r .0) (r .1))
@@ -201,10 +205,12 @@ module _ {p : Program} {S : Roster} {o : List Outside} {given next : ℕ} (G : G
       → Change p (Retyped (Has S o) (channelKey (e .channel)) (some A)) u (S u) (some (process d (retypedEnd c A (r .held)) (r .link)))
   retypes u r su d w c e A lc far t =
       becomes G (Retyped (Has S o) (channelKey (e .channel)) (some A)) u r su d (retypedEnd c A (r .held)) (w .waits) (fine-retyped (G .fine u r su) d w (Sublistᴰ·refl (r .held)) c A t)
-      (λ x i. retyped-tip (Has S o) u e A (held-tip u r su (c, e) (lookup-in c (r .held) e lc)) far (x .1) (entry x (changed-cases key c (λ e. end (e .side) (e .channel) A) (r .held) e (G .fine u r su .keys) lc x i)))
+      (λ x i. retyped-tip (Has S o) u e A (held-tip u r su (c, e) (lookup-in c (r .held) e lc)) far (x .1)
+      (entry x (changed-cases key c (λ e. end (e .side) (e .channel) A) (r .held) e (G .fine u r su .keys) lc x i)))
       (λ h s k. retyped-off (Has S o) u (linkTip h s) k (λ z. channel-no-link (e .channel) h (sym z)))
     where
-      entry : (x : Name × End) → (x .1 ≡ end (e .side) (e .channel) A) ⊎ (In x (r .held) × (key (x .1) ≢ key e)) → (x .1 ≡ end (e .side) (e .channel) A) ⊎ (Has S o u (tipOf (x .1)) × (key (x .1) ≢ key e))
+      entry : (x : Name × End) → (x .1 ≡ end (e .side) (e .channel) A) ⊎ (In x (r .held) × (key (x .1) ≢ key e))
+          → (x .1 ≡ end (e .side) (e .channel) A) ⊎ (Has S o u (tipOf (x .1)) × (key (x .1) ≢ key e))
       entry x (inl z) = inl z
       entry x (inr z) = inr (held-tip u r su x (z .0), z .1)
 
@@ -222,7 +228,8 @@ module _ {p : Program} {S : Roster} {o : List Outside} {given next : ℕ} (G : G
         two-good G (retyping (G .witness) (channelKey (e .channel)) (some A)) u w (process d (retypedEnd c A (r .held)) (r .link)) (process d′ (retypedEnd c′ A (q .held)) (q .link))
         (retypes u r su d wd c e A lc (λ t h. uw (owner u w _ t (some (f .type)) h far)) td)
         (subst (λ k. Change p (Retyped (Has S o) (channelKey k) (some A)) w (S w) (some (process d′ (retypedEnd c′ A (q .held)) (q .link)))) z
-        (retypes w q sw d′ wd′ c′ f A lf (λ t h. uw (owner u w _ (some (e .type)) t hu (subst (λ k. Has S o w (k, t)) (λ i. (channelKey (z i), (ap other s ∙ other-other (e .side)) i)) h))) td′))
+        (retypes w q sw d′ wd′ c′ f A lf (λ t h. uw
+        (owner u w _ (some (e .type)) t hu (subst (λ k. Has S o w (k, t)) (λ i. (channelKey (z i), (ap other s ∙ other-other (e .side)) i)) h))) td′))
         (λ v t nu nw h. retyped-off (Has S o) v t h (λ y. rest v t nu nw h (whose u v e hu t h y))) u0 w0
       where
         u0 : u ≢ 0
@@ -245,11 +252,13 @@ module _ {p : Program} {S : Roster} {o : List Outside} {given next : ℕ} (G : G
         rest v t nu nw h (inr y) = nw (owner v w _ (t .1) (some (f .type)) y far)
 
     -- to nobody
-    pub chosen-unheard : ((v : ℕ) (t : Option (Ty Name)) → ¬ Has S o v ((channelKey (e .channel), other (e .side)), t)) → Good p (put u (some (process d (retypedEnd c A (r .held)) (r .link))) S) o given next
+    pub chosen-unheard : ((v : ℕ) (t : Option (Ty Name)) → ¬ Has S o v ((channelKey (e .channel), other (e .side)), t))
+        → Good p (put u (some (process d (retypedEnd c A (r .held)) (r .link))) S) o given next
     chosen-unheard far =
         one-good G (retyping (G .witness) (channelKey (e .channel)) (some A)) u (process d (retypedEnd c A (r .held)) (r .link)) (retypes u r su d wd c e A lc (far u) td)
         (λ v t nu _ h. retyped-off (Has S o) v t h (λ y. rest v t nu (whose u v e hu t h y)))
-        (λ y i. let h : Has S o 0 (outsideTip y) = outside refl y i refl in retyped-off (Has S o) 0 (outsideTip y) h (λ z. rest 0 (outsideTip y) (λ k. above u r su (sym k)) (whose u 0 e hu (outsideTip y) h z))) (G .fair)
+        (λ y i. let h : Has S o 0 (outsideTip y) = outside refl y i refl in retyped-off (Has S o) 0 (outsideTip y) h
+        (λ z. rest 0 (outsideTip y) (λ k. above u r su (sym k)) (whose u 0 e hu (outsideTip y) h z))) (G .fair)
       where
         rest : (v : ℕ) (t : Tip) → v ≢ u → (v ≡ u) ⊎ Has S o v ((channelKey (e .channel), other (e .side)), t .1) → ⊥
         rest v t nu (inl y) = nu y

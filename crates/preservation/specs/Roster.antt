@@ -182,7 +182,8 @@ module _ {p : Program} {S : Roster} {o : List Outside} {given next : ℕ} (G : G
   pub one-good : {R : Rel} {o′ : List Outside} {given′ : ℕ} → Witness R next → (u : ℕ) (q : Process) → Change p R u (S u) (some q)
       → ((v : ℕ) (e : Tip) → v ≢ u → v ≢ 0 → Has S o v e → R v e) → ((y : Outside) → In y o′ → R 0 (outsideTip y)) → Fair p given′ o′ → Good p (put u (some q) S) o′ given′ next
   one-good {R} W u q c rest out f =
-      changed-good W (put-elim (λ v y. Change p R v (S v) y) u (some q) S c (λ v n. record { alike = refl; fine = λ r e. G .fine v r e; tips = λ r s e t. rest v e n (above v r s) (inside r s t) })) out f
+      changed-good W (put-elim (λ v y. Change p R v (S v) y) u (some q) S c
+      (λ v n. record { alike = refl; fine = λ r e. G .fine v r e; tips = λ r s e t. rest v e n (above v r s) (inside r s t) })) out f
     where
       above : (v : ℕ) (r : Process) → S v ≡ some r → v ≢ 0
       above v r s e = let b = G .placed v r s .0 in omega arith

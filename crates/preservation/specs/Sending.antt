@@ -43,7 +43,8 @@ pub data Receives : Doing → Located → Wanted → Type 0 where
   for-channel : {o : ℕ} {c x : Located} {P : Proc} → Receives (running (recvChannel o c x P)) c (onChannel x P)
   for-label : {o : ℕ} {c : Located} {B : Branches} → Receives (running (recvLabel o c B)) c (onLabel B)
 
-pub turn-elim : (Q : Turn → Type 0) (d : Doing) → ((c : Located) (m : Message) (P : Proc) → Sends d c m P → Q (sends c m P)) → ((c : Located) (w : Wanted) → Receives d c w → Q (receives c w)) → Q alone → Q (turnOf d)
+pub turn-elim : (Q : Turn → Type 0) (d : Doing) → ((c : Located) (m : Message) (P : Proc) → Sends d c m P → Q (sends c m P))
+    → ((c : Located) (w : Wanted) → Receives d c w → Q (receives c w)) → Q alone → Q (turnOf d)
 turn-elim Q (running (empty o)) f g a = a
 turn-elim Q (running (sendUnit o c P)) f g a = f c closing P a-close
 turn-elim Q (running (sendChannel o c x P)) f g a = f c (passes x) P a-channel
@@ -61,7 +62,8 @@ turn-elim Q folding f g a = a
 turn-elim Q (waiting R) f g a = a
 
 -- ── types after a message
-after-chooses : (p : Program) (l : Located) (B T A : Ty Name) (t : Choosing) → standing (p .types) B ≡ T → choosing T ≡ some t → labelled (l .name) (t .labels) ≡ some A → afterMessage p (chooses l) B ≡ A
+after-chooses : (p : Program) (l : Located) (B T A : Ty Name) (t : Choosing) → standing (p .types) B ≡ T → choosing T ≡ some t → labelled (l .name) (t .labels) ≡ some A
+    → afterMessage p (chooses l) B ≡ A
 unfolding afterMessage
 after-chooses p l B T A t z e h = ap (afterChoosing B (l .name)) (ap choosing z ∙ e) ∙ ap (λ o. Option·getD o B) h
 
@@ -78,7 +80,8 @@ branch-typed {p} {G} {b} {c} {r} (one-branch {l = m} {P = Q} {B = B} A h d ds) l
 
 module _ {p : Program} {C : Config} (I : Inv p C) where
   -- the end held under a name is the one that typing speaks of
-  acts-end : (l : List (Name × End)) (c : Name) (s : Side) (T : Ty Name) (e : End) → lookup c l ≡ some e → acting p c (contextOf l) ≡ some (slot s T) → (e .side ≡ s) × (standing (p .types) (e .type) ≡ T)
+  acts-end : (l : List (Name × End)) (c : Name) (s : Side) (T : Ty Name) (e : End) → lookup c l ≡ some e → acting p c (contextOf l) ≡ some (slot s T)
+      → (e .side ≡ s) × (standing (p .types) (e .type) ≡ T)
   acts-end l c s T e le h =
       let a = held-acts p c l s T h in
       let z : a .end ≡ e = Option·some-injective _ _ (sym (a .found) ∙ le) in
@@ -111,7 +114,8 @@ module _ {p : Program} {C : Config} (I : Inv p C) where
       two-places : h .place ≢ i
       two-places z =
           ends-apart (I .good) (I .id i) (I .id (h .place)) e (f .end) (f .channel) (f .side) here there
-          (above (I .good) (I .id i) (relinked (I .id) q) (at-roster I i q at)) (above (I .good) (I .id (h .place)) (relinked (I .id) r) (at-roster I (h .place) r (f .stands))) (ap (I .id) (sym z))
+          (above (I .good) (I .id i) (relinked (I .id) q) (at-roster I i q at))
+          (above (I .good) (I .id (h .place)) (relinked (I .id) r) (at-roster I (h .place) r (f .stands))) (ap (I .id) (sym z))
 
       far-type : f .end .type ≡ e .type
       far-type = one-type (I .good) (I .id (h .place)) (I .id i) (f .end) e (f .channel) there here
@@ -142,10 +146,12 @@ module _ {p : Program} {C : Config} (I : Inv p C) where
               at′ = set-off (C .processes) i (h .place) _ (two-places h f) ∙ f .stands
 
               go : Typed p (contextOf (h .process .held)) (isSome (Option·map (J .id) (h .process .link))) (recvUnit o c′ P′)
-                  → Inv p (config (set (set (C .processes) i (process (running P) (without c (q .held)) (q .link))) (h .place) (process (running P′) (without (h .name) (h .process .held)) (h .process .link))) (C .outside) (C .given))
+                  → Inv p (config (set (set (C .processes) i (process (running P) (without c (q .held)) (q .link))) (h .place)
+                  (process (running P′) (without (h .name) (h .process .held)) (h .process .link))) (C .outside) (C .given))
               go (recvs-unit a d) =
                   inv-less J (h .place) (h .process) at′ (running P′) (runs-on (record { term = recvUnit o c′ P′; runs = z }) P′) (without-sub (h .name) (h .process .held))
-                  (subst (λ G. Typed p G (isSome (Option·map (J .id) (h .process .link))) P′) (ap (λ n. without n (contextOf (h .process .held))) n ∙ context-without (h .name) (h .process .held)) d) (Sublistᴰ·refl (C .outside))
+                  (subst (λ G. Typed p G (isSome (Option·map (J .id) (h .process .link))) P′)
+                  (ap (λ n. without n (contextOf (h .process .held))) n ∙ context-without (h .name) (h .process .held)) d) (Sublistᴰ·refl (C .outside))
           both _ z c′ _ for-channel n = tt
           both _ z c′ _ for-label n = tt
 
@@ -171,7 +177,8 @@ module _ {p : Program} {C : Config} (I : Inv p C) where
       unfolding afterReceive
       label-keeps _ (at-outside n y j z s) =
           inv-set I i q at (running P) (retypedEnd c B (q .held)) (I .numbers)
-          (chosen-out (I .good) (I .id i) (relinked (I .id) q) (at-roster I i q at) (running P) (runs-on w P) c e B le d′ y j z s (ap (outward p) BA ∙ outward-choosing p T t (l .name) A ch la (subst (λ T. outward p T ≡ true) eT (outward-standing p (e .type) outwards))))
+          (chosen-out (I .good) (I .id i) (relinked (I .id) q) (at-roster I i q at) (running P) (runs-on w P) c e B le d′ y j z s
+          (ap (outward p) BA ∙ outward-choosing p T t (l .name) A ch la (subst (λ T. outward p T ≡ true) eT (outward-standing p (e .type) outwards))))
         where
           outwards : outward p (e .type) ≡ true
           outwards = ap (outward p) (one-type (I .good) (I .id i) 0 e (end used (y .channel) (y .type)) (sym z) here (outside-tip y j)) ∙ I .good .fair .outwards y j
@@ -181,7 +188,8 @@ module _ {p : Program} {C : Config} (I : Inv p C) where
       label-keeps _ (at-process h f) = turn-elim (λ T. Keeps p (meeting p C i q q₁ (chooses l) e h T)) (h .process .doing) (λ _ _ _ _. tt)
           (λ c′ v k. keeps-cond p (same (c′ .name) (h .name)) _ notOpen (λ z. both (h .process .doing) refl c′ v k (same-iff (c′ .name) (h .name) .0 z)) tt) tt
         where
-          both : (g : Doing) → h .process .doing ≡ g → (c′ : Located) (v : Wanted) → Receives g c′ v → c′ .name ≡ h .name → Keeps p (bothTo C i q₁ (h .place) (takesLabel v (h .name) B (l .name) (h .process)))
+          both : (g : Doing) → h .process .doing ≡ g → (c′ : Located) (v : Wanted) → Receives g c′ v → c′ .name ≡ h .name
+              → Keeps p (bothTo C i q₁ (h .place) (takesLabel v (h .name) B (l .name) (h .process)))
           both _ z c′ _ for-close n = tt
           both _ z c′ _ for-channel n = tt
           both _ z c′ _ (for-label {o = o} {B = bs}) n = on (typed-at I (h .place) (h .process) (f .stands) (running (recvLabel o c′ bs)) z)
@@ -189,20 +197,26 @@ module _ {p : Program} {C : Config} (I : Inv p C) where
               rr : Runs (h .process .doing)
               rr = record { term = recvLabel o c′ bs; runs = z }
 
-              on : Typed p (contextOf (h .process .held)) (b′ h f) (recvLabel o c′ bs) → Keeps p (bothTo C i q₁ (h .place) (Option·map (λ P. process (running P) (retypedEnd (h .name) B (h .process .held)) (h .process .link)) (branchOf (l .name) bs)))
+              on : Typed p (contextOf (h .process .held)) (b′ h f) (recvLabel o c′ bs)
+                  → Keeps p (bothTo C i q₁ (h .place) (Option·map (λ P. process (running P) (retypedEnd (h .name) B (h .process .held)) (h .process .link))
+                  (branchOf (l .name) bs)))
               on (recvs-label T′ t′ ch′ ac′ fit ds) = go (branchOf (l .name) bs) refl
                 where
                   -- the two ends have one type, so the same labels
                   tt′ : t′ ≡ t
-                  tt′ = Option·some-injective _ _ (sym ch′ ∙ ap choosing (sym (acts-end (h .process .held) (c′ .name) _ T′ (f .end) (ap (λ n. lookup n (h .process .held)) n ∙ far-found h f rr) ac′ .1) ∙ ap (standing (p .types)) (far-type h f) ∙ eT) ∙ ch)
+                  tt′ = Option·some-injective _ _ (sym ch′ ∙ ap choosing
+                      (sym (acts-end (h .process .held) (c′ .name) _ T′ (f .end) (ap (λ n. lookup n (h .process .held)) n ∙ far-found h f rr) ac′ .1)
+                      ∙ ap (standing (p .types)) (far-type h f) ∙ eT) ∙ ch)
 
-                  go : (o : Option Proc) → branchOf (l .name) bs ≡ o → Keeps p (bothTo C i q₁ (h .place) (Option·map (λ P. process (running P) (retypedEnd (h .name) B (h .process .held)) (h .process .link)) o))
+                  go : (o : Option Proc) → branchOf (l .name) bs ≡ o
+                      → Keeps p (bothTo C i q₁ (h .place) (Option·map (λ P. process (running P) (retypedEnd (h .name) B (h .process .held)) (h .process .link)) o))
                   go none y = tt
                   go (some P′) y =
                       let x = branch-typed ds (l .name) P′ y in
                       let AB : x .0 ≡ B = Option·some-injective _ _ (sym (x .1) ∙ ap (λ (t : Choosing). labelled (l .name) (t .labels)) tt′ ∙ la) ∙ sym BA in
                       inv-two I i (h .place) q (h .process) at (f .stands) (running P) (running P′) (retypedEnd c B (q .held)) (retypedEnd (h .name) B (h .process .held))
-                      (chosen (I .good) (I .id i) (relinked (I .id) q) (at-roster I i q at) (running P) (runs-on w P) c e B le d′ (I .id (h .place)) (relinked (I .id) (h .process)) (at-roster I (h .place) (h .process) (f .stands))
+                      (chosen (I .good) (I .id i) (relinked (I .id) q) (at-roster I i q at) (running P) (runs-on w P) c e B le d′ (I .id (h .place))
+                      (relinked (I .id) (h .process)) (at-roster I (h .place) (h .process) (f .stands))
                       (running P′) (runs-on rr P′) (h .name) (f .end) (far-found h f rr) (f .channel) (f .side)
                       (subst (λ G. Typed p G (b′ h f) P′) ((λ j. retyped (n j) (AB j) (contextOf (h .process .held))) ∙ context-retyped (h .name) B (h .process .held)) (x .2)))
 
@@ -261,23 +275,29 @@ module _ {p : Program} {C : Config} (I : Inv p C) where
           outwards : outward p T ≡ true
           outwards =
               subst (λ T. outward p T ≡ true) (pT .1)
-              (outward-standing p (e .type) (ap (outward p) (one-type (I .good) (I .id i) 0 e (end used (y .channel) (y .type)) (sym z) here (outside-tip y j)) ∙ I .good .fair .outwards y j))
+              (outward-standing p (e .type) (ap (outward p) (one-type (I .good) (I .id i) 0 e (end used (y .channel) (y .type)) (sym z) here (outside-tip y j))
+              ∙ I .good .fair .outwards y j))
 
           out : (x : End) → lookup (a .name) (q .held) ≡ some x → g ≡ x → suc (C .given) ≤ outsideNumbers → (gone : Bool) → Keeps p (passedOut C i q₂ n (e .channel) D x gone)
           out x lx gx lt true =
               let o = outward-passing p T t ps outwards in
               inv-set I i q at (running P) l₂ lt
-              (passed-gone (I .good) (I .id i) (relinked (I .id) q) (at-roster I i q at) (running P) (runs-on w P) c (a .name) c≢a e x D le lx d₂ y j z s (ap (λ (e : End). e .side) (sym gx) ∙ gs ∙ o .1)
+              (passed-gone (I .good) (I .id i) (relinked (I .id) q) (at-roster I i q at) (running P) (runs-on w P) c (a .name) c≢a e x D le lx d₂ y j z s
+              (ap (λ (e : End). e .side) (sym gx) ∙ gs ∙ o .1)
               (ap (outward p) DA ∙ o .3) (ap (λ (e : End). outward p (e .type)) (sym gx) ∙ ap (outward p) gt ∙ o .2))
           out x lx gx lt false =
               let o = outward-passing p T t ps outwards in
               inv-set I i q at (running P) l₂ lt
-              (passed-out (I .good) (I .id i) (relinked (I .id) q) (at-roster I i q at) (running P) (runs-on w P) c (a .name) c≢a e x D le lx d₂ y j z s (ap (λ (e : End). e .side) (sym gx) ∙ gs ∙ o .1)
+              (passed-out (I .good) (I .id i) (relinked (I .id) q) (at-roster I i q at) (running P) (runs-on w P) c (a .name) c≢a e x D le lx d₂ y j z s
+              (ap (λ (e : End). e .side) (sym gx) ∙ gs ∙ o .1)
               (ap (outward p) DA ∙ o .3) (ap (λ (e : End). outward p (e .type)) (sym gx) ∙ ap (outward p) gt ∙ o .2))
       channel-keeps _ (at-process h f) = turn-elim (λ T. Keeps p (meeting p C i q q₂ (passes a) e h T)) (h .process .doing) (λ _ _ _ _. tt)
-          (λ c′ v k. keeps-cond p (same (c′ .name) (h .name)) _ notOpen (λ z. subst (λ o. Keeps p (bothTo C i q₂ (h .place) (takesChannel v (h .name) D o (h .process)))) (sym lg) (both (h .process .doing) refl c′ v k (same-iff (c′ .name) (h .name) .0 z))) tt) tt
+          (λ c′ v k. keeps-cond p (same (c′ .name) (h .name)) _ notOpen
+          (λ z. subst (λ o. Keeps p (bothTo C i q₂ (h .place) (takesChannel v (h .name) D o (h .process)))) (sym lg)
+          (both (h .process .doing) refl c′ v k (same-iff (c′ .name) (h .name) .0 z))) tt) tt
         where
-          both : (k : Doing) → h .process .doing ≡ k → (c′ : Located) (v : Wanted) → Receives k c′ v → c′ .name ≡ h .name → Keeps p (bothTo C i q₂ (h .place) (takesChannel v (h .name) D (some g) (h .process)))
+          both : (k : Doing) → h .process .doing ≡ k → (c′ : Located) (v : Wanted) → Receives k c′ v → c′ .name ≡ h .name
+              → Keeps p (bothTo C i q₂ (h .place) (takesChannel v (h .name) D (some g) (h .process)))
           both _ z c′ _ for-close n = tt
           both _ z c′ _ for-label n = tt
           both _ z c′ _ (for-channel {o = o} {x = x} {P = P′}) n = on (typed-at I (h .place) (h .process) (f .stands) (running (recvChannel o c′ x P′)) z)
@@ -288,24 +308,31 @@ module _ {p : Program} {C : Config} (I : Inv p C) where
               l₃ : List (Name × End)
               l₃ = retypedEnd (h .name) D (h .process .held) ++ ((x .name, g) ∷ [])
 
-              on : Typed p (contextOf (h .process .held)) (b′ h f) (recvChannel o c′ x P′) → Inv p (config (set (set (C .processes) i q₂) (h .place) (process (running P′) l₃ (h .process .link))) (C .outside) (C .given))
+              on : Typed p (contextOf (h .process .held)) (b′ h f) (recvChannel o c′ x P′)
+                  → Inv p (config (set (set (C .processes) i q₂) (h .place) (process (running P′) l₃ (h .process .link))) (C .outside) (C .given))
               on (recvs-channel T′ t′ ps′ ac′ br dr) =
                   inv-two I i (h .place) q (h .process) at (f .stands) (running P) (running P′) l₂ l₃
-                  (passed (I .good) (I .id i) (relinked (I .id) q) (at-roster I i q at) (running P) (runs-on w P) c (a .name) c≢a e g D le lg d₂ (I .id (h .place)) (relinked (I .id) (h .process)) (at-roster I (h .place) (h .process) (f .stands))
+                  (passed (I .good) (I .id i) (relinked (I .id) q) (at-roster I i q at) (running P) (runs-on w P) c (a .name) c≢a e g D le lg d₂ (I .id (h .place))
+                  (relinked (I .id) (h .process)) (at-roster I (h .place) (h .process) (f .stands))
                   (running P′) (runs-on rr P′) (h .name) (x .name) (f .end) (far-found h f rr) (f .channel) (f .side) (absent-held (x .name) (h .process .held) (br .new))
                   (subst (λ n. n < heldLimit) (context-length (h .process .held)) (br .room)) (subst (λ G. Typed p G (b′ h f) P′) same-context dr))
                 where
                   -- the two ends have one type, so the same goes over them
                   tt′ : t′ ≡ t
-                  tt′ = Option·some-injective _ _ (sym ps′ ∙ ap passing (sym (acts-end (h .process .held) (c′ .name) _ T′ (f .end) (ap (λ n. lookup n (h .process .held)) n ∙ far-found h f rr) ac′ .1) ∙ ap (standing (p .types)) (far-type h f) ∙ pT .1) ∙ ps)
+                  tt′ = Option·some-injective _ _ (sym ps′ ∙ ap passing
+                      (sym (acts-end (h .process .held) (c′ .name) _ T′ (f .end) (ap (λ n. lookup n (h .process .held)) n ∙ far-found h f rr) ac′ .1)
+                      ∙ ap (standing (p .types)) (far-type h f) ∙ pT .1) ∙ ps)
 
                   same-context : bringing (x .name) (slot (t′ .side) (t′ .what)) (retyped (c′ .name) (t′ .after) (contextOf (h .process .held))) ≡ contextOf l₃
                   same-context =
-                      (λ j. bringing (x .name) (slot ((ap (λ (t : Passing). t .side) tt′ ∙ sym gs) j) ((ap (λ (t : Passing). t .what) tt′ ∙ sym gt) j)) (retyped (n j) ((ap (λ (t : Passing). t .after) tt′ ∙ sym DA) j) (contextOf (h .process .held))))
-                      ∙ ap (λ G. G ++ ((x .name, slot (g .side) (g .type)) ∷ [])) (context-retyped (h .name) D (h .process .held)) ∙ sym (context-append (retypedEnd (h .name) D (h .process .held)) ((x .name, g) ∷ []))
+                      (λ j. bringing (x .name) (slot ((ap (λ (t : Passing). t .side) tt′ ∙ sym gs) j) ((ap (λ (t : Passing). t .what) tt′ ∙ sym gt) j))
+                      (retyped (n j) ((ap (λ (t : Passing). t .after) tt′ ∙ sym DA) j) (contextOf (h .process .held))))
+                      ∙ ap (λ G. G ++ ((x .name, slot (g .side) (g .type)) ∷ [])) (context-retyped (h .name) D (h .process .held))
+                      ∙ sym (context-append (retypedEnd (h .name) D (h .process .held)) ((x .name, g) ∷ []))
 
   -- ── a send, and a recv, which steps as the send at its far end does
-  pub send-keeps : (i : ℕ) (q : Process) → getElem? (C .processes) i ≡ some q → (d : Doing) → q .doing ≡ d → (c : Located) (m : Message) (P : Proc) → Sends d c m P → Keeps p (send p C i q c m P)
+  pub send-keeps : (i : ℕ) (q : Process) → getElem? (C .processes) i ≡ some q → (d : Doing) → q .doing ≡ d → (c : Located) (m : Message) (P : Proc) → Sends d c m P
+      → Keeps p (send p C i q c m P)
   unfolding send afterSend
   send-keeps i q at _ z c _ P (a-close {o = o}) = go (typed-at I i q at (running (sendUnit o c P)) z)
     where
@@ -314,11 +341,13 @@ module _ {p : Program} {C : Config} (I : Inv p C) where
   send-keeps i q at _ z c _ P (a-channel {o = o} {a = a}) = go (typed-at I i q at (running (sendChannel o c a P)) z)
     where
       go : Typed p (contextOf (q .held)) (isSome (Option·map (I .id) (q .link))) (sendChannel o c a P) → Keeps p (send p C i q c (passes a) P)
-      go (sends-channel T A t ca ps ac la sm d) = keeps-held p (lookup (c .name) (q .held)) _ λ e le. channel-keeps i q at (c .name) e le (record { term = sendChannel o c a P; runs = z }) a P T A t ca ps ac la sm d (farEnd C e) (far-is C e)
+      go (sends-channel T A t ca ps ac la sm d) = keeps-held p (lookup (c .name) (q .held)) _ λ e le. channel-keeps i q at (c .name) e le
+          (record { term = sendChannel o c a P; runs = z }) a P T A t ca ps ac la sm d (farEnd C e) (far-is C e)
   send-keeps i q at _ z c _ P (a-label {o = o} {l = l}) = go (typed-at I i q at (running (sendLabel o c l P)) z)
     where
       go : Typed p (contextOf (q .held)) (isSome (Option·map (I .id) (q .link))) (sendLabel o c l P) → Keeps p (send p C i q c (chooses l) P)
-      go (sends-label T A t ch ac la d) = keeps-held p (lookup (c .name) (q .held)) _ λ e le. label-keeps i q at (c .name) e le (record { term = sendLabel o c l P; runs = z }) l P T A t ch ac la d (farEnd C e) (far-is C e)
+      go (sends-label T A t ch ac la d) = keeps-held p (lookup (c .name) (q .held)) _ λ e le. label-keeps i q at (c .name) e le
+          (record { term = sendLabel o c l P; runs = z }) l P T A t ch ac la d (farEnd C e) (far-is C e)
 
   pub receive-keeps : (i : ℕ) (q : Process) → getElem? (C .processes) i ≡ some q → isWaiting (q .doing) ≡ false → (c : Located) → Keeps p (receive p C i q c)
   unfolding receive

@@ -54,7 +54,8 @@ start-other k [] y i = absurd (List·Memᴰ·not-nil i)
 start-other k (e ∷ l) y (List·Memᴰ·head h) = ((e .0, end provided k (e .1)), List·Memᴰ·head refl, ap (λ (y : Outside). y .channel) (sym h), ap (λ (y : Outside). y .type) (sym h))
 start-other k (e ∷ l) y (List·Memᴰ·tail i) = let r = start-other (suc k) l y i in (r .0, List·Memᴰ·tail (r .1), r .2, r .3)
 
-start-number : (k : ℕ) (l : List (Name × Ty Name)) (y : Outside) → In y (startOutside k l) → (y .number ≡ y .channel) × (k ≤ y .channel) × (y .channel < k + length l) × In (y .type) (entryTypes l)
+start-number : (k : ℕ) (l : List (Name × Ty Name)) (y : Outside) → In y (startOutside k l)
+    → (y .number ≡ y .channel) × (k ≤ y .channel) × (y .channel < k + length l) × In (y .type) (entryTypes l)
 start-number k [] y i = absurd (List·Memᴰ·not-nil i)
 start-number k (e ∷ l) y (List·Memᴰ·head h) =
     let c : y .channel ≡ k = ap (λ (y : Outside). y .channel) h in
@@ -104,13 +105,17 @@ module _ (p : Program) (s : Signature) (d : distinct (names (signatureContext s)
   at-one (suc (suc v)) r e = absurd (Option·none-ne-some r e)
 
   -- an end is provided by the process or used by the outside
-  ends-are : (v : ℕ) (e : Tip) → Has S O v e → (x : Name × End) × In x (startHeld 0 l) × (e .0 .0 ≡ channelKey (x .1 .channel)) × (e .1 ≡ some (x .1 .type)) × (((v ≡ 1) × (e .0 .1 ≡ provided)) ⊎ ((v ≡ 0) × (e .0 .1 ≡ used)))
+  ends-are : (v : ℕ) (e : Tip) → Has S O v e
+      → (x : Name × End) × In x (startHeld 0 l) × (e .0 .0 ≡ channelKey (x .1 .channel)) × (e .1 ≡ some (x .1 .type)) ×
+      (((v ≡ 1) × (e .0 .1 ≡ provided)) ⊎ ((v ≡ 0) × (e .0 .1 ≡ used)))
   ends-are v e (outside z y i h) =
       let x = start-other 0 l y i in
       (x .0, x .1, ap tipNumber h ∙ ap channelKey (sym (x .2)), ap tipType h ∙ ap some (sym (x .3)), inr (z, ap tipSide h))
   ends-are v e (inside r w h) = go (at-one v r w) h
     where
-      go : (v ≡ 1) × (q ≡ r) → Tips v r e → (x : Name × End) × In x (startHeld 0 l) × (e .0 .0 ≡ channelKey (x .1 .channel)) × (e .1 ≡ some (x .1 .type)) × (((v ≡ 1) × (e .0 .1 ≡ provided)) ⊎ ((v ≡ 0) × (e .0 .1 ≡ used)))
+      go : (v ≡ 1) × (q ≡ r) → Tips v r e
+          → (x : Name × End) × In x (startHeld 0 l) × (e .0 .0 ≡ channelKey (x .1 .channel)) × (e .1 ≡ some (x .1 .type)) ×
+          (((v ≡ 1) × (e .0 .1 ≡ provided)) ⊎ ((v ≡ 0) × (e .0 .1 ≡ used)))
       go (z, y) (holds x i k) =
           let m : In x (startHeld 0 l) = subst (λ (r : Process). In x (r .held)) (sym y) i in
           (x, m, ap tipNumber k, ap tipType k, inl (z, ap tipSide k ∙ start-end 0 l x m .2))
@@ -147,7 +152,8 @@ module _ (p : Program) (s : Signature) (d : distinct (names (signatureContext s)
       type : (v : ℕ) (e : Tip) → Has S O v e → (d : Dec ((x : Name × End) × In x (startHeld 0 l) × (channelKey (x .1 .channel) ≡ e .0 .0))) → typeIf d ≡ e .1
       type v e h (yes r) =
           let x = ends-are v e h in
-          let z : r .0 ≡ x .0 = once-by keyAt (start-keys 0 l) (r .1) (x .1) (λ j. (channel-key-one (r .0 .1 .channel) (x .0 .1 .channel) (r .2 ∙ x .2) j, (start-end 0 l (r .0) (r .1) .2 ∙ sym (start-end 0 l (x .0) (x .1) .2)) j)) in
+          let z : r .0 ≡ x .0 = once-by keyAt (start-keys 0 l) (r .1) (x .1)
+          (λ j. (channel-key-one (r .0 .1 .channel) (x .0 .1 .channel) (r .2 ∙ x .2) j, (start-end 0 l (r .0) (r .1) .2 ∙ sym (start-end 0 l (x .0) (x .1) .2)) j)) in
           ap (λ (x : Name × End). some (x .1 .type)) z ∙ sym (x .3)
       type v e h (no n) = let x = ends-are v e h in absurd (n (x .0, x .1, sym (x .2)))
 

@@ -77,12 +77,15 @@ module _ {p : Program} {C : Config} (I : Inv p C) where
   none-held-twice : NoneTwice (map key (ends C))
   none-held-twice =
       subst NoneTwice (sym (map-append key (processEnds (C .processes)) (outsideEnds (C .outside))))
-      (once-append (map key (processEnds (C .processes))) (map key (outsideEnds (C .outside))) (keys-once (C .processes) (λ j q e. fine-at I j q e .keys) one) (keys-outside (C .outside) (G .fair .keys)) disjoint)
+      (once-append (map key (processEnds (C .processes))) (map key (outsideEnds (C .outside))) (keys-once (C .processes) (λ j q e. fine-at I j q e .keys) one)
+      (keys-outside (C .outside) (G .fair .keys)) disjoint)
     where
-      one : (i j : ℕ) (q r : Process) → getElem? (C .processes) i ≡ some q → getElem? (C .processes) j ≡ some r → (x y : Name × End) → In x (q .held) → In y (r .held) → keyAt x ≡ keyAt y → i ≡ j
+      one : (i j : ℕ) (q r : Process) → getElem? (C .processes) i ≡ some q → getElem? (C .processes) j ≡ some r → (x y : Name × End) → In x (q .held) → In y (r .held)
+          → keyAt x ≡ keyAt y → i ≡ j
       one i j q r e f x y m n z =
           I .shows .apart i j (found-below (C .processes) i e) (found-below (C .processes) j f)
-          (owner G (I .id i) (I .id j) _ _ (some (y .1 .type)) (held-at i q e x m) (subst (λ k. Has S (C .outside) (I .id j) (k, some (y .1 .type))) (sym (key-of-key (x .1) (y .1) z)) (held-at j r f y n)))
+          (owner G (I .id i) (I .id j) _ _ (some (y .1 .type)) (held-at i q e x m)
+          (subst (λ k. Has S (C .outside) (I .id j) (k, some (y .1 .type))) (sym (key-of-key (x .1) (y .1) z)) (held-at j r f y n)))
 
       disjoint : (k : ℕ × Side) → In k (map key (processEnds (C .processes))) → In k (map key (outsideEnds (C .outside))) → ⊥
       disjoint k a b =
@@ -122,9 +125,11 @@ module _ {p : Program} {C : Config} (I : Inv p C) where
     links = λ i q s h z. let r = handler I i q (s .there) h z in (r .0, record { there = r .1 }, r .2);
     linked = λ h r s w. linker h r (s .there) w;
     linkedOnce = λ i j q r s t h z y. I .shows .apart i j (found-below (C .processes) i (s .there)) (found-below (C .processes) j (t .there))
-        (G .mates .once (I .id i) (I .id j) (I .id h) _ _ (profile-of i q (s .there) ∙ ap (λ o. some (Option·map (I .id) o, isWaiting (q .doing))) z) (profile-of j r (t .there) ∙ ap (λ o. some (Option·map (I .id) o, isWaiting (r .doing))) y));
+        (G .mates .once (I .id i) (I .id j) (I .id h) _ _ (profile-of i q (s .there) ∙ ap (λ o. some (Option·map (I .id) o, isWaiting (q .doing))) z)
+        (profile-of j r (t .there) ∙ ap (λ o. some (Option·map (I .id) o, isWaiting (r .doing))) y));
     forest = forest-back (I .id) (joints C) (subst Forest (joints-are C (I .shows) (W .own) (W .sound) (λ i q e. handler I i q e))
-        (thin (joint (W .own)) (W .K) (numbers C (I .shows) (W .own) (W .sound) (λ i q e. handler I i q e)) (numbers-once C (I .shows) (W .own) (W .sound) (λ i q e. handler I i q e) (λ j q e. fine-at I j q e .keys))
+        (thin (joint (W .own)) (W .K) (numbers C (I .shows) (W .own) (W .sound) (λ i q e. handler I i q e))
+        (numbers-once C (I .shows) (W .own) (W .sound) (λ i q e. handler I i q e) (λ j q e. fine-at I j q e .keys))
         (numbers-live C (I .shows) (W .own) (W .sound) (λ i q e. handler I i q e) id-above (W .K) (W .live)) (W .forest)));
     outside = λ o m. (G .fair .outwards o m, G .fair .below o m);
     numbers = G .fair .rising;
@@ -254,7 +259,8 @@ module _ (C : Config) where
       (in-tips 1 (C .processes) i q e v (omega arith) t (Memᴰ·append-left (linkTips v (q .link) ++ waitTips v (q .doing)) (Memᴰ·cast (λ j. (v, k j)) (Memᴰ·map (heldTip v) m))))
   seat-in v t (of-link i q z e h l k) =
       Memᴰ·append-right (outTips (C .outside))
-      (in-tips 1 (C .processes) i q e v (omega arith) t (Memᴰ·append-right (heldTips v (q .held)) (Memᴰ·append-left (waitTips v (q .doing)) (subst (λ o. In (v, t) (linkTips v o)) (sym l) (List·Memᴰ·head (λ j. (v, k j)))))))
+      (in-tips 1 (C .processes) i q e v (omega arith) t (Memᴰ·append-right (heldTips v (q .held))
+      (Memᴰ·append-left (waitTips v (q .doing)) (subst (λ o. In (v, t) (linkTips v o)) (sym l) (List·Memᴰ·head (λ j. (v, k j)))))))
   seat-in v t (of-wait i q z e w k) =
       Memᴰ·append-right (outTips (C .outside))
       (in-tips 1 (C .processes) i q e v (omega arith) t
@@ -282,7 +288,8 @@ module _ (C : Config) where
           of-held i q (ap (λ (x : ℕ × Tip). x .0) (sym (x .2))) e (x .0) (x .1) (ap (λ (x : ℕ × Tip). x .1) (sym (x .2)))
       go (inr k) = rest (List·Memᴰ·append-cases (linkTips (suc i) (q .link)) k)
 
-  from-tips : (i : ℕ) (l : List Process) → ((j : ℕ) (q : Process) → getElem? l j ≡ some q → getElem? (C .processes) (i + j) ≡ some q) → (v : ℕ) (t : Tip) → In (v, t) (tipsFrom (suc i) l) → Seat C v t
+  from-tips : (i : ℕ) (l : List Process) → ((j : ℕ) (q : Process) → getElem? l j ≡ some q → getElem? (C .processes) (i + j) ≡ some q) → (v : ℕ) (t : Tip)
+      → In (v, t) (tipsFrom (suc i) l) → Seat C v t
   from-tips i [] f v t m = absurd (List·Memᴰ·not-nil m)
   from-tips i (q ∷ l) f v t m =
       go (from-tips (suc i) l (λ j r e. ap (getElem? (C .processes)) (omega arith) ∙ f (suc j) r e) v t) (List·Memᴰ·append-cases (processTips (suc i) q) m)
@@ -312,17 +319,20 @@ module _ {p : Program} {C : Config} (w : WellFormed p C) where
   key-back e d k a b i = (channel-key-one (e .channel) (d .channel) (ap keyNumber (sym a ∙ b)) i, ap keySide (sym a ∙ b) i)
 
   not-both : (y : Outside) → In y (C .outside) → (i : ℕ) (q : Process) → getElem? (C .processes) i ≡ some q → (x : Name × End) → In x (q .held) → key (x .1) ≢ (y .channel, used)
-  not-both y m i q e x n = once-apart (map key (processEnds (C .processes))) (map key (outsideEnds (C .outside))) keys-apart (Memᴰ·map key (process-end (C .processes) i q e x n)) (Memᴰ·map key (outside-end (C .outside) y m))
+  not-both y m i q e x n = once-apart (map key (processEnds (C .processes))) (map key (outsideEnds (C .outside))) keys-apart
+      (Memᴰ·map key (process-end (C .processes) i q e x n)) (Memᴰ·map key (outside-end (C .outside) y m))
 
   mixed : (k : Key) (c v : ℕ) (s t : Side) → k ≡ (channelKey c, s) → k ≡ (linkKey v, t) → ⊥
   mixed k c v s t a b = channel-no-link c v (ap keyNumber (sym a ∙ b))
 
   seat-one : (u v : ℕ) (e f : Tip) → Seat C u e → Seat C v f → (k : Key) → k ≡ e .0 → k ≡ f .0 → u ≡ v
   seat-one u v e f (of-outside z _ _ _) (of-outside y _ _ _) k a b = z ∙ sym y
-  seat-one u v e f (of-outside z o m g) (of-held j r y n x l h) k a b = absurd (not-both o m j r n x l (key-back (x .1) (end used (o .channel) (o .type)) k (b ∙ ap tipKey h) (a ∙ ap tipKey g)))
+  seat-one u v e f (of-outside z o m g) (of-held j r y n x l h) k a b = absurd
+      (not-both o m j r n x l (key-back (x .1) (end used (o .channel) (o .type)) k (b ∙ ap tipKey h) (a ∙ ap tipKey g)))
   seat-one u v e f (of-outside z o m g) (of-link _ _ _ _ h _ l) k a b = absurd (mixed k _ _ _ _ (a ∙ ap tipKey g) (b ∙ ap tipKey l))
   seat-one u v e f (of-outside z o m g) (of-wait _ _ _ _ _ l) k a b = absurd (mixed k _ _ _ _ (a ∙ ap tipKey g) (b ∙ ap tipKey l))
-  seat-one u v e f (of-held j r y n x l h) (of-outside z o m g) k a b = absurd (not-both o m j r n x l (key-back (x .1) (end used (o .channel) (o .type)) k (a ∙ ap tipKey h) (b ∙ ap tipKey g)))
+  seat-one u v e f (of-held j r y n x l h) (of-outside z o m g) k a b = absurd
+      (not-both o m j r n x l (key-back (x .1) (end used (o .channel) (o .type)) k (a ∙ ap tipKey h) (b ∙ ap tipKey g)))
   seat-one u v e f (of-held i q z m x l g) (of-held j r y n x′ l′ h) k a b =
       z ∙ ap suc (one-holder (C .processes) process-keys i j q r m n x x′ l l′ (key-back (x .1) (x′ .1) k (a ∙ ap tipKey g) (b ∙ ap tipKey h))) ∙ sym y
   seat-one u v e f (of-held _ _ _ _ x _ g) (of-link _ _ _ _ h _ l) k a b = absurd (mixed k _ _ _ _ (a ∙ ap tipKey g) (b ∙ ap tipKey l))
@@ -348,7 +358,8 @@ module _ {p : Program} {C : Config} (w : WellFormed p C) where
   seat-type : (u v : ℕ) (e f : Tip) → Seat C u e → Seat C v f → e .0 .0 ≡ f .0 .0 → e .1 ≡ f .1
   seat-type u v e f s t z = go (seat-kind u e s) (seat-kind v f t)
     where
-      go : ((d : End) × In d (ends C) × (e ≡ tipOf d)) ⊎ ((h : ℕ) × (s : Side) × (e ≡ linkTip h s)) → ((d : End) × In d (ends C) × (f ≡ tipOf d)) ⊎ ((h : ℕ) × (s : Side) × (f ≡ linkTip h s)) → e .1 ≡ f .1
+      go : ((d : End) × In d (ends C) × (e ≡ tipOf d)) ⊎ ((h : ℕ) × (s : Side) × (e ≡ linkTip h s))
+          → ((d : End) × In d (ends C) × (f ≡ tipOf d)) ⊎ ((h : ℕ) × (s : Side) × (f ≡ linkTip h s)) → e .1 ≡ f .1
       go (inl x) (inl y) =
           let c = channel-key-one (x .0 .channel) (y .0 .channel) (ap tipNumber (sym (x .2)) ∙ z ∙ ap tipNumber (y .2)) in
           ap tipType (x .2) ∙ ap some (sameType-iff (x .0 .type) (y .0 .type) .0 (w .oneType (x .0) (y .0) (x .1) (y .1) c)) ∙ ap tipType (sym (y .2))
@@ -423,7 +434,8 @@ module _ {p : Program} {C : Config} (w : WellFormed p C) where
     own = own₀;
     ty = λ n. typeIf (numbered n);
     once = nub-once (numbers C shown own₀ own-sound handlers);
-    forest = thin (joint own₀) (numbers C shown own₀ own-sound handlers) (nub (numbers C shown own₀ own-sound handlers)) (nub-once (numbers C shown own₀ own-sound handlers)) (nub-in (numbers C shown own₀ own-sound handlers))
+    forest = thin (joint own₀) (numbers C shown own₀ own-sound handlers) (nub (numbers C shown own₀ own-sound handlers))
+        (nub-once (numbers C shown own₀ own-sound handlers)) (nub-in (numbers C shown own₀ own-sound handlers))
         (subst Forest (sym (joints-are C shown own₀ own-sound handlers)) (forest-along suc pred (λ x. omega arith) (joints C) (w .forest)));
     sound = own-sound;
     typ = type-sound;
@@ -435,10 +447,12 @@ module _ {p : Program} {C : Config} (w : WellFormed p C) where
   profile-seated i q e = ap (λ o. profile (Option·map (relinked suc) o)) e
 
   -- what a profile says of the process at a place
-  seat-profile : (v : ℕ) (l : Option ℕ) (b : Bool) → profile (seated (C .processes) v) ≡ some (l, b) → (i : ℕ) × (q : Process) × (v ≡ suc i) × (getElem? (C .processes) i ≡ some q) × (Option·map suc (q .link) ≡ l) × (isWaiting (q .doing) ≡ b)
+  seat-profile : (v : ℕ) (l : Option ℕ) (b : Bool) → profile (seated (C .processes) v) ≡ some (l, b)
+      → (i : ℕ) × (q : Process) × (v ≡ suc i) × (getElem? (C .processes) i ≡ some q) × (Option·map suc (q .link) ≡ l) × (isWaiting (q .doing) ≡ b)
   seat-profile v l b e = go (seated (C .processes) v) refl
     where
-      go : (o : Option Process) → seated (C .processes) v ≡ o → (i : ℕ) × (q : Process) × (v ≡ suc i) × (getElem? (C .processes) i ≡ some q) × (Option·map suc (q .link) ≡ l) × (isWaiting (q .doing) ≡ b)
+      go : (o : Option Process) → seated (C .processes) v ≡ o
+          → (i : ℕ) × (q : Process) × (v ≡ suc i) × (getElem? (C .processes) i ≡ some q) × (Option·map suc (q .link) ≡ l) × (isWaiting (q .doing) ≡ b)
       go none z = absurd (Option·none-ne-some (l, b) (sym (ap profile z) ∙ e))
       go (some r) z =
           let x = seat-back C v r z in
@@ -456,14 +470,21 @@ module _ {p : Program} {C : Config} (w : WellFormed p C) where
       up′ v h b e =
           let x = seat-profile v (some h) b e in
           let k = link-place (x .1 .link) h (x .4) in
-          let r = handlers (x .0) (x .1) (x .3) (k .0) (k .1) in
-          (Option·map suc (r .0 .link), ap (λ v. profile (seated (C .processes) v)) (sym (k .2)) ∙ profile-seated (k .0) (r .0) (r .1) ∙ ap (λ b. some (Option·map suc (r .0 .link), b)) (r .2))
+          let r = handlers (x .0) (x .1) (x .3) (k .0) (k .1) in (
+            Option·map suc (r .0 .link),
+            ap (λ v. profile (seated (C .processes) v)) (sym (k .2)) ∙ profile-seated (k .0) (r .0) (r .1)
+                ∙ ap (λ b. some (Option·map suc (r .0 .link), b)) (r .2),
+          )
 
       down′ : (h : ℕ) (l : Option ℕ) → profile (seated (C .processes) h) ≡ some (l, true) → (v : ℕ) × (b : Bool) × (profile (seated (C .processes) v) ≡ some (some h, b))
       down′ h l e =
           let x = seat-profile h l true e in
-          let r = w .linked (x .0) (x .1) (record { there = x .3 }) (x .5) in
-          (suc (r .0), isWaiting (r .1 .doing), profile-seated (r .0) (r .1) (r .2 .there) ∙ (λ j. some (Option·map suc (r .3 j), isWaiting (r .1 .doing))) ∙ ap (λ h. some (some h, isWaiting (r .1 .doing))) (sym (x .2)))
+          let r = w .linked (x .0) (x .1) (record { there = x .3 }) (x .5) in (
+            suc (r .0),
+            isWaiting (r .1 .doing),
+            profile-seated (r .0) (r .1) (r .2 .there) ∙ (λ j. some (Option·map suc (r .3 j), isWaiting (r .1 .doing)))
+                ∙ ap (λ h. some (some h, isWaiting (r .1 .doing))) (sym (x .2)),
+          )
 
       once′ : (u v h : ℕ) (a b : Bool) → profile (seated (C .processes) u) ≡ some (some h, a) → profile (seated (C .processes) v) ≡ some (some h, b) → u ≡ v
       once′ u v h a b e f =
@@ -476,7 +497,8 @@ module _ {p : Program} {C : Config} (w : WellFormed p C) where
 
   found-fine : (i : ℕ) (q : Process) → getElem? (C .processes) i ≡ some q → Fine p (relinked suc q)
   found-fine i q e = record {
-    typed = subst (λ b. TypedDoing p (contextOf (q .held)) b (q .doing)) (sym (is-some-map suc (q .link))) (as-typed p (contextOf (q .held)) (isSome (q .link)) (q .doing) (w .typed i q (record { there = e })));
+    typed = subst (λ b. TypedDoing p (contextOf (q .held)) b (q .doing)) (sym (is-some-map suc (q .link)))
+        (as-typed p (contextOf (q .held)) (isSome (q .link)) (q .doing) (w .typed i q (record { there = e })));
     names = subst (NamesOf (q .doing)) (context-names (q .held)) (as-names p (contextOf (q .held)) (isSome (q .link)) (q .doing) (w .typed i q (record { there = e })));
     keys = keys-of-process (C .processes) process-keys i q e;
     room = w .held i q (record { there = e });

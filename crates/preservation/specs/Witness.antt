@@ -236,7 +236,8 @@ outing {H} {n} W q u u0 f = record {
     same : (x : ℕ) (s : Side) → x ≢ q .0 → movedOwn (W .own) (q ∷ []) 0 (x, s) ≡ W .own (x, s)
     same x s n = if-neg (decIn key-discrete (x, s) (q ∷ [])) (λ m. n (ap keyNumber (List·Memᴰ·eq-of-singleton m))) _ _
 
-    live′ : (v x : ℕ) (e f : Tip) → Moved H (q ∷ []) u 0 v e → Moved H (q ∷ []) u 0 x f → v ≢ 0 → x ≢ 0 → e .0 .0 ≡ f .0 .0 → e .0 .1 ≡ provided → f .0 .1 ≡ used → In (e .0 .0) (apart (q .0) (W .K))
+    live′ : (v x : ℕ) (e f : Tip) → Moved H (q ∷ []) u 0 v e → Moved H (q ∷ []) u 0 x f → v ≢ 0 → x ≢ 0 → e .0 .0 ≡ f .0 .0 → e .0 .1 ≡ provided → f .0 .1 ≡ used
+        → In (e .0 .0) (apart (q .0) (W .K))
     live′ v x e f (inl h) (inl g) v0 x0 p a b = in-apart (q .0) (e .0 .0) (W .K) (W .live v x e f (h .1) (g .1) v0 x0 p a b) (λ z. off (q .1) refl z)
       where
         off : (s : Side) → q .1 ≡ s → e .0 .0 ≡ q .0 → ⊥
