@@ -1,19 +1,17 @@
 -- What is held, as typing sees it: a context commutes with all that is done to what is held.
-use mathlib.Core.Path.{_≡_, refl, sym, _∙_, ap, subst}
-use mathlib.Core.Logic.{_≢_, _⊎_, inl, inr}
-use mathlib.Core.List.{List, [], _∷_, _++_, map}
-use mathlib.Core.Option.{Option, some, none, Option·map, Option·some-injective, map-eq-some-iff, map-eq-none-iff}
-use mathlib.Core.Bool.{Bool, true, false}
-use Prim.Native.Nat.{ℕ, suc}
+use mathlib.Core.Path.{_≡_, refl, sym, _∙_, ap}
+use mathlib.Core.List.{List, [], _∷_, _++_}
+use mathlib.Core.Option.{some, none, Option·map, map-eq-some-iff, map-eq-none-iff}
+use mathlib.Core.Bool.{Bool}
 use lib.ListN.{length, length-map}
 use Rattle.notation.specs.Tree.{Name, Ty}
-use Rattle.calculus.specs.Named.{lookup, without, changed, kept, names, isSome}
+use Rattle.calculus.specs.Named.{lookup, without, changed, kept, names}
 use Rattle.calculus.specs.Types.{Side, standing}
-use Rattle.calculus.specs.Program.{Slot, slot, Context, Program}
-use Rattle.calculus.specs.Typing.{defined, acting, retyped, bringing}
+use Rattle.calculus.specs.Program.{Slot, slot, Program}
+use Rattle.calculus.specs.Typing.{defined, acting, retyped}
 use Rattle.calculus.specs.Configuration.{End, end}
 use Rattle.calculus.specs.Steps.{retypedEnd}
-use Rattle.calculus.specs.WellFormed.{In, contextOf}
+use Rattle.calculus.specs.WellFormed.{contextOf}
 use Rattle.preservation.specs.Lists.{seenAs, lookup-seen, without-seen, kept-seen, changed-seen, names-seen}
 
 abbrev slotOf : End → Slot

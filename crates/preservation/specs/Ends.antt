@@ -1,8 +1,9 @@
 -- The list of all ends: who holds each, and when none is held twice.
+use Rattle.preservation.specs.Witness.{keyNumber}
 use mathlib.Core.Path.{_≡_, refl, sym, _∙_, ap, subst}
 use mathlib.Core.Logic.{_≢_, _⊎_, inl, inr}
 use mathlib.Core.List.{List, [], _∷_, _++_, map, List·Memᴰ·head, List·Memᴰ·tail, List·Memᴰ·not-nil, List·Memᴰ·append-cases, Memᴰ·map, Memᴰ·of-map, Memᴰ·cast, Memᴰ·append-left, Memᴰ·append-right}
-use mathlib.Core.Option.{Option, some, none, Option·none-ne-some, Option·some-injective}
+use mathlib.Core.Option.{some, Option·none-ne-some, Option·some-injective}
 use Prim.Native.Nat.{ℕ, zero, suc}
 use native.Mathlib.Omega.{arith}
 use lib.ListN.{getElem?}
@@ -79,7 +80,8 @@ one-holder (p ∷ l) u i j q r e f x y m n z = go (λ v i j e f. one-holder l v 
     later : (j : ℕ) {r : Process} {y : Name × End} → getElem? l j ≡ some r → In y (r .held) → In (keyAt y) (map key (processEnds l))
     later j {r} {y} f n = Memᴰ·map key (process-end l j r f y n)
 
-    go : (NoneTwice (map key (processEnds l)) → (i j : ℕ) → getElem? l i ≡ some q → getElem? l j ≡ some r → i ≡ j) → (i j : ℕ) → getElem? (p ∷ l) i ≡ some q → getElem? (p ∷ l) j ≡ some r → i ≡ j
+    go : (NoneTwice (map key (processEnds l)) → (i j : ℕ) → getElem? l i ≡ some q → getElem? l j ≡ some r → i ≡ j) → (i j : ℕ) → getElem? (p ∷ l) i ≡ some q
+        → getElem? (p ∷ l) j ≡ some r → i ≡ j
     go rec zero zero e f = refl
     go rec zero (suc j) e f = absurd (once-apart (map key (heldEnds (p .held))) (map key (processEnds l)) u′ (first e m) (later j f n) z)
     go rec (suc i) zero e f = absurd (once-apart (map key (heldEnds (p .held))) (map key (processEnds l)) u′ (first f n) (later i e m) (sym z))
@@ -87,11 +89,13 @@ one-holder (p ∷ l) u i j q r e f x y m n z = go (λ v i j e f. one-holder l v 
 
 -- where each process holds no key twice, and no two hold the same, none is held twice
 pub keys-once : (l : List Process) → ((j : ℕ) (q : Process) → getElem? l j ≡ some q → NoneTwice (map keyAt (q .held)))
-    → ((i j : ℕ) (q r : Process) → getElem? l i ≡ some q → getElem? l j ≡ some r → (x y : Name × End) → In x (q .held) → In y (r .held) → keyAt x ≡ keyAt y → i ≡ j) → NoneTwice (map key (processEnds l))
+    → ((i j : ℕ) (q r : Process) → getElem? l i ≡ some q → getElem? l j ≡ some r → (x y : Name × End) → In x (q .held) → In y (r .held)
+    → keyAt x ≡ keyAt y → i ≡ j) → NoneTwice (map key (processEnds l))
 keys-once [] u h = tt
 keys-once (p ∷ l) u h =
     subst NoneTwice (sym (map-append key (heldEnds (p .held)) (processEnds l)))
-    (once-append (map key (heldEnds (p .held))) (map key (processEnds l)) (subst NoneTwice (sym (held-keys (p .held))) (u 0 p refl)) (keys-once l (λ j. u (suc j)) (λ i j q r e f x y m n z. let w = h (suc i) (suc j) q r e f x y m n z in omega arith)) disjoint)
+    (once-append (map key (heldEnds (p .held))) (map key (processEnds l)) (subst NoneTwice (sym (held-keys (p .held))) (u 0 p refl))
+    (keys-once l (λ j. u (suc j)) (λ i j q r e f x y m n z. let w = h (suc i) (suc j) q r e f x y m n z in omega arith)) disjoint)
   where
     disjoint : (k : ℕ × Side) → In k (map key (heldEnds (p .held))) → In k (map key (processEnds l)) → ⊥
     disjoint k a b =
@@ -122,6 +126,6 @@ pub keys-outside : (o : List Outside) → NoneTwice (map (λ (y : Outside). y .c
 keys-outside [] u = tt
 keys-outside (x ∷ o) u = (
   (λ m. let e = Memᴰ·of-map key (outsideEnds o) m in let y = end-outside o (e .0) (e .1) in
-      u .0 (Memᴰ·cast (ap (λ (k : ℕ × Side). k .0) (sym (e .2)) ∙ ap (λ (e : End). e .channel) (sym (y .2))) (Memᴰ·map (λ (y : Outside). y .channel) (y .1)))),
+      u .0 (Memᴰ·cast (ap keyNumber (sym (e .2)) ∙ ap (λ (e : End). e .channel) (sym (y .2))) (Memᴰ·map (λ (y : Outside). y .channel) (y .1)))),
   keys-outside o (u .1),
 )

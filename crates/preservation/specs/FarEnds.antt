@@ -1,22 +1,23 @@
 -- What the machine finds in the list: the far end of an end, and a channel that is free.
+use Rattle.calculus.specs.Named.{lookup}
 use mathlib.Core.Path.{_≡_, refl, sym, _∙_, ap, subst}
 use mathlib.Core.Logic.{_≢_, _⊎_, inl, inr}
-use mathlib.Core.List.{List, [], _∷_, _++_, map, List·Memᴰ·head, List·Memᴰ·tail, List·Memᴰ·not-nil, Memᴰ·map}
+use mathlib.Core.List.{List, [], _∷_, map, List·Memᴰ·head, List·Memᴰ·tail, List·Memᴰ·not-nil, Memᴰ·map}
 use mathlib.Core.Option.{Option, some, none, Option·none-ne-some, Option·some-injective}
-use mathlib.Core.Bool.{Bool, true, false, cond, So, _&&_, true≢false, false≢true, and-eq-true-iff}
-use Prim.Native.Nat.{ℕ, zero, suc, _+_, _≤_, _<_}
+use mathlib.Core.Bool.{Bool, true, false, cond, So, _&&_, false≢true, and-eq-true-iff}
+use Prim.Native.Nat.{ℕ, zero, suc, _+_, _<_}
 use native.Mathlib.Omega.{arith}
-use lib.ListN.{length, getElem?}
+use lib.ListN.{getElem?}
 use lib.Dec.{eqb}
 use Rattle.notation.specs.Limits.{channelPlaces}
 use Rattle.notation.specs.Tree.{Name, Ty}
 use Rattle.calculus.specs.Types.{Side, provided, used, other, sameSide}
 use Rattle.calculus.specs.Configuration.{End, Process, relinked, Outside, Config, heldAs, Holder, holderHere, holderFrom, outsideOf, Far, atProcess, atOutside, givenUp, orOutside, farFrom, farEnd, heldChannels, processChannels, channelsHeld, among, freeFrom, freshChannel}
 use Rattle.calculus.specs.WellFormed.{In}
-use Rattle.derivations.specs.Booleans.{bool-cases, never, cond-true, cond-false, eqb-iff}
+use Rattle.derivations.specs.Booleans.{bool-cases, cond-true, cond-false, eqb-iff}
 use Rattle.derivations.specs.Equality.{sameSide-iff}
-use Rattle.preservation.specs.Witness.{Key, Tip, side-clash}
-use Rattle.preservation.specs.Roster.{Roster, channelKey, linkKey, channel-key-one, channel-no-link, tipOf, Tips, holds, links, waits, Has, outside, inside}
+use Rattle.preservation.specs.Witness.{Tip, side-clash, tipNumber, tipSide}
+use Rattle.preservation.specs.Roster.{Roster, channelKey, channel-key-one, channel-no-link, holds, links, waits, Has, outside, inside}
 use Rattle.preservation.specs.Places.{Shows}
 
 -- ── who holds an end
@@ -34,7 +35,8 @@ unfolding heldAs
 held-some k s [] n h = absurd (Option·none-ne-some n h)
 held-some k s (x ∷ l) n h = go (bool-cases (isEnd k s (x .1))) (held-some k s l n)
   where
-    go : (isEnd k s (x .1) ≡ true) ⊎ (isEnd k s (x .1) ≡ false) → (heldAs k s l ≡ some n → (e : End) × In (n, e) l × (e .channel ≡ k) × (e .side ≡ s)) → (e : End) × In (n, e) (x ∷ l) × (e .channel ≡ k) × (e .side ≡ s)
+    go : (isEnd k s (x .1) ≡ true) ⊎ (isEnd k s (x .1) ≡ false) → (heldAs k s l ≡ some n → (e : End) × In (n, e) l × (e .channel ≡ k) × (e .side ≡ s))
+        → (e : End) × In (n, e) (x ∷ l) × (e .channel ≡ k) × (e .side ≡ s)
     go (inl z) r =
         let m : x .0 ≡ n = Option·some-injective _ _ (sym (cond-true (some (x .0)) (heldAs k s l) z) ∙ h) in
         let e = is-end k s (x .1) z in
@@ -59,6 +61,10 @@ pub record Found (l : List Process) (k : ℕ) (s : Side) (h : Holder) : Type 0 w
   pub channel : end .channel ≡ k
   pub side : end .side ≡ s
 
+-- the name under which an end is found leads to that end
+pub record ByName (C : Config) : Type 0 where
+  pub leads : (k : ℕ) (s : Side) (h : Holder) (f : Found (C .processes) k s h) → lookup (h .name) (h .process .held) ≡ some (f .end)
+
 holder-some : (i k : ℕ) (s : Side) (l : List Process) (h : Holder) → holderFrom i k s l ≡ some h
     → (j : ℕ) × (h .place ≡ i + j) × (getElem? l j ≡ some (h .process)) × (heldAs k s (h .process .held) ≡ some (h .name))
 unfolding holderFrom
@@ -71,8 +77,13 @@ holder-some i k s (q ∷ l) h e = go (heldAs k s (q .held)) refl (holder-some (s
         → (j : ℕ) × (h .place ≡ i + j) × (getElem? (q ∷ l) j ≡ some (h .process)) × (heldAs k s (h .process .held) ≡ some (h .name))
     go none z r e = let x = r e in (suc (x .0), (let y = x .1 in omega arith), x .2, x .3)
     go (some n) z r e =
-        let y = Option·some-injective _ _ e in
-        (0, (let p = ap (λ (h : Holder). h .place) (sym y) in omega arith), ap (λ (h : Holder). some (h .process)) y, ap (λ (h : Holder). heldAs k s (h .process .held)) (sym y) ∙ z ∙ ap (λ (h : Holder). some (h .name)) y)
+        let y = Option·some-injective _ _ e in (
+          0,
+          (let p = ap (λ (h : Holder). h .place) (sym y) in omega arith),
+          ap (λ (h : Holder). some (h .process)) y,
+          ap (λ (h : Holder). heldAs k s (h .process .held))
+              (sym y) ∙ z ∙ ap (λ (h : Holder). some (h .name)) y,
+        )
 
 holder-none : (i k : ℕ) (s : Side) (l : List Process) → holderFrom i k s l ≡ none → (j : ℕ) (q : Process) → getElem? l j ≡ some q → heldAs k s (q .held) ≡ none
 unfolding holderFrom
@@ -118,7 +129,8 @@ pub far-is : (C : Config) (e : End) → FarIs C e (farEnd C e)
 unfolding farEnd
 far-is C e = go (holderFrom 0 (e .channel) (other (e .side)) (C .processes)) refl
   where
-    out : (s : Side) → e .side ≡ s → (y : Option Outside) → outsideOf (e .channel) (C .outside) ≡ y → holderFrom 0 (e .channel) (other (e .side)) (C .processes) ≡ none → FarIs C e (orOutside s y)
+    out : (s : Side) → e .side ≡ s → (y : Option Outside) → outsideOf (e .channel) (C .outside) ≡ y → holderFrom 0 (e .channel) (other (e .side)) (C .processes) ≡ none
+        → FarIs C e (orOutside s y)
     out s z none w h = at-nobody (λ j q g x. held-none (e .channel) (other (e .side)) (q .held) (holder-none 0 _ _ (C .processes) h j q g) x) (λ _. outside-none (e .channel) (C .outside) w)
     out provided z (some y) w h = let r = outside-some (e .channel) (C .outside) y w in at-outside (y .number) y (r .0) (r .1) z
     out used z (some y) w h = at-nobody (λ j q g x. held-none (e .channel) (other (e .side)) (q .held) (holder-none 0 _ _ (C .processes) h j q g) x) (λ p. absurd (side-clash (sym p ∙ z)))
@@ -141,18 +153,20 @@ module _ (C : Config) {id : ℕ → ℕ} {S : Roster} (s : Shows id (C .processe
       (b .0, b .1, b .2, subst (λ (r : Process). In x (r .held)) (sym z) i)
 
   -- nobody has the far end of e
-  pub nobody-has : (e : End) → ((j : ℕ) (q : Process) → getElem? (C .processes) j ≡ some q → (x : Name × End) → In x (q .held) → x .1 .channel ≡ e .channel → x .1 .side ≡ other (e .side) → ⊥)
-      → (e .side ≡ provided → (y : Outside) → In y (C .outside) → y .channel ≢ e .channel) → (v : ℕ) (t : Option (Ty Name)) → ¬ Has S (C .outside) v ((channelKey (e .channel), other (e .side)), t)
-  nobody-has e a b v t (outside _ y i h) = b (sides (e .side) (ap (λ (t : Tip). t .0 .1) h)) y i (sym (channel-key-one (e .channel) (y .channel) (ap (λ (t : Tip). t .0 .0) h)))
+  pub nobody-has : (e : End) → ((j : ℕ) (q : Process) → getElem? (C .processes) j ≡ some q → (x : Name × End) → In x (q .held) → x .1 .channel ≡ e .channel
+      → x .1 .side ≡ other (e .side) → ⊥)
+      → (e .side ≡ provided → (y : Outside) → In y (C .outside) → y .channel ≢ e .channel)
+      → (v : ℕ) (t : Option (Ty Name)) → ¬ Has S (C .outside) v ((channelKey (e .channel), other (e .side)), t)
+  nobody-has e a b v t (outside _ y i h) = b (sides (e .side) (ap tipSide h)) y i (sym (channel-key-one (e .channel) (y .channel) (ap tipNumber h)))
     where
       sides : (s : Side) → other s ≡ used → s ≡ provided
       sides provided z = refl
       sides used z = absurd (side-clash z)
   nobody-has e a b v t (inside r w (holds x i h)) =
       let q = held-back v r w x i in
-      a (q .0) (q .1) (q .2) x (q .3) (sym (channel-key-one (e .channel) (x .1 .channel) (ap (λ (t : Tip). t .0 .0) h))) (sym (ap (λ (t : Tip). t .0 .1) h))
-  nobody-has e a b v t (inside r w (links k _ h)) = channel-no-link (e .channel) k (ap (λ (t : Tip). t .0 .0) h)
-  nobody-has e a b v t (inside r w (waits _ h)) = channel-no-link (e .channel) v (ap (λ (t : Tip). t .0 .0) h)
+      a (q .0) (q .1) (q .2) x (q .3) (sym (channel-key-one (e .channel) (x .1 .channel) (ap tipNumber h))) (sym (ap tipSide h))
+  nobody-has e a b v t (inside r w (links k _ h)) = channel-no-link (e .channel) k (ap tipNumber h)
+  nobody-has e a b v t (inside r w (waits _ h)) = channel-no-link (e .channel) v (ap tipNumber h)
 
 -- ── a free channel
 among-in : (k : ℕ) (l : List ℕ) → In k l → So (among k l)
@@ -181,7 +195,8 @@ held-channels (x ∷ l) r = (go (held-channels l r .0), λ k i. List·Memᴰ·ta
     go f y (List·Memᴰ·head e) = List·Memᴰ·head (ap (λ (y : Name × End). y .1 .channel) e)
     go f y (List·Memᴰ·tail i) = List·Memᴰ·tail (f y i)
 
-process-channels : (l : List Process) (r : List ℕ) → ((j : ℕ) (q : Process) → getElem? l j ≡ some q → (x : Name × End) → In x (q .held) → In (x .1 .channel) (processChannels l r)) × ((k : ℕ) → In k r → In k (processChannels l r))
+process-channels : (l : List Process) (r : List ℕ) → ((j : ℕ) (q : Process) → getElem? l j ≡ some q → (x : Name × End) → In x (q .held)
+    → In (x .1 .channel) (processChannels l r)) × ((k : ℕ) → In k r → In k (processChannels l r))
 process-channels [] r = (λ j q e. absurd (Option·none-ne-some q e), λ k i. i)
 process-channels (p ∷ l) r = (go (process-channels l r .0), λ k i. held-channels (p .held) (processChannels l r) .1 k (process-channels l r .1 k i))
   where
@@ -195,14 +210,15 @@ module _ (C : Config) {id : ℕ → ℕ} {S : Roster} (s : Shows id (C .processe
   unfolding freshChannel channelsHeld
   fresh-free k e = let r = free-from (channelsHeld C) 0 channelPlaces k e in ((let x = r .0 in omega arith), λ v t h z. r .1 (busy v t h z))
     where
-      all : ((j : ℕ) (q : Process) → getElem? (C .processes) j ≡ some q → (x : Name × End) → In x (q .held) → In (x .1 .channel) (channelsHeld C)) × ((k : ℕ) → In k (map (λ (o : Outside). o .channel) (C .outside)) → In k (channelsHeld C))
+      all : ((j : ℕ) (q : Process) → getElem? (C .processes) j ≡ some q → (x : Name × End) → In x (q .held) → In (x .1 .channel) (channelsHeld C)) × ((k : ℕ)
+          → In k (map (λ (o : Outside). o .channel) (C .outside)) → In k (channelsHeld C))
       all = process-channels (C .processes) (map (λ (o : Outside). o .channel) (C .outside))
 
       busy : (v : ℕ) (t : Tip) → Has S (C .outside) v t → t .0 .0 ≡ channelKey k → In k (channelsHeld C)
       busy v t (outside _ y i h) z =
-          subst (λ k. In k (channelsHeld C)) (channel-key-one (y .channel) k (sym (ap (λ (t : Tip). t .0 .0) h) ∙ z)) (all .1 (y .channel) (Memᴰ·map (λ (o : Outside). o .channel) i))
+          subst (λ k. In k (channelsHeld C)) (channel-key-one (y .channel) k (sym (ap tipNumber h) ∙ z)) (all .1 (y .channel) (Memᴰ·map (λ (o : Outside). o .channel) i))
       busy v t (inside r w (holds x i h)) z =
           let q = held-back C s v r w x i in
-          subst (λ k. In k (channelsHeld C)) (channel-key-one (x .1 .channel) k (sym (ap (λ (t : Tip). t .0 .0) h) ∙ z)) (all .0 (q .0) (q .1) (q .2) x (q .3))
-      busy v t (inside r w (links h _ y)) z = absurd (channel-no-link k h (sym z ∙ ap (λ (t : Tip). t .0 .0) y))
-      busy v t (inside r w (waits _ y)) z = absurd (channel-no-link k v (sym z ∙ ap (λ (t : Tip). t .0 .0) y))
+          subst (λ k. In k (channelsHeld C)) (channel-key-one (x .1 .channel) k (sym (ap tipNumber h) ∙ z)) (all .0 (q .0) (q .1) (q .2) x (q .3))
+      busy v t (inside r w (links h _ y)) z = absurd (channel-no-link k h (sym z ∙ ap tipNumber y))
+      busy v t (inside r w (waits _ y)) z = absurd (channel-no-link k v (sym z ∙ ap tipNumber y))

@@ -20,5 +20,8 @@ pub mod Stepping
 pub mod Joints
 pub mod Ends
 pub mod WellFormed
+pub mod Folding
 pub mod Start
+pub mod Running
 pub mod Preserved
+pub mod Accepted

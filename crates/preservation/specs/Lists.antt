@@ -3,15 +3,15 @@ use mathlib.Core.Path.{_≡_, refl, sym, _∙_, ap, subst}
 use mathlib.Core.Logic.{_↔_, _≢_, _⊎_, inl, inr}
 use mathlib.Core.List.{List, [], _∷_, _++_, map, List·Memᴰ·head, List·Memᴰ·tail, List·Memᴰ·not-nil, List·Memᴰ·cases-cons, List·Memᴰ·append-cases, List·Memᴰ·eq-of-singleton, Memᴰ·map, Memᴰ·of-map, Memᴰ·cast, Sublistᴰ, Sublistᴰ·slnil, Sublistᴰ·cons, Sublistᴰ·cons-cons, Sublistᴰ·refl}
 use mathlib.Core.Option.{Option, some, none, Option·map, Option·none-ne-some, Option·some-injective}
-use mathlib.Core.Bool.{Bool, true, false, cond, So, not}
-use Prim.Native.Nat.{ℕ, zero, suc, _+_, _≤_, _<_}
+use mathlib.Core.Bool.{Bool, true, false, cond, So}
+use Prim.Native.Nat.{suc, _≤_}
 use native.Mathlib.Omega.{arith}
 use lib.ListN.{length}
 use Rattle.notation.specs.Bytes.{same}
 use Rattle.notation.specs.Tree.{Name}
 use Rattle.calculus.specs.Named.{lookup, without, changed, kept, names, any, distinct}
 use Rattle.calculus.specs.WellFormed.{In, NoneTwice}
-use Rattle.derivations.specs.Booleans.{never, bool-cases, any-iff}
+use Rattle.derivations.specs.Booleans.{never, any-iff}
 use Rattle.derivations.specs.Equality.{same-cases, same-iff}
 
 -- ── no element twice
@@ -176,7 +176,8 @@ module _ {X : Type 0} where
   unfolding lookup without
   without-cases g c [] e u z x i = absurd (List·Memᴰ·not-nil i)
   without-cases g c (a ∷ l) e u z x i =
-      by-test (λ b. cond b (some (a .1)) (lookup c l) ≡ some e → In x (cond b l (a ∷ without c l)) → In x (a ∷ l) × (g (x .1) ≢ g e)) c (a .0) found (λ n h. passed h (λ k. without-cases g c l e (u .1) h x k)) z i
+      by-test (λ b. cond b (some (a .1)) (lookup c l) ≡ some e → In x (cond b l (a ∷ without c l)) → In x (a ∷ l) × (g (x .1) ≢ g e)) c (a .0) found
+      (λ n h. passed h (λ k. without-cases g c l e (u .1) h x k)) z i
     where
       other : {y : Name × X} → In y l → g (a .1) ≢ g (y .1)
       other k h = u .0 (Memᴰ·cast h (Memᴰ·map (λ (x : Name × X). g (x .1)) k))
@@ -194,7 +195,8 @@ module _ {X : Type 0} where
   unfolding lookup changed
   changed-cases g c f [] e u z x i = absurd (List·Memᴰ·not-nil i)
   changed-cases g c f (a ∷ l) e u z x i =
-      by-test (λ b. cond b (some (a .1)) (lookup c l) ≡ some e → In x (cond b ((a .0, f (a .1)) ∷ l) (a ∷ changed c f l)) → (x .1 ≡ f e) ⊎ (In x (a ∷ l) × (g (x .1) ≢ g e))) c (a .0) found (λ n h. passed h (λ k. changed-cases g c f l e (u .1) h x k)) z i
+      by-test (λ b. cond b (some (a .1)) (lookup c l) ≡ some e → In x (cond b ((a .0, f (a .1)) ∷ l) (a ∷ changed c f l)) → (x .1 ≡ f e) ⊎
+      (In x (a ∷ l) × (g (x .1) ≢ g e))) c (a .0) found (λ n h. passed h (λ k. changed-cases g c f l e (u .1) h x k)) z i
     where
       other : {y : Name × X} → In y l → g (a .1) ≢ g (y .1)
       other k h = u .0 (Memᴰ·cast h (Memᴰ·map (λ (x : Name × X). g (x .1)) k))
@@ -224,7 +226,8 @@ module _ {X : Type 0} where
       by-test (λ b. length (cond b ((a .0, f (a .1)) ∷ l) (a ∷ changed c f l)) ≡ suc (length l)) c (a .0) (λ _. refl) (λ _. ap suc (changed-length c f l))
 
   -- a change that g does not see
-  pub changed-map : {B : Type 0} (g : X → B) (c : Name) (f : X → X) → ((x : X) → g (f x) ≡ g x) → (l : List (Name × X)) → map (λ (x : Name × X). g (x .1)) (changed c f l) ≡ map (λ (x : Name × X). g (x .1)) l
+  pub changed-map : {B : Type 0} (g : X → B) (c : Name) (f : X → X) → ((x : X) → g (f x) ≡ g x) → (l : List (Name × X))
+      → map (λ (x : Name × X). g (x .1)) (changed c f l) ≡ map (λ (x : Name × X). g (x .1)) l
   unfolding changed
   changed-map g c f h [] = refl
   changed-map g c f h (a ∷ l) =

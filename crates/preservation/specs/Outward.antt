@@ -1,21 +1,21 @@
 -- A type that reaches only 1, * and + does so after each message too, and through a name.
 use mathlib.Core.Path.{_≡_, refl, sym, _∙_, ap, subst}
-use mathlib.Core.Logic.{_≢_, _⊎_, inl, inr}
-use mathlib.Core.List.{List, [], _∷_, List·Memᴰ·head, List·Memᴰ·tail, List·Memᴰ·not-nil, Sublistᴰ, Sublistᴰ·slnil, Sublistᴰ·cons, Sublistᴰ·cons-cons, Sublistᴰ·nil-sublist}
+use mathlib.Core.Logic.{_⊎_, inl, inr}
+use mathlib.Core.List.{List, [], _∷_, List·Memᴰ·head, List·Memᴰ·tail, Sublistᴰ, Sublistᴰ·slnil, Sublistᴰ·cons, Sublistᴰ·cons-cons, Sublistᴰ·nil-sublist}
 use mathlib.Core.Option.{Option, some, none, Option·none-ne-some, Option·some-injective, Option·getD}
-use mathlib.Core.Bool.{Bool, true, false, cond, So, not, _||_, true≢false, false≢true}
-use Prim.Native.Nat.{ℕ, zero, suc, _≤_, _<_}
+use mathlib.Core.Bool.{Bool, true, false, cond, So, not, _||_}
+use Prim.Native.Nat.{ℕ, zero, suc, _≤_}
 use native.Mathlib.Omega.{arith}
 use lib.ListN.{length}
 use native.Mathlib.Decide.{ℕ-discrete}
 use Rattle.notation.specs.Bytes.{same}
 use Rattle.notation.specs.Tree.{Name, Ty, unit, named, tensor, par, lolli, plus, with, Alternatives, alternative}
 use Rattle.calculus.specs.Named.{lookup, any}
-use Rattle.calculus.specs.Types.{Side, provided, used, standing, Passing, passing, Choosing, choosing, labelled}
+use Rattle.calculus.specs.Types.{provided, used, standing, Passing, passing, Choosing, choosing, labelled}
 use Rattle.calculus.specs.Program.{Program}
 use Rattle.calculus.specs.Declarations.{hasOther, haveOther, namesWithOther, reachOther, outward}
 use Rattle.calculus.specs.WellFormed.{In}
-use Rattle.derivations.specs.Booleans.{never, bool-cases, any-iff, cond-true, not-iff}
+use Rattle.derivations.specs.Booleans.{never, any-iff, cond-true}
 use Rattle.derivations.specs.Equality.{same-iff}
 use Rattle.preservation.specs.Lists.{by-test, lookup-in, sub-in, sub-length}
 
@@ -88,7 +88,8 @@ module _ (types : List (Name × Ty Name)) where
       go (x ∷ l) = inr (omega arith)
   rounds (suc n) = go (rounds n) (ℕ-discrete (length (reach (suc n))) (length (reach (suc (suc n)))))
     where
-      go : (reach (suc n) ≡ reach n) ⊎ (suc n ≤ length (reach (suc n))) → Dec (length (reach (suc n)) ≡ length (reach (suc (suc n)))) → (reach (suc (suc n)) ≡ reach (suc n)) ⊎ (suc (suc n) ≤ length (reach (suc (suc n))))
+      go : (reach (suc n) ≡ reach n) ⊎ (suc n ≤ length (reach (suc n))) → Dec (length (reach (suc n)) ≡ length (reach (suc (suc n))))
+          → (reach (suc (suc n)) ≡ reach (suc n)) ⊎ (suc (suc n) ≤ length (reach (suc (suc n))))
       go (inl e) d = inl (ap (λ b. namesWithOther b types) e)
       go (inr h) (yes e) = inl (sym (sub-whole (rounds-sub (suc n)) e))
       go (inr h) (no e) = inr (omega (arith, sub-length (rounds-sub (suc n))))
@@ -97,13 +98,15 @@ module _ (types : List (Name × Ty Name)) where
   unfolding reachOther
   closed = go (rounds (length types))
     where
-      go : (reach (suc (length types)) ≡ reach (length types)) ⊎ (suc (length types) ≤ length (reach (suc (length types)))) → namesWithOther (reach (length types)) types ≡ reach (length types)
+      go : (reach (suc (length types)) ≡ reach (length types)) ⊎ (suc (length types) ≤ length (reach (suc (length types))))
+          → namesWithOther (reach (length types)) types ≡ reach (length types)
       go (inl e) = e
       go (inr h) = absurd (omega (arith, names-length (reach (length types)) types))
 
   names-in-bad : (bad : List Name) (l : List (Name × Ty Name)) (n : Name) (D : Ty Name) → In (n, D) l → So (hasOther bad D) → In n (namesWithOther bad l)
   names-in-bad bad (e ∷ l) n D (List·Memᴰ·head h) z =
-      subst (In n) (sym (cond-true (e .0 ∷ namesWithOther bad l) (namesWithOther bad l) (ap (λ (x : Name × Ty Name). hasOther bad (x .1)) (sym h) ∙ z))) (List·Memᴰ·head (ap (λ (x : Name × Ty Name). x .0) h))
+      subst (In n) (sym (cond-true (e .0 ∷ namesWithOther bad l) (namesWithOther bad l) (ap (λ (x : Name × Ty Name). hasOther bad (x .1)) (sym h) ∙ z)))
+      (List·Memᴰ·head (ap (λ (x : Name × Ty Name). x .0) h))
   names-in-bad bad (e ∷ l) n D (List·Memᴰ·tail m) z = go (hasOther bad (e .1)) (names-in-bad bad l n D m z)
     where
       go : (b : Bool) → In n (namesWithOther bad l) → In n (cond b (e .0 ∷ namesWithOther bad l) (namesWithOther bad l))
@@ -150,13 +153,19 @@ module _ (p : Program) where
   or-right false b e = e
 
   -- what goes over an outward channel is provided, used by the outside afterwards, and outward
-  pub outward-passing : (T : Ty Name) (t : Passing) → passing T ≡ some t → outward p T ≡ true → (t .sender ≡ provided) × (t .side ≡ used) × (outward p (t .what) ≡ true) × (outward p (t .after) ≡ true)
+  pub outward-passing : (T : Ty Name) (t : Passing) → passing T ≡ some t → outward p T ≡ true
+      → (t .sender ≡ provided) × (t .side ≡ used) × (outward p (t .what) ≡ true) × (outward p (t .after) ≡ true)
   unfolding outward passing hasOther
   outward-passing unit t e o = absurd (Option·none-ne-some t e)
   outward-passing (named n) t e o = absurd (Option·none-ne-some t e)
   outward-passing (tensor A B) t e o =
-      let z = Option·some-injective _ _ e in
-      (ap (λ (t : Passing). t .sender) (sym z), ap (λ (t : Passing). t .side) (sym z), ap (λ (t : Passing). outward p (t .what)) (sym z) ∙ not-mono (or-left (hasOther bad A) (hasOther bad B)) o, ap (λ (t : Passing). outward p (t .after)) (sym z) ∙ not-mono (or-right (hasOther bad A) (hasOther bad B)) o)
+      let z = Option·some-injective _ _ e in (
+        ap (λ (t : Passing). t .sender) (sym z),
+        ap (λ (t : Passing). t .side) (sym z),
+        ap (λ (t : Passing). outward p (t .what)) (sym z) ∙ not-mono
+            (or-left (hasOther bad A) (hasOther bad B)) o,
+        ap (λ (t : Passing). outward p (t .after)) (sym z) ∙ not-mono (or-right (hasOther bad A) (hasOther bad B)) o,
+      )
   outward-passing (par A B) t e o = never o
   outward-passing (lolli A B) t e o = never o
   outward-passing (plus r) t e o = absurd (Option·none-ne-some t e)
@@ -167,7 +176,8 @@ module _ (p : Program) where
   labelled-fine l Alternatives.none A e h = absurd (Option·none-ne-some A e)
   labelled-fine l (alternative m B r) A e h =
       by-test (λ b. cond b (some B) (labelled l r) ≡ some A → So (hasOther bad B || haveOther bad r)) l m
-      (λ _ z. or-left (hasOther bad B) (haveOther bad r) (subst (λ A. So (hasOther bad A)) (sym (Option·some-injective _ _ z)) h)) (λ _ z. or-right (hasOther bad B) (haveOther bad r) (labelled-fine l r A z h)) e
+      (λ _ z. or-left (hasOther bad B) (haveOther bad r) (subst (λ A. So (hasOther bad A)) (sym (Option·some-injective _ _ z)) h))
+      (λ _ z. or-right (hasOther bad B) (haveOther bad r) (labelled-fine l r A z h)) e
 
   pub outward-choosing : (T : Ty Name) (t : Choosing) (l : Name) (A : Ty Name) → choosing T ≡ some t → labelled l (t .labels) ≡ some A → outward p T ≡ true → outward p A ≡ true
   unfolding outward choosing hasOther
