@@ -25,3 +25,4 @@ pub mod Start
 pub mod Running
 pub mod Preserved
 pub mod Accepted
+pub mod ByEnd
