@@ -16,7 +16,7 @@ use Rattle.calculus.specs.Program.{slot, Context, Program}
 use Rattle.calculus.specs.Mentions.{mentions, halfMentions, spawnTakes, spawnLeaves, tryTakes, exactlyOne}
 use Rattle.calculus.specs.Typing.{Typed, Brought, bringing}
 use Rattle.calculus.specs.Configuration.{End, end, Doing, running, folding, waiting, Process, process, Outside, Config, config, Far, atProcess, atOutside, givenUp, farEnd, freshChannel, movedUp, relinked, inserted, removed}
-use Rattle.calculus.specs.Steps.{lacking, outsideAfter, parting, cancelling, spawned, spawning, trying, changedAt, putAt, startedHandler, startedDoing, foldedHandler, joinedTo, joining, forwarding, raising, leaving, foldingUp}
+use Rattle.calculus.specs.Steps.{lacking, outsideAfter, parting, cancelling, spawned, spawning, trying, changedAt, putAt, startedHandler, startedDoing, foldedHandler, movedEnd, joinedTo, joining, forwarding, raising, leaving, foldingUp}
 use Rattle.calculus.specs.WellFormed.{In, contextOf, isWaiting, NoneTwice}
 use Rattle.derivations.specs.Booleans.{ltb-iff, all-iff}
 use Rattle.derivations.specs.Equality.{sameType-iff}
@@ -25,8 +25,9 @@ use Rattle.preservation.specs.Lists.{names-in, without-sub}
 use Rattle.preservation.specs.Roster.{channelKey, Has, TypedDoing, Good, NamesOf, Goes, Runs, runs-on, runs-awake, folds}
 use Rattle.preservation.specs.LettingGo.{let-go-sub, raised, left, left-alone}
 use Rattle.preservation.specs.Places.{Shows, shows-set, shows-in, shows-out, idIn, id-in-low, id-in-new, relinked-in, up-below, idOut, set-cases, found-below, below-found, length-inserted, length-removed}
-use Rattle.preservation.specs.FarEnds.{FarIs, at-process, at-outside, at-nobody, far-is, fresh-free, ByName}
-use Rattle.preservation.specs.Forwarding.{by-name, forwarded, forwarded-out}
+use Rattle.preservation.specs.FarEnds.{FarIs, at-process, at-outside, at-nobody, far-is, fresh-free}
+use Rattle.preservation.specs.Forwarding.{forwarded, forwarded-out}
+use Rattle.preservation.specs.Relocating.{Relocated, relocated}
 use Rattle.preservation.specs.Witness.{Tip}
 use Rattle.preservation.specs.Growing
 use Rattle.preservation.specs.Contexts.{held-plain, context-names, context-without, context-kept, context-append, context-length, absent-held}
@@ -270,11 +271,11 @@ module _ {p : Program} {C : Config} (I : Inv p C) (i : ℕ) (q : Process) (at : 
               (put (I .next) (some (process (waiting Q) (kept (mentions Q) (q .held)) (sym (relinked-in (I .shows) i (I .next) (q .link)) j))) (I .roster))
 
   -- ── fwd
-  pub forward-keeps : ByName C → isWaiting (q .doing) ≡ false → (x c : Located) (A B : Ty Name) → lookup (x .name) (contextOf (q .held)) ≡ some (slot provided A)
+  pub forward-keeps : isWaiting (q .doing) ≡ false → (x c : Located) (A B : Ty Name) → lookup (x .name) (contextOf (q .held)) ≡ some (slot provided A)
       → lookup (c .name) (contextOf (q .held)) ≡ some (slot used B)
       → sameType A B ≡ true → Keeps p (forwarding C i q x c)
   unfolding forwarding
-  forward-keeps by w x c A B hx hc ab =
+  forward-keeps w x c A B hx hc ab =
       keeps-held p (lookup (x .name) (q .held)) _ λ e le. keeps-held p (lookup (c .name) (q .held)) _ λ d ld. joins e d le ld (farEnd C d)
     where
       emptied-inv : {o : List Outside} → Sublistᴰ o (C .outside) → Inv p (config (set (C .processes) i (process folding [] (q .link))) o (C .given))
@@ -298,7 +299,9 @@ module _ {p : Program} {C : Config} (I : Inv p C) (i : ℕ) (q : Process) (at : 
           inv-two I i (h .place) q r at (f .stands) folding (r .doing) [] _
           (forwarded (I .good) (I .id i) (relinked (I .id) q) (at-roster I i q at) w (x .name) (c .name) e d le ld (m .0) (m .1) (m .2) (I .id (h .place))
           (relinked (I .id) r) (at-roster I (h .place) r (f .stands))
-          (h .name) (f .end) (f .held) (f .channel) (f .side) _ (by-name (h .name) (f .end) (d .channel) (r .held) (fine-at I (h .place) r (f .stands) .keys) (by .leads _ _ h f)))
+          (h .name) (f .end) (f .held) (f .channel) (f .side) _
+          (subst (Relocated (f .end) (d .channel) (r .held)) (λ t. movedEnd (f .channel t) (f .side t) (d .channel) (r .held))
+          (relocated (h .name) (f .end) (d .channel) (r .held) (fine-at I (h .place) r (f .stands) .keys) (f .held))))
       joined e d le ld _ (at-outside n y j z s) =
           let m = module-of e d le ld in
           inv-set I i q at folding [] (I .numbers) (forwarded-out (I .good) (I .id i) (relinked (I .id) q) (at-roster I i q at) w (x .name) (c .name) e d le ld (m .0) (m .1) (m .2))

@@ -1,5 +1,4 @@
 -- What the machine finds in the list: the far end of an end, and a channel that is free.
-use Rattle.calculus.specs.Named.{lookup}
 use mathlib.Core.Path.{_≡_, refl, sym, _∙_, ap, subst}
 use mathlib.Core.Logic.{_≢_, _⊎_, inl, inr}
 use mathlib.Core.List.{List, [], _∷_, map, List·Memᴰ·head, List·Memᴰ·tail, List·Memᴰ·not-nil, Memᴰ·map}
@@ -60,10 +59,6 @@ pub record Found (l : List Process) (k : ℕ) (s : Side) (h : Holder) : Type 0 w
   pub held : In (h .name, end) (h .process .held)
   pub channel : end .channel ≡ k
   pub side : end .side ≡ s
-
--- the name under which an end is found leads to that end
-pub record ByName (C : Config) : Type 0 where
-  pub leads : (k : ℕ) (s : Side) (h : Holder) (f : Found (C .processes) k s h) → lookup (h .name) (h .process .held) ≡ some (f .end)
 
 holder-some : (i k : ℕ) (s : Side) (l : List Process) (h : Holder) → holderFrom i k s l ≡ some h
     → (j : ℕ) × (h .place ≡ i + j) × (getElem? l j ≡ some (h .process)) × (heldAs k s (h .process .held) ≡ some (h .name))

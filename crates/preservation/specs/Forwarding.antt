@@ -2,44 +2,26 @@
 use mathlib.Core.Path.{_≡_, refl, sym, _∙_, ap, subst}
 use mathlib.Core.Logic.{_≢_, _⊎_, inl, inr}
 use mathlib.Core.List.{List, [], _∷_, map, Sublistᴰ·nil-sublist, List·Memᴰ·head, List·Memᴰ·tail, List·Memᴰ·not-nil, List·Memᴰ·eq-of-singleton, Memᴰ·map, Memᴰ·of-map, Memᴰ·cast}
-use mathlib.Core.Option.{some, Option·some-injective}
+use mathlib.Core.Option.{some}
 use mathlib.Core.Bool.{Bool, true, false, cond}
 use Prim.Native.Nat.{ℕ, _≤_, _<_}
 use lib.Dec.{eqb}
-use lib.ListN.{length}
 use Rattle.notation.specs.Limits.{heldLimit, channelPlaces}
 use Rattle.notation.specs.Tree.{Name}
-use Rattle.calculus.specs.Named.{lookup, changed, names, isSome}
+use Rattle.calculus.specs.Named.{lookup, isSome}
 use Rattle.calculus.specs.Types.{provided, used, other}
-use Rattle.calculus.specs.Program.{slot, Program}
+use Rattle.calculus.specs.Program.{Program}
 use Rattle.calculus.specs.Declarations.{outward}
 use Rattle.calculus.specs.Configuration.{End, end, folding, Process, process, Outside, changedOutside, movedOutside}
-use Rattle.calculus.specs.WellFormed.{In, NoneTwice, Rising, contextOf, key, isWaiting}
+use Rattle.calculus.specs.WellFormed.{In, NoneTwice, Rising, key, isWaiting}
 use Rattle.preservation.specs.Witness.{Tip, Rel, Witness, side-clash, Moved, over, outing, tipKey, keyNumber, keySide}
-use Rattle.preservation.specs.Lists.{by-test, lookup-in, changed-cases, changed-names, changed-length}
+use Rattle.preservation.specs.Lists.{lookup-in}
 use Rattle.preservation.specs.Mates.{put}
 use Rattle.preservation.specs.Roster.{Roster, channelKey, channel-no-link, keyOf, tipOf, linkTip, outsideTip, Has, outside, TypedDoing, keyAt, Fine, fine-less, Good, Change, becomes, one-good, two-good, NamesOf, folds}
+use Rattle.preservation.specs.Relocating.{Relocated}
 use Rattle.preservation.specs.Retyping.{key-cases, above, owner, one-type, joins, far-owner, near-owner, ends-apart, held-tip, outside-cases, outside-map, Changed}
 
--- ── lists in which one key is new
-module _ {X B : Type 0} (g : X → B) (c : Name) (f : X → X) where
-  pub changed-once : (l : List (Name × X)) (e : X) → NoneTwice (map (λ (x : Name × X). g (x .1)) l) → lookup c l ≡ some e → ¬ In (g (f e)) (map (λ (x : Name × X). g (x .1)) l)
-      → NoneTwice (map (λ (x : Name × X). g (x .1)) (changed c f l))
-  unfolding lookup changed
-  changed-once [] e u z n = tt
-  changed-once (a ∷ l) e u z n =
-      by-test (λ b. cond b (some (a .1)) (lookup c l) ≡ some e → NoneTwice (map (λ (x : Name × X). g (x .1)) (cond b ((a .0, f (a .1)) ∷ l) (a ∷ changed c f l)))) c (a .0)
-      (λ _ h. ((λ m. n (List·Memᴰ·tail (subst (λ x. In (g (f x)) (map (λ (x : Name × X). g (x .1)) l)) (Option·some-injective _ _ h) m))), u .1))
-      (λ _ h. (
-        (λ m. let y = Memᴰ·of-map (λ (x : Name × X). g (x .1)) (changed c f l) m in other (y .0) (y .2)
-            (changed-cases g c f l e (u .1) h (y .0) (y .1))),
-        changed-once l e (u .1) h (λ m. n (List·Memᴰ·tail m)),
-      )) z
-    where
-      other : (y : Name × X) → g (y .1) ≡ g (a .1) → (y .1 ≡ f e) ⊎ (In y l × (g (y .1) ≢ g e)) → ⊥
-      other y h (inl k) = n (List·Memᴰ·head (ap g (sym k) ∙ h))
-      other y h (inr k) = u .0 (Memᴰ·cast (sym h) (Memᴰ·map (λ (x : Name × X). g (x .1)) (k .0)))
-
+-- ── the outside's list in which one channel is new
 outside-once : (k : ℕ) (f : Outside → Outside) (j : ℕ) → ((y : Outside) → f y .channel ≡ j) → (o : List Outside) → NoneTwice (map (λ (y : Outside). y .channel) o)
     → ¬ In j (map (λ (y : Outside). y .channel) o)
     → NoneTwice (map (λ (y : Outside). y .channel) (changedOutside k f o))
@@ -54,32 +36,6 @@ outside-once k f j h (a ∷ o) u n = go (eqb k (a .channel)) (outside-once k f j
     go : (b : Bool) → NoneTwice (map (λ (y : Outside). y .channel) (changedOutside k f o)) → NoneTwice (map (λ (y : Outside). y .channel) (cond b (f a ∷ o) (a ∷ changedOutside k f o)))
     go true r = ((λ m. n (List·Memᴰ·tail (Memᴰ·cast (sym (h a)) m))), u .1)
     go false r = ((λ m. let y = Memᴰ·of-map (λ (y : Outside). y .channel) (changedOutside k f o) m in other (y .0) (y .2) (outside-cases k f o (u .1) (y .0) (y .1))), r)
-
--- the channel of an end is no part of its context
-pub moved-context : (n : Name) (k : ℕ) (l : List (Name × End)) → contextOf (changed n (λ (f : End). end (f .side) k (f .type)) l) ≡ contextOf l
-unfolding changed
-moved-context n k [] = refl
-moved-context n k (a ∷ l) =
-    by-test (λ b. contextOf (cond b ((a .0, end (a .1 .side) k (a .1 .type)) ∷ l) (a ∷ changed n (λ (f : End). end (f .side) k (f .type)) l)) ≡ contextOf (a ∷ l)) n (a .0)
-    (λ _. refl) (λ _. ap (λ r. (a .0, slot (a .1 .side) (a .1 .type)) ∷ r) (moved-context n k l))
-
--- l′ is l with the end f on the channel k
-pub record Relocated (f : End) (k : ℕ) (l l′ : List (Name × End)) : Type 0 where
-  pub context : contextOf l′ ≡ contextOf l
-  pub names : names l′ ≡ names l
-  pub long : length l′ ≡ length l
-  pub entry : (y : Name × End) → In y l′ → (y .1 ≡ end (f .side) k (f .type)) ⊎ (In y l × (key (y .1) ≢ key f))
-  pub once : ¬ In (k, f .side) (map keyAt l) → NoneTwice (map keyAt l′)
-
--- so it is where the name n leads to f
-pub by-name : (n : Name) (f : End) (k : ℕ) (l : List (Name × End)) → NoneTwice (map keyAt l) → lookup n l ≡ some f → Relocated f k l (changed n (λ (f : End). end (f .side) k (f .type)) l)
-by-name n f k l u e = record {
-  context = moved-context n k l;
-  names = changed-names n _ l;
-  long = changed-length n _ l;
-  entry = changed-cases key n (λ (f : End). end (f .side) k (f .type)) l f u e;
-  once = changed-once key n (λ (f : End). end (f .side) k (f .type)) l f u e;
-}
 
 module _ {p : Program} {S : Roster} {o : List Outside} {given next : ℕ} (G : Good p S o given next) where
   -- the process r of u provides x, by the end e, and uses c, by the end d

@@ -5,6 +5,7 @@ pub mod Roster
 pub mod LettingGo
 pub mod Retyping
 pub mod Passing
+pub mod Relocating
 pub mod Forwarding
 pub mod Growing
 pub mod Places
@@ -20,9 +21,7 @@ pub mod Stepping
 pub mod Joints
 pub mod Ends
 pub mod WellFormed
-pub mod Folding
 pub mod Start
 pub mod Running
 pub mod Preserved
 pub mod Accepted
-pub mod ByEnd

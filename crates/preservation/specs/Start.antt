@@ -27,7 +27,6 @@ use Rattle.preservation.specs.Roster.{Roster, channelKey, channel-key-on
 use Rattle.preservation.specs.Contexts.{context-names, context-length}
 use Rattle.preservation.specs.Invariant.{Inv}
 use Rattle.preservation.specs.WellFormed.{inv-well-formed}
-use Rattle.preservation.specs.Folding.{Named, named-but-folding, not-folding}
 
 -- ── the channels of a start, from k on
 start-context : (k : ℕ) (l : List (Name × Ty Name)) → contextOf (startHeld k l) ≡ onSide provided l
@@ -215,11 +214,3 @@ module _ (p : Program) (s : Signature) (d : distinct (names (signatureContext s)
 
   pub start-well-formed : WellFormed p (startConfig s)
   start-well-formed = inv-well-formed start-inv
-
-  pub start-named : Named (startConfig s)
-  unfolding startConfig
-  start-named = named-but-folding p (startConfig s) start-well-formed (λ i r h z. absurd (runs i r (h .there) z))
-    where
-      runs : (i : ℕ) (r : Process) → getElem? (q ∷ []) i ≡ some r → r .doing ≡ folding → ⊥
-      runs zero r e z = not-folding (ap (λ (r : Process). r .doing) (Option·some-injective q r e) ∙ z)
-      runs (suc i) r e z = absurd (Option·none-ne-some r e)

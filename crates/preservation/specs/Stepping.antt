@@ -1,5 +1,4 @@
 -- A step keeps the invariant: the dispatch over what a process does.
-use Rattle.preservation.specs.FarEnds.{ByName}
 use mathlib.Core.Path.{_≡_, refl, ap}
 use mathlib.Core.Option.{Option, some, none, Option·map}
 use mathlib.Core.Bool.{true}
@@ -22,7 +21,7 @@ pub record Bodies (p : Program) : Type 0 where
   pub typed : (n : Name) (s : Signature) → lookup n (p .processes) ≡ some s → TypedBody p s
   pub names : (n : Name) (s : Signature) → lookup n (p .processes) ≡ some s → distinct (names (signatureContext s)) ≡ true
 
-module _ {p : Program} (B : Bodies p) {C : Config} (by : ByName C) (I : Inv p C) (i : ℕ) (q : Process) (here : getElem? (C .processes) i ≡ some q) where
+module _ {p : Program} (B : Bodies p) {C : Config} (I : Inv p C) (i : ℕ) (q : Process) (here : getElem? (C .processes) i ≡ some q) where
   term-keeps : (P : Proc) → q .doing ≡ running P → Typed p (contextOf (q .held)) (isSome (Option·map (I .id) (q .link))) P → Keeps p (stepTerm p C i q P)
   unfolding stepTerm
   term-keeps (empty o) z t = leave-keeps I i q here (ap isWaiting z)
@@ -34,7 +33,7 @@ module _ {p : Program} (B : Bodies p) {C : Config} (by : ByName C) (I : Inv p C)
   term-keeps (recvUnit o c P) z t = receive-keeps I i q here (ap isWaiting z) c
   term-keeps (recvChannel o c x P) z t = receive-keeps I i q here (ap isWaiting z) c
   term-keeps (recvLabel o c bs) z t = receive-keeps I i q here (ap isWaiting z) c
-  term-keeps (fwd o x c) z (forwards A D hx hc e w) = forward-keeps I i q here by (ap isWaiting z) x c A D hx hc e
+  term-keeps (fwd o x c) z (forwards A D hx hc e w) = forward-keeps I i q here (ap isWaiting z) x c A D hx hc e
   term-keeps (call o f b xs ys) z (calls s e fx fy d w) = call-keeps I i q here (ap isWaiting z) f xs ys s e fx fy d (B .names (f .name) s e) (B .typed (f .name) s e)
   term-keeps (raise o P) z (raises e d) = raise-keeps I i q here (record { term = raise o P; runs = z }) P e d
   term-keeps (try o P Q) z (tries e dP dQ) = try-keeps I i q here (record { term = try o P Q; runs = z }) P Q e dP dQ
@@ -44,10 +43,10 @@ module _ {p : Program} (B : Bodies p) {C : Config} (by : ByName C) (I : Inv p C)
   doing-keeps folding z = fold-keeps I i q here z (q .held) refl
   doing-keeps (waiting Q) z = tt
 
-pub step-keeps : {p : Program} → Bodies p → {C : Config} → ByName C → Inv p C → (i : ℕ) → Keeps p (step p C i)
+pub step-keeps : {p : Program} → Bodies p → {C : Config} → Inv p C → (i : ℕ) → Keeps p (step p C i)
 unfolding step
-step-keeps {p} B {C} by I i = go (at C i) refl
+step-keeps {p} B {C} I i = go (at C i) refl
   where
     go : (o : Option Process) → at C i ≡ o → Keeps p (stepOf p C i o)
     go none z = tt
-    go (some q) z = doing-keeps B by I i q z (q .doing) refl
+    go (some q) z = doing-keeps B I i q z (q .doing) refl

@@ -28,7 +28,7 @@ use Rattle.derivations.specs.Booleans.{leb-iff}
 use Rattle.progress.specs.Lists.{element-in, none-past, position-below}
 use Rattle.progress.specs.RunOn.{Ended, run-on-ends}
 use Rattle.progress.specs.Lacks.{lacks-exactly}
-use Rattle.safety.specs.Scripts.{exec-defined}
+use Rattle.preservation.specs.Accepted.{exec-defined}
 
 -- a test that passes where the claim holds, and one that fails where it does not
 holds-iff : {b : Bool} {A : Type 0} → b ≡ true → A → (b ≡ true) ↔ A
@@ -144,7 +144,7 @@ module _ (text : List ℕ) (ds : List Declaration) (ok : checked text ≡ accept
       go : (o : Option Located) → getElem? (P .execs) line ≡ o
           → (isRefused (onLine (lineSignature P o) (refusal C (callStart scratch run line)) (λ g. reply (started Starts.Begun) (startConfig g)) .answer) ≡ true) ↔ (length (P .execs) ≤ line)
       go none e = holds-iff refl (none-past (P .execs) line e)
-      go (some n) e = rw (exec-defined text ds ok (element-in (P .execs) line e) .1) (fails-iff refl (not-past (P .execs) line e))
+      go (some n) e = rw (exec-defined text ds ok n (element-in (P .execs) line e) .1) (fails-iff refl (not-past (P .execs) line e))
 
   refused-name : (C : Config) (scratch line : ℕ) → Enough scratch runWords
       → RefusedWhere P C (callExecName scratch line) (respond text C (callExecName scratch line) .answer)
