@@ -52,10 +52,13 @@ module _ (f : End) (m : ℕ) where
       two (inl e) =
           let r = both .0 e in
           inl (e, λ i. (eqb-iff (f .channel) (x .1 .channel) .0 (r .0) i, sameSide-iff (f .side) (x .1 .side) .0 (r .1) i))
-      two (inr e) = inr (e, λ z. false≢true (sym e ∙ both .1 (
-        eqb-iff (f .channel) (x .1 .channel) .1 (ap (λ (q : ℕ × Side). q .0) z),
-        sameSide-iff (f .side) (x .1 .side) .1 (ap (λ (q : ℕ × Side). q .1) z),
-      )))
+      two (inr e) = inr (
+        e,
+        λ z. false≢true (sym e ∙ both .1 (
+          eqb-iff (f .channel) (x .1 .channel) .1 (ap (λ (q : ℕ × Side). q .0) z),
+          sameSide-iff (f .side) (x .1 .side) .1 (ap (λ (q : ℕ × Side). q .1) z),
+        )),
+      )
 
   same-context : (l : List (Name × End)) → contextOf (go l) ≡ contextOf l
   unfolding movedEnd
