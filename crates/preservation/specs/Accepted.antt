@@ -21,7 +21,7 @@ use Rattle.derivations.specs.Booleans.{isSome-iff, any-iff, isNil-iff}
 use Rattle.derivations.specs.Equality.{same-iff}
 use Rattle.derivations.specs.Fine.{refuted}
 use Rattle.derivations.specs.Accepts.{accepts}
-use Rattle.preservation.specs.Lists.{lookup-in, distinct-iff, names-append}
+use Rattle.holding.specs.Names.{lookup-in, distinct-iff, names-append}
 use Rattle.preservation.specs.Stepping.{Bodies}
 use Rattle.preservation.specs.Start.{start-well-formed}
 
@@ -119,10 +119,10 @@ module _ (text : List ℕ) (ds : List Declaration) (a : checked text ≡ accepte
   own-names = nil-right (repeats [] (gather processName ds)) (gather ownRepeats ds) (nil-right (repeats [] (gather typeName ds)) _ (passes .0))
 
   signature-names : (n : Name) (s : Signature) → lookup n (programOf ds .processes) ≡ some s → distinct (names (signatureContext s)) ≡ true
-  signature-names n s e = distinct-iff (names (signatureContext s)) .1 (process-declared ds n s (lookup-in n (programOf ds .processes) s e) own-names)
+  signature-names n s e = distinct-iff (names (signatureContext s)) .1 (process-declared ds n s (lookup-in n (programOf ds .processes) e) own-names)
 
   pub accepted-bodies : Bodies (programOf ds)
-  accepted-bodies = record { typed = λ n s e. derivable .derivation n s (lookup-in n (programOf ds .processes) s e); names = signature-names }
+  accepted-bodies = record { typed = λ n s e. derivable .derivation n s (lookup-in n (programOf ds .processes) e); names = signature-names }
 
   -- ── each exec line starts well
   abbrev p : Program

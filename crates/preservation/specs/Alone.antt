@@ -20,17 +20,19 @@ use Rattle.calculus.specs.Steps.{lacking, outsideAfter, parting, cancelling, sp
 use Rattle.calculus.specs.WellFormed.{In, contextOf, isWaiting, NoneTwice}
 use Rattle.derivations.specs.Booleans.{ltb-iff, all-iff}
 use Rattle.derivations.specs.Equality.{sameType-iff}
+use Rattle.holding.specs.Lists.{set-cases, found-below, below-found}
+use Rattle.holding.specs.Names.{names-in, without-sub}
+use Rattle.holding.specs.Contexts.{held-plain, context-names, context-without, context-kept, context-append, context-length, absent-held}
+use Rattle.holding.specs.FarEnds.{FarIs, at-process, at-outside, at-nobody, far-is}
 use Rattle.preservation.specs.Mates.{put}
-use Rattle.preservation.specs.Lists.{names-in, without-sub}
 use Rattle.preservation.specs.Roster.{channelKey, Has, TypedDoing, Good, NamesOf, Goes, Runs, runs-on, runs-awake, folds}
 use Rattle.preservation.specs.LettingGo.{let-go-sub, raised, left, left-alone}
-use Rattle.preservation.specs.Places.{Shows, shows-set, shows-in, shows-out, idIn, id-in-low, id-in-new, relinked-in, up-below, idOut, set-cases, found-below, below-found, length-inserted, length-removed}
-use Rattle.preservation.specs.FarEnds.{FarIs, at-process, at-outside, at-nobody, far-is, fresh-free}
+use Rattle.preservation.specs.Places.{Shows, shows-set, shows-in, shows-out, idIn, id-in-low, id-in-new, relinked-in, up-below, idOut, length-inserted, length-removed}
+use Rattle.preservation.specs.FarEnds.{fresh-free}
 use Rattle.preservation.specs.Forwarding.{forwarded, forwarded-out}
 use Rattle.preservation.specs.Relocating.{Relocated, relocated}
 use Rattle.preservation.specs.Witness.{Tip}
 use Rattle.preservation.specs.Growing
-use Rattle.preservation.specs.Contexts.{held-plain, context-names, context-without, context-kept, context-append, context-length, absent-held}
 use Rattle.preservation.specs.Invariant.{Inv, Keeps, keeps-cond, keeps-held, at-roster, fine-at, inv-set, inv-less, inv-two, handler, unlinked}
 
 pub outside-after-sub : (f : Far) (k : ℕ) (o : List Outside) → Sublistᴰ (outsideAfter f k o) o

@@ -16,10 +16,12 @@ use Rattle.calculus.specs.Steps.{renamedEnd, renamed, entering, calling}
 use Rattle.calculus.specs.WellFormed.{In, NoneTwice, contextOf, key, isWaiting}
 use Rattle.derivations.specs.Booleans.{never}
 use Rattle.derivations.specs.Equality.{sameSide-iff, sameType-iff}
-use Rattle.preservation.specs.Lists.{once-by, lookup-in, distinct-iff}
-use Rattle.preservation.specs.Roster.{keyAt, Fine}
+use Rattle.holding.specs.Lists.{once-by}
+use Rattle.holding.specs.Names.{lookup-in, distinct-iff}
+use Rattle.holding.specs.Contexts.{context-names, context-length, held-plain, Held}
+use Rattle.holding.specs.Ends.{keyAt}
+use Rattle.preservation.specs.Roster.{Fine}
 use Rattle.preservation.specs.LettingGo.{less}
-use Rattle.preservation.specs.Contexts.{context-names, context-length, held-plain, Held}
 use Rattle.preservation.specs.Invariant.{Inv, Keeps, at-roster, fine-at, inv-set}
 use Rattle.preservation.specs.Weakening.{weakened}
 
@@ -77,7 +79,7 @@ renamed-held l (a ∷ ns) [] f x i = absurd f
 renamed-held l (a ∷ ns) (s ∷ G) f x i = go (renamed-held l ns G (f .1) x) (subst (In x) (renamed-cons l a ns s G (f .0)) i)
   where
     go : (In x (renamed ns G l) → (a : Name) × In a ns × In (a, x .1) l) → In x ((s .0, f .0 .end) ∷ renamed ns G l) → (b : Name) × In b (a ∷ ns) × In (b, x .1) l
-    go r (List·Memᴰ·head e) = (a, List·Memᴰ·head refl, Memᴰ·cast (λ i. (a, e i .1)) (lookup-in a l (f .0 .end) (f .0 .found)))
+    go r (List·Memᴰ·head e) = (a, List·Memᴰ·head refl, Memᴰ·cast (λ i. (a, e i .1)) (lookup-in a l (f .0 .found)))
     go r (List·Memᴰ·tail j) = let y = r j in (y .0, List·Memᴰ·tail (y .1), y .2)
 
 renamed-once : (l : List (Name × End)) (ns : List Name) (G : Context) → Fits l ns G → NoneTwice ns → NoneTwice (map keyAt l) → NoneTwice (map keyAt (renamed ns G l))
@@ -90,7 +92,7 @@ renamed-once l (a ∷ ns) (s ∷ G) f u w = subst (λ r. NoneTwice (map keyAt r)
     fresh m =
         let y = Memᴰ·of-map keyAt (renamed ns G l) m in
         let z = renamed-held l ns G (f .1) (y .0) (y .1) in
-        let e = once-by keyAt w (z .2) (lookup-in a l (f .0 .end) (f .0 .found)) (y .2) in
+        let e = once-by keyAt w (z .2) (lookup-in a l (f .0 .found)) (y .2) in
         u .0 (Memᴰ·cast (ap (λ (x : Name × End). x .0) (sym e)) (z .1))
 
 module _ {p : Program} {C : Config} (I : Inv p C) (i : ℕ) (q : Process) (at : getElem? (C .processes) i ≡ some q) where

@@ -14,10 +14,11 @@ use Rattle.calculus.specs.Program.{Program}
 use Rattle.calculus.specs.Declarations.{outward}
 use Rattle.calculus.specs.Configuration.{End, end, folding, Process, process, Outside, changedOutside, movedOutside}
 use Rattle.calculus.specs.WellFormed.{In, NoneTwice, Rising, key, isWaiting}
+use Rattle.holding.specs.Names.{lookup-in}
+use Rattle.holding.specs.Ends.{keyAt}
 use Rattle.preservation.specs.Witness.{Tip, Rel, Witness, side-clash, Moved, over, outing, tipKey, keyNumber, keySide}
-use Rattle.preservation.specs.Lists.{lookup-in}
 use Rattle.preservation.specs.Mates.{put}
-use Rattle.preservation.specs.Roster.{Roster, channelKey, channel-no-link, keyOf, tipOf, linkTip, outsideTip, Has, outside, TypedDoing, keyAt, Fine, fine-less, Good, Change, becomes, one-good, two-good, NamesOf, folds}
+use Rattle.preservation.specs.Roster.{Roster, channelKey, channel-no-link, keyOf, tipOf, linkTip, outsideTip, Has, outside, TypedDoing, Fine, fine-less, Good, Change, becomes, one-good, two-good, NamesOf, folds}
 use Rattle.preservation.specs.Relocating.{Relocated}
 use Rattle.preservation.specs.Retyping.{key-cases, above, owner, one-type, joins, far-owner, near-owner, ends-apart, held-tip, outside-cases, outside-map, Changed}
 
@@ -45,10 +46,10 @@ module _ {p : Program} {S : Roster} {o : List Outside} {given next : ℕ} (G : G
     u0 = above G u r su
 
     hx : Has S o u (tipOf e)
-    hx = held-tip G u r su (x, e) (lookup-in x (r .held) e lx)
+    hx = held-tip G u r su (x, e) (lookup-in x (r .held) lx)
 
     hc : Has S o u (tipOf d)
-    hc = held-tip G u r su (c, d) (lookup-in c (r .held) d lc)
+    hc = held-tip G u r su (c, d) (lookup-in c (r .held) lc)
 
     abbrev R : ℕ → Rel
     R w = Moved (Has S o) (keyOf d ∷ []) u w
@@ -118,7 +119,7 @@ module _ {p : Program} {S : Roster} {o : List Outside} {given next : ℕ} (G : G
               (subst (λ k. Has S o w (k, some (y .0 .1 .type))) (λ i. (channelKey (y .2 i .0), (ap keySide (y .2) ∙ sf ∙ sym sd) i)) (held-tip G w q sw (y .0) (y .1))))
 
           chan : (y : Name × End) → (y .1 ≡ end (f .side) (d .channel) (f .type)) ⊎ (In y (q .held) × (key (y .1) ≢ key f)) → y .1 .channel < channelPlaces
-          chan y (inl h) = subst (λ (e : End). e .channel < channelPlaces) (sym h) (G .fine u r su .channels (c, d) (lookup-in c (r .held) d lc))
+          chan y (inl h) = subst (λ (e : End). e .channel < channelPlaces) (sym h) (G .fine u r su .channels (c, d) (lookup-in c (r .held) lc))
           chan y (inr h) = g .channels y (h .0)
 
       pub forwarded : Good p (put w (some (process (q .doing) l′ (q .link))) (put u (some (process folding [] (r .link))) S)) o given next
@@ -163,7 +164,7 @@ module _ {p : Program} {S : Roster} {o : List Outside} {given next : ℕ} (G : G
         num y (inr h) = G .fair .below y (h .0)
 
         chan : (y : Outside) → Changed (e .channel) move o y → y .channel < channelPlaces
-        chan y (inl h) = subst (λ (y : Outside). y .channel < channelPlaces) (sym (h .3)) (G .fine u r su .channels (c, d) (lookup-in c (r .held) d lc))
+        chan y (inl h) = subst (λ (y : Outside). y .channel < channelPlaces) (sym (h .3)) (G .fine u r su .channels (c, d) (lookup-in c (r .held) lc))
         chan y (inr h) = G .fair .channels y (h .0)
 
         fresh : ¬ In (d .channel) (map (λ (y : Outside). y .channel) o)

@@ -15,13 +15,14 @@ use Rattle.calculus.specs.Program.{Program}
 use Rattle.calculus.specs.Typing.{Typed}
 use Rattle.calculus.specs.Configuration.{End, end, Doing, running, folding, waiting, Process, process, Outside}
 use Rattle.calculus.specs.WellFormed.{In, NoneTwice, contextOf, key, isWaiting}
+use Rattle.holding.specs.Lists.{once-by, sub-in, sub-once, once-snoc, length-snoc, map-append}
+use Rattle.holding.specs.Names.{absent, kept-sub, kept-in, names-map, names-in, names-append}
+use Rattle.holding.specs.Ends.{keyAt}
 use Rattle.preservation.specs.Witness.{Key, Tip, Rel, Witness, fewer, Moved, Joined, sides, Between, over, joined-uses, joined-provides, tipNumber, keyNumber}
-use Rattle.preservation.specs.Lists.{once-by, sub-in, sub-once, absent, kept-sub, kept-in, names-map, names-in, names-append, once-snoc, length-snoc}
 use Rattle.preservation.specs.Mates.{put, put-elim, Profile, Mates, mates-same, mates-put, mates-new, Quiet, quiet-none, quiet-some}
-use Rattle.preservation.specs.Roster.{Roster, channelKey, linkKey, link-key-one, channel-no-link, keyOf, tipOf, linkTip, Tips, holds, links, waits, Has, outside, inside, TypedDoing, keyAt, Fine, fine-less, profile, Good, NamesOf, Goes, Runs, runs-on, runs-awake, folds, names-less, names-snoc}
+use Rattle.preservation.specs.Roster.{Roster, channelKey, linkKey, link-key-one, channel-no-link, keyOf, tipOf, linkTip, Tips, holds, links, waits, Has, outside, inside, TypedDoing, Fine, fine-less, profile, Good, NamesOf, Goes, Runs, runs-on, runs-awake, folds, names-less, names-snoc}
 use Rattle.preservation.specs.LettingGo.{profile-put-two}
 use Rattle.preservation.specs.Retyping.{key-from-key, above, owner, held-tip}
-use Rattle.preservation.specs.Passing.{map-append}
 
 abbrev linkKeys : Option ℕ → List Key
 linkKeys none = []

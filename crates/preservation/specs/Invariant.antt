@@ -16,10 +16,11 @@ use Rattle.calculus.specs.Program.{Program}
 use Rattle.calculus.specs.Configuration.{End, Doing, Process, process, relinked, Outside, Config, config}
 use Rattle.calculus.specs.Steps.{Outcome, carried, notOpen, lacking, onHeld}
 use Rattle.calculus.specs.WellFormed.{contextOf, isWaiting}
+use Rattle.holding.specs.Lists.{found-below, below-found}
 use Rattle.preservation.specs.Mates.{put}
 use Rattle.preservation.specs.Roster.{Roster, TypedDoing, Fine, profile, Good, Goes}
 use Rattle.preservation.specs.LettingGo.{lessen}
-use Rattle.preservation.specs.Places.{Shows, shows-set, found-below, below-found}
+use Rattle.preservation.specs.Places.{Shows, shows-set}
 
 pub record Inv (p : Program) (C : Config) : Type 0 where
   pub id : ℕ → ℕ

@@ -14,8 +14,8 @@ use Rattle.calculus.specs.Program.{Program}
 use Rattle.calculus.specs.Typing.{Typed}
 use Rattle.calculus.specs.Configuration.{End, Doing, running, Process, process, Outside, letGo}
 use Rattle.calculus.specs.WellFormed.{In, Rising, contextOf, isWaiting, NoneTwice}
+use Rattle.holding.specs.Lists.{sub-in, sub-once}
 use Rattle.preservation.specs.Witness.{Tip, fewer}
-use Rattle.preservation.specs.Lists.{sub-in, sub-once}
 use Rattle.preservation.specs.Mates.{put, put-elim, put-at, Profile, Mates, mates-same, mates-put, mates-cut, Quiet, quiet-none, quiet-some}
 use Rattle.preservation.specs.Roster.{Roster, Tips, holds, links, waits, Has, outside, inside, TypedDoing, Fine, fine-less, Fair, profile, Good, becomes, one-good, NamesOf, Goes}
 

@@ -1,5 +1,4 @@
 pub mod Witness
-pub mod Lists
 pub mod Mates
 pub mod Roster
 pub mod LettingGo
@@ -10,7 +9,6 @@ pub mod Forwarding
 pub mod Growing
 pub mod Places
 pub mod FarEnds
-pub mod Contexts
 pub mod Invariant
 pub mod Alone
 pub mod Weakening
@@ -19,7 +17,6 @@ pub mod Outward
 pub mod Sending
 pub mod Stepping
 pub mod Joints
-pub mod Ends
 pub mod WellFormed
 pub mod Start
 pub mod Running

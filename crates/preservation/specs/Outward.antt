@@ -17,7 +17,8 @@ use Rattle.calculus.specs.Declarations.{hasOther, haveOther, namesWithOther, re
 use Rattle.calculus.specs.WellFormed.{In}
 use Rattle.derivations.specs.Booleans.{never, any-iff, cond-true}
 use Rattle.derivations.specs.Equality.{same-iff}
-use Rattle.preservation.specs.Lists.{by-test, lookup-in, sub-in, sub-length}
+use Rattle.holding.specs.Lists.{sub-in, sub-length}
+use Rattle.holding.specs.Names.{by-test, lookup-in}
 
 -- ── more bad names, more types that have one
 or-mono : {a a′ b b′ : Bool} → (So a → So a′) → (So b → So b′) → So (a || b) → So (a′ || b′)
@@ -120,7 +121,7 @@ module _ (types : List (Name × Ty Name)) where
     where
       go : (o : Option (Ty Name)) → lookup n types ≡ o → So (hasOther (reach (length types)) (Option·getD o (named n))) → So (any (same n) (reach (length types)))
       go none z h = h
-      go (some D) z h = any-iff (same n) (reach (length types)) .1 (n, subst (In n) closed (names-in-bad (reach (length types)) types n D (lookup-in n types D z) h), same-iff n n .1 refl)
+      go (some D) z h = any-iff (same n) (reach (length types)) .1 (n, subst (In n) closed (names-in-bad (reach (length types)) types n D (lookup-in n types z) h), same-iff n n .1 refl)
   standing-fine (tensor A B) e = e
   standing-fine (par A B) e = e
   standing-fine (lolli A B) e = e

@@ -17,10 +17,12 @@ use Rattle.calculus.specs.Declarations.{outward}
 use Rattle.calculus.specs.Configuration.{End, end, Doing, Process, process, Outside, retypedOutside}
 use Rattle.calculus.specs.Steps.{retypedEnd}
 use Rattle.calculus.specs.WellFormed.{In, NoneTwice, Rising, contextOf, key}
+use Rattle.holding.specs.Lists.{sub-in, sub-once, once-snoc, length-snoc, map-append}
+use Rattle.holding.specs.Names.{by-test, lookup-in, absent, without-sub, without-cases, changed-cases, changed-names, changed-length, names-append}
+use Rattle.holding.specs.Ends.{keyAt}
 use Rattle.preservation.specs.Witness.{Tip, Rel, Witness, Retyped, retyping, Moved, Between, over, outing, keyNumber}
-use Rattle.preservation.specs.Lists.{by-test, sub-in, sub-once, lookup-in, absent, without-sub, without-cases, changed-cases, changed-names, changed-length, names-append, once-snoc, length-snoc}
 use Rattle.preservation.specs.Mates.{put}
-use Rattle.preservation.specs.Roster.{Roster, channelKey, channel-no-link, keyOf, tipOf, linkTip, outsideTip, Has, outside, TypedDoing, keyAt, Fine, Fair, Good, Change, becomes, one-good, two-good, NamesOf, Goes, names-snoc}
+use Rattle.preservation.specs.Roster.{Roster, channelKey, channel-no-link, keyOf, tipOf, linkTip, outsideTip, Has, outside, TypedDoing, Fine, Fair, Good, Change, becomes, one-good, two-good, NamesOf, Goes, names-snoc}
 use Rattle.preservation.specs.LettingGo.{fair-less}
 use Rattle.preservation.specs.Retyping.{retyped-off, key-cases, retyped-tip, key-of-key, key-from-key, retyped-keys, retyped-channels, fine-retyped, above, owner, joins, far-owner, near-owner, ends-apart, whose, held-tip, out-retyped, out-far, fair-retyped, other-other}
 
@@ -31,10 +33,6 @@ lookup-without {X} c a (x ∷ l) n =
     by-test (λ b. lookup c (cond b l (x ∷ without a l)) ≡ lookup c (x ∷ l)) a (x .0)
     (λ z. sym (by-test (λ b. cond b (some (x .1)) (lookup c l) ≡ lookup c l) c (x .0) (λ y. absurd (n (y ∙ sym z))) (λ _. refl)))
     (λ _. ap (λ r. cond (same c (x .0)) (some (x .1)) r) (lookup-without c a l n))
-
-pub map-append : {A B : Type 0} (f : A → B) (l m : List A) → map f (l ++ m) ≡ map f l ++ map f m
-map-append f [] m = refl
-map-append f (x ∷ l) m = ap (λ r. f x ∷ r) (map-append f l m)
 
 rising-snoc : (l : List ℕ) (low n : ℕ) → Rising low l → low ≤ n → ((m : ℕ) → In m l → m < n) → Rising low (l ++ (n ∷ []))
 rising-snoc [] low n r h b = (h, tt)
@@ -54,10 +52,10 @@ module _ {p : Program} {S : Roster} {o : List Outside} {given next : ℕ} (G : G
     u0 = above G u r su
 
     hu : Has S o u (tipOf e)
-    hu = held-tip G u r su (c, e) (lookup-in c (r .held) e lc)
+    hu = held-tip G u r su (c, e) (lookup-in c (r .held) lc)
 
     ha : Has S o u (tipOf d)
-    ha = held-tip G u r su (a, d) (lookup-in a (r .held) d la)
+    ha = held-tip G u r su (a, d) (lookup-in a (r .held) la)
 
     left-names : (x : Name × End) → In x (without a (r .held)) → In x (r .held) × (key (x .1) ≢ key d)
     left-names = without-cases key a (r .held) d (G .fine u r su .keys) la
@@ -66,7 +64,7 @@ module _ {p : Program} {S : Roster} {o : List Outside} {given next : ℕ} (G : G
     lc′ = lookup-without c a (r .held) ca ∙ lc
 
     ed : key e ≢ key d
-    ed = left-names (c, e) (lookup-in c (without a (r .held)) e lc′) .1
+    ed = left-names (c, e) (lookup-in c (without a (r .held)) lc′) .1
 
     -- the sender's ends afterwards: none of them is that of d
     module _ (far : (t : Option (Ty Name)) → ¬ Has S o u ((k, other (e .side)), t)) where
@@ -110,7 +108,7 @@ module _ {p : Program} {S : Roster} {o : List Outside} {given next : ℕ} (G : G
       w0 = above G w q sw
 
       hw : Has S o w (tipOf f)
-      hw = held-tip G w q sw (c′, f) (lookup-in c′ (q .held) f lf)
+      hw = held-tip G w q sw (c′, f) (lookup-in c′ (q .held) lf)
 
       uw : u ≢ w
       uw = ends-apart G u w e f z s hu hw u0 w0
@@ -168,7 +166,7 @@ module _ {p : Program} {S : Roster} {o : List Outside} {given next : ℕ} (G : G
 
           chan : (y : Name × End) → In y (retypedEnd c′ B (q .held)) ⊎ In y ((x, d) ∷ []) → y .1 .channel < channelPlaces
           chan y (inl i) = retyped-channels c′ B (q .held) channelPlaces (g .channels) y i
-          chan y (inr i) = subst (λ (y : Name × End). y .1 .channel < channelPlaces) (sym (List·Memᴰ·eq-of-singleton i)) (G .fine u r su .channels (a, d) (lookup-in a (r .held) d la))
+          chan y (inr i) = subst (λ (y : Name × End). y .1 .channel < channelPlaces) (sym (List·Memᴰ·eq-of-singleton i)) (G .fine u r su .channels (a, d) (lookup-in a (r .held) la))
 
       taker : Change p (Moved R (keyOf d ∷ []) u w) w (S w) (some (process Q (retypedEnd c′ B (q .held) ++ ((x, d) ∷ [])) (q .link)))
       taker =
@@ -288,7 +286,7 @@ module _ {p : Program} {S : Roster} {o : List Outside} {given next : ℕ} (G : G
         below = λ x j. last (λ x. x .number < suc given) (λ x j. let b = f₁ .below x j in omega arith) (omega arith) x (List·Memᴰ·append-cases o₁ j);
         rising = subst (Rising 0) (sym (map-append _ o₁ (shown ∷ []))) (rising-snoc (map (λ (x : Outside). x .number) o₁) 0 given (f₁ .rising) (omega arith) num);
         keys = subst NoneTwice (sym (map-append _ o₁ (shown ∷ []))) (once-snoc (map (λ (x : Outside). x .channel) o₁) (d .channel) (f₁ .keys) fresh);
-        channels = λ x j. last (λ x. x .channel < channelPlaces) (f₁ .channels) (G .fine u r su .channels (a, d) (lookup-in a (r .held) d la)) x (List·Memᴰ·append-cases o₁ j);
+        channels = λ x j. last (λ x. x .channel < channelPlaces) (f₁ .channels) (G .fine u r su .channels (a, d) (lookup-in a (r .held) la)) x (List·Memᴰ·append-cases o₁ j);
       })
         where
           last : (Q : Outside → Type 0) → ((x : Outside) → In x o₁ → Q x) → Q shown → (x : Outside) → In x o₁ ⊎ In x (shown ∷ []) → Q x

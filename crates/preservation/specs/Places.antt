@@ -11,104 +11,18 @@ use lib.ListN.{length, take, drop, set, getElem?, length-set, length-map}
 use lib.Dec.{ltb}
 use Rattle.calculus.specs.Configuration.{Process, process, movedUp, movedDown, relinked, inserted, removed}
 use Rattle.derivations.specs.Booleans.{bool-cases, cond-true, cond-false, ltb-iff}
+use Rattle.holding.specs.Lists.{found-below, below-found, set-at, set-off, set-cases, putIn, takeOut, in-low, in-here, in-high, out-low, out-high, length-in, length-out, found-map, not-below}
 use Rattle.preservation.specs.Mates.{put, put-at, put-off, put-elim}
 use Rattle.preservation.specs.Roster.{Roster}
-
--- ── elements of lists
-module _ {A : Type 0} where
-  pub found-below : (l : List A) (i : ℕ) {a : A} → getElem? l i ≡ some a → i < length l
-  found-below [] i {a} e = absurd (Option·none-ne-some a e)
-  found-below (x ∷ l) zero e = omega arith
-  found-below (x ∷ l) (suc i) e = omega (arith, found-below l i e)
-
-  pub below-found : (l : List A) (i : ℕ) → i < length l → (a : A) × (getElem? l i ≡ some a)
-  below-found [] i h = absurd (omega arith)
-  below-found (x ∷ l) zero h = (x, refl)
-  below-found (x ∷ l) (suc i) h = below-found l i (omega arith)
-
-  pub set-at : (l : List A) (i : ℕ) (a : A) → i < length l → getElem? (set l i a) i ≡ some a
-  set-at [] i a h = absurd (omega arith)
-  set-at (x ∷ l) zero a h = refl
-  set-at (x ∷ l) (suc i) a h = set-at l i a (omega arith)
-
-  pub set-off : (l : List A) (i j : ℕ) (a : A) → j ≢ i → getElem? (set l i a) j ≡ getElem? l j
-  set-off [] i j a n = refl
-  set-off (x ∷ l) zero zero a n = absurd (n refl)
-  set-off (x ∷ l) zero (suc j) a n = refl
-  set-off (x ∷ l) (suc i) zero a n = refl
-  set-off (x ∷ l) (suc i) (suc j) a n = set-off l i j a (λ e. n (ap suc e))
-
-  -- an element after one was replaced: the new one, or an old one elsewhere
-  pub set-cases : (l : List A) (i : ℕ) (a : A) → i < length l → (j : ℕ) (r : A) → getElem? (set l i a) j ≡ some r → ((j ≡ i) × (a ≡ r)) ⊎ ((j ≢ i) × (getElem? l j ≡ some r))
-  set-cases l i a h j r e = go (ℕ-discrete j i)
-    where
-      go : Dec (j ≡ i) → ((j ≡ i) × (a ≡ r)) ⊎ ((j ≢ i) × (getElem? l j ≡ some r))
-      go (yes z) = inl (z, Option·some-injective a r (sym (set-at l i a h) ∙ ap (getElem? (set l i a)) (sym z) ∙ e))
-      go (no n) = inr (n, sym (set-off l i j a n) ∙ e)
-
-  -- an element put in at n, and the one at n taken out
-  abbrev pub putIn : ℕ → A → List A → List A
-  putIn n a l = take n l ++ (a ∷ drop n l)
-
-  abbrev pub takeOut : ℕ → List A → List A
-  takeOut n l = take n l ++ drop (suc n) l
-
-  in-low : (n : ℕ) (a : A) (l : List A) (j : ℕ) → n ≤ length l → j < n → getElem? (putIn n a l) j ≡ getElem? l j
-  in-low zero a l j h k = absurd (omega arith)
-  in-low (suc n) a [] j h k = absurd (omega arith)
-  in-low (suc n) a (x ∷ l) zero h k = refl
-  in-low (suc n) a (x ∷ l) (suc j) h k = in-low n a l j (omega arith) (omega arith)
-
-  in-here : (n : ℕ) (a : A) (l : List A) → n ≤ length l → getElem? (putIn n a l) n ≡ some a
-  in-here zero a l h = refl
-  in-here (suc n) a [] h = absurd (omega arith)
-  in-here (suc n) a (x ∷ l) h = in-here n a l (omega arith)
-
-  in-high : (n : ℕ) (a : A) (l : List A) (j : ℕ) → n ≤ length l → n ≤ j → getElem? (putIn n a l) (suc j) ≡ getElem? l j
-  in-high zero a l j h k = refl
-  in-high (suc n) a [] j h k = absurd (omega arith)
-  in-high (suc n) a (x ∷ l) zero h k = absurd (omega arith)
-  in-high (suc n) a (x ∷ l) (suc j) h k = in-high n a l j (omega arith) (omega arith)
-
-  out-low : (n : ℕ) (l : List A) (j : ℕ) → j < n → getElem? (takeOut n l) j ≡ getElem? l j
-  out-low zero l j k = absurd (omega arith)
-  out-low (suc n) [] j k = refl
-  out-low (suc n) (x ∷ l) zero k = refl
-  out-low (suc n) (x ∷ l) (suc j) k = out-low n l j (omega arith)
-
-  out-high : (n : ℕ) (l : List A) (j : ℕ) → n ≤ j → getElem? (takeOut n l) j ≡ getElem? l (suc j)
-  out-high zero [] j k = refl
-  out-high zero (x ∷ l) j k = refl
-  out-high (suc n) [] j k = refl
-  out-high (suc n) (x ∷ l) zero k = absurd (omega arith)
-  out-high (suc n) (x ∷ l) (suc j) k = out-high n l j (omega arith)
-
-  pub length-in : (n : ℕ) (a : A) (l : List A) → length (putIn n a l) ≡ suc (length l)
-  length-in zero a l = refl
-  length-in (suc n) a [] = refl
-  length-in (suc n) a (x ∷ l) = ap suc (length-in n a l)
-
-  pub length-out : (n : ℕ) (l : List A) → n < length l → suc (length (takeOut n l)) ≡ length l
-  length-out n [] h = absurd (omega arith)
-  length-out zero (x ∷ l) h = refl
-  length-out (suc n) (x ∷ l) h = ap suc (length-out n l (omega arith))
-
-found-map : {A B : Type 0} (f : A → B) (l : List A) (i : ℕ) → getElem? (map f l) i ≡ Option·map f (getElem? l i)
-found-map f [] i = refl
-found-map f (x ∷ l) zero = refl
-found-map f (x ∷ l) (suc i) = found-map f l i
 
 -- ── where a place goes
 -- a choice by whether one place is before another
 tested : (i j : ℕ) (a b : ℕ) → ((i < j) × (cond (ltb i j) a b ≡ a)) ⊎ ((j ≤ i) × (cond (ltb i j) a b ≡ b))
 tested i j a b = go (bool-cases (ltb i j))
   where
-    not-below : ltb i j ≡ false → j ≤ i
-    not-below e = let n : ¬ (i < j) = λ k. false≢true (sym e ∙ ltb-iff i j .1 k) in omega arith
-
     go : (ltb i j ≡ true) ⊎ (ltb i j ≡ false) → ((i < j) × (cond (ltb i j) a b ≡ a)) ⊎ ((j ≤ i) × (cond (ltb i j) a b ≡ b))
     go (inl e) = inl (ltb-iff i j .0 e, cond-true a b e)
-    go (inr e) = inr (not-below e, cond-false a b e)
+    go (inr e) = inr (not-below i j .0 e, cond-false a b e)
 
 abbrev Up : ℕ → ℕ → Type 0
 Up i h = ((i < h) × (movedUp i h ≡ suc h)) ⊎ ((h ≤ i) × (movedUp i h ≡ h))

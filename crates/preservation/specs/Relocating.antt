@@ -1,22 +1,21 @@
 -- An end moved to another channel, found by its own channel and side: under which names its holder has its ends does not matter.
 use mathlib.Core.Path.{_≡_, refl, sym, _∙_, ap, subst}
-use mathlib.Core.Logic.{_≢_, _⊎_, inl, inr, _↔_}
+use mathlib.Core.Logic.{_≢_, _⊎_, inl, inr}
 use mathlib.Core.List.{List, [], _∷_, map, List·Memᴰ·head, List·Memᴰ·tail, List·Memᴰ·not-nil, Memᴰ·map, Memᴰ·of-map, Memᴰ·cast}
-use mathlib.Core.Bool.{Bool, true, false, cond, _&&_, false≢true, and-eq-true-iff}
+use mathlib.Core.Bool.{Bool, true, false, cond, false≢true}
 use Prim.Native.Nat.{ℕ, suc}
 use lib.ListN.{length}
-use lib.Dec.{eqb}
 use Rattle.notation.specs.Tree.{Name}
 use Rattle.calculus.specs.Named.{names}
-use Rattle.calculus.specs.Types.{Side, sameSide}
+use Rattle.calculus.specs.Types.{Side}
 use Rattle.calculus.specs.Program.{slot}
 use Rattle.calculus.specs.Configuration.{End, end}
 use Rattle.calculus.specs.Steps.{movedEnd}
 use Rattle.calculus.specs.WellFormed.{In, NoneTwice, contextOf, key}
-use Rattle.derivations.specs.Booleans.{bool-cases, eqb-iff, cond-true, cond-false}
-use Rattle.derivations.specs.Equality.{sameSide-iff}
-use Rattle.preservation.specs.Lists.{once-by}
-use Rattle.preservation.specs.Roster.{keyAt}
+use Rattle.derivations.specs.Booleans.{bool-cases, cond-true, cond-false}
+use Rattle.holding.specs.Lists.{once-by}
+use Rattle.holding.specs.Ends.{keyAt}
+use Rattle.holding.specs.FarEnds.{isEnd, is-end, end-is}
 
 -- l′ is l with the end f on the channel k
 pub record Relocated (f : End) (k : ℕ) (l l′ : List (Name × End)) : Type 0 where
@@ -37,7 +36,7 @@ module _ (f : End) (m : ℕ) where
   Entry l y = (y .1 ≡ end (f .side) m (f .type)) ⊎ (In y l × (keyAt y ≢ key f))
 
   abbrev test : Name × End → Bool
-  test x = eqb (f .channel) (x .1 .channel) && sameSide (f .side) (x .1 .side)
+  test x = isEnd (f .channel) (f .side) (x .1)
 
   abbrev Tested : Name × End → Type 0
   Tested x = ((test x ≡ true) × (key f ≡ keyAt x)) ⊎ ((test x ≡ false) × (key f ≢ keyAt x))
@@ -45,19 +44,11 @@ module _ (f : End) (m : ℕ) where
   tested : (x : Name × End) → Tested x
   tested x = two (bool-cases (test x))
     where
-      both : (test x ≡ true) ↔ ((eqb (f .channel) (x .1 .channel) ≡ true) × (sameSide (f .side) (x .1 .side) ≡ true))
-      both = and-eq-true-iff (eqb (f .channel) (x .1 .channel)) (sameSide (f .side) (x .1 .side))
-
       two : (test x ≡ true) ⊎ (test x ≡ false) → Tested x
-      two (inl e) =
-          let r = both .0 e in
-          inl (e, λ i. (eqb-iff (f .channel) (x .1 .channel) .0 (r .0) i, sameSide-iff (f .side) (x .1 .side) .0 (r .1) i))
+      two (inl e) = let r = is-end (f .channel) (f .side) (x .1) e in inl (e, λ i. (sym (r .0) i, sym (r .1) i))
       two (inr e) = inr (
         e,
-        λ z. false≢true (sym e ∙ both .1 (
-          eqb-iff (f .channel) (x .1 .channel) .1 (ap (λ (q : ℕ × Side). q .0) z),
-          sameSide-iff (f .side) (x .1 .side) .1 (ap (λ (q : ℕ × Side). q .1) z),
-        )),
+        λ z. false≢true (sym e ∙ end-is (f .channel) (f .side) (x .1) (ap (λ (k : ℕ × Side). k .0) (sym z)) (ap (λ (k : ℕ × Side). k .1) (sym z))),
       )
 
   same-context : (l : List (Name × End)) → contextOf (go l) ≡ contextOf l

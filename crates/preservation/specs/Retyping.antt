@@ -18,10 +18,12 @@ use Rattle.calculus.specs.Steps.{retypedEnd}
 use Rattle.calculus.specs.WellFormed.{In, NoneTwice, Rising, contextOf, key}
 use Rattle.graphs.specs.Moves.{no-loop}
 use Rattle.derivations.specs.Booleans.{bool-cases, cond-true, cond-false, eqb-iff}
+use Rattle.holding.specs.Lists.{sub-in, sub-once, sub-length}
+use Rattle.holding.specs.Names.{lookup-in, changed-cases, changed-names, changed-length, changed-map}
+use Rattle.holding.specs.Ends.{keyAt}
 use Rattle.preservation.specs.Witness.{Key, Tip, Rel, side-discrete, joint, Retyped, retyping, keyNumber}
-use Rattle.preservation.specs.Lists.{lookup-in, changed-cases, changed-names, changed-length, changed-map, sub-in, sub-once, sub-length}
 use Rattle.preservation.specs.Mates.{put}
-use Rattle.preservation.specs.Roster.{Roster, channelKey, channel-key-one, channel-no-link, keyOf, tipOf, linkTip, outsideTip, holds, Has, outside, inside, TypedDoing, keyAt, Fine, Fair, Good, Change, becomes, one-good, two-good, NamesOf, Goes, names-less}
+use Rattle.preservation.specs.Roster.{Roster, channelKey, channel-key-one, channel-no-link, keyOf, tipOf, linkTip, outsideTip, holds, Has, outside, inside, TypedDoing, Fine, Fair, Good, Change, becomes, one-good, two-good, NamesOf, Goes, names-less}
 
 pub other-side : (s t : Side) → s ≢ t → s ≡ other t
 other-side provided provided n = absurd (n refl)
@@ -205,7 +207,7 @@ module _ {p : Program} {S : Roster} {o : List Outside} {given next : ℕ} (G : G
       → Change p (Retyped (Has S o) (channelKey (e .channel)) (some A)) u (S u) (some (process d (retypedEnd c A (r .held)) (r .link)))
   retypes u r su d w c e A lc far t =
       becomes G (Retyped (Has S o) (channelKey (e .channel)) (some A)) u r su d (retypedEnd c A (r .held)) (w .waits) (fine-retyped (G .fine u r su) d w (Sublistᴰ·refl (r .held)) c A t)
-      (λ x i. retyped-tip (Has S o) u e A (held-tip u r su (c, e) (lookup-in c (r .held) e lc)) far (x .1)
+      (λ x i. retyped-tip (Has S o) u e A (held-tip u r su (c, e) (lookup-in c (r .held) lc)) far (x .1)
       (entry x (changed-cases key c (λ e. end (e .side) (e .channel) A) (r .held) e (G .fine u r su .keys) lc x i)))
       (λ h s k. retyped-off (Has S o) u (linkTip h s) k (λ z. channel-no-link (e .channel) h (sym z)))
     where
@@ -218,7 +220,7 @@ module _ {p : Program} {S : Roster} {o : List Outside} {given next : ℕ} (G : G
   module _ (u : ℕ) (r : Process) (su : S u ≡ some r) (d : Doing) (wd : Goes (r .doing) d) (c : Name) (e : End) (A : Ty Name) (lc : lookup c (r .held) ≡ some e)
       (td : TypedDoing p (contextOf (retypedEnd c A (r .held))) (isSome (r .link)) d) where
     hu : Has S o u (tipOf e)
-    hu = held-tip u r su (c, e) (lookup-in c (r .held) e lc)
+    hu = held-tip u r su (c, e) (lookup-in c (r .held) lc)
 
     -- to the process q of w
     pub chosen : (w : ℕ) (q : Process) → S w ≡ some q → (d′ : Doing) → Goes (q .doing) d′ → (c′ : Name) (f : End) → lookup c′ (q .held) ≡ some f → f .channel ≡ e .channel
@@ -239,7 +241,7 @@ module _ {p : Program} {S : Roster} {o : List Outside} {given next : ℕ} (G : G
         w0 = above w q sw
 
         hw : Has S o w (tipOf f)
-        hw = held-tip w q sw (c′, f) (lookup-in c′ (q .held) f lf)
+        hw = held-tip w q sw (c′, f) (lookup-in c′ (q .held) lf)
 
         far : Has S o w ((channelKey (e .channel), other (e .side)), some (f .type))
         far = subst (λ k. Has S o w (k, some (f .type))) (λ i. (channelKey (z i), s i)) hw
@@ -287,7 +289,7 @@ module _ {p : Program} {S : Roster} {o : List Outside} {given next : ℕ} (G : G
   chosen-out u r su d wd c e A lc td y i z s a =
       one-good G (retyping (G .witness) (channelKey (e .channel)) (some A)) u (process d (retypedEnd c A (r .held)) (r .link))
       (retypes u r su d wd c e A lc (λ t h. above u r su (owner u 0 _ t (some (y .type)) h far)) td)
-      (λ v t nu n0 h. retyped-off (Has S o) v t h (λ k. rest v t nu n0 (whose u v e (held-tip u r su (c, e) (lookup-in c (r .held) e lc)) t h k)))
+      (λ v t nu n0 h. retyped-off (Has S o) v t h (λ k. rest v t nu n0 (whose u v e (held-tip u r su (c, e) (lookup-in c (r .held) lc)) t h k)))
       (out-retyped (e .channel) A) (fair-retyped (G .fair) (e .channel) A a)
     where
       far : Has S o 0 ((channelKey (e .channel), other (e .side)), some (y .type))

@@ -16,8 +16,10 @@ use Rattle.calculus.specs.Declarations.{outward}
 use Rattle.calculus.specs.Typing.{Typed}
 use Rattle.calculus.specs.Configuration.{End, end, Doing, running, folding, waiting, Process, process, Outside}
 use Rattle.calculus.specs.WellFormed.{In, NoneTwice, Rising, contextOf, key, isWaiting}
+use Rattle.holding.specs.Lists.{sub-in, sub-once, sub-length, once-snoc}
+use Rattle.holding.specs.Names.{names-map}
+use Rattle.holding.specs.Ends.{keyAt}
 use Rattle.preservation.specs.Witness.{Key, Tip, Rel, Witness, fewer}
-use Rattle.preservation.specs.Lists.{names-map, sub-in, sub-once, sub-length, once-snoc}
 use Rattle.preservation.specs.Mates.{put, put-elim, Profile, Mates, mates-same}
 
 -- the process of each identity; 0 is no process's: it is the outside's
@@ -104,9 +106,6 @@ pub names-snoc : (d : Doing) (ns : List Name) (x : Name) → NamesOf d ns → ¬
 names-snoc (running P) ns x n f = once-snoc ns x n f
 names-snoc folding ns x n f = tt
 names-snoc (waiting P) ns x n f = once-snoc ns x n f
-
-abbrev pub keyAt : Name × End → ℕ × Side
-keyAt x = key (x .1)
 
 pub record Fine (p : Program) (r : Process) : Type 0 where
   pub typed : TypedDoing p (contextOf (r .held)) (isSome (r .link)) (r .doing)

@@ -20,14 +20,15 @@ use Rattle.calculus.specs.Steps.{notOpen, lacking, Message, closing, passes, ch
 use Rattle.calculus.specs.WellFormed.{In, contextOf, isWaiting}
 use Rattle.derivations.specs.Booleans.{ltb-iff}
 use Rattle.derivations.specs.Equality.{same-iff, sameType-iff}
-use Rattle.preservation.specs.Lists.{by-test, lookup-in, in-lookup, without-sub}
+use Rattle.holding.specs.Lists.{set-off}
+use Rattle.holding.specs.Names.{by-test, lookup-in, in-lookup, without-sub}
+use Rattle.holding.specs.Contexts.{context-without, context-retyped, context-append, context-length, absent-held, held-plain, acts}
+use Rattle.holding.specs.FarEnds.{Found, FarIs, at-process, at-outside, at-nobody, far-is}
 use Rattle.preservation.specs.Roster.{Has, outside, tipOf, Runs, runs-on, folds}
 use Rattle.preservation.specs.LettingGo.{let-go-sub}
 use Rattle.preservation.specs.Retyping.{above, one-type, ends-apart, held-tip, chosen, chosen-unheard, chosen-out}
 use Rattle.preservation.specs.Passing.{passed, passed-unheard, passed-gone, passed-out}
-use Rattle.preservation.specs.Places.{set-off}
-use Rattle.preservation.specs.FarEnds.{Found, FarIs, at-process, at-outside, at-nobody, far-is, nobody-has}
-use Rattle.preservation.specs.Contexts.{context-without, context-retyped, context-append, context-length, absent-held, held-plain, held-acts}
+use Rattle.preservation.specs.FarEnds.{nobody-has}
 use Rattle.preservation.specs.Outward.{outward-standing, outward-passing, outward-choosing}
 use Rattle.preservation.specs.Invariant.{Inv, Keeps, keeps-cond, keeps-held, at-roster, fine-at, typed-at, inv-set, inv-less, inv-two}
 use Rattle.preservation.specs.Alone.{outside-after-sub}
@@ -83,7 +84,7 @@ module _ {p : Program} {C : Config} (I : Inv p C) where
   acts-end : (l : List (Name × End)) (c : Name) (s : Side) (T : Ty Name) (e : End) → lookup c l ≡ some e → acting p c (contextOf l) ≡ some (slot s T)
       → (e .side ≡ s) × (standing (p .types) (e .type) ≡ T)
   acts-end l c s T e le h =
-      let a = held-acts p c l s T h in
+      let a = acts p c l h in
       let z : a .end ≡ e = Option·some-injective _ _ (sym (a .found) ∙ le) in
       (ap (λ (e : End). e .side) (sym z) ∙ a .side, ap (λ (e : End). standing (p .types) (e .type)) (sym z) ∙ a .type)
 
@@ -96,7 +97,7 @@ module _ {p : Program} {C : Config} (I : Inv p C) where
     b = isSome (Option·map (I .id) (q .link))
 
     here : Has (I .roster) (C .outside) (I .id i) (tipOf e)
-    here = held-tip (I .good) (I .id i) (relinked (I .id) q) (at-roster I i q at) (c, e) (lookup-in c (q .held) e le)
+    here = held-tip (I .good) (I .id i) (relinked (I .id) q) (at-roster I i q at) (c, e) (lookup-in c (q .held) le)
 
     module _ (h : Holder) (f : Found (C .processes) (e .channel) (other (e .side)) h) where
       abbrev r : Process

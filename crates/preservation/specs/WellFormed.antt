@@ -19,17 +19,17 @@ use Rattle.calculus.specs.WellFormed.{In, NoneTwice, contextOf, processEnds, ou
 use Rattle.graphs.specs.Graph.{decIn}
 use Rattle.graphs.specs.Moves.{thin}
 use Rattle.derivations.specs.Equality.{sameType-iff}
+use Rattle.holding.specs.Lists.{once-append, search, map-append, found-below, once-left, once-right, once-apart}
+use Rattle.holding.specs.Names.{distinct-iff}
+use Rattle.holding.specs.Contexts.{context-names}
+use Rattle.holding.specs.Ends.{keyAt, process-end, end-process, keys-of-process, one-process, keys-once, outside-end, end-outside, outside-keys, keys-outside}
 use Rattle.preservation.specs.Witness.{Key, Tip, key-discrete, side-clash, joint, Witness, tipNumber, tipKey, tipType, keyNumber, keySide}
-use Rattle.preservation.specs.Lists.{distinct-iff, once-append, search}
 use Rattle.preservation.specs.Mates.{Mates, link-of}
-use Rattle.preservation.specs.Roster.{Roster, channelKey, linkKey, channel-key-one, link-key-one, channel-no-link, tipOf, linkTip, outsideTip, Tips, holds, links, waits, Has, outside, inside, TypedDoing, keyAt, Fine, Fair, profile, Good, NamesOf}
+use Rattle.preservation.specs.Roster.{Roster, channelKey, linkKey, channel-key-one, link-key-one, channel-no-link, tipOf, linkTip, outsideTip, Tips, holds, links, waits, Has, outside, inside, TypedDoing, Fine, Fair, profile, Good, NamesOf}
 use Rattle.preservation.specs.Retyping.{above, owner, one-type, key-of-key}
-use Rattle.preservation.specs.Passing.{map-append}
-use Rattle.preservation.specs.Places.{Shows, found-below}
-use Rattle.preservation.specs.Contexts.{context-names}
+use Rattle.preservation.specs.Places.{Shows}
 use Rattle.preservation.specs.Invariant.{Inv, at-roster, fine-at, handler}
 use Rattle.preservation.specs.Joints.{forest-back, forest-along, numbers, joints-are, numbers-once, numbers-live, numbers-all}
-use Rattle.preservation.specs.Ends.{once-left, once-right, once-apart, process-end, end-process, keys-of-process, one-holder, keys-once, outside-end, end-outside, outside-keys, keys-outside}
 
 is-some-map : {A B : Type 0} (f : A → B) (o : Option A) → isSome (Option·map f o) ≡ isSome o
 is-some-map f none = refl
@@ -334,7 +334,7 @@ module _ {p : Program} {C : Config} (w : WellFormed p C) where
   seat-one u v e f (of-held j r y n x l h) (of-outside z o m g) k a b = absurd
       (not-both o m j r n x l (key-back (x .1) (end used (o .channel) (o .type)) k (a ∙ ap tipKey h) (b ∙ ap tipKey g)))
   seat-one u v e f (of-held i q z m x l g) (of-held j r y n x′ l′ h) k a b =
-      z ∙ ap suc (one-holder (C .processes) process-keys i j q r m n x x′ l l′ (key-back (x .1) (x′ .1) k (a ∙ ap tipKey g) (b ∙ ap tipKey h))) ∙ sym y
+      z ∙ ap suc (one-process (C .processes) process-keys i j q r m n x x′ l l′ (key-back (x .1) (x′ .1) k (a ∙ ap tipKey g) (b ∙ ap tipKey h))) ∙ sym y
   seat-one u v e f (of-held _ _ _ _ x _ g) (of-link _ _ _ _ h _ l) k a b = absurd (mixed k _ _ _ _ (a ∙ ap tipKey g) (b ∙ ap tipKey l))
   seat-one u v e f (of-held _ _ _ _ x _ g) (of-wait _ _ _ _ _ l) k a b = absurd (mixed k _ _ _ _ (a ∙ ap tipKey g) (b ∙ ap tipKey l))
   seat-one u v e f (of-link _ _ _ _ h _ l) (of-outside z o m g) k a b = absurd (mixed k _ _ _ _ (b ∙ ap tipKey g) (a ∙ ap tipKey l))

@@ -12,7 +12,7 @@ use Rattle.calculus.specs.Declarations.{hasOther, namesWithOther, reachOther, o
 use Rattle.calculus.specs.WellFormed.{In}
 use Rattle.derivations.specs.Booleans.{any-iff, not-iff}
 use Rattle.derivations.specs.Equality.{same-refl}
-use Rattle.progress.specs.Held.{lookup-in}
+use Rattle.holding.specs.Names.{lookup-in}
 
 -- the type's own mark is @, -o or &
 abbrev pub other-mark : Ty Name → Bool

@@ -25,7 +25,7 @@ use Rattle.calculus.specs.declared.answers.Stepped.the-variants as Steps
 use Rattle.calculus.specs.declared.answers.RanOn.the-variants as Runs
 use Rattle.calculus.specs.declared.answers.Reported.the-variants as Reports
 use Rattle.derivations.specs.Booleans.{leb-iff}
-use Rattle.progress.specs.Lists.{element-in, none-past, position-below}
+use Rattle.holding.specs.Lists.{found-in, none-past, found-below}
 use Rattle.progress.specs.RunOn.{Ended, run-on-ends}
 use Rattle.progress.specs.Lacks.{lacks-exactly}
 use Rattle.preservation.specs.Accepted.{exec-defined}
@@ -38,7 +38,7 @@ fails-iff : {b : Bool} {A : Type 0} → b ≡ false → ¬ A → (b ≡ true) �
 fails-iff e n = (λ t. absurd (true≢false (sym t ∙ e)), λ a. absurd (n a))
 
 not-past : {A : Type 0} (l : List A) (i : ℕ) {x : A} → getElem? l i ≡ some x → ¬ (length l ≤ i)
-not-past l i e h = let b = position-below l i e in omega arith
+not-past l i e h = let b = found-below l i e in omega arith
 
 -- ── the replies to a call, by the refusal list
 pub data Replied (p : Program) (C : Config) : Call → Reply → Type 0 where
@@ -144,7 +144,7 @@ module _ (text : List ℕ) (ds : List Declaration) (ok : checked text ≡ accept
       go : (o : Option Located) → getElem? (P .execs) line ≡ o
           → (isRefused (onLine (lineSignature P o) (refusal C (callStart scratch run line)) (λ g. reply (started Starts.Begun) (startConfig g)) .answer) ≡ true) ↔ (length (P .execs) ≤ line)
       go none e = holds-iff refl (none-past (P .execs) line e)
-      go (some n) e = rw (exec-defined text ds ok n (element-in (P .execs) line e) .1) (fails-iff refl (not-past (P .execs) line e))
+      go (some n) e = rw (exec-defined text ds ok n (found-in (P .execs) line e) .1) (fails-iff refl (not-past (P .execs) line e))
 
   refused-name : (C : Config) (scratch line : ℕ) → Enough scratch runWords
       → RefusedWhere P C (callExecName scratch line) (respond text C (callExecName scratch line) .answer)

@@ -1,0 +1,5 @@
+pub mod Lists
+pub mod Names
+pub mod Contexts
+pub mod Ends
+pub mod FarEnds
