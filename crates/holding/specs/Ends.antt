@@ -3,15 +3,19 @@ use mathlib.Core.Path.{_≡_, refl, sym, _∙_, ap, subst}
 use mathlib.Core.Logic.{_≢_, _⊎_, inl, inr}
 use mathlib.Core.List.{List, [], _∷_, _++_, map, List·Memᴰ·head, List·Memᴰ·tail, List·Memᴰ·not-nil, List·Memᴰ·append-cases, Memᴰ·map, Memᴰ·of-map, Memᴰ·cast, Memᴰ·append-left, Memᴰ·append-right}
 use mathlib.Core.Option.{some, Option·none-ne-some, Option·some-injective}
+use mathlib.Core.Bool.{false≢true}
 use Prim.Native.Nat.{ℕ, zero, suc}
 use native.Mathlib.Omega.{arith}
 use lib.ListN.{getElem?}
 use Rattle.notation.specs.Tree.{Name}
-use Rattle.calculus.specs.Types.{Side, used}
+use Rattle.calculus.specs.Types.{Side, provided, used, sameSide}
 use Rattle.calculus.specs.Program.{Program}
 use Rattle.calculus.specs.Configuration.{End, end, Process, Outside, Config}
 use Rattle.calculus.specs.WellFormed.{In, NoneTwice, key, heldEnds, processEnds, outsideEnds, ends, Stands, WellFormed}
 use Rattle.holding.specs.Lists.{once-by, once-append, once-left, once-right, once-apart, map-append}
+
+pub side-clash : provided ≢ used
+side-clash e = false≢true (sym (ap (sameSide provided) e))
 
 abbrev pub keyAt : Name × End → ℕ × Side
 keyAt x = key (x .1)

@@ -3,7 +3,7 @@ use mathlib.Core.Path.{_≡_, refl, sym, _∙_, ap, subst}
 use mathlib.Core.Logic.{_≢_, _⊎_, inl, inr}
 use mathlib.Core.List.{List, [], _∷_, List·Memᴰ·head, List·Memᴰ·tail, List·Memᴰ·not-nil}
 use mathlib.Core.Option.{Option, some, none, Option·none-ne-some, Option·some-injective}
-use mathlib.Core.Bool.{Bool, true, false, cond, So, _&&_, false≢true, and-eq-true-iff}
+use mathlib.Core.Bool.{Bool, true, false, So, _&&_, false≢true, and-eq-true-iff}
 use Prim.Native.Nat.{ℕ, zero, suc, _+_}
 use native.Mathlib.Omega.{arith}
 use lib.ListN.{getElem?}
@@ -15,12 +15,9 @@ use Rattle.calculus.specs.Configuration.{End, Process, Outside, Config, heldAs,
 use Rattle.calculus.specs.WellFormed.{In, key, Stands, WellFormed}
 use Rattle.derivations.specs.Booleans.{bool-cases, cond-true, cond-false, eqb-iff}
 use Rattle.derivations.specs.Equality.{sameSide-iff}
-use Rattle.holding.specs.Ends.{one-holder, one-name}
+use Rattle.holding.specs.Ends.{side-clash, one-holder, one-name}
 
 -- ── who holds an end
-clash : Path Side provided used → ⊥
-clash e = false≢true (sym (ap (sameSide provided) e))
-
 abbrev pub isEnd : ℕ → Side → End → Bool
 isEnd k s e = eqb k (e .channel) && sameSide s (e .side)
 
@@ -146,7 +143,7 @@ far-is C e = go (holderFrom 0 (e .channel) (other (e .side)) (C .processes)) ref
         → FarIs C e (orOutside s y)
     out s z none w h = at-nobody (λ j q g x. held-none (e .channel) (other (e .side)) (q .held) (holder-none 0 _ _ (C .processes) h j q g) x) (λ _. outside-none (e .channel) (C .outside) w)
     out provided z (some y) w h = let r = outside-some (e .channel) (C .outside) y w in at-outside (y .number) y (r .0) (r .1) z
-    out used z (some y) w h = at-nobody (λ j q g x. held-none (e .channel) (other (e .side)) (q .held) (holder-none 0 _ _ (C .processes) h j q g) x) (λ p. absurd (clash (sym p ∙ z)))
+    out used z (some y) w h = at-nobody (λ j q g x. held-none (e .channel) (other (e .side)) (q .held) (holder-none 0 _ _ (C .processes) h j q g) x) (λ p. absurd (side-clash (sym p ∙ z)))
 
     go : (o : Option Holder) → holderFrom 0 (e .channel) (other (e .side)) (C .processes) ≡ o → FarIs C e (farFrom o (orOutside (e .side) (outsideOf (e .channel) (C .outside))))
     go none z = out (e .side) refl (outsideOf (e .channel) (C .outside)) refl z

@@ -3,3 +3,5 @@ pub mod Names
 pub mod Contexts
 pub mod Ends
 pub mod FarEnds
+pub mod Fresh
+pub mod Outward

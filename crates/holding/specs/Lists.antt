@@ -7,8 +7,9 @@ use mathlib.Core.Logic.{_↔_, _≢_, _⊎_, inl, inr}
 use mathlib.Core.List.{List, [], _∷_, _++_, map, List·Memᴰ·head, List·Memᴰ·tail, List·Memᴰ·not-nil, List·Memᴰ·cases-cons, List·Memᴰ·append-cases, List·Memᴰ·eq-of-singleton, Memᴰ·map, Memᴰ·of-map, Memᴰ·cast, Memᴰ·append-left, Memᴰ·append-right, Sublistᴰ, Sublistᴰ·slnil, Sublistᴰ·cons, Sublistᴰ·cons-cons}
 use mathlib.Core.Option.{Option·map, some, none, Option·some-injective, Option·none-ne-some, Option·some-ne-none}
 use mathlib.Core.Bool.{Bool, true, false, true≢false}
-use lib.ListN.{length, take, drop, set, getElem?}
+use lib.ListN.{length, take, drop, set, getElem?, length-map}
 use lib.Dec.{ltb}
+use Rattle.calculus.specs.Configuration.{Process, relinked, movedUp, movedDown, inserted, removed}
 use Rattle.calculus.specs.WellFormed.{In, NoneTwice}
 use Rattle.derivations.specs.Booleans.{ltb-iff}
 
@@ -129,6 +130,17 @@ module _ {A : Type 0} where
   length-out zero (x ∷ l) h = refl
   length-out (suc n) (x ∷ l) h = ap suc (length-out n l (omega arith))
 
+-- a process put in after a place, or taken out
+pub length-inserted : (k : ℕ) (x : Process) (l : List Process) → length (inserted k x l) ≡ suc (length l)
+unfolding inserted
+length-inserted k x l = length-in (suc k) x (map (relinked (movedUp k)) l) ∙ ap suc (length-map l (relinked (movedUp k)))
+
+pub length-removed : (k : ℕ) (l : List Process) → k < length l → suc (length (removed k l)) ≡ length l
+unfolding removed
+length-removed k l h =
+    let e = length-map l (relinked (movedDown k)) in
+    length-out k (map (relinked (movedDown k)) l) (omega arith) ∙ e
+
 -- ── no element twice
 module _ {A B : Type 0} (f : A → B) where
   -- what is found twice is one element
@@ -137,14 +149,6 @@ module _ {A B : Type 0} (f : A → B) where
   once-by u (List·Memᴰ·head h) (List·Memᴰ·tail k) z = absurd (u .0 (Memᴰ·cast (ap f (sym h) ∙ z) (Memᴰ·map f k)))
   once-by u (List·Memᴰ·tail k) (List·Memᴰ·head g) z = absurd (u .0 (Memᴰ·cast (ap f (sym g) ∙ sym z) (Memᴰ·map f k)))
   once-by u (List·Memᴰ·tail k) (List·Memᴰ·tail n) z = once-by (u .1) k n z
-
-  -- f tells apart what g does
-  pub once-along : {D : Type 0} (g : A → D) (l : List A) → NoneTwice (map g l) → ((x y : A) → In x l → In y l → f x ≡ f y → g x ≡ g y) → NoneTwice (map f l)
-  once-along g [] u h = tt
-  once-along g (x ∷ l) u h = (
-    (λ m. let r = Memᴰ·of-map f l m in u .0 (Memᴰ·cast (h x (r .0) (List·Memᴰ·head refl) (List·Memᴰ·tail (r .1)) (sym (r .2))) (Memᴰ·map g (r .1)))),
-    once-along g l (u .1) (λ x y i j. h x y (List·Memᴰ·tail i) (List·Memᴰ·tail j)),
-  )
 
 module _ {A : Type 0} where
   pub once-append : (l m : List A) → NoneTwice l → NoneTwice m → ((x : A) → In x l → In x m → ⊥) → NoneTwice (l ++ m)

@@ -20,15 +20,15 @@ use Rattle.calculus.specs.Steps.{lacking, outsideAfter, parting, cancelling, sp
 use Rattle.calculus.specs.WellFormed.{In, contextOf, isWaiting, NoneTwice}
 use Rattle.derivations.specs.Booleans.{ltb-iff, all-iff}
 use Rattle.derivations.specs.Equality.{sameType-iff}
-use Rattle.holding.specs.Lists.{set-cases, found-below, below-found}
+use Rattle.holding.specs.Lists.{length-inserted, length-removed, set-cases, found-below, below-found}
 use Rattle.holding.specs.Names.{names-in, without-sub}
 use Rattle.holding.specs.Contexts.{held-plain, context-names, context-without, context-kept, context-append, context-length, absent-held}
 use Rattle.holding.specs.FarEnds.{FarIs, at-process, at-outside, at-nobody, far-is}
 use Rattle.preservation.specs.Mates.{put}
 use Rattle.preservation.specs.Roster.{channelKey, Has, TypedDoing, Good, NamesOf, Goes, Runs, runs-on, runs-awake, folds}
 use Rattle.preservation.specs.LettingGo.{let-go-sub, raised, left, left-alone}
-use Rattle.preservation.specs.Places.{Shows, shows-set, shows-in, shows-out, idIn, id-in-low, id-in-new, relinked-in, up-below, idOut, length-inserted, length-removed}
-use Rattle.preservation.specs.FarEnds.{fresh-free}
+use Rattle.preservation.specs.Places.{Shows, shows-set, shows-in, shows-out, idIn, id-in-low, id-in-new, relinked-in, up-below, idOut}
+use Rattle.preservation.specs.FarEnds.{fresh-unheld}
 use Rattle.preservation.specs.Forwarding.{forwarded, forwarded-out}
 use Rattle.preservation.specs.Relocating.{Relocated, relocated}
 use Rattle.preservation.specs.Witness.{Tip}
@@ -95,7 +95,7 @@ module _ {p : Program} {C : Config} (I : Inv p C) (i : ℕ) (q : Process) (at : 
       next = I .next;
       shows = shows-out s₁ i (omega (arith, inside, len₁)) alone;
       good = left (I .good) (I .id i) (I .id h) (relinked (I .id) q) (relinked (I .id) r) (at-roster I i q at) (at-roster I h r rh) w link-id rw d wd nd td;
-      places = let a = I .places in let b = length-removed s₁ i (omega (arith, inside, len₁)) in omega (arith, len₁);
+      places = let a = I .places in let b = length-removed i l₁ (omega (arith, inside, len₁)) in omega (arith, len₁);
       numbers = I .numbers;
     }
       where
@@ -145,7 +145,7 @@ module _ {p : Program} {C : Config} (I : Inv p C) (i : ℕ) (q : Process) (at : 
         next = I .next;
         shows = shows-out (I .shows) i inside (unlinked I i q at w);
         good = left-alone (I .good) (I .id i) (relinked (I .id) q) (at-roster I i q at) w (ap (Option·map (I .id)) z);
-        places = let a = I .places in let b = length-removed (I .shows) i inside in omega arith;
+        places = let a = I .places in let b = length-removed i (C .processes) inside in omega arith;
         numbers = I .numbers;
       }
       go (some h) z =
@@ -195,7 +195,7 @@ module _ {p : Program} {C : Config} (I : Inv p C) (i : ℕ) (q : Process) (at : 
         good = Growing.spawned (I .good) (I .id i) (relinked (I .id) q) (at-roster I i q at) w t n (plain A) k (fresh .1) (fresh .0) (absent-held n (q .held) (bP .new)) P Q
             (room t (bP .room)) (room (λ m. not (t m)) (bQ .room)) (subst (λ G. Typed p G false P) (sym (half t (end provided k (plain A)))) tP)
             (subst (λ G. Typed p G b Q) (sym (half (λ m. not (t m)) (end used k (plain A)))) tQ);
-        places = let a = ltb-iff (length (C .processes)) processPlaces .0 lt in let c = length-inserted s₁ i made in omega (arith, len₁);
+        places = let a = ltb-iff (length (C .processes)) processPlaces .0 lt in let c = length-inserted i made (set (C .processes) i maker) in omega (arith, len₁);
         numbers = I .numbers;
       }
         where
@@ -212,7 +212,7 @@ module _ {p : Program} {C : Config} (I : Inv p C) (i : ℕ) (q : Process) (at : 
           s₁ = shows-set (I .shows) i inside maker (I .shows .within i q at)
 
           fresh : (k < channelPlaces) × ((v : ℕ) (t : Tip) → Has (I .roster) (C .outside) v t → t .0 .0 ≢ channelKey k)
-          fresh = fresh-free C (I .shows) k e
+          fresh = fresh-unheld C (I .shows) k e
 
   pub try-keeps : Runs (q .doing) → (P Q : Proc) → exactlyOne P Q (names (contextOf (q .held))) ≡ true → Typed p (tryTakes P (contextOf (q .held))) true P
       → Typed p (tryTakes Q (contextOf (q .held))) b Q → Keeps p (trying C i q P Q)
@@ -229,7 +229,7 @@ module _ {p : Program} {C : Config} (I : Inv p C) (i : ℕ) (q : Process) (at : 
       f = idIn (I .shows) i (I .next)
 
       len₁ : length (inserted i waiter (C .processes)) ≡ suc (length (C .processes))
-      len₁ = length-inserted (I .shows) i waiter
+      len₁ = length-inserted i waiter (C .processes)
 
       up-within : (h : ℕ) → Option·map (movedUp i) (q .link) ≡ some h → h < suc (length (C .processes))
       up-within h z =

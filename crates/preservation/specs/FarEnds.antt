@@ -1,21 +1,18 @@
 -- What the machine finds in the list: the far end of an end, and a channel that is free.
 use mathlib.Core.Path.{_≡_, refl, sym, _∙_, ap, subst}
-use mathlib.Core.Logic.{_≢_, _⊎_, inl, inr}
+use mathlib.Core.Logic.{_≢_}
 use mathlib.Core.List.{List, [], _∷_, map, List·Memᴰ·head, List·Memᴰ·tail, List·Memᴰ·not-nil, Memᴰ·map}
-use mathlib.Core.Option.{Option, some, none, Option·none-ne-some, Option·some-injective}
-use mathlib.Core.Bool.{Bool, true, false, cond, So, _&&_, false≢true, and-eq-true-iff}
-use Prim.Native.Nat.{ℕ, zero, suc, _+_, _<_}
-use native.Mathlib.Omega.{arith}
+use mathlib.Core.Option.{Option, some, Option·none-ne-some, Option·some-injective}
+use Prim.Native.Nat.{ℕ, zero, suc, _<_}
 use lib.ListN.{getElem?}
-use lib.Dec.{eqb}
 use Rattle.notation.specs.Limits.{channelPlaces}
 use Rattle.notation.specs.Tree.{Name, Ty}
-use Rattle.calculus.specs.Types.{Side, provided, used, other, sameSide}
-use Rattle.calculus.specs.Configuration.{End, Process, relinked, Outside, Config, heldAs, Holder, holderHere, holderFrom, outsideOf, Far, atProcess, atOutside, givenUp, orOutside, farFrom, farEnd, heldChannels, processChannels, channelsHeld, among, freeFrom, freshChannel}
+use Rattle.calculus.specs.Types.{Side, provided, used, other}
+use Rattle.calculus.specs.Configuration.{End, Process, relinked, Outside, Config, heldChannels, processChannels, channelsHeld, freshChannel}
 use Rattle.calculus.specs.WellFormed.{In}
-use Rattle.derivations.specs.Booleans.{bool-cases, cond-true, cond-false, eqb-iff}
-use Rattle.derivations.specs.Equality.{sameSide-iff}
-use Rattle.preservation.specs.Witness.{Tip, side-clash, tipNumber, tipSide}
+use Rattle.holding.specs.Ends.{side-clash}
+use Rattle.holding.specs.Fresh.{fresh-free}
+use Rattle.preservation.specs.Witness.{Tip, tipNumber, tipSide}
 use Rattle.preservation.specs.Roster.{Roster, channelKey, channel-key-one, channel-no-link, holds, links, waits, Has, outside, inside}
 use Rattle.preservation.specs.Places.{Shows}
 
@@ -45,24 +42,6 @@ module _ (C : Config) {id : ℕ → ℕ} {S : Roster} (s : Shows id (C .processe
   nobody-has e a b v t (inside r w (waits _ h)) = channel-no-link (e .channel) v (ap tipNumber h)
 
 -- ── a free channel
-among-in : (k : ℕ) (l : List ℕ) → In k l → So (among k l)
-among-in k (j ∷ l) (List·Memᴰ·head e) = cond-true true (among k l) (eqb-iff k j .1 e)
-among-in k (j ∷ l) (List·Memᴰ·tail i) = go (eqb k j) (among-in k l i)
-  where
-    go : (b : Bool) → So (among k l) → So (cond b true (among k l))
-    go true r = refl
-    go false r = r
-
-free-from : (busy : List ℕ) (k n j : ℕ) → freeFrom busy k n ≡ some j → (j < k + n) × ¬ In j busy
-free-from busy k zero j e = absurd (Option·none-ne-some j e)
-free-from busy k (suc n) j e = go (bool-cases (among k busy)) (free-from busy (suc k) n j)
-  where
-    go : (among k busy ≡ true) ⊎ (among k busy ≡ false) → (freeFrom busy (suc k) n ≡ some j → (j < suc k + n) × ¬ In j busy) → (j < k + suc n) × ¬ In j busy
-    go (inl z) r = let x = r (sym (cond-true (freeFrom busy (suc k) n) (some k) z) ∙ e) in ((let y = x .0 in omega arith), x .1)
-    go (inr z) r =
-        let x : k ≡ j = Option·some-injective _ _ (sym (cond-false (freeFrom busy (suc k) n) (some k) z) ∙ e) in
-        (omega arith, λ m. false≢true (sym z ∙ ap (λ k. among k busy) x ∙ among-in j busy m))
-
 held-channels : (l : List (Name × End)) (r : List ℕ) → ((x : Name × End) → In x l → In (x .1 .channel) (heldChannels l r)) × ((k : ℕ) → In k r → In k (heldChannels l r))
 held-channels [] r = (λ x i. absurd (List·Memᴰ·not-nil i), λ k i. i)
 held-channels (x ∷ l) r = (go (held-channels l r .0), λ k i. List·Memᴰ·tail (held-channels l r .1 k i))
@@ -82,9 +61,9 @@ process-channels (p ∷ l) r = (go (process-channels l r .0), λ k i. held-chann
     go f (suc j) q e x i = held-channels (p .held) (processChannels l r) .1 (x .1 .channel) (f j q e x i)
 
 module _ (C : Config) {id : ℕ → ℕ} {S : Roster} (s : Shows id (C .processes) S) where
-  pub fresh-free : (k : ℕ) → freshChannel C ≡ some k → (k < channelPlaces) × ((v : ℕ) (t : Tip) → Has S (C .outside) v t → t .0 .0 ≢ channelKey k)
-  unfolding freshChannel channelsHeld
-  fresh-free k e = let r = free-from (channelsHeld C) 0 channelPlaces k e in ((let x = r .0 in omega arith), λ v t h z. r .1 (busy v t h z))
+  pub fresh-unheld : (k : ℕ) → freshChannel C ≡ some k → (k < channelPlaces) × ((v : ℕ) (t : Tip) → Has S (C .outside) v t → t .0 .0 ≢ channelKey k)
+  unfolding channelsHeld
+  fresh-unheld k e = let r = fresh-free C e in (r .place, λ v t h z. r .free (busy v t h z))
     where
       all : ((j : ℕ) (q : Process) → getElem? (C .processes) j ≡ some q → (x : Name × End) → In x (q .held) → In (x .1 .channel) (channelsHeld C)) × ((k : ℕ)
           → In k (map (λ (o : Outside). o .channel) (C .outside)) → In k (channelsHeld C))

@@ -15,8 +15,8 @@ use Rattle.calculus.specs.Declarations.{outward}
 use Rattle.calculus.specs.Configuration.{End, end, folding, Process, process, Outside, changedOutside, movedOutside}
 use Rattle.calculus.specs.WellFormed.{In, NoneTwice, Rising, key, isWaiting}
 use Rattle.holding.specs.Names.{lookup-in}
-use Rattle.holding.specs.Ends.{keyAt}
-use Rattle.preservation.specs.Witness.{Tip, Rel, Witness, side-clash, Moved, over, outing, tipKey, keyNumber, keySide}
+use Rattle.holding.specs.Ends.{side-clash, keyAt}
+use Rattle.preservation.specs.Witness.{Tip, Rel, Witness, Moved, over, outing, tipKey, keyNumber, keySide}
 use Rattle.preservation.specs.Mates.{put}
 use Rattle.preservation.specs.Roster.{Roster, channelKey, channel-no-link, keyOf, tipOf, linkTip, outsideTip, Has, outside, TypedDoing, Fine, fine-less, Good, Change, becomes, one-good, two-good, NamesOf, folds}
 use Rattle.preservation.specs.Relocating.{Relocated}

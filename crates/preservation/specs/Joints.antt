@@ -13,9 +13,9 @@ use Rattle.calculus.specs.Configuration.{End, Process, relinked, Config, Holder
 use Rattle.calculus.specs.Forest.{Joint, Connected, here, past, over, back, Forest, jointAt, channelJoints, linkJoint, jointsFrom, joints}
 use Rattle.calculus.specs.WellFormed.{In, NoneTwice, isWaiting}
 use Rattle.holding.specs.Lists.{once-append, map-append, found-below}
-use Rattle.holding.specs.Ends.{keyAt}
+use Rattle.holding.specs.Ends.{side-clash, keyAt}
 use Rattle.holding.specs.FarEnds.{Found, FarIs, at-process, at-outside, at-nobody, far-is}
-use Rattle.preservation.specs.Witness.{Key, Tip, side-clash, joint, tipNumber, tipSide}
+use Rattle.preservation.specs.Witness.{Key, Tip, joint, tipNumber, tipSide}
 use Rattle.preservation.specs.Roster.{Roster, channelKey, linkKey, channel-key-one, channel-no-link, tipOf, linkTip, holds, links, waits, Has, outside, inside}
 use Rattle.preservation.specs.Places.{Shows}
 use Rattle.preservation.specs.FarEnds.{held-back, nobody-has}

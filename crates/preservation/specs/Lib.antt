@@ -19,6 +19,5 @@ pub mod Stepping
 pub mod Joints
 pub mod WellFormed
 pub mod Start
-pub mod Running
 pub mod Preserved
 pub mod Accepted

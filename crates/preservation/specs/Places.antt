@@ -1,17 +1,17 @@
 -- Places and identities: the list of processes shows a roster, and what the machine does to the list is done to the roster.
 use mathlib.Core.Path.{_≡_, refl, sym, _∙_, ap, subst}
 use mathlib.Core.Logic.{_≢_, _⊎_, inl, inr}
-use mathlib.Core.List.{List, [], _∷_, _++_, map}
+use mathlib.Core.List.{List, map}
 use mathlib.Core.Option.{Option, some, none, Option·map, Option·none-ne-some, Option·some-injective, map-eq-some-iff}
-use mathlib.Core.Bool.{true, false, cond, false≢true}
+use mathlib.Core.Bool.{true, false, cond}
 use Prim.Native.Nat.{ℕ, zero, suc, _-_, _≤_, _<_}
 use native.Mathlib.Omega.{arith}
 use native.Mathlib.Decide.{ℕ-discrete, decLt}
-use lib.ListN.{length, take, drop, set, getElem?, length-set, length-map}
+use lib.ListN.{length, set, getElem?, length-set, length-map}
 use lib.Dec.{ltb}
 use Rattle.calculus.specs.Configuration.{Process, process, movedUp, movedDown, relinked, inserted, removed}
 use Rattle.derivations.specs.Booleans.{bool-cases, cond-true, cond-false, ltb-iff}
-use Rattle.holding.specs.Lists.{found-below, below-found, set-at, set-off, set-cases, putIn, takeOut, in-low, in-here, in-high, out-low, out-high, length-in, length-out, found-map, not-below}
+use Rattle.holding.specs.Lists.{found-below, below-found, set-at, set-off, set-cases, putIn, takeOut, in-low, in-here, in-high, out-low, out-high, length-in, length-removed, found-map, not-below}
 use Rattle.preservation.specs.Mates.{put, put-at, put-off, put-elim}
 use Rattle.preservation.specs.Roster.{Roster}
 
@@ -191,10 +191,6 @@ module _ {id : ℕ → ℕ} {l : List Process} {S : Roster} (s : Shows id l S) w
         go (yes z) = inl (z, Option·some-injective q r (sym (in-here (suc i) q m (omega (arith, len-m))) ∙ ap (getElem? (putIn (suc i) q m)) (sym z) ∙ e))
         go (no n) = side j refl n
 
-  pub length-inserted : (i : ℕ) (q : Process) → length (inserted i q l) ≡ suc (length l)
-  unfolding inserted
-  length-inserted i q = length-in (suc i) q (map (relinked (movedUp i)) l) ∙ ap suc (length-map l (relinked (movedUp i)))
-
   pub up-below : (i h : ℕ) → h < length l → movedUp i h < suc (length l)
   up-below i h b = go (up-cases i h)
     where
@@ -268,10 +264,6 @@ module _ {id : ℕ → ℕ} {l : List Process} {S : Roster} (s : Shows id l S) w
   unfolding idOut
   id-out-down i h n = ap id (skip-down i h n)
 
-  pub length-removed : (i : ℕ) → i < length l → suc (length (removed i l)) ≡ length l
-  unfolding removed
-  length-removed i h = length-out i (map (relinked (movedDown i)) l) (omega (arith, length-map l (relinked (movedDown i)))) ∙ length-map l (relinked (movedDown i))
-
   skip-below : (i j n : ℕ) → i < suc n → j < n → skip i j < suc n
   skip-below i j n h k = go (skip-cases i j)
     where
@@ -316,7 +308,7 @@ module _ {id : ℕ → ℕ} {l : List Process} {S : Roster} (s : Shows id l S) w
       m′ = map (relinked (movedDown i)) l
 
       len : suc (length (takeOut i m′)) ≡ length l
-      len = length-removed i h
+      len = length-removed i l h
 
       at-skip : (j : ℕ) → getElem? (takeOut i m′) j ≡ Option·map (relinked (movedDown i)) (getElem? l (skip i j))
       at-skip j = go (skip-cases i j)

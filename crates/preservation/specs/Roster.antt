@@ -15,7 +15,7 @@ use Rattle.calculus.specs.Program.{Context, Program}
 use Rattle.calculus.specs.Declarations.{outward}
 use Rattle.calculus.specs.Typing.{Typed}
 use Rattle.calculus.specs.Configuration.{End, end, Doing, running, folding, waiting, Process, process, Outside}
-use Rattle.calculus.specs.WellFormed.{In, NoneTwice, Rising, contextOf, key, isWaiting}
+use Rattle.calculus.specs.WellFormed.{In, NoneTwice, Rising, contextOf, isWaiting}
 use Rattle.holding.specs.Lists.{sub-in, sub-once, sub-length, once-snoc}
 use Rattle.holding.specs.Names.{names-map}
 use Rattle.holding.specs.Ends.{keyAt}
@@ -80,9 +80,6 @@ NamesOf (waiting Q) ns = NoneTwice ns
 pub record Goes (d d′ : Doing) : Type 0 where
   pub waits : isWaiting d ≡ isWaiting d′
   pub names : (ns : List Name) → NamesOf d ns → NamesOf d′ ns
-
-pub goes-on : (d : Doing) → Goes d d
-goes-on d = record { waits = refl; names = λ ns n. n }
 
 pub record Runs (d : Doing) : Type 0 where
   pub term : Proc

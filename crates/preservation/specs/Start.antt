@@ -16,15 +16,15 @@ use Rattle.calculus.specs.Types.{provided, used}
 use Rattle.calculus.specs.Program.{slot, Signature, Program, onSide, signatureContext}
 use Rattle.calculus.specs.Declarations.{outward, entryTypes}
 use Rattle.calculus.specs.Typing.{Typed, TypedBody}
-use Rattle.calculus.specs.Configuration.{End, end, running, folding, Process, process, relinked, Outside}
+use Rattle.calculus.specs.Configuration.{End, end, running, Process, process, relinked, Outside}
 use Rattle.calculus.specs.Runs.{startHeld, startOutside, startConfig}
 use Rattle.calculus.specs.WellFormed.{In, NoneTwice, Rising, contextOf, isWaiting, WellFormed}
 use Rattle.derivations.specs.Booleans.{all-iff}
 use Rattle.holding.specs.Lists.{once-by, search}
 use Rattle.holding.specs.Names.{distinct-iff}
 use Rattle.holding.specs.Contexts.{context-names, context-length}
-use Rattle.holding.specs.Ends.{keyAt}
-use Rattle.preservation.specs.Witness.{Key, Tip, Witness, side-clash, tipNumber, tipSide, tipType, keyNumber}
+use Rattle.holding.specs.Ends.{side-clash, keyAt}
+use Rattle.preservation.specs.Witness.{Key, Tip, Witness, tipNumber, tipSide, tipType, keyNumber}
 use Rattle.preservation.specs.Mates.{Quiet, quiet-none, quiet-some, mates-quiet}
 use Rattle.preservation.specs.Roster.{Roster, channelKey, channel-key-one, Tips, holds, links, waits, Has, outside, inside, Fine, Fair, profile}
 use Rattle.preservation.specs.Invariant.{Inv}

@@ -22,8 +22,8 @@ use Rattle.derivations.specs.Equality.{sameType-iff}
 use Rattle.holding.specs.Lists.{once-append, search, map-append, found-below, once-left, once-right, once-apart}
 use Rattle.holding.specs.Names.{distinct-iff}
 use Rattle.holding.specs.Contexts.{context-names}
-use Rattle.holding.specs.Ends.{keyAt, process-end, end-process, keys-of-process, one-process, keys-once, outside-end, end-outside, outside-keys, keys-outside}
-use Rattle.preservation.specs.Witness.{Key, Tip, key-discrete, side-clash, joint, Witness, tipNumber, tipKey, tipType, keyNumber, keySide}
+use Rattle.holding.specs.Ends.{side-clash, keyAt, process-end, end-process, keys-of-process, one-process, keys-once, outside-end, end-outside, outside-keys, keys-outside}
+use Rattle.preservation.specs.Witness.{Key, Tip, key-discrete, joint, Witness, tipNumber, tipKey, tipType, keyNumber, keySide}
 use Rattle.preservation.specs.Mates.{Mates, link-of}
 use Rattle.preservation.specs.Roster.{Roster, channelKey, linkKey, channel-key-one, link-key-one, channel-no-link, tipOf, linkTip, outsideTip, Tips, holds, links, waits, Has, outside, inside, TypedDoing, Fine, Fair, profile, Good, NamesOf}
 use Rattle.preservation.specs.Retyping.{above, owner, one-type, key-of-key}

@@ -13,6 +13,7 @@ use Rattle.calculus.specs.Forest.{Joint, Forest}
 use Rattle.calculus.specs.WellFormed.{In, NoneTwice}
 use Rattle.graphs.specs.Graph.{decIn, glue, glueJ, glue-at, glue-off, glue-self}
 use Rattle.graphs.specs.Moves.{map-cong, share, grow, grow-turned, thin}
+use Rattle.holding.specs.Ends.{side-clash}
 
 -- the number of a joint and a side of it
 abbrev pub Key : Type 0
@@ -45,13 +46,6 @@ abbrev pub Rel : Type 1
 Rel = ℕ → Tip → Type 0
 
 -- ── keys are told apart
-abbrev IsProvided : Side → Type 0
-IsProvided provided = Unit {0}
-IsProvided used = ⊥
-
-pub side-clash : provided ≢ used
-side-clash e = subst IsProvided e tt
-
 unfoldable pub side-discrete : (s t : Side) → Dec (s ≡ t)
 side-discrete provided provided = yes refl
 side-discrete provided used = no side-clash

@@ -1,5 +1,5 @@
 -- A process that folds up folds up until it leaves: no step makes it run a term.
-use Prim.Native.Nat.{ℕ, suc, _-_, _≤_, _<_, suc-le-suc}
+use Prim.Native.Nat.{ℕ, suc, _-_, _≤_, suc-le-suc}
 use native.Mathlib.Omega.{arith}
 use native.Mathlib.Decide.{ℕ-discrete}
 use mathlib.Core.Path.{_≡_, refl, sym, _∙_, ap, subst, subst₂}
@@ -7,7 +7,7 @@ use mathlib.Core.Logic.{_≢_}
 use mathlib.Core.List.{List, [], _∷_, _++_, map}
 use mathlib.Core.Option.{Option, some, none, Option·map, Option·some-injective}
 use mathlib.Core.Bool.{Bool, true, false, cond, true≢false, false≢true}
-use lib.ListN.{length, length-set, length-map, take, drop, set, getElem?}
+use lib.ListN.{length, length-set, take, drop, set, getElem?}
 use lib.Dec.{ltb}
 use Rattle.notation.specs.Bytes.{same}
 use Rattle.notation.specs.Tree.{Name}
@@ -18,7 +18,7 @@ use Rattle.calculus.specs.Runs.{isCarried}
 use Rattle.calculus.specs.WellFormed.{Stands}
 use Rattle.calculus.specs.declared.answers.Seen.{Seen}
 use Rattle.derivations.specs.Booleans.{ltb-iff}
-use Rattle.holding.specs.Lists.{not-below, found-below, set-at, set-off, in-low, in-high, out-low, out-high, found-map, length-in, length-out}
+use Rattle.holding.specs.Lists.{not-below, found-below, set-at, set-off, in-low, in-high, out-low, out-high, found-map, length-inserted, length-removed}
 use Rattle.progress.specs.Shapes.{talks, Touched, itself, partner, Shape, not-carried, one, two, joined, handled, spawned-one, tried-one, left, config-by, step-shape}
 use Rattle.progress.specs.Waiting.{step-at}
 
@@ -117,16 +117,6 @@ length-changed g (some j) l = go (getElem? l j)
     go : (o : Option Process) → length (putAt l j (Option·map g o)) ≡ length l
     go none = refl
     go (some q) = length-set l j (g q)
-
-length-inserted : (k : ℕ) (x : Process) (l : List Process) → length (inserted k x l) ≡ suc (length l)
-unfolding inserted
-length-inserted k x l = length-in (suc k) x (map (relinked (movedUp k)) l) ∙ ap suc (length-map l (relinked (movedUp k)))
-
-length-removed : (k : ℕ) (l : List Process) → k < length l → suc (length (removed k l)) ≡ length l
-unfolding removed
-length-removed k l h =
-    let e = length-map l (relinked (movedDown k)) in
-    length-out k (map (relinked (movedDown k)) l) (omega arith) ∙ e
 
 -- a handler that folds up is not started
 started-folds : (q : Process) → q .doing ≡ folding → startedHandler q .doing ≡ folding

@@ -21,7 +21,7 @@ use Rattle.holding.specs.Lists.{not-below}
 use Rattle.holding.specs.Names.{lookup-in, in-lookup, distinct-iff}
 use Rattle.holding.specs.Contexts.{context-names}
 use Rattle.holding.specs.FarEnds.{stands-at, found-key, HeldFar, FarIs, at-process, at-outside, at-nobody, far-is, far-back, far-found}
-use Rattle.progress.specs.Fresh.{none-fresh}
+use Rattle.holding.specs.Fresh.{none-fresh}
 use Rattle.progress.specs.Waiting.{step-at}
 
 -- an outcome that lacks, and one that does not

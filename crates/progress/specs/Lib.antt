@@ -1,7 +1,6 @@
 pub mod Chosen
 pub mod Endings
 pub mod Folding
-pub mod Fresh
 pub mod GivenUp
 pub mod Joints
 pub mod Lacks

@@ -15,9 +15,9 @@ use Rattle.calculus.specs.Machine.{Call, callStart, started, respond, idle, Mom
 use Rattle.calculus.specs.declared.answers.Seen.{Seen}
 use Rattle.calculus.specs.declared.answers.Started.the-variants as Starts
 use Rattle.decision.specs.Decide.{wellFormed?, wellFormed?-iff}
-use Rattle.preservation.specs.Preserved.{preserved, run-preserved}
+use Rattle.preservation.specs.Preserved.{preserved}
 use Rattle.preservation.specs.Accepted.{accepted-bodies, accepted-start}
-use Rattle.safety.specs.Safety.{demand3}
+use Rattle.safety.specs.Safety.{run-keeps, demand3}
 
 module _ (text : List ℕ) (ds : List Declaration) (ok : checked text ≡ accepted ds) where
   abbrev p : Program
@@ -30,7 +30,7 @@ module _ (text : List ℕ) (ds : List Declaration) (ok : checked text ≡ accept
   step-never-18 C D i seen w e = wellFormed?-iff p D .1 (preserved p (accepted-bodies text ds ok) C (wellFormed?-iff p C .0 w) i seen D e)
 
   pub run-on-never-18 : (C : Config) (budget : ℕ) → wellFormed? p C ≡ true → wellFormed? p (runOn p C budget .config) ≡ true
-  run-on-never-18 C budget w = wellFormed?-iff p _ .1 (run-preserved p (accepted-bodies text ds ok) C (wellFormed?-iff p C .0 w) budget)
+  run-on-never-18 C budget w = wellFormed?-iff p _ .1 (run-keeps text ds ok C (wellFormed?-iff p C .0 w) budget)
 
   -- whatever calls follow a start that is carried out, the next one meets what the test accepts
   pub calls-never-18 : (scratch run line : ℕ) (calls : List Call) → respond text idle (callStart scratch run line) .answer ≡ started Starts.Begun

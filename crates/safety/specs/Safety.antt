@@ -1,5 +1,5 @@
 -- Demand 3: nothing waits forever for a partner that can't come, at each call of every list of calls.
-use Prim.Native.Nat.{ℕ}
+use Prim.Native.Nat.{ℕ, zero, suc}
 use mathlib.Core.Path.{_≡_, sym, ap, subst}
 use mathlib.Core.List.{List, [], _∷_, List·Memᴰ·head, List·Memᴰ·tail, List·Memᴰ·not-nil}
 use mathlib.Core.Bool.{Bool, true, false, false≢true}
@@ -7,14 +7,17 @@ use Rattle.notation.specs.Tree.{Declaration}
 use Rattle.calculus.specs.Program.{Program, programOf}
 use Rattle.calculus.specs.Accepted.{accepted, checked}
 use Rattle.calculus.specs.Configuration.{Config}
+use Rattle.calculus.specs.Steps.{carried, step}
 use Rattle.calculus.specs.Runs.{runOn}
 use Rattle.calculus.specs.WellFormed.{In, WellFormed}
 use Rattle.calculus.specs.Machine.{Call, callStart, callStep, callRunOn, callReport, callExecName, Answer, started, stepped, ranOn, reported, named, Reply, respond, idle, Moment, history}
 use Rattle.calculus.specs.Demands.{Safe, SafeBetween, Kept, Demand3}
+use Rattle.calculus.specs.declared.answers.Seen.{Seen}
 use Rattle.calculus.specs.declared.answers.Started.the-variants as Starts
 use Rattle.progress.specs.Joints.{joints-fewer}
 use Rattle.progress.specs.Progress.{some-open}
-use Rattle.preservation.specs.Preserved.{preserved, run-preserved}
+use Rattle.progress.specs.RunOn.{stepsTo, given, run-on-steps}
+use Rattle.preservation.specs.Preserved.{preserved}
 use Rattle.preservation.specs.Accepted.{accepted-bodies, accepted-start}
 use Rattle.safety.specs.Replies.{Replied, refuses, begins, carries-out, runs, reports, names, refusal-config, unchanged-by, replied, refused-start, refused-where}
 
@@ -34,13 +37,20 @@ module _ (text : List ℕ) (ds : List Declaration) (ok : checked text ≡ accept
   p = programOf ds
 
   -- ── what every step keeps, every reply keeps
-  run-keeps : (C : Config) → WellFormed p C → (budget : ℕ) → WellFormed p (runOn p C budget .config)
-  run-keeps = run-preserved p (accepted-bodies text ds ok)
+  step-keeps : (C D : Config) (i : ℕ) (seen : Seen) → WellFormed p C → step p C i ≡ carried seen D → WellFormed p D
+  step-keeps C D i seen v e = preserved p (accepted-bodies text ds ok) C v i seen D e
+
+  steps-keep : (n : ℕ) (C D : Config) → WellFormed p C → stepsTo p n C D → WellFormed p D
+  steps-keep zero C D v h = subst (WellFormed p) h v
+  steps-keep (suc n) C D v h = steps-keep n (h .1) D (step-keeps C (h .1) (h .2 .place) (h .0) v (h .2 .steps)) (h .3)
+
+  pub run-keeps : (C : Config) → WellFormed p C → (budget : ℕ) → WellFormed p (runOn p C budget .config)
+  run-keeps C v budget = steps-keep (given (runOn p C budget .answer)) C _ v (run-on-steps p C budget)
 
   reply-keeps : {C : Config} {c : Call} {r : Reply} → WellFormed p C → Replied p C c r → WellFormed p (r .config)
   reply-keeps {C} v (refuses {c} n i) = subst (WellFormed p) (sym (refusal-config C c n i)) v
   reply-keeps v (begins {line = line} g e) = accepted-start text ds ok line g e
-  reply-keeps {C} v (carries-out {place = i} seen D e) = preserved p (accepted-bodies text ds ok) C v i seen D e
+  reply-keeps {C} v (carries-out {place = i} seen D e) = step-keeps C D i seen v e
   reply-keeps {C} v (runs {budget = budget}) = run-keeps C v budget
   reply-keeps v reports = v
   reply-keeps v (names n) = v
