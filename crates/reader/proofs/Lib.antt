@@ -3,3 +3,4 @@ pub mod Filled
 pub mod TypePaths
 pub mod NamePaths
 pub mod ProcessPaths
+pub mod SignaturePaths

@@ -1,5 +1,6 @@
 // The reader: from a text to the tables.
 pub mod processes;
+pub mod signatures;
 pub mod steps;
 pub mod store;
 pub mod types;
