@@ -284,7 +284,7 @@ unfoldable pub movedEnd : ℕ → Side → ℕ → List (Name × End) → List (
 movedEnd k s m [] = []
 movedEnd k s m (e ∷ l) = cond (eqb k (e .1 .channel) && sameSide s (e .1 .side)) ((e .0, end (e .1 .side) m (e .1 .type)) ∷ l) (e ∷ movedEnd k s m l)
 
--- the process r holds the far end of e; it becomes the far end of d
+-- the process r holds the far end of e, which takes the place of d: so the far ends of e and d are one channel
 abbrev pub farMoved : End → End → Process → Process
 farMoved e d r = process (r .doing) (movedEnd (e .channel) (other (e .side)) (d .channel) (r .held)) (r .link)
 

@@ -13,7 +13,7 @@ use Rattle.notation.specs.Tree.{Located, Declaration}
 use Rattle.calculus.specs.Program.{Signature, Program, programOf}
 use Rattle.calculus.specs.Accepted.{accepted, faulty, checked}
 use Rattle.calculus.specs.Configuration.{Process, Config, at}
-use Rattle.calculus.specs.Steps.{Outcome, carried, notOpen, lacking, step, stepOf, isOpenBy, isOpen, lacksBy, lacks}
+use Rattle.calculus.specs.Steps.{Outcome, carried, notOpen, lacking, step, isOpenBy, isOpen, lacksBy, lacks}
 use Rattle.calculus.specs.Runs.{startConfig, lineSignature, execOf, runOn, report}
 use Rattle.calculus.specs.WellFormed.{WellFormed}
 use Rattle.calculus.specs.Machine.{Call, callStart, callStep, callRunOn, callReport, callExecName, started, stepped, ranOn, reported, named, Reply, reply, textChecked, onProgram, onRun, onLine, onPlace, onStep, refusal, respond}
@@ -25,6 +25,7 @@ use Rattle.calculus.specs.declared.answers.Stepped.the-variants as Steps
 use Rattle.calculus.specs.declared.answers.RanOn.the-variants as Runs
 use Rattle.calculus.specs.declared.answers.Reported.the-variants as Reports
 use Rattle.derivations.specs.Booleans.{leb-iff}
+use Rattle.derivations.specs.Demand.{placed}
 use Rattle.holding.specs.Lists.{found-in, none-past, found-below}
 use Rattle.progress.specs.RunOn.{Ended, run-on-ends}
 use Rattle.progress.specs.Lacks.{lacks-exactly}
@@ -102,11 +103,7 @@ unchanged-by (names n) e = refl
 -- where a step is open, a process is
 open-place : (p : Program) (C : Config) (i : ℕ) → isOpen p C i ≡ true → (q : Process) × (at C i ≡ some q)
 unfolding isOpen step
-open-place p C i o = go (at C i) refl o
-  where
-    go : (r : Option Process) → at C i ≡ r → isOpenBy (stepOf p C i r) ≡ true → (q : Process) × (at C i ≡ some q)
-    go none e o = absurd (false≢true o)
-    go (some q) e o = (q, e)
+open-place p C i o = placed p C i (at C i) o
 
 module _ (text : List ℕ) (ds : List Declaration) (ok : checked text ≡ accepted ds) where
   abbrev pub P : Program
