@@ -1,88 +1,18 @@
--- Lists of named things, and lists without repetition.
+-- Lists of named things: what a name stands for, and what is left, kept or changed.
 use mathlib.Core.Path.{_≡_, refl, sym, _∙_, ap, subst}
 use mathlib.Core.Logic.{_↔_, _≢_, _⊎_, inl, inr}
-use mathlib.Core.List.{List, [], _∷_, _++_, map, List·Memᴰ·head, List·Memᴰ·tail, List·Memᴰ·not-nil, List·Memᴰ·cases-cons, List·Memᴰ·append-cases, List·Memᴰ·eq-of-singleton, Memᴰ·map, Memᴰ·of-map, Memᴰ·cast, Sublistᴰ, Sublistᴰ·slnil, Sublistᴰ·cons, Sublistᴰ·cons-cons, Sublistᴰ·refl}
+use mathlib.Core.List.{List, [], _∷_, _++_, map, List·Memᴰ·head, List·Memᴰ·tail, List·Memᴰ·not-nil, List·Memᴰ·cases-cons, Memᴰ·map, Memᴰ·cast, Sublistᴰ, Sublistᴰ·slnil, Sublistᴰ·cons, Sublistᴰ·cons-cons, Sublistᴰ·refl}
 use mathlib.Core.Option.{Option, some, none, Option·map, Option·none-ne-some, Option·some-injective}
-use mathlib.Core.Bool.{Bool, true, false, cond, So, not}
-use Prim.Native.Nat.{ℕ, zero, suc, _+_, _≤_, _<_}
-use native.Mathlib.Omega.{arith}
+use mathlib.Core.Bool.{Bool, true, false, cond, So}
+use Prim.Native.Nat.{suc}
 use lib.ListN.{length}
 use Rattle.notation.specs.Bytes.{same}
 use Rattle.notation.specs.Tree.{Name}
 use Rattle.calculus.specs.Named.{lookup, without, changed, kept, names, any, distinct}
 use Rattle.calculus.specs.WellFormed.{In, NoneTwice}
-use Rattle.derivations.specs.Booleans.{never, bool-cases, any-iff}
+use Rattle.derivations.specs.Booleans.{never, any-iff}
 use Rattle.derivations.specs.Equality.{same-cases, same-iff}
 
--- ── no element twice
-module _ {A B : Type 0} (f : A → B) where
-  -- what is found twice is one element
-  pub once-by : {x y : A} {l : List A} → NoneTwice (map f l) → In x l → In y l → f x ≡ f y → x ≡ y
-  once-by u (List·Memᴰ·head h) (List·Memᴰ·head g) z = h ∙ sym g
-  once-by u (List·Memᴰ·head h) (List·Memᴰ·tail k) z = absurd (u .0 (Memᴰ·cast (ap f (sym h) ∙ z) (Memᴰ·map f k)))
-  once-by u (List·Memᴰ·tail k) (List·Memᴰ·head g) z = absurd (u .0 (Memᴰ·cast (ap f (sym g) ∙ sym z) (Memᴰ·map f k)))
-  once-by u (List·Memᴰ·tail k) (List·Memᴰ·tail n) z = once-by (u .1) k n z
-
-  -- f tells apart what g does
-  pub once-along : {D : Type 0} (g : A → D) (l : List A) → NoneTwice (map g l) → ((x y : A) → In x l → In y l → f x ≡ f y → g x ≡ g y) → NoneTwice (map f l)
-  once-along g [] u h = tt
-  once-along g (x ∷ l) u h = (
-    (λ m. let r = Memᴰ·of-map f l m in u .0 (Memᴰ·cast (h x (r .0) (List·Memᴰ·head refl) (List·Memᴰ·tail (r .1)) (sym (r .2))) (Memᴰ·map g (r .1)))),
-    once-along g l (u .1) (λ x y i j. h x y (List·Memᴰ·tail i) (List·Memᴰ·tail j)),
-  )
-
-module _ {A : Type 0} where
-  pub once-append : (l m : List A) → NoneTwice l → NoneTwice m → ((x : A) → In x l → In x m → ⊥) → NoneTwice (l ++ m)
-  once-append [] m u w n = w
-  once-append (x ∷ l) m u w n = ((λ i. go (List·Memᴰ·append-cases l i)), once-append l m (u .1) w (λ y i. n y (List·Memᴰ·tail i)))
-    where
-      go : In x l ⊎ In x m → ⊥
-      go (inl i) = u .0 i
-      go (inr i) = n x (List·Memᴰ·head refl) i
-
-  pub once-snoc : (l : List A) (x : A) → NoneTwice l → ¬ In x l → NoneTwice (l ++ (x ∷ []))
-  once-snoc l x u n = once-append l (x ∷ []) u (List·Memᴰ·not-nil, tt) (λ y i j. n (Memᴰ·cast (sym (List·Memᴰ·eq-of-singleton j)) i))
-
--- ── sublists
-module _ {A : Type 0} where
-  pub sub-in : {l m : List A} → Sublistᴰ l m → {x : A} → In x l → In x m
-  sub-in Sublistᴰ·slnil i = i
-  sub-in (Sublistᴰ·cons s) i = List·Memᴰ·tail (sub-in s i)
-  sub-in (Sublistᴰ·cons-cons e s) (List·Memᴰ·head h) = List·Memᴰ·head (h ∙ e)
-  sub-in (Sublistᴰ·cons-cons e s) (List·Memᴰ·tail i) = List·Memᴰ·tail (sub-in s i)
-
-  pub sub-once : {B : Type 0} (f : A → B) {l m : List A} → Sublistᴰ l m → NoneTwice (map f m) → NoneTwice (map f l)
-  sub-once f Sublistᴰ·slnil u = tt
-  sub-once f (Sublistᴰ·cons s) u = sub-once f s (u .1)
-  sub-once f (Sublistᴰ·cons-cons {l₁ = l} e s) u = (
-    (λ i. let r = Memᴰ·of-map f l i in u .0 (Memᴰ·cast (ap f (sym e) ∙ sym (r .2)) (Memᴰ·map f (sub-in s (r .1))))),
-    sub-once f s (u .1),
-  )
-
-  pub sub-length : {l m : List A} → Sublistᴰ l m → length l ≤ length m
-  sub-length Sublistᴰ·slnil = omega arith
-  sub-length (Sublistᴰ·cons s) = omega (arith, sub-length s)
-  sub-length (Sublistᴰ·cons-cons e s) = omega (arith, sub-length s)
-
-  pub length-snoc : (l : List A) (x : A) → length (l ++ (x ∷ [])) ≡ suc (length l)
-  length-snoc [] x = refl
-  length-snoc (y ∷ l) x = ap suc (length-snoc l x)
-
--- a search that says what it found
-pub search : {A : Type 0} {Q : A → Type 0} → ((x : A) → Dec (Q x)) → (l : List A) → Dec ((x : A) × In x l × Q x)
-search d [] = no λ r. List·Memᴰ·not-nil (r .1)
-search {A} {Q} d (a ∷ l) = go (d a) (search d l)
-  where
-    go : Dec (Q a) → Dec ((x : A) × In x l × Q x) → Dec ((x : A) × In x (a ∷ l) × Q x)
-    go (yes q) r = yes (a, List·Memᴰ·head refl, q)
-    go (no n) (yes r) = yes (r .0, List·Memᴰ·tail (r .1), r .2)
-    go (no n) (no f) = no λ r. none-of (r .0) (r .2) (List·Memᴰ·cases-cons (r .1))
-      where
-        none-of : (x : A) → Q x → (x ≡ a) ⊎ In x l → ⊥
-        none-of x q (inl e) = n (subst Q e q)
-        none-of x q (inr m) = f (x, m, q)
-
--- ── names
 -- a goal that depends on the test of two names
 pub by-test : (Q : Bool → Type 0) (c n : Name) → (c ≡ n → Q true) → (c ≢ n → Q false) → Q (same c n)
 by-test Q c n f g = go (same-cases c n)
@@ -116,12 +46,12 @@ module _ {X : Type 0} where
   names-in (e ∷ l) (List·Memᴰ·head h) = List·Memᴰ·head (ap (λ (e : Name × X). e .0) h)
   names-in (e ∷ l) (List·Memᴰ·tail i) = List·Memᴰ·tail (names-in l i)
 
-  pub lookup-in : (c : Name) (l : List (Name × X)) (x : X) → lookup c l ≡ some x → In (c, x) l
+  pub lookup-in : (c : Name) (l : List (Name × X)) {x : X} → lookup c l ≡ some x → In (c, x) l
   unfolding lookup
-  lookup-in c [] x e = absurd (Option·none-ne-some x e)
-  lookup-in c (a ∷ l) x e =
+  lookup-in c [] {x} e = absurd (Option·none-ne-some x e)
+  lookup-in c (a ∷ l) {x} e =
       by-test (λ b. cond b (some (a .1)) (lookup c l) ≡ some x → In (c, x) (a ∷ l)) c (a .0)
-      (λ p h. List·Memᴰ·head (λ i. (p i, sym (Option·some-injective (a .1) x h) i))) (λ n h. List·Memᴰ·tail (lookup-in c l x h)) e
+      (λ p h. List·Memᴰ·head (λ i. (p i, sym (Option·some-injective (a .1) x h) i))) (λ n h. List·Memᴰ·tail (lookup-in c l h)) e
 
   pub in-lookup : (l : List (Name × X)) → NoneTwice (names l) → (x : Name × X) → In x l → lookup (x .0) l ≡ some (x .1)
   unfolding lookup names
@@ -176,7 +106,8 @@ module _ {X : Type 0} where
   unfolding lookup without
   without-cases g c [] e u z x i = absurd (List·Memᴰ·not-nil i)
   without-cases g c (a ∷ l) e u z x i =
-      by-test (λ b. cond b (some (a .1)) (lookup c l) ≡ some e → In x (cond b l (a ∷ without c l)) → In x (a ∷ l) × (g (x .1) ≢ g e)) c (a .0) found (λ n h. passed h (λ k. without-cases g c l e (u .1) h x k)) z i
+      by-test (λ b. cond b (some (a .1)) (lookup c l) ≡ some e → In x (cond b l (a ∷ without c l)) → In x (a ∷ l) × (g (x .1) ≢ g e)) c (a .0) found
+      (λ n h. passed h (λ k. without-cases g c l e (u .1) h x k)) z i
     where
       other : {y : Name × X} → In y l → g (a .1) ≢ g (y .1)
       other k h = u .0 (Memᴰ·cast h (Memᴰ·map (λ (x : Name × X). g (x .1)) k))
@@ -185,7 +116,7 @@ module _ {X : Type 0} where
       found p h k = (List·Memᴰ·tail k, λ t. other k (ap g (Option·some-injective (a .1) e h) ∙ sym t))
 
       passed : lookup c l ≡ some e → (In x (without c l) → In x l × (g (x .1) ≢ g e)) → In x (a ∷ without c l) → In x (a ∷ l) × (g (x .1) ≢ g e)
-      passed h r (List·Memᴰ·head k) = (List·Memᴰ·head k, λ t. other (lookup-in c l e h) (ap (λ (y : Name × X). g (y .1)) (sym k) ∙ t))
+      passed h r (List·Memᴰ·head k) = (List·Memᴰ·head k, λ t. other (lookup-in c l h) (ap (λ (y : Name × X). g (y .1)) (sym k) ∙ t))
       passed h r (List·Memᴰ·tail k) = let t = r k in (List·Memᴰ·tail (t .0), t .1)
 
   -- an entry after a change at c: the changed one, or another thing
@@ -194,7 +125,8 @@ module _ {X : Type 0} where
   unfolding lookup changed
   changed-cases g c f [] e u z x i = absurd (List·Memᴰ·not-nil i)
   changed-cases g c f (a ∷ l) e u z x i =
-      by-test (λ b. cond b (some (a .1)) (lookup c l) ≡ some e → In x (cond b ((a .0, f (a .1)) ∷ l) (a ∷ changed c f l)) → (x .1 ≡ f e) ⊎ (In x (a ∷ l) × (g (x .1) ≢ g e))) c (a .0) found (λ n h. passed h (λ k. changed-cases g c f l e (u .1) h x k)) z i
+      by-test (λ b. cond b (some (a .1)) (lookup c l) ≡ some e → In x (cond b ((a .0, f (a .1)) ∷ l) (a ∷ changed c f l)) → (x .1 ≡ f e) ⊎
+      (In x (a ∷ l) × (g (x .1) ≢ g e))) c (a .0) found (λ n h. passed h (λ k. changed-cases g c f l e (u .1) h x k)) z i
     where
       other : {y : Name × X} → In y l → g (a .1) ≢ g (y .1)
       other k h = u .0 (Memᴰ·cast h (Memᴰ·map (λ (x : Name × X). g (x .1)) k))
@@ -208,7 +140,7 @@ module _ {X : Type 0} where
       further (inr h) = inr (List·Memᴰ·tail (h .0), h .1)
 
       passed : lookup c l ≡ some e → (In x (changed c f l) → (x .1 ≡ f e) ⊎ (In x l × (g (x .1) ≢ g e))) → In x (a ∷ changed c f l) → (x .1 ≡ f e) ⊎ (In x (a ∷ l) × (g (x .1) ≢ g e))
-      passed h r (List·Memᴰ·head k) = inr (List·Memᴰ·head k, λ t. other (lookup-in c l e h) (ap (λ (y : Name × X). g (y .1)) (sym k) ∙ t))
+      passed h r (List·Memᴰ·head k) = inr (List·Memᴰ·head k, λ t. other (lookup-in c l h) (ap (λ (y : Name × X). g (y .1)) (sym k) ∙ t))
       passed h r (List·Memᴰ·tail k) = further (r k)
 
   pub changed-names : (c : Name) (f : X → X) (l : List (Name × X)) → names (changed c f l) ≡ names l
@@ -224,7 +156,8 @@ module _ {X : Type 0} where
       by-test (λ b. length (cond b ((a .0, f (a .1)) ∷ l) (a ∷ changed c f l)) ≡ suc (length l)) c (a .0) (λ _. refl) (λ _. ap suc (changed-length c f l))
 
   -- a change that g does not see
-  pub changed-map : {B : Type 0} (g : X → B) (c : Name) (f : X → X) → ((x : X) → g (f x) ≡ g x) → (l : List (Name × X)) → map (λ (x : Name × X). g (x .1)) (changed c f l) ≡ map (λ (x : Name × X). g (x .1)) l
+  pub changed-map : {B : Type 0} (g : X → B) (c : Name) (f : X → X) → ((x : X) → g (f x) ≡ g x) → (l : List (Name × X))
+      → map (λ (x : Name × X). g (x .1)) (changed c f l) ≡ map (λ (x : Name × X). g (x .1)) l
   unfolding changed
   changed-map g c f h [] = refl
   changed-map g c f h (a ∷ l) =

@@ -1,32 +1,24 @@
--- The list of all ends: who holds each, and when none is held twice.
+-- The list of all ends: who holds each, and that none is held twice.
 use mathlib.Core.Path.{_≡_, refl, sym, _∙_, ap, subst}
 use mathlib.Core.Logic.{_≢_, _⊎_, inl, inr}
 use mathlib.Core.List.{List, [], _∷_, _++_, map, List·Memᴰ·head, List·Memᴰ·tail, List·Memᴰ·not-nil, List·Memᴰ·append-cases, Memᴰ·map, Memᴰ·of-map, Memᴰ·cast, Memᴰ·append-left, Memᴰ·append-right}
-use mathlib.Core.Option.{Option, some, none, Option·none-ne-some, Option·some-injective}
+use mathlib.Core.Option.{some, Option·none-ne-some, Option·some-injective}
+use mathlib.Core.Bool.{false≢true}
 use Prim.Native.Nat.{ℕ, zero, suc}
 use native.Mathlib.Omega.{arith}
 use lib.ListN.{getElem?}
 use Rattle.notation.specs.Tree.{Name}
-use Rattle.calculus.specs.Types.{Side, used}
-use Rattle.calculus.specs.Configuration.{End, end, Process, Outside}
-use Rattle.calculus.specs.WellFormed.{In, NoneTwice, key, heldEnds, processEnds, outsideEnds}
-use Rattle.preservation.specs.Lists.{once-append}
-use Rattle.preservation.specs.Passing.{map-append}
-use Rattle.preservation.specs.Roster.{keyAt}
+use Rattle.calculus.specs.Types.{Side, provided, used, sameSide}
+use Rattle.calculus.specs.Program.{Program}
+use Rattle.calculus.specs.Configuration.{End, end, Process, Outside, Config}
+use Rattle.calculus.specs.WellFormed.{In, NoneTwice, key, heldEnds, processEnds, outsideEnds, ends, Stands, WellFormed}
+use Rattle.holding.specs.Lists.{once-by, once-append, once-left, once-right, once-apart, map-append}
 
--- ── no element twice in two lists, one after the other
-module _ {A : Type 0} where
-  pub once-left : (l m : List A) → NoneTwice (l ++ m) → NoneTwice l
-  once-left [] m u = tt
-  once-left (x ∷ l) m u = ((λ i. u .0 (Memᴰ·append-left m i)), once-left l m (u .1))
+pub side-clash : provided ≢ used
+side-clash e = false≢true (sym (ap (sameSide provided) e))
 
-  pub once-right : (l m : List A) → NoneTwice (l ++ m) → NoneTwice m
-  once-right [] m u = u
-  once-right (x ∷ l) m u = once-right l m (u .1)
-
-  pub once-apart : (l m : List A) → NoneTwice (l ++ m) → {x y : A} → In x l → In y m → x ≢ y
-  once-apart (a ∷ l) m u (List·Memᴰ·head e) j z = u .0 (Memᴰ·append-right l (Memᴰ·cast (sym e ∙ z) j))
-  once-apart (a ∷ l) m u (List·Memᴰ·tail i) j z = once-apart l m (u .1) i j z
+abbrev pub keyAt : Name × End → ℕ × Side
+keyAt x = key (x .1)
 
 -- ── ends of processes
 held-keys : (l : List (Name × End)) → map key (heldEnds l) ≡ map keyAt l
@@ -65,10 +57,10 @@ keys-of-process (r ∷ l) u zero q e =
 keys-of-process (r ∷ l) u (suc j) q e =
     keys-of-process l (once-right (map key (heldEnds (r .held))) (map key (processEnds l)) (subst NoneTwice (map-append key (heldEnds (r .held)) (processEnds l)) u)) j q e
 
-pub one-holder : (l : List Process) → NoneTwice (map key (processEnds l)) → (i j : ℕ) (q r : Process) → getElem? l i ≡ some q → getElem? l j ≡ some r
+pub one-process : (l : List Process) → NoneTwice (map key (processEnds l)) → (i j : ℕ) (q r : Process) → getElem? l i ≡ some q → getElem? l j ≡ some r
     → (x y : Name × End) → In x (q .held) → In y (r .held) → keyAt x ≡ keyAt y → i ≡ j
-one-holder [] u i j q r e f x y m n z = absurd (Option·none-ne-some q e)
-one-holder (p ∷ l) u i j q r e f x y m n z = go (λ v i j e f. one-holder l v i j q r e f x y m n z) i j e f
+one-process [] u i j q r e f x y m n z = absurd (Option·none-ne-some q e)
+one-process (p ∷ l) u i j q r e f x y m n z = go (λ v i j e f. one-process l v i j q r e f x y m n z) i j e f
   where
     u′ : NoneTwice (map key (heldEnds (p .held)) ++ map key (processEnds l))
     u′ = subst NoneTwice (map-append key (heldEnds (p .held)) (processEnds l)) u
@@ -79,7 +71,8 @@ one-holder (p ∷ l) u i j q r e f x y m n z = go (λ v i j e f. one-holder l v 
     later : (j : ℕ) {r : Process} {y : Name × End} → getElem? l j ≡ some r → In y (r .held) → In (keyAt y) (map key (processEnds l))
     later j {r} {y} f n = Memᴰ·map key (process-end l j r f y n)
 
-    go : (NoneTwice (map key (processEnds l)) → (i j : ℕ) → getElem? l i ≡ some q → getElem? l j ≡ some r → i ≡ j) → (i j : ℕ) → getElem? (p ∷ l) i ≡ some q → getElem? (p ∷ l) j ≡ some r → i ≡ j
+    go : (NoneTwice (map key (processEnds l)) → (i j : ℕ) → getElem? l i ≡ some q → getElem? l j ≡ some r → i ≡ j) → (i j : ℕ) → getElem? (p ∷ l) i ≡ some q
+        → getElem? (p ∷ l) j ≡ some r → i ≡ j
     go rec zero zero e f = refl
     go rec zero (suc j) e f = absurd (once-apart (map key (heldEnds (p .held))) (map key (processEnds l)) u′ (first e m) (later j f n) z)
     go rec (suc i) zero e f = absurd (once-apart (map key (heldEnds (p .held))) (map key (processEnds l)) u′ (first f n) (later i e m) (sym z))
@@ -87,11 +80,13 @@ one-holder (p ∷ l) u i j q r e f x y m n z = go (λ v i j e f. one-holder l v 
 
 -- where each process holds no key twice, and no two hold the same, none is held twice
 pub keys-once : (l : List Process) → ((j : ℕ) (q : Process) → getElem? l j ≡ some q → NoneTwice (map keyAt (q .held)))
-    → ((i j : ℕ) (q r : Process) → getElem? l i ≡ some q → getElem? l j ≡ some r → (x y : Name × End) → In x (q .held) → In y (r .held) → keyAt x ≡ keyAt y → i ≡ j) → NoneTwice (map key (processEnds l))
+    → ((i j : ℕ) (q r : Process) → getElem? l i ≡ some q → getElem? l j ≡ some r → (x y : Name × End) → In x (q .held) → In y (r .held)
+    → keyAt x ≡ keyAt y → i ≡ j) → NoneTwice (map key (processEnds l))
 keys-once [] u h = tt
 keys-once (p ∷ l) u h =
     subst NoneTwice (sym (map-append key (heldEnds (p .held)) (processEnds l)))
-    (once-append (map key (heldEnds (p .held))) (map key (processEnds l)) (subst NoneTwice (sym (held-keys (p .held))) (u 0 p refl)) (keys-once l (λ j. u (suc j)) (λ i j q r e f x y m n z. let w = h (suc i) (suc j) q r e f x y m n z in omega arith)) disjoint)
+    (once-append (map key (heldEnds (p .held))) (map key (processEnds l)) (subst NoneTwice (sym (held-keys (p .held))) (u 0 p refl))
+    (keys-once l (λ j. u (suc j)) (λ i j q r e f x y m n z. let w = h (suc i) (suc j) q r e f x y m n z in omega arith)) disjoint)
   where
     disjoint : (k : ℕ × Side) → In k (map key (heldEnds (p .held))) → In k (map key (processEnds l)) → ⊥
     disjoint k a b =
@@ -125,3 +120,24 @@ keys-outside (x ∷ o) u = (
       u .0 (Memᴰ·cast (ap (λ (k : ℕ × Side). k .0) (sym (e .2)) ∙ ap (λ (e : End). e .channel) (sym (y .2))) (Memᴰ·map (λ (y : Outside). y .channel) (y .1)))),
   keys-outside o (u .1),
 )
+
+-- ── the ends of a configuration
+pub entry-in-ends : {C : Config} {i : ℕ} {q : Process} {n : Name} {e : End} → Stands C i q → In (n, e) (q .held) → In e (ends C)
+entry-in-ends {C} {i} {q} {n} {e} s m = Memᴰ·append-left (outsideEnds (C .outside)) (process-end (C .processes) i q (s .there) (n, e) m)
+
+pub outside-in-ends : (C : Config) {o : Outside} → In o (C .outside) → In (end used (o .channel) (o .type)) (ends C)
+outside-in-ends C {o} m = Memᴰ·append-right (processEnds (C .processes)) (outside-end (C .outside) o m)
+
+module _ {p : Program} {C : Config} (w : WellFormed p C) where
+  keys : NoneTwice (map key (processEnds (C .processes)))
+  keys =
+      once-left (map key (processEnds (C .processes))) (map key (outsideEnds (C .outside)))
+      (subst NoneTwice (map-append key (processEnds (C .processes)) (outsideEnds (C .outside))) (w .once))
+
+  -- "each held at most once": one process, one name
+  pub one-holder : {i j : ℕ} {q r : Process} {n m : Name} {e d : End} → Stands C i q → Stands C j r → In (n, e) (q .held) → In (m, d) (r .held)
+      → key e ≡ key d → i ≡ j
+  one-holder {i} {j} {q} {r} {n} {m} {e} {d} s t a b z = one-process (C .processes) keys i j q r (s .there) (t .there) (n, e) (m, d) a b z
+
+  pub one-name : {i : ℕ} {q : Process} {n m : Name} {e d : End} → Stands C i q → In (n, e) (q .held) → In (m, d) (q .held) → key e ≡ key d → n ≡ m
+  one-name {i} {q} s a b z = ap (λ (x : Name × End). x .0) (once-by keyAt (keys-of-process (C .processes) keys i q (s .there)) a b z)

@@ -1,20 +1,18 @@
 -- What is held, as typing sees it: a context commutes with all that is done to what is held.
-use mathlib.Core.Path.{_≡_, refl, sym, _∙_, ap, subst}
-use mathlib.Core.Logic.{_≢_, _⊎_, inl, inr}
-use mathlib.Core.List.{List, [], _∷_, _++_, map}
-use mathlib.Core.Option.{Option, some, none, Option·map, Option·some-injective, map-eq-some-iff, map-eq-none-iff}
-use mathlib.Core.Bool.{Bool, true, false}
-use Prim.Native.Nat.{ℕ, suc}
+use mathlib.Core.Path.{_≡_, refl, sym, _∙_, ap}
+use mathlib.Core.List.{List, [], _∷_, _++_}
+use mathlib.Core.Option.{some, none, Option·map, map-eq-some-iff, map-eq-none-iff}
+use mathlib.Core.Bool.{Bool}
 use lib.ListN.{length, length-map}
 use Rattle.notation.specs.Tree.{Name, Ty}
-use Rattle.calculus.specs.Named.{lookup, without, changed, kept, names, isSome}
+use Rattle.calculus.specs.Named.{lookup, without, changed, kept, names}
 use Rattle.calculus.specs.Types.{Side, standing}
-use Rattle.calculus.specs.Program.{Slot, slot, Context, Program}
-use Rattle.calculus.specs.Typing.{defined, acting, retyped, bringing}
+use Rattle.calculus.specs.Program.{Slot, slot, Program}
+use Rattle.calculus.specs.Typing.{defined, acting, retyped}
 use Rattle.calculus.specs.Configuration.{End, end}
 use Rattle.calculus.specs.Steps.{retypedEnd}
-use Rattle.calculus.specs.WellFormed.{In, contextOf}
-use Rattle.preservation.specs.Lists.{seenAs, lookup-seen, without-seen, kept-seen, changed-seen, names-seen}
+use Rattle.calculus.specs.WellFormed.{contextOf}
+use Rattle.holding.specs.Names.{seenAs, lookup-seen, without-seen, kept-seen, changed-seen, names-seen}
 
 abbrev slotOf : End → Slot
 slotOf e = slot (e .side) (e .type)
@@ -62,15 +60,15 @@ held-plain c l s A e =
     let r = map-eq-some-iff {B = Slot} slotOf (lookup c l) .0 (sym (context-lookup c l) ∙ e) in
     record { end = r .0; found = r .1; side = ap (λ (x : Slot). x .side) (r .2); type = ap (λ (x : Slot). x .type) (r .2) }
 
--- a name stands for its definition
+-- a channel that a rule acts on: its end, with the side and the type that the rule asks for, where a name stands for its definition
 pub record Acts (p : Program) (c : Name) (l : List (Name × End)) (s : Side) (T : Ty Name) : Type 0 where
   pub end : End
   pub found : lookup c l ≡ some end
   pub side : end .side ≡ s
   pub type : standing (p .types) (end .type) ≡ T
 
-pub held-acts : (p : Program) (c : Name) (l : List (Name × End)) (s : Side) (T : Ty Name) → acting p c (contextOf l) ≡ some (slot s T) → Acts p c l s T
-held-acts p c l s T e =
+pub acts : (p : Program) (c : Name) (l : List (Name × End)) {s : Side} {T : Ty Name} → acting p c (contextOf l) ≡ some (slot s T) → Acts p c l s T
+acts p c l e =
     let x = map-eq-some-iff {B = Slot} (defined p) (lookup c (contextOf l)) .0 e in
     let r = map-eq-some-iff {B = Slot} slotOf (lookup c l) .0 (sym (context-lookup c l) ∙ x .1) in
     let z = ap (defined p) (r .2) ∙ x .2 in
