@@ -1,0 +1,5 @@
+pub mod Lists
+pub mod ListLaws
+pub mod Raw
+pub mod Values
+pub mod Operations

@@ -1,1 +1,4 @@
 // Runs: the records of the run slice.
+pub mod held;
+pub mod records;
+pub mod words;

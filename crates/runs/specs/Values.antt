@@ -1,0 +1,42 @@
+-- What the code's values mean, and what becomes of the words that it writes.
+use Prim.Native.Nat.{ℕ, _+_, _≤_, _<_}
+use mathlib.Core.List.{List}
+use mathlib.Core.Path.{_≡_}
+use lib.ListN.{length, getD, drop}
+use Rattle.runs.specs.Raw.{RawEnd, RawProcess, RawOutside, RawConfig, sideOf, linkOf, rows, endOf, rawIn}
+use Rattle.runs.specs.declared.records.End.{End}
+use Rattle.runs.specs.declared.records.Held.{Held}
+use Rattle.runs.specs.declared.records.Process.{Process}
+use Rattle.runs.specs.declared.records.Outside.{Outside}
+
+abbrev pub endIn : End → RawEnd
+endIn e = record { name = e .name; side = sideOf (e .side); node = e .node; channel = e .channel }
+
+unfoldable pub heldIn : Held → List RawEnd
+heldIn h = rows endOf 2 0 (h .count) (λ k. getD (h .words) k 0)
+
+abbrev pub processIn : Process → RawProcess
+processIn p = record { kind = p .kind; pointer = p .pointer; held = heldIn (p .held); link = linkOf (p .link) }
+
+abbrev pub outsideIn : Outside → RawOutside
+outsideIn o = record { number = o .number; node = o .node; channel = o .channel }
+
+-- what a change of the words comes to: the configuration, and that the words past it and the length stay
+pub record Changed (old new : List ℕ) (C : RawConfig) : Type 0 where
+  pub is : rawIn new ≡ C
+  pub past : drop 6144 new ≡ drop 6144 old
+  pub long : length new ≡ length old
+
+-- the words from `lo` up to `hi` are those of g, and the others stay
+pub record Moved (old new : List ℕ) (lo hi : ℕ) (g : ℕ → ℕ) : Type 0 where
+  pub long : length new ≡ length old
+  pub inside : (k : ℕ) → lo ≤ k → k < hi → getD new k 0 ≡ g k
+  pub below : (k : ℕ) → k < lo → getD new k 0 ≡ getD old k 0
+  pub above : (k : ℕ) → hi ≤ k → getD new k 0 ≡ getD old k 0
+
+-- the row of so many words that begins at `first` reads as x, and the words outside of it stay
+pub record Written {A : Type 0} (read : (ℕ → ℕ) → A) (width : ℕ) (old new : List ℕ) (first : ℕ) (x : A) : Type 0 where
+  pub long : length new ≡ length old
+  pub row : read (λ t. getD new (first + t) 0) ≡ x
+  pub below : (k : ℕ) → k < first → getD new k 0 ≡ getD old k 0
+  pub above : (k : ℕ) → first + width ≤ k → getD new k 0 ≡ getD old k 0
