@@ -1,3 +1,5 @@
 pub mod Rows
 pub mod Ends
 pub mod Searches
+pub mod Slices
+pub mod Shifts

@@ -3,3 +3,4 @@ pub mod ListLaws
 pub mod Raw
 pub mod Values
 pub mod Operations
+pub mod Bounds

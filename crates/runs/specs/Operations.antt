@@ -1,9 +1,9 @@
 -- The calculus' operations, on numbers: each is what the calculus' own is once the numbers are decoded.
-use Prim.Native.Nat.{ℕ, zero, suc}
+use Prim.Native.Nat.{ℕ, zero, suc, _+_, _-_}
 use mathlib.Core.List.{List, [], _∷_, map}
 use mathlib.Core.Bool.{Bool, true, false, cond, _&&_}
 use mathlib.Core.Option.{Option·map, Option}
-use lib.Dec.{eqb}
+use lib.Dec.{eqb, ltb}
 use Rattle.notation.specs.Limits.{channelPlaces}
 use Rattle.calculus.specs.Types.{Side, provided, used, other, sameSide}
 use Rattle.calculus.specs.Configuration.{movedUp, movedDown, freeFrom}
@@ -29,6 +29,14 @@ withGiven C n = record { processes = C .processes; outside = C .outside; given =
 -- ── a process comes or leaves
 abbrev pub relinked : (ℕ → ℕ) → RawProcess → RawProcess
 relinked f p = record { kind = p .kind; pointer = p .pointer; held = p .held; link = Option·map f (p .link) }
+
+-- a place, and a link's word, once the places after i have moved up or down by one
+abbrev pub moved : Bool → ℕ → ℕ → ℕ
+moved true i h = movedUp i h
+moved false i h = movedDown i h
+
+abbrev pub movedWord : Bool → ℕ → ℕ → ℕ
+movedWord up i l = cond (ltb (i + 1) l) (cond up (l + 1) (l - 1)) l
 
 unfoldable pub inserted : ℕ → RawProcess → List RawProcess → List RawProcess
 inserted i q l = insertAt (suc i) q (map (relinked (movedUp i)) l)

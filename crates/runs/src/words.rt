@@ -4,6 +4,13 @@ ghost use Prim.Native.Nat.{ℕ, _+_, _-_, _≤_, _<_};
 ghost use lib.ListN.{length, getD};
 ghost use Rattle.runs.specs.Values.{Moved};
 
+// A word as a place or a position.
+pub fn wide(x: u32) -> usize
+    ensures { λ r. ⌜ r ≡ x ⌝ }
+{
+    x as usize
+}
+
 // The 32 words from `at` on.
 pub fn copy_out(run: &[u32], at: usize) -> [u32; 32]
     requires { ⌜ at + 32 ≤ length (now run) ⌝ }

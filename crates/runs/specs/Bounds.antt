@@ -1,0 +1,91 @@
+-- Bounds are kept.
+use Prim.Native.Nat.{ℕ, zero, suc, _+_, _-_, _≤_, _<_}
+use mathlib.Core.List.{List, [], _∷_, _++_, map}
+use mathlib.Core.Path.{_≡_, refl, sym, subst, ap, _∙_}
+use mathlib.Core.Bool.{true, false, cond}
+use mathlib.Core.Option.{Option, some, none, Option·map}
+use native.Mathlib.Omega.{arith}
+use borrow.Author.Tests.{lt-ltb, le-ltb}
+use native.Mathlib.Decide.{decLt}
+use lib.Dec.{ltb}
+use lib.ListN.{length, set, length-set, length-map}
+use Rattle.calculus.specs.Configuration.{movedUp, movedDown}
+use Rattle.runs.specs.Lists.{All, insertAt, removeAt}
+use Rattle.runs.specs.ListLaws.{all-set, all-insert, all-remove, all-map, all-weaken, length-insert, length-remove}
+use Rattle.runs.specs.Raw.{RawProcess, RawOutside, RawConfig, linksBelow, BoundedProcess, BoundedOutside, Bounded}
+use Rattle.runs.specs.Operations.{withProcesses, withOutside, withGiven, relinked, inserted, removed}
+
+-- no process has the link
+abbrev pub Unlinked : ℕ → List RawProcess → Type 0
+Unlinked i l = All (λ p. p .link ≡ some i → ⊥) l
+
+module _ (C : RawConfig) (b : Bounded C) where
+  pub bounded-processes : (l : List RawProcess) (n : ℕ) → length l ≡ n → n ≤ 128 → All (BoundedProcess n) l → Bounded (withProcesses C l)
+  bounded-processes l n e h a = record {
+    places = omega arith;
+    processes = subst (λ (m : ℕ). All (BoundedProcess m) l) (sym e) a;
+    channels = b .channels;
+    outside = b .outside;
+    given = b .given;
+  }
+
+  pub bounded-outside : (l : List RawOutside) → length l ≤ 32 → All BoundedOutside l → Bounded (withOutside C l)
+  bounded-outside l h a = record { places = b .places; processes = b .processes; channels = h; outside = a; given = b .given }
+
+  pub bounded-given : (n : ℕ) → n ≤ 32 → Bounded (withGiven C n)
+  bounded-given n h = record { places = b .places; processes = b .processes; channels = b .channels; outside = b .outside; given = h }
+
+  pub bounded-set : (i : ℕ) (p : RawProcess) → BoundedProcess (length (C .processes)) p → Bounded (withProcesses C (set (C .processes) i p))
+  bounded-set i p h = bounded-processes _ _ (length-set (C .processes) i p) (b .places) (all-set _ (C .processes) i p (b .processes) h)
+
+-- links move with the places
+moved-up-below : (i n h : ℕ) → h < n → movedUp i h < suc n
+moved-up-below i n h l = go (decLt i h)
+  where
+    go : Dec (i < h) → movedUp i h < suc n
+    go (yes p) = rw (lt-ltb i h p) (omega arith)
+    go (no p) = let q : h ≤ i = omega arith in rw (le-ltb i h q) (omega arith)
+
+moved-down-below : (i n h : ℕ) → h < suc n → (h ≡ i → ⊥) → i ≤ n → movedDown i h < n
+moved-down-below i n h l e m = go (decLt i h)
+  where
+    go : Dec (i < h) → movedDown i h < n
+    go (yes p) = rw (lt-ltb i h p) (omega arith)
+    go (no p) = let q : h ≤ i = omega arith in rw (le-ltb i h q) (omega arith)
+
+relinked-bounded : (n m : ℕ) (f : ℕ → ℕ) (p : RawProcess) → BoundedProcess n p → linksBelow m (Option·map f (p .link)) → BoundedProcess m (relinked f p)
+relinked-bounded n m f p b l = record { kind = b .kind; pointer = b .pointer; many = b .many; each = b .each; link = l }
+
+pub raised : (i n : ℕ) (l : List RawProcess) → All (BoundedProcess n) l → All (BoundedProcess (suc n)) (map (relinked (movedUp i)) l)
+raised i n l a = all-map _ _ (relinked (movedUp i)) (λ p b. relinked-bounded n (suc n) (movedUp i) p b (go (p .link) (b .link))) l a
+  where
+    go : (o : Option ℕ) → linksBelow n o → linksBelow (suc n) (Option·map (movedUp i) o)
+    go none h = tt
+    go (some h) l = moved-up-below i n h l
+
+pub lowered : (i n : ℕ) (l : List RawProcess) → i ≤ n → All (BoundedProcess (suc n)) l → Unlinked i l → All (BoundedProcess n) (map (relinked (movedDown i)) l)
+lowered i n [] m a u = tt
+lowered i n (p ∷ l) m a u = (relinked-bounded (suc n) n (movedDown i) p (a .0) (go (p .link) (a .0 .link) (u .0)), lowered i n l m (a .1) (u .1))
+  where
+    go : (o : Option ℕ) → linksBelow (suc n) o → (o ≡ some i → ⊥) → linksBelow n (Option·map (movedDown i) o)
+    go none h v = tt
+    go (some h) k v = moved-down-below i n h k (λ e. v (ap some e)) m
+
+module _ (C : RawConfig) (b : Bounded C) where
+  pub bounded-insert : (i : ℕ) (p : RawProcess) → length (C .processes) < 128 → BoundedProcess (suc (length (C .processes))) p → Bounded (withProcesses C (inserted i p (C .processes)))
+  unfolding inserted
+  bounded-insert i p h q =
+      bounded-processes C b _ (suc (length (C .processes)))
+      (length-insert (suc i) p (map (relinked (movedUp i)) (C .processes)) ∙ ap suc (length-map (C .processes) (relinked (movedUp i)))) (omega arith)
+      (all-insert (BoundedProcess (suc (length (C .processes)))) (suc i) p (map (relinked (movedUp i)) (C .processes)) (raised i (length (C .processes)) (C .processes) (b .processes)) q)
+
+  pub bounded-remove : (i : ℕ) → i < length (C .processes) → Unlinked i (C .processes) → Bounded (withProcesses C (removed i (C .processes)))
+  unfolding removed
+  bounded-remove i h u =
+      let l = map (relinked (movedDown i)) (C .processes) in
+      let m = length (C .processes) - 1 in
+      let e : length (C .processes) ≡ suc m = omega arith in
+      let k : length l ≡ length (C .processes) = length-map (C .processes) (relinked (movedDown i)) in
+      let r : suc (length (removeAt i l)) ≡ length l = length-remove i l (omega arith) in
+      bounded-processes C b (removeAt i l) m (omega arith) (omega (arith, b .places))
+      (all-remove (BoundedProcess m) i l (lowered i m (C .processes) (omega arith) (subst (λ (n : ℕ). All (BoundedProcess n) (C .processes)) e (b .processes)) u))

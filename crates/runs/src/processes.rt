@@ -1,0 +1,70 @@
+// The processes of a run, by place.
+ghost use mathlib.Core.Path.{_≡_};
+ghost use Prim.Native.Nat.{ℕ, _+_, _≤_, _<_};
+ghost use mathlib.Core.Option.{some};
+ghost use lib.ListN.{length, getElem?, set};
+ghost use Rattle.runs.specs.Raw.{rawIn, processOf, BoundedProcess, Bounded};
+ghost use Rattle.runs.specs.Values.{processIn, Changed, Written};
+ghost use Rattle.runs.specs.Operations.{withProcesses};
+use crate::records::Held;
+use crate::records::Process;
+use crate::words::copy_in;
+use crate::words::copy_out;
+use crate::words::wide;
+
+// How many there are.
+pub fn count(run: &[u32]) -> usize
+    requires { ⌜ 6144 ≤ length (now run) ⌝ }
+    ensures { λ r. ⌜ r ≡ length (rawIn (now (run .entry)) .processes) ⌝ }
+{
+    wide(run[0])
+}
+
+// The process at a place.
+pub fn load(run: &[u32], i: usize) -> Process
+    requires { ⌜ 6144 ≤ length (now run) ⌝ }
+    requires { ⌜ Bounded (rawIn (now run)) ⌝ }
+    requires { ⌜ i < length (rawIn (now run) .processes) ⌝ }
+    ensures { λ r. ⌜ getElem? (rawIn (now (run .entry)) .processes) i ≡ some (processIn r) ⌝ }
+    ensures { λ r. ⌜ BoundedProcess (length (rawIn (now (run .entry)) .processes)) (processIn r) ⌝ }
+    ensures { λ r. ⌜ r .held .count ≤ 16 ⌝ }
+{
+    let b = 80 + 40 * i;
+    let doing = run[b];
+    let link = run[b + 1];
+    let n = wide(run[b + 2]);
+    let w = copy_out(run, b + 3);
+    let held = Held { count: n, words: w };
+    Process {
+        kind: doing % 4,
+        pointer: doing / 4,
+        link: link,
+        held: held,
+    }
+}
+
+// The words of a process, from `at` on.
+pub fn put(run: &mut [u32], at: usize, p: Process)
+    requires { ⌜ at + 40 ≤ length (now run) ⌝ }
+    requires { ⌜ (p .kind < 3) × (p .pointer < 16384) × (p .held .count ≤ 16) ⌝ }
+    ensures { λ r. ⌜ Written processOf 40 (now (run .entry)) (now (run .exit)) at (processIn p) ⌝ }
+{
+    run[at] = p.pointer * 4 + p.kind;
+    run[at + 1] = p.link;
+    let h = p.held;
+    run[at + 2] = h.count as u32;
+    let w = h.words;
+    copy_in(run, at + 3, &w);
+}
+
+// Another process at a place.
+pub fn store(run: &mut [u32], i: usize, p: Process)
+    requires { ⌜ 6144 ≤ length (now run) ⌝ }
+    requires { ⌜ Bounded (rawIn (now run)) ⌝ }
+    requires { ⌜ i < length (rawIn (now run) .processes) ⌝ }
+    requires { ⌜ BoundedProcess (length (rawIn (now run) .processes)) (processIn p) × (p .held .count ≤ 16) ⌝ }
+    ensures { λ r. ⌜ Changed (now (run .entry)) (now (run .exit)) (withProcesses (rawIn (now (run .entry))) (set (rawIn (now (run .entry)) .processes) i (processIn p))) ⌝ }
+    ensures { λ r. ⌜ Bounded (rawIn (now (run .exit))) ⌝ }
+{
+    put(run, 80 + 40 * i, p);
+}
