@@ -3,3 +3,4 @@ pub mod Ends
 pub mod Searches
 pub mod Slices
 pub mod Shifts
+pub mod Outsides

@@ -2,18 +2,18 @@
 use Prim.Native.Nat.{ℕ, zero, suc, _+_, _-_, _≤_, _<_}
 use mathlib.Core.List.{List, [], _∷_, _++_, map}
 use mathlib.Core.Path.{_≡_, refl, sym, subst, ap, _∙_}
-use mathlib.Core.Bool.{true, false, cond}
+use mathlib.Core.Bool.{Bool, true, false, cond}
 use mathlib.Core.Option.{Option, some, none, Option·map}
 use native.Mathlib.Omega.{arith}
 use borrow.Author.Tests.{lt-ltb, le-ltb}
 use native.Mathlib.Decide.{decLt}
-use lib.Dec.{ltb}
-use lib.ListN.{length, set, length-set, length-map}
+use lib.Dec.{ltb, eqb}
+use lib.ListN.{length, set, length-set, length-map, length-append}
 use Rattle.calculus.specs.Configuration.{movedUp, movedDown}
 use Rattle.runs.specs.Lists.{All, insertAt, removeAt}
-use Rattle.runs.specs.ListLaws.{all-set, all-insert, all-remove, all-map, all-weaken, length-insert, length-remove}
+use Rattle.runs.specs.ListLaws.{all-set, all-append, all-insert, all-remove, all-map, all-weaken, length-insert, length-remove}
 use Rattle.runs.specs.Raw.{RawProcess, RawOutside, RawConfig, linksBelow, BoundedProcess, BoundedOutside, Bounded}
-use Rattle.runs.specs.Operations.{withProcesses, withOutside, withGiven, relinked, inserted, removed}
+use Rattle.runs.specs.Operations.{withProcesses, withOutside, withGiven, relinked, inserted, removed, letGo}
 
 -- no process has the link
 abbrev pub Unlinked : ℕ → List RawProcess → Type 0
@@ -89,3 +89,32 @@ module _ (C : RawConfig) (b : Bounded C) where
       let r : suc (length (removeAt i l)) ≡ length l = length-remove i l (omega arith) in
       bounded-processes C b (removeAt i l) m (omega arith) (omega (arith, b .places))
       (all-remove (BoundedProcess m) i l (lowered i m (C .processes) (omega arith) (subst (λ (n : ℕ). All (BoundedProcess n) (C .processes)) e (b .processes)) u))
+
+-- the outside
+pub letGo-few : (k : ℕ) (l : List RawOutside) → length (letGo k l) ≤ length l
+unfolding letGo
+letGo-few k [] = omega arith
+letGo-few k (o ∷ l) = go (eqb k (o .channel)) (letGo-few k l)
+  where
+    go : (t : Bool) → length (letGo k l) ≤ length l → length (cond t (letGo k l) (o ∷ letGo k l)) ≤ suc (length l)
+    go true h = omega arith
+    go false h = omega arith
+
+pub letGo-all : (P : RawOutside → Type 0) (k : ℕ) (l : List RawOutside) → All P l → All P (letGo k l)
+unfolding letGo
+letGo-all P k [] a = tt
+letGo-all P k (o ∷ l) a = go (eqb k (o .channel)) (letGo-all P k l (a .1))
+  where
+    go : (t : Bool) → All P (letGo k l) → All P (cond t (letGo k l) (o ∷ letGo k l))
+    go true h = h
+    go false h = (a .0, h)
+
+module _ (C : RawConfig) (b : Bounded C) where
+  pub bounded-letGo : (k : ℕ) → Bounded (withOutside C (letGo k (C .outside)))
+  bounded-letGo k = bounded-outside C b (letGo k (C .outside)) (omega (arith, letGo-few k (C .outside), b .channels)) (letGo-all BoundedOutside k (C .outside) (b .outside))
+
+  pub bounded-append : (o : RawOutside) → length (C .outside) < 32 → BoundedOutside o → Bounded (withOutside C (C .outside ++ (o ∷ [])))
+  bounded-append o h p = bounded-outside C b (C .outside ++ (o ∷ [])) (omega (arith, length-append (C .outside) (o ∷ []))) (all-append BoundedOutside (C .outside) (o ∷ []) (b .outside) (p, tt))
+
+  pub bounded-set-outside : (k : ℕ) (o : RawOutside) → BoundedOutside o → Bounded (withOutside C (set (C .outside) k o))
+  bounded-set-outside k o p = bounded-outside C b (set (C .outside) k o) (omega (arith, length-set (C .outside) k o, b .channels)) (all-set BoundedOutside (C .outside) k o (b .outside) p)

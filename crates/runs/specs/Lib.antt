@@ -3,4 +3,5 @@ pub mod ListLaws
 pub mod Raw
 pub mod Values
 pub mod Operations
+pub mod SearchLaws
 pub mod Bounds

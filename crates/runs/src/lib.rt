@@ -1,5 +1,8 @@
 // Runs: the records of the run slice.
+pub mod channels;
+pub mod far;
 pub mod held;
+pub mod outside;
 pub mod places;
 pub mod processes;
 pub mod records;

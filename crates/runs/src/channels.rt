@@ -1,0 +1,1 @@
+// Channel places: which are free.
