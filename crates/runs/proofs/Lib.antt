@@ -4,3 +4,4 @@ pub mod Searches
 pub mod Slices
 pub mod Shifts
 pub mod Outsides
+pub mod Marks

@@ -2,11 +2,11 @@
 use Prim.Native.Nat.{ℕ, zero, suc, _+_, _-_}
 use mathlib.Core.List.{List, [], _∷_, map}
 use mathlib.Core.Bool.{Bool, true, false, cond, _&&_}
-use mathlib.Core.Option.{Option·map, Option}
+use mathlib.Core.Option.{Option, some, none, Option·map}
 use lib.Dec.{eqb, ltb}
 use Rattle.notation.specs.Limits.{channelPlaces}
 use Rattle.calculus.specs.Types.{Side, provided, used, other, sameSide}
-use Rattle.calculus.specs.Configuration.{movedUp, movedDown, freeFrom}
+use Rattle.calculus.specs.Configuration.{movedUp, movedDown, among, freeFrom}
 use Rattle.runs.specs.Lists.{insertAt, removeAt, scan}
 use Rattle.runs.specs.Raw.{RawEnd, RawProcess, RawOutside, RawConfig}
 use Rattle.runs.specs.declared.records.Found.{Found}
@@ -103,6 +103,18 @@ channelsHeld C = processChannels (C .processes) (map (λ (o : RawOutside). o .ch
 
 unfoldable pub freshChannel : RawConfig → Option ℕ
 freshChannel C = freeFrom (channelsHeld C) 0 channelPlaces
+
+-- of n places from k on, those of which an end is held
+abbrev pub busyFrom : List ℕ → ℕ → ℕ → ℕ
+busyFrom busy k zero = 0
+busyFrom busy k (suc n) = let r = busyFrom busy (suc k) n in cond (among k busy) (suc r) r
+
+unfoldable pub busyPlaces : RawConfig → ℕ
+busyPlaces C = busyFrom (channelsHeld C) 0 channelPlaces
+
+abbrev pub foundIn : Option ℕ → Found
+foundIn none = found.Nothing
+foundIn (some k) = found.At k
 
 -- ── the outside
 unfoldable pub letGo : ℕ → List RawOutside → List RawOutside

@@ -2,7 +2,9 @@
 use Prim.Native.Nat.{ℕ, _+_, _≤_, _<_}
 use mathlib.Core.List.{List}
 use mathlib.Core.Path.{_≡_}
+use mathlib.Core.Bool.{cond}
 use lib.ListN.{length, getD, drop}
+use Rattle.calculus.specs.Configuration.{among}
 use Rattle.runs.specs.Raw.{RawEnd, RawProcess, RawOutside, RawConfig, sideOf, linkOf, rows, endOf, rawIn}
 use Rattle.runs.specs.declared.records.End.{End}
 use Rattle.runs.specs.declared.records.Held.{Held}
@@ -40,3 +42,8 @@ pub record Written {A : Type 0} (read : (ℕ → ℕ) → A) (width : ℕ) (old 
   pub row : read (λ t. getD new (first + t) 0) ≡ x
   pub below : (k : ℕ) → k < first → getD new k 0 ≡ getD old k 0
   pub above : (k : ℕ) → first + width ≤ k → getD new k 0 ≡ getD old k 0
+
+-- a word for each channel place: 1 where the channel is in the list, else 0
+pub record Marked (marks : List ℕ) (l : List ℕ) : Type 0 where
+  pub long : length marks ≡ 512
+  pub each : (k : ℕ) → k < 512 → getD marks k 0 ≡ cond (among k l) 1 0

@@ -25,7 +25,7 @@ pub fn no_ends() -> Held
 pub fn end_at(h: Held, k: usize) -> End
     requires { ⌜ (h .count ≤ 16) × (k < h .count) ⌝ }
     ensures { λ r. ⌜ getElem? (heldIn h) k ≡ some (endIn r) ⌝ }
-    ensures { λ r. ⌜ r .side < 2 ⌝ }
+    ensures { λ r. ⌜ (r .side < 2) × (r .channel < 512) ⌝ }
 {
     let a = h.words[2 * k];
     let b = h.words[2 * k + 1];

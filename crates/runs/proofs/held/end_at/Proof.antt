@@ -41,7 +41,7 @@ returns : tie.Need-returns
 unfolding heldIn
 returns c =
     let a = c .before .before .args in
-    (end-here (a .t1 .words) (a .t1 .count) (a .k) _ _ (omega arith) refl refl, omega arith)
+    (end-here (a .t1 .words) (a .t1 .count) (a .k) _ _ (omega arith) refl refl, (omega arith, omega arith))
 
 pub end-at-spec : {M : Type 1} → statement M
 end-at-spec =

@@ -37,7 +37,7 @@ returns c =
     let b = c .before .before .before .before .before .before .loop in
     let f = c .before .before .before .before .end-at in
     sym (b .inv ∙ first-here (isEnd (a .channel) (sideOf (a .side))) (heldIn (a .h)) (b .k) (f .ensures .0)
-    (end-found (a .channel) (a .side) (f .result) (omega arith) (f .ensures .1) (c .before .before .if1 .taken) (c .if2 .taken)))
+    (end-found (a .channel) (a .side) (f .result) (omega arith) (f .ensures .1 .0) (c .before .before .if1 .taken) (c .if2 .taken)))
 
 -- src/held.rt:91:9
 add-k : tie.Need-add-k Inv-loop μ-loop
@@ -55,8 +55,8 @@ loop-again c =
     let f = c .before .before .end-at in
     b .inv ∙ first-on (isEnd (a .channel) (sideOf (a .side))) (heldIn (a .h)) (b .k) (f .ensures .0)
     (⊎-elim
-    (λ w. end-other-side (a .channel) (a .side) (f .result) (omega arith) (f .ensures .1) (w .0 .taken) (w .2 .left))
-    (λ w. end-elsewhere (a .channel) (a .side) (f .result) (omega arith) (f .ensures .1) (w .left))
+    (λ w. end-other-side (a .channel) (a .side) (f .result) (omega arith) (f .ensures .1 .0) (w .0 .taken) (w .2 .left))
+    (λ w. end-elsewhere (a .channel) (a .side) (f .result) (omega arith) (f .ensures .1 .0) (w .left))
     (c .if1 .came))
 
 -- src/held.rt:78:1
