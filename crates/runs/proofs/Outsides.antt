@@ -10,7 +10,7 @@ use lib.Dec.{eqb}
 use lib.ListN.{length, getD, getElem?, set, take, drop, length-set}
 use lib.Seq.{getD-set-same, getD-set-other, take-all}
 use Rattle.runs.specs.ListLaws.{at-tab, all-at}
-use Rattle.runs.specs.SearchLaws.{found-between, found-below}
+use Rattle.runs.specs.SearchLaws.{First, here, later, first-here, none-from}
 use Rattle.runs.specs.Raw.{RawOutside, RawConfig, rows, outsideOf, rawIn, BoundedOutside, Bounded}
 use Rattle.runs.specs.Values.{Changed, Written}
 use Rattle.runs.specs.Operations.{withOutside, withGiven, firstStep, onChannel, outsideAt, letGo, changedOutside}
@@ -64,37 +64,23 @@ module _ (old new : List ℕ) (k : ℕ) (o : RawOutside) (b : Bounded (rawIn old
 
 -- ── the channel that is changed, by its position
 module _ (c : ℕ) (f : RawOutside → RawOutside) where
-  changed-from : (l : List RawOutside) (i k : ℕ) {o : RawOutside} → scan (firstStep (onChannel c)) found.Nothing i l ≡ found.At k → getElem? l (k - i) ≡ some o → changedOutside c f l ≡ set l (k - i) (f o)
+  changed-first : {l : List RawOutside} {k : ℕ} {o : RawOutside} → First (onChannel c) l k o → changedOutside c f l ≡ set l k (f o)
   unfolding changedOutside
-  changed-from [] i k e g = let z : _≡_ {A = ℕ} 0 1 = cc in absurd (omega arith)
-  changed-from (x ∷ l) i k {o} e g = go (eqb c (x .channel)) e (changed-from l (suc i) k)
-    where
-      go : (t : Bool) → cond t (found.At i) (scan (firstStep (onChannel c)) found.Nothing (suc i) l) ≡ found.At k
-          → ((_ : scan (firstStep (onChannel c)) found.Nothing (suc i) l ≡ found.At k) → getElem? l (k - suc i) ≡ some o → changedOutside c f l ≡ set l (k - suc i) (f o))
-          → cond t (f x ∷ l) (x ∷ changedOutside c f l) ≡ set (x ∷ l) (k - i) (f o)
-      go true q h =
-          let p : i ≡ k = cc in
-          let z : k - i ≡ 0 = omega arith in
-          let y : x ≡ o = let u : some x ≡ some o = ap (getElem? (x ∷ l)) (sym z) ∙ g in cc in
-          ap (λ (v : RawOutside). f v ∷ l) y ∙ ap (λ m. set (x ∷ l) m (f o)) (sym z)
-      go false q h =
-          let b = found-between (onChannel c) l (suc i) k q in
-          let z : k - i ≡ suc (k - suc i) = omega arith in
-          ap (λ (m : List RawOutside). x ∷ m) (h q (ap (getElem? (x ∷ l)) (sym z) ∙ g)) ∙ ap (λ m. set (x ∷ l) m (f o)) (sym z)
+  changed-first (here {x} {l} r) = ap (λ t. cond t (f x ∷ l) (x ∷ changedOutside c f l)) r
+  changed-first (later {x} {y} {l} r h) = ap (λ t. cond t (f y ∷ l) (y ∷ changedOutside c f l)) r ∙ ap (λ (m : List RawOutside). y ∷ m) (changed-first h)
 
   pub changed-found : (l : List RawOutside) (k : ℕ) {o : RawOutside} → outsideAt c l ≡ found.At k → getElem? l k ≡ some o → changedOutside c f l ≡ set l k (f o)
   unfolding outsideAt
-  changed-found l k {o} e g = let z : k - 0 ≡ k = omega arith in changed-from l 0 k e (ap (getElem? l) z ∙ g) ∙ ap (λ m. set l m (f o)) z
+  changed-found l k e g = changed-first (first-here (onChannel c) l k e g)
 
-  pub changed-nothing : (l : List RawOutside) (i : ℕ) → scan (firstStep (onChannel c)) found.Nothing i l ≡ found.Nothing → changedOutside c f l ≡ l
+  changed-none : (l : List RawOutside) → All (λ o. onChannel c o ≡ false) l → changedOutside c f l ≡ l
   unfolding changedOutside
-  changed-nothing [] i e = refl
-  changed-nothing (x ∷ l) i e = go (eqb c (x .channel)) e (changed-nothing l (suc i))
-    where
-      go : (t : Bool) → cond t (found.At i) (scan (firstStep (onChannel c)) found.Nothing (suc i) l) ≡ found.Nothing
-          → (scan (firstStep (onChannel c)) found.Nothing (suc i) l ≡ found.Nothing → changedOutside c f l ≡ l) → cond t (f x ∷ l) (x ∷ changedOutside c f l) ≡ x ∷ l
-      go true q h = let z : _≡_ {A = ℕ} 0 1 = cc in absurd (omega arith)
-      go false q h = ap (λ (m : List RawOutside). x ∷ m) (h q)
+  changed-none [] a = refl
+  changed-none (x ∷ l) a = ap (λ t. cond t (f x ∷ l) (x ∷ changedOutside c f l)) (a .0) ∙ ap (λ (m : List RawOutside). x ∷ m) (changed-none l (a .1))
+
+  pub changed-nothing : (l : List RawOutside) → outsideAt c l ≡ found.Nothing → changedOutside c f l ≡ l
+  unfolding outsideAt
+  changed-nothing l e = changed-none l (none-from (onChannel c) l 0 e)
 
 -- ── the channels that are kept
 letGo-step : (c : ℕ) (l : List RawOutside) (k : ℕ) {o : RawOutside} → getElem? l k ≡ some o → letGo c (take (suc k) l) ≡ cond (eqb c (o .channel)) (letGo c (take k l)) (letGo c (take k l) ++ (o ∷ []))
@@ -171,9 +157,4 @@ pub changed-changes : (ws new : List ℕ) (c k : ℕ) (f : RawOutside → RawOut
 changed-changes ws new c k f e g h = record { is = h .is ∙ ap (withOutside (rawIn ws)) (sym (changed-found c f (rawIn ws .outside) k e g)); past = h .past; long = h .long }
 
 pub changed-same : (ws : List ℕ) (c : ℕ) (f : RawOutside → RawOutside) → outsideAt c (rawIn ws .outside) ≡ found.Nothing → rawIn ws ≡ withOutside (rawIn ws) (changedOutside c f (rawIn ws .outside))
-unfolding outsideAt
-changed-same ws c f e = ap (withOutside (rawIn ws)) (sym (changed-nothing c f (rawIn ws .outside) 0 e))
-
-pub outside-below : (c k : ℕ) (l : List RawOutside) → outsideAt c l ≡ found.At k → k < length l
-unfolding outsideAt
-outside-below c k l e = found-below (onChannel c) l k e
+changed-same ws c f e = ap (withOutside (rawIn ws)) (sym (changed-nothing c f (rawIn ws .outside) e))

@@ -5,3 +5,4 @@ pub mod Values
 pub mod Operations
 pub mod SearchLaws
 pub mod Bounds
+pub mod Decode

@@ -3,7 +3,8 @@ use native.Mathlib.Omega.{arith}
 use mathlib.Core.Path.{sym, _∙_}
 use Rattle.runs.specs.Raw.{rawIn}
 use Rattle.runs.specs.Operations.{retyped}
-use Rattle.runs.proofs.Outsides.{unchanged, outside-below, changed-changes, changed-same}
+use Rattle.runs.specs.SearchLaws.{outside-below}
+use Rattle.runs.proofs.Outsides.{unchanged, changed-changes, changed-same}
 use Rattle.runs.proofs.outside.retype_outside.Statement.{statement}
 use Rattle.runs.proofs.outside.retype_outside.Tie as tie
 use Rattle.runs.proofs.outside.retype_outside.Reads as reads
@@ -39,14 +40,14 @@ returns c =
 outside-at-requires : tie.Need-outside-at-requires
 outside-at-requires c κs =
     let s = c .before .before .before .before .before .before .before in
-    (s .pre .0, (s .pre .1 .0, outside-below (s .args .channel) _ (rawIn (s .args .run .now) .outside) (sym (c .before .before .before .before .find-outside .ensures) ∙ c .before .before .f .given .1)))
+    (s .pre .0, (s .pre .1 .0, outside-below (s .args .channel) (rawIn (s .args .run .now) .outside) _ (sym (c .before .before .before .before .find-outside .ensures) ∙ c .before .before .f .given .1)))
 
 -- src/outside.rt:152:5
 set-outside-requires : tie.Need-set-outside-requires
 set-outside-requires c κs =
     let s = c .before .before .before .before .before .before .before .before .before in
     let p = c .before .outside-at .ensures .1 in
-    (s .pre .0, (s .pre .1 .0, (outside-below (s .args .channel) _ (rawIn (s .args .run .now) .outside) (sym (c .before .before .before .before .before .before .find-outside .ensures) ∙ c .before .before .before .before .f .given .1), record { number = p .number; node = s .pre .1 .1; channel = p .channel })))
+    (s .pre .0, (s .pre .1 .0, (outside-below (s .args .channel) (rawIn (s .args .run .now) .outside) _ (sym (c .before .before .before .before .before .before .find-outside .ensures) ∙ c .before .before .before .before .f .given .1), record { number = p .number; node = s .pre .1 .1; channel = p .channel })))
 
 -- src/outside.rt:139:1
 same-length-2 : tie.Need-same-length-2
