@@ -1,19 +1,17 @@
 -- Laws of what a process holds.
-use Prim.Native.Nat.{ℕ, zero, suc, _+_, _*_, _/_, _%_, _≤_, _<_}
+use Prim.Native.Nat.{ℕ, zero, suc, _+_, _*_, _/_, _%_, _<_}
 use mathlib.Core.List.{List, [], _∷_, _++_}
 use mathlib.Core.Path.{_≡_, refl, sym, ap, subst, _∙_}
 use mathlib.Core.Option.{Option, some}
-use mathlib.Core.Bool.{Bool, true, false}
 use native.Mathlib.Omega.{arith}
-use lib.ListN.{length, getD, getElem?, set}
+use lib.ListN.{getD, getElem?, set}
 use lib.Dec.{eqb, eqb·zero-suc, eqb·suc-zero}
 use borrow.Author.Tests.{eq-eqb}
 use Rattle.calculus.specs.Types.{sameSide}
 use Rattle.runs.specs.Lists.{removeAt}
-use Rattle.runs.specs.ListLaws.{at-tab, length-tab}
+use Rattle.runs.specs.ListLaws.{at-tab}
 use Rattle.runs.specs.Raw.{RawEnd, sideOf, rows, endOf}
-use Rattle.runs.specs.Values.{heldIn, Moved, Written}
-use Rattle.runs.specs.declared.records.Held.{Held}
+use Rattle.runs.specs.Values.{Moved, Written}
 use Rattle.runs.proofs.Rows.{end-of, end-local, rows-set, rows-append, rows-remove}
 
 -- the ends that words have, from their start
@@ -49,7 +47,3 @@ same-sides zero zero p q = refl
 same-sides zero (suc b) p q = sym (eqb·zero-suc b)
 same-sides (suc a) zero p q = sym (eqb·suc-zero a)
 same-sides (suc a) (suc b) p q = let e : suc a ≡ suc b = omega arith in sym (eq-eqb _ _ e)
-
-pub held-length : (h : Held) → length (heldIn h) ≡ h .count
-unfolding heldIn
-held-length h = length-tab _ (h .count)

@@ -1,23 +1,23 @@
 -- Laws of the outside's channels.
-use Prim.Native.Nat.{ℕ, zero, suc, _+_, _-_, _*_, _/_, _%_, _≤_, _<_}
+use Prim.Native.Nat.{ℕ, zero, suc, _+_, _-_, _*_, _≤_, _<_}
 use mathlib.Core.List.{List, [], _∷_, _++_}
-use mathlib.Core.Path.{_≡_, refl, sym, ap, ap₂, subst, _∙_}
+use mathlib.Core.Path.{_≡_, refl, sym, ap, subst, _∙_}
 use mathlib.Core.Bool.{Bool, true, false, cond}
-use mathlib.Core.Option.{Option, some}
+use mathlib.Core.Option.{some}
 use native.Mathlib.Omega.{arith}
 use native.Mathlib.Numerals.{add-one}
 use lib.Dec.{eqb}
-use lib.ListN.{length, getD, getElem?, set, take, drop, length-set}
+use lib.ListN.{length, getD, getElem?, set, take, length-set}
 use lib.Seq.{getD-set-same, getD-set-other, take-all}
 use Rattle.runs.specs.ListLaws.{at-tab, all-at}
 use Rattle.runs.specs.SearchLaws.{First, here, later, first-here, none-from}
 use Rattle.runs.specs.Raw.{RawOutside, RawConfig, rows, outsideOf, rawIn, BoundedOutside, Bounded}
 use Rattle.runs.specs.Values.{Changed, Written}
-use Rattle.runs.specs.Operations.{withOutside, withGiven, firstStep, onChannel, outsideAt, letGo, changedOutside}
+use Rattle.runs.specs.Operations.{withOutside, withGiven, onChannel, outsideAt, letGo, changedOutside}
 use Rattle.runs.specs.declared.records.Found.the-variants as found
 use Rattle.runs.proofs.Rows.{outside-local, rows-same, rows-set, rows-append}
 use Rattle.runs.proofs.Slices.{word, counted-outside, numbered, outside-changed}
-use Rattle.runs.specs.Lists.{All, scan}
+use Rattle.runs.specs.Lists.{All}
 
 abbrev pub outsideRow : List ℕ → ℕ → ℕ → ℕ
 outsideRow ws k t = getD ws (16 + 2 * k + t) 0

@@ -1,15 +1,15 @@
 -- Laws of words that are stored, and of the rows that they make.
-use Prim.Native.Nat.{ℕ, zero, suc, _+_, _-_, _*_, _/_, _%_, _≤_, _<_}
+use Prim.Native.Nat.{ℕ, suc, _+_, _-_, _*_, _/_, _%_, _≤_, _<_}
 use mathlib.Core.List.{List, [], _∷_, _++_}
-use mathlib.Core.Path.{_≡_, refl, sym, ap, ap₂, subst, _∙_}
+use mathlib.Core.Path.{_≡_, refl, sym, ap, _∙_}
 use native.Mathlib.Omega.{arith}
 use native.Mathlib.Nat.{mul-suc, mul-le-mul-left}
 use native.Mathlib.Decide.{decLt, ℕ-discrete}
 use lib.ListN.{length, getD, set, drop, length-set, length-drop}
 use lib.Seq.{getD-set-same, getD-set-other, getD-drop, ext-getD}
-use Rattle.runs.specs.Lists.{tab, insertAt, removeAt}
+use Rattle.runs.specs.Lists.{insertAt, removeAt}
 use Rattle.runs.specs.ListLaws.{tab-same, tab-set, tab-insert, tab-remove, tab-append}
-use Rattle.runs.specs.Raw.{RawEnd, RawProcess, RawOutside, sideOf, linkOf, rows, endOf, processOf, outsideOf}
+use Rattle.runs.specs.Raw.{sideOf, rows, endOf, outsideOf}
 use Rattle.runs.specs.Values.{Moved, Written}
 
 -- ── stores in a row

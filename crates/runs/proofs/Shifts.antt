@@ -1,17 +1,17 @@
 -- Laws of places that move.
-use Prim.Native.Nat.{ℕ, zero, suc, _+_, _-_, _*_, _/_, _%_, _≤_, _<_}
-use mathlib.Core.List.{List, [], _∷_, _++_, map}
-use mathlib.Core.Path.{_≡_, refl, sym, ap, ap₂, subst, _∙_}
+use Prim.Native.Nat.{ℕ, zero, suc, _+_, _-_, _*_, _%_, _≤_, _<_}
+use mathlib.Core.List.{List, map}
+use mathlib.Core.Path.{_≡_, sym, ap, subst, _∙_}
 use mathlib.Core.Bool.{Bool, true, false, cond}
-use mathlib.Core.Option.{Option, some, none, Option·map}
+use mathlib.Core.Option.{some, Option·map}
 use native.Mathlib.Omega.{arith}
-use native.Mathlib.Decide.{decLt, ℕ-discrete}
+use native.Mathlib.Decide.{decLt}
 use borrow.Author.Tests.{lt-ltb, le-ltb, eq-eqb, ne-eqb}
 use lib.Dec.{ltb, eqb}
-use lib.ListN.{length, getD, set, drop, length-set, length-map}
+use lib.ListN.{length, getD, set, length-set, length-map}
 use lib.Seq.{getD-set-same, getD-set-other}
 use Rattle.calculus.specs.Configuration.{movedUp, movedDown}
-use Rattle.runs.specs.Lists.{tab, All, insertAt, removeAt}
+use Rattle.runs.specs.Lists.{All, insertAt, removeAt}
 use Rattle.runs.specs.ListLaws.{tab-same, map-tab, all-map, all-at}
 use Rattle.runs.specs.Raw.{RawProcess, RawConfig, linkOf, linksBelow, rows, processOf, rawIn, Bounded}
 use Rattle.runs.specs.Values.{Changed, Moved, Written}

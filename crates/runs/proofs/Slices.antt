@@ -1,18 +1,16 @@
 -- From the words of a slice to its configuration.
-use Prim.Native.Nat.{ℕ, zero, suc, _+_, _-_, _*_, _/_, _%_, _≤_, _<_}
-use mathlib.Core.List.{List, [], _∷_, _++_}
-use mathlib.Core.Path.{_≡_, refl, sym, ap, ap₂, subst, _∙_}
+use Prim.Native.Nat.{ℕ, _+_, _-_, _*_, _/_, _%_, _≤_, _<_}
+use mathlib.Core.List.{List, [], _∷_}
+use mathlib.Core.Path.{_≡_, refl, ap, _∙_}
 use mathlib.Core.Option.{Option, some}
 use native.Mathlib.Omega.{arith}
-use native.Mathlib.Decide.{decLt}
-use lib.ListN.{length, getD, getElem?, set, drop, length-set}
+use lib.ListN.{length, getD, getElem?, set, length-set}
 use lib.Seq.{getD-set-same, getD-set-other}
-use Rattle.runs.specs.Lists.{tab, All, insertAt, removeAt}
+use Rattle.runs.specs.Lists.{All}
 use Rattle.runs.specs.ListLaws.{length-tab, at-tab, tab-same, all-at, all-weaken}
-use Rattle.runs.specs.Raw.{RawEnd, RawProcess, RawOutside, RawConfig, sideOf, linkOf, rows, endOf, processOf, outsideOf, rawOf, rawIn, BoundedProcess, Bounded}
-use Rattle.runs.specs.Values.{heldIn, processIn, Changed, Moved, Written}
-use Rattle.runs.specs.Operations.{withProcesses, withOutside, withGiven}
-use Rattle.runs.specs.declared.records.Process.{Process}
+use Rattle.runs.specs.Raw.{RawProcess, RawOutside, linkOf, rows, endOf, processOf, outsideOf, rawIn, BoundedProcess, Bounded}
+use Rattle.runs.specs.Values.{Changed, Moved, Written}
+use Rattle.runs.specs.Operations.{single, withProcesses, withOutside, withGiven}
 use Rattle.runs.proofs.Rows.{Local, end-of, outside-local, rows-same, rows-set, drop-same}
 use Rattle.runs.proofs.Ends.{ends}
 
@@ -152,3 +150,23 @@ pub loaded : (ws : List ℕ) (i : ℕ) (p : RawProcess) → Bounded (rawIn ws) �
 loaded ws i p b h e =
     let at : getElem? (rawIn ws .processes) i ≡ some p = process-at ws i h ∙ ap some e in
     (at, all-at _ (rawIn ws .processes) i (b .processes) at)
+
+pub begun : (old new : List ℕ) (p : RawProcess) → 6144 ≤ length old → Written processOf 40 (set (set (set old 0 1) 1 0) 2 0) new 80 p → Changed old new (single p)
+unfolding rawIn
+begun old new p l w =
+    let o1 = set old 0 1 in
+    let o2 = set o1 1 0 in
+    let o3 = set o2 2 0 in
+    let l1 : length o1 ≡ length old = length-set old 0 1 in
+    let l2 : length o2 ≡ length o1 = length-set o1 1 0 in
+    let zeroth : getD new 0 0 ≡ 1 = w .below 0 (omega arith) ∙ getD-set-other o2 2 0 0 0 (λ z. omega arith) ∙ getD-set-other o1 1 0 0 0 (λ z. omega arith) ∙ getD-set-same old 0 1 0 (omega arith) in
+    let first : getD new 1 0 ≡ 0 = w .below 1 (omega arith) ∙ getD-set-other o2 2 1 0 0 (λ z. omega arith) ∙ getD-set-same o1 1 0 0 (omega arith) in
+    let second : getD new 2 0 ≡ 0 = w .below 2 (omega arith) ∙ getD-set-same o2 2 0 0 (omega arith) in
+    let ps : rows processOf 40 80 (getD new 0 0) (word new) ≡ p ∷ [] = ap (λ n. rows processOf 40 80 n (word new)) zeroth ∙ ap (λ (q : RawProcess). q ∷ []) (w .row) in
+    let os : rows outsideOf 2 16 (getD new 2 0) (word new) ≡ [] = ap (λ n. rows outsideOf 2 16 n (word new)) second in
+    let long : length new ≡ length old = w .long ∙ length-set o2 2 0 ∙ l2 ∙ l1 in
+    record {
+      is = λ i. record { processes = ps i; outside = os i; given = first i };
+      past = drop-same 6144 new old long (λ k a. w .above k (omega arith) ∙ getD-set-other o2 2 k 0 0 (omega arith) ∙ getD-set-other o1 1 k 0 0 (omega arith) ∙ getD-set-other old 0 k 1 0 (omega arith));
+      long = long;
+    }

@@ -1,19 +1,24 @@
 -- Bounds are kept.
-use Prim.Native.Nat.{ℕ, zero, suc, _+_, _-_, _≤_, _<_}
+use Prim.Native.Nat.{ℕ, suc, _+_, _-_, _≤_, _<_}
 use mathlib.Core.List.{List, [], _∷_, _++_, map}
-use mathlib.Core.Path.{_≡_, refl, sym, subst, ap, _∙_}
+use mathlib.Core.Path.{_≡_, sym, subst, ap, _∙_}
 use mathlib.Core.Bool.{Bool, true, false, cond}
 use mathlib.Core.Option.{Option, some, none, Option·map}
 use native.Mathlib.Omega.{arith}
 use borrow.Author.Tests.{lt-ltb, le-ltb}
 use native.Mathlib.Decide.{decLt}
-use lib.Dec.{ltb, eqb}
+use lib.Dec.{eqb}
 use lib.ListN.{length, set, length-set, length-map, length-append}
 use Rattle.calculus.specs.Configuration.{movedUp, movedDown}
-use Rattle.runs.specs.Lists.{All, insertAt, removeAt}
-use Rattle.runs.specs.ListLaws.{all-set, all-append, all-insert, all-remove, all-map, all-weaken, length-insert, length-remove}
-use Rattle.runs.specs.Raw.{RawProcess, RawOutside, RawConfig, linksBelow, BoundedProcess, BoundedOutside, Bounded}
-use Rattle.runs.specs.Operations.{withProcesses, withOutside, withGiven, relinked, inserted, removed, letGo}
+use Rattle.runs.specs.Lists.{All, removeAt}
+use Rattle.runs.specs.ListLaws.{all-set, all-append, all-insert, all-remove, all-map, length-insert, length-remove}
+use Rattle.runs.specs.Raw.{rawIn, RawProcess, RawOutside, RawConfig, linksBelow, BoundedProcess, BoundedOutside, Bounded}
+use Rattle.runs.specs.Values.{Changed}
+use Rattle.runs.specs.Operations.{single, withProcesses, withOutside, withGiven, relinked, inserted, removed, letGo}
+
+-- a change to a bounded configuration
+pub keeps : {old new : List ℕ} {C : RawConfig} → Changed old new C → Bounded C → Changed old new C × Bounded (rawIn new)
+keeps e b = (e, subst (λ (D : RawConfig). Bounded D) (sym (e .is)) b)
 
 -- no process has the link
 abbrev pub Unlinked : ℕ → List RawProcess → Type 0
@@ -37,6 +42,9 @@ module _ (C : RawConfig) (b : Bounded C) where
 
   pub bounded-set : (i : ℕ) (p : RawProcess) → BoundedProcess (length (C .processes)) p → Bounded (withProcesses C (set (C .processes) i p))
   bounded-set i p h = bounded-processes _ _ (length-set (C .processes) i p) (b .places) (all-set _ (C .processes) i p (b .processes) h)
+
+pub bounded-single : (p : RawProcess) → BoundedProcess 1 p → Bounded (single p)
+bounded-single p b = record { places = omega arith; processes = (b, tt); channels = omega arith; outside = tt; given = omega arith }
 
 -- links move with the places
 moved-up-below : (i n h : ℕ) → h < n → movedUp i h < suc n

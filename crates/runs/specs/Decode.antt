@@ -1,18 +1,18 @@
 -- The configuration that a run's numbers stand for, and that its operations are the calculus' own.
-use Prim.Native.Nat.{ℕ, zero, suc, _+_, _-_, _≤_, _<_}
+use Prim.Native.Nat.{ℕ, zero, suc, _+_, _-_}
 use mathlib.Core.List.{List, [], _∷_, _++_, map, map-map}
-use mathlib.Core.Path.{_≡_, refl, sym, ap, ap₂, _∙_}
-use mathlib.Core.Bool.{Bool, true, false, cond, _&&_}
-use mathlib.Core.Option.{Option, some, none, Option·map}
+use mathlib.Core.Path.{_≡_, refl, ap, ap₂, _∙_}
+use mathlib.Core.Bool.{Bool, true, false, cond}
+use mathlib.Core.Option.{Option, some, none}
 use native.Mathlib.Omega.{arith}
 use lib.Dec.{eqb}
-use lib.ListN.{length, set, getElem?}
+use lib.ListN.{set, getElem?}
 use Rattle.notation.specs.Tree.{Name, Ty, Proc}
-use Rattle.calculus.specs.Types.{Side, provided, used, other, sameSide}
+use Rattle.calculus.specs.Types.{Side, provided, used, other}
 use Rattle.calculus.specs.Configuration.{End, end, Doing, running, folding, waiting, Process, process, Outside, Config, config, movedUp, movedDown}
 use Rattle.calculus.specs.Configuration as calculus
 use Rattle.runs.specs.Lists.{All, insertAt, removeAt}
-use Rattle.runs.specs.ListLaws.{map-set, map-insert, map-remove}
+use Rattle.runs.specs.ListLaws.{map-at, map-join, map-set, map-insert, map-remove}
 use Rattle.runs.specs.SearchLaws.{First, here, later, first-here, none-from, Holds, holds-here, nobody-from, far-process, far-outside, far-given-up}
 use Rattle.runs.specs.Raw.{RawEnd, RawProcess, RawOutside, RawConfig}
 use Rattle.runs.specs.Operations as raw
@@ -43,6 +43,9 @@ module _ (nameOf : ℕ → Name) (typeOf : ℕ → Ty Name) (termOf : ℕ → Pr
   decoded C = config (map processOf (C .processes)) (map outsideOf (C .outside)) (C .given)
 
   -- ── processes
+  pub decoded-at : (C : RawConfig) (i : ℕ) {p : RawProcess} → getElem? (C .processes) i ≡ some p → calculus.at (decoded C) i ≡ some (processOf p)
+  decoded-at C i e = map-at processOf (C .processes) i e
+
   pub decoded-set : (C : RawConfig) (i : ℕ) (p : RawProcess) → decoded (raw.withProcesses C (set (C .processes) i p)) ≡ calculus.replaced i (processOf p) (decoded C)
   decoded-set C i p = ap (λ l. config l (map outsideOf (C .outside)) (C .given)) (map-set processOf (C .processes) i p)
 
@@ -59,6 +62,9 @@ module _ (nameOf : ℕ → Name) (typeOf : ℕ → Ty Name) (termOf : ℕ → Pr
   decoded-removed i l = map-remove processOf i (map (raw.relinked (movedDown i)) l) ∙ ap (removeAt i) (relinks (movedDown i) l)
 
   -- ── the outside
+  pub decoded-append : (l : List RawOutside) (o : RawOutside) → map outsideOf (l ++ (o ∷ [])) ≡ map outsideOf l ++ (outsideOf o ∷ [])
+  decoded-append l o = map-join outsideOf l (o ∷ [])
+
   pub decoded-letGo : (k : ℕ) (l : List RawOutside) → map outsideOf (raw.letGo k l) ≡ calculus.letGo k (map outsideOf l)
   unfolding raw.letGo calculus.letGo
   decoded-letGo k [] = refl
@@ -102,6 +108,20 @@ module _ (nameOf : ℕ → Name) (typeOf : ℕ → Ty Name) (termOf : ℕ → Pr
   pub decoded-fresh : (C : RawConfig) → calculus.freshChannel (decoded C) ≡ raw.freshChannel C
   unfolding calculus.freshChannel raw.freshChannel
   decoded-fresh C = ap (λ l. calculus.freeFrom l 0 512) (decoded-channels C)
+
+  -- ── what a process holds, by position
+  module _ (l : List RawEnd) (j : ℕ) where
+    pub decoded-end-at : {e : RawEnd} → getElem? l j ≡ some e → getElem? (map endOf l) j ≡ some (endOf e)
+    decoded-end-at e = map-at endOf l j e
+
+    pub decoded-end-set : (e : RawEnd) → map endOf (set l j e) ≡ set (map endOf l) j (endOf e)
+    decoded-end-set e = map-set endOf l j e
+
+    pub decoded-end-removed : map endOf (removeAt j l) ≡ removeAt j (map endOf l)
+    decoded-end-removed = map-remove endOf j l
+
+  pub decoded-end-append : (l : List RawEnd) (e : RawEnd) → map endOf (l ++ (e ∷ [])) ≡ map endOf l ++ (endOf e ∷ [])
+  decoded-end-append l e = map-join endOf l (e ∷ [])
 
   -- ── who holds an end
   named-first : (k : ℕ) (s : Side) {l : List RawEnd} {j : ℕ} {e : RawEnd} → First (raw.isEnd k s) l j e → calculus.heldAs k s (map endOf l) ≡ some (nameOf (e .name))

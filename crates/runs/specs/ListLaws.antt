@@ -5,7 +5,7 @@ use mathlib.Core.Path.{_≡_, refl, sym, ap, ap₂, subst, _∙_}
 use native.Mathlib.Omega.{arith}
 use native.Mathlib.Numerals.{add-one}
 use lib.ListN.{length, getElem?, set, take, drop, drop-of-length-le}
-use mathlib.Core.Option.{some}
+use mathlib.Core.Option.{Option, some}
 use Rattle.runs.specs.Lists.{tab, insertAt, removeAt, All, scan}
 
 module _ {A : Type 0} where
@@ -132,6 +132,11 @@ module _ {A B : Type 0} (f : A → B) where
   pub map-tab : (g : ℕ → A) (n : ℕ) → map f (tab g n) ≡ tab (λ k. f (g k)) n
   map-tab g zero = refl
   map-tab g (suc n) = ap {B = List B} (λ l. f (g 0) ∷ l) (map-tab (λ k. g (suc k)) n)
+
+  pub map-at : (l : List A) (k : ℕ) {x : A} → getElem? l k ≡ some x → getElem? (map f l) k ≡ some (f x)
+  map-at [] k e = let z : _≡_ {A = ℕ} 0 1 = cc in absurd (omega arith)
+  map-at (y ∷ l) zero {x} e = let p : y ≡ x = cc in ap {B = Option B} (λ z. some (f z)) p
+  map-at (y ∷ l) (suc k) e = map-at l k e
 
   pub map-take : (k : ℕ) (l : List A) → map f (take k l) ≡ take k (map f l)
   map-take zero l = refl

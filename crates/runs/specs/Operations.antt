@@ -27,6 +27,9 @@ abbrev pub withGiven : RawConfig → ℕ → RawConfig
 withGiven C n = record { processes = C .processes; outside = C .outside; given = n }
 
 -- ── a process comes or leaves
+abbrev pub single : RawProcess → RawConfig
+single p = record { processes = p ∷ []; outside = []; given = 0 }
+
 abbrev pub relinked : (ℕ → ℕ) → RawProcess → RawProcess
 relinked f p = record { kind = p .kind; pointer = p .pointer; held = p .held; link = Option·map f (p .link) }
 

@@ -2,7 +2,7 @@
 -- Its words: a header of 16, of which 0 is how many processes, 1 how many outside numbers were given, 2 how many outside channels;
 -- from word 16 on 32 outside channels of 2 words; from word 80 on 128 processes of 40 words. What is not read here is free.
 use Prim.Native.Nat.{ℕ, zero, suc, _+_, _*_, _/_, _%_, _≤_, _<_}
-use mathlib.Core.List.{List, []}
+use mathlib.Core.List.{List}
 use mathlib.Core.Option.{Option, some, none}
 use lib.ListN.{length, getD}
 use Rattle.calculus.specs.Types.{Side, provided, used}

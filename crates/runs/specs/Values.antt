@@ -5,6 +5,7 @@ use mathlib.Core.Path.{_≡_}
 use mathlib.Core.Bool.{cond}
 use lib.ListN.{length, getD, drop}
 use Rattle.calculus.specs.Configuration.{among}
+use Rattle.runs.specs.ListLaws.{length-tab}
 use Rattle.runs.specs.Raw.{RawEnd, RawProcess, RawOutside, RawConfig, sideOf, linkOf, rows, endOf, rawIn}
 use Rattle.runs.specs.declared.records.End.{End}
 use Rattle.runs.specs.declared.records.Held.{Held}
@@ -22,6 +23,10 @@ processIn p = record { kind = p .kind; pointer = p .pointer; held = heldIn (p .h
 
 abbrev pub outsideIn : Outside → RawOutside
 outsideIn o = record { number = o .number; node = o .node; channel = o .channel }
+
+pub held-length : (h : Held) → length (heldIn h) ≡ h .count
+unfolding heldIn
+held-length h = length-tab _ (h .count)
 
 -- what a change of the words comes to: the configuration, and that the words past it and the length stay
 pub record Changed (old new : List ℕ) (C : RawConfig) : Type 0 where

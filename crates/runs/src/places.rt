@@ -5,7 +5,7 @@ ghost use mathlib.Core.List.{map};
 ghost use lib.ListN.{length};
 ghost use Rattle.runs.specs.Raw.{rawIn, BoundedProcess, Bounded};
 ghost use Rattle.runs.specs.Values.{processIn, Changed};
-ghost use Rattle.runs.specs.Operations.{withProcesses, moved, movedWord, relinked, inserted, removed};
+ghost use Rattle.runs.specs.Operations.{single, withProcesses, moved, movedWord, relinked, inserted, removed};
 ghost use Rattle.runs.specs.Bounds.{Unlinked};
 use crate::processes::count;
 use crate::processes::put;
@@ -40,6 +40,19 @@ fn relink(run: &mut [u32], i: usize, up: bool)
         run[at] = link;
         k += 1;
     }
+}
+
+// A run of one process, and nothing outside.
+pub fn begin(run: &mut [u32], p: Process)
+    requires { ⌜ 6144 ≤ length (now run) ⌝ }
+    requires { ⌜ BoundedProcess 1 (processIn p) × (p .held .count ≤ 16) ⌝ }
+    ensures { λ r. ⌜ Changed (now (run .entry)) (now (run .exit)) (single (processIn p)) ⌝ }
+    ensures { λ r. ⌜ Bounded (rawIn (now (run .exit))) ⌝ }
+{
+    run[0] = 1;
+    run[1] = 0;
+    run[2] = 0;
+    put(run, 80, p);
 }
 
 // A process comes to stand directly after the one at a place.

@@ -1,17 +1,13 @@
 use borrow.Author.Needs.{needs}
 use native.Mathlib.Omega.{arith}
 use Prim.Native.Nat.{ℕ, _+_, _-_, _≤_}
-use mathlib.Core.Path.{_≡_, refl, sym, ap, _∙_}
+use mathlib.Core.Path.{_≡_, refl, ap, _∙_}
 use Rattle.runs.specs.Raw.{rawIn}
 use Rattle.runs.specs.Values.{Marked}
 use Rattle.runs.specs.Operations.{channelsHeld, busyFrom, busyPlaces}
 use Rattle.runs.proofs.Marks.{busy-turn, mark-small}
 use Rattle.runs.proofs.channels.busy_places.Statement.{statement}
 use Rattle.runs.proofs.channels.busy_places.Tie as tie
-use Rattle.runs.proofs.channels.busy_places.Reads as reads
-use Rattle.runs.proofs.channels.busy_places.Lts as lts
-use Rattle.runs.proofs.channels.marked.Reads as marked-reads
-use Rattle.runs.proofs.words.wide.Reads as wide-reads
 
 abbrev Inv-loop : tie.InvT-loop
 Inv-loop run marks n₀ k₀ n k = (k ≤ 512) × (n + k ≤ 512) × (n ≡ busyFrom (channelsHeld (rawIn run)) k (512 - k)) × Marked marks (channelsHeld (rawIn run))
@@ -19,41 +15,32 @@ Inv-loop run marks n₀ k₀ n k = (k ≤ 512) × (n + k ≤ 512) × (n ≡ busy
 abbrev μ-loop : tie.MeasureT-loop
 μ-loop run marks n₀ k₀ n k = k
 
--- src/channels.rt:92:17
 marked-requires : tie.Need-marked-requires Inv-loop μ-loop
 marked-requires c κs = search needs
 
--- src/channels.rt:95:5
 loop-holds : tie.Need-loop-holds Inv-loop μ-loop
 loop-holds c = (omega arith, omega arith, refl, c .marked .ensures)
 
--- src/channels.rt:96:9
 sub-k : tie.Need-sub-k Inv-loop μ-loop
 sub-k c = search needs
 
--- src/channels.rt:97:19
 mul-wide : tie.Need-mul-wide Inv-loop μ-loop
 mul-wide c = search needs
 
--- src/channels.rt:97:19
 array-read-wide : tie.Need-array-read-wide Inv-loop μ-loop
 array-read-wide c = search needs
 
--- src/channels.rt:97:14
 wide-requires : tie.Need-wide-requires Inv-loop μ-loop
 wide-requires c κs = search needs
 
--- src/channels.rt:97:9
 add-n : tie.Need-add-n Inv-loop μ-loop
 add-n c =
     let b = c .before .before .loop in
     omega (arith, mark-small (c .before .before .before .marked .result) _ (b .inv .3) (b .k - 1) (omega arith), c .wide .ensures)
 
--- src/channels.rt:95:5
 loop-less : tie.Need-loop-less Inv-loop μ-loop
 loop-less c = search needs
 
--- src/channels.rt:95:5
 loop-again : tie.Need-loop-again Inv-loop μ-loop
 loop-again c =
     let b = c .before .before .loop in
@@ -64,7 +51,6 @@ loop-again c =
       b .inv .3,
     )
 
--- src/channels.rt:87:1
 returns : tie.Need-returns Inv-loop μ-loop
 unfolding busyPlaces
 returns c =

@@ -9,9 +9,6 @@ use Rattle.runs.specs.Operations.{channelsHeld, freshChannel, foundIn}
 use Rattle.runs.proofs.Marks.{free-here, free-on}
 use Rattle.runs.proofs.channels.fresh_channel.Statement.{statement}
 use Rattle.runs.proofs.channels.fresh_channel.Tie as tie
-use Rattle.runs.proofs.channels.fresh_channel.Reads as reads
-use Rattle.runs.proofs.channels.fresh_channel.Lts as lts
-use Rattle.runs.proofs.channels.marked.Reads as marked-reads
 
 abbrev Inv-loop : tie.InvT-loop
 Inv-loop run marks k₀ k = (k ≤ 512) × (freshChannel (rawIn run) ≡ freeFrom (channelsHeld (rawIn run)) k (512 - k)) × Marked marks (channelsHeld (rawIn run))
@@ -19,44 +16,35 @@ Inv-loop run marks k₀ k = (k ≤ 512) × (freshChannel (rawIn run) ≡ freeFro
 abbrev μ-loop : tie.MeasureT-loop
 μ-loop run marks k₀ k = 512 - k
 
--- src/channels.rt:75:17
 marked-requires : tie.Need-marked-requires Inv-loop μ-loop
 marked-requires c κs = search needs
 
--- src/channels.rt:77:5
 loop-holds : tie.Need-loop-holds Inv-loop μ-loop
 unfolding freshChannel
 loop-holds c = (omega arith, refl, c .marked .ensures)
 
--- src/channels.rt:78:12
 mul-if1 : tie.Need-mul-if1 Inv-loop μ-loop
 mul-if1 c = search needs
 
--- src/channels.rt:78:12
 array-read-if1 : tie.Need-array-read-if1 Inv-loop μ-loop
 array-read-if1 c = search needs
 
--- src/channels.rt:79:13
 returns : tie.Need-returns Inv-loop μ-loop
 returns c =
     let b = c .before .before .loop in
     sym (ap foundIn (b .inv .1 ∙ free-here (c .before .before .before .marked .result) _ (b .inv .2) (b .k) (omega arith) (c .if1 .taken)))
 
--- src/channels.rt:81:9
 add-k : tie.Need-add-k Inv-loop μ-loop
 add-k c = search needs
 
--- src/channels.rt:77:5
 loop-less : tie.Need-loop-less Inv-loop μ-loop
 loop-less c = search needs
 
--- src/channels.rt:77:5
 loop-again : tie.Need-loop-again Inv-loop μ-loop
 loop-again c =
     let b = c .before .before .loop in
     (omega arith, b .inv .1 ∙ free-on (c .before .before .before .marked .result) _ (b .inv .2) (b .k) (omega arith) (c .if1 .left), b .inv .2)
 
--- src/channels.rt:70:1
 returns-2 : tie.Need-returns-2 Inv-loop μ-loop
 returns-2 c =
     let b = c .before .loop in

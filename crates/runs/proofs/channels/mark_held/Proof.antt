@@ -1,20 +1,15 @@
 use borrow.Author.Needs.{needs}
 use native.Mathlib.Omega.{arith}
 use Prim.Native.Nat.{ℕ, _-_, _≤_}
-use mathlib.Core.Path.{refl, sym, ap, _∙_}
-use mathlib.Core.List.{List, [], map}
-use lib.ListN.{length, drop}
+use mathlib.Core.Path.{sym, ap}
+use mathlib.Core.List.{List}
+use lib.ListN.{drop}
 use Rattle.runs.specs.Raw.{RawEnd}
-use Rattle.runs.specs.Values.{heldIn, Marked}
+use Rattle.runs.specs.Values.{heldIn, Marked, held-length}
 use Rattle.runs.specs.Operations.{heldChannels}
-use Rattle.runs.proofs.Ends.{held-length}
 use Rattle.runs.proofs.Marks.{mark, marked-as, drop-none, drop-all, held-turn}
 use Rattle.runs.proofs.channels.mark_held.Statement.{statement}
 use Rattle.runs.proofs.channels.mark_held.Tie as tie
-use Rattle.runs.proofs.channels.mark_held.Reads as reads
-use Rattle.runs.proofs.channels.mark_held.Lts as lts
-use Rattle.runs.proofs.held.end_at.Reads as end-at-reads
-use Rattle.runs.proofs.words.wide.Reads as wide-reads
 
 abbrev Inv-loop : tie.InvT-loop
 Inv-loop marks₀ h k₀ marks k = (k ≤ h .count) × ((l : List ℕ) → Marked marks₀ l → Marked marks (heldChannels (drop k (heldIn h)) l))
@@ -22,37 +17,29 @@ Inv-loop marks₀ h k₀ marks k = (k ≤ h .count) × ((l : List ℕ) → Marke
 abbrev μ-loop : tie.MeasureT-loop
 μ-loop marks₀ h k₀ marks k = k
 
--- src/channels.rt:35:5
 loop-holds : tie.Need-loop-holds Inv-loop μ-loop
 loop-holds c =
     let h = c .args .h in
     (omega arith, λ l a. marked-as _ (ap (λ (d : List RawEnd). heldChannels d l) (sym (drop-none (heldIn h) (h .count) (sym (held-length h))))) a)
 
--- src/channels.rt:36:9
 sub-k : tie.Need-sub-k Inv-loop μ-loop
 sub-k c = search needs
 
--- src/channels.rt:37:13
 end-at-requires : tie.Need-end-at-requires Inv-loop μ-loop
 end-at-requires c κs = search needs
 
--- src/channels.rt:38:15
 wide-requires : tie.Need-wide-requires Inv-loop μ-loop
 wide-requires c κs = search needs
 
--- src/channels.rt:38:9
 mul-marks : tie.Need-mul-marks Inv-loop μ-loop
 mul-marks c = search needs
 
--- src/channels.rt:38:9
 element-write-marks : tie.Need-element-write-marks Inv-loop μ-loop
 element-write-marks c = search needs
 
--- src/channels.rt:35:5
 loop-less : tie.Need-loop-less Inv-loop μ-loop
 loop-less c = search needs
 
--- src/channels.rt:35:5
 loop-again : tie.Need-loop-again Inv-loop μ-loop
 loop-again c =
     let h = c .before .before .before .before .args .h in
@@ -60,7 +47,6 @@ loop-again c =
     let e = c .before .end-at in
     (omega arith, λ l a. marked-as _ (held-turn (heldIn h) (b .k - 1) (b .k) (c .wide .result) l (e .ensures .0) (omega arith) (c .wide .ensures)) (mark (b .marks) _ (c .wide .result) (omega arith) (b .inv .1 l a)))
 
--- src/channels.rt:30:1
 returns : tie.Need-returns Inv-loop μ-loop
 returns c =
     let h = c .before .before .args .h in

@@ -1,19 +1,14 @@
 use borrow.Author.Needs.{needs}
 use native.Mathlib.Omega.{arith}
-use Prim.Native.Nat.{ℕ, _-_, _≤_}
-use mathlib.Core.Path.{refl, sym, ap, _∙_}
-use mathlib.Core.List.{List, [], map}
+use Prim.Native.Nat.{_-_, _≤_}
+use mathlib.Core.Path.{sym, ap}
+use mathlib.Core.List.{[], map}
 use lib.ListN.{length, drop}
 use Rattle.runs.specs.Raw.{RawOutside, rawIn}
 use Rattle.runs.specs.Values.{Marked}
 use Rattle.runs.proofs.Marks.{mark, marked-as, drop-none, drop-all, outside-turn}
 use Rattle.runs.proofs.channels.mark_outside.Statement.{statement}
 use Rattle.runs.proofs.channels.mark_outside.Tie as tie
-use Rattle.runs.proofs.channels.mark_outside.Reads as reads
-use Rattle.runs.proofs.channels.mark_outside.Lts as lts
-use Rattle.runs.proofs.outside.outside_at.Reads as outside-at-reads
-use Rattle.runs.proofs.outside.outside_count.Reads as outside-count-reads
-use Rattle.runs.proofs.words.wide.Reads as wide-reads
 
 abbrev Inv-loop : tie.InvT-loop
 Inv-loop marks₀ run k₀ marks k = (k ≤ length (rawIn run .outside)) × (Marked marks₀ [] → Marked marks (map (λ (o : RawOutside). o .channel) (drop k (rawIn run .outside))))
@@ -21,41 +16,32 @@ Inv-loop marks₀ run k₀ marks k = (k ≤ length (rawIn run .outside)) × (Mar
 abbrev μ-loop : tie.MeasureT-loop
 μ-loop marks₀ run k₀ marks k = k
 
--- src/channels.rt:21:9
 outside-count-requires : tie.Need-outside-count-requires Inv-loop μ-loop
 outside-count-requires c κs = search needs
 
--- src/channels.rt:22:5
 loop-holds : tie.Need-loop-holds Inv-loop μ-loop
 loop-holds c =
     let n = c .outside-count in
     (omega arith, λ a. marked-as _ (ap (map (λ (o : RawOutside). o .channel)) (sym (drop-none (rawIn (c .before .before .args .run .now) .outside) (n .result) (n .ensures)))) a)
 
--- src/channels.rt:23:9
 sub-k : tie.Need-sub-k Inv-loop μ-loop
 sub-k c = search needs
 
--- src/channels.rt:24:13
 outside-at-requires : tie.Need-outside-at-requires Inv-loop μ-loop
 outside-at-requires c κs = search needs
 
--- src/channels.rt:25:15
 wide-requires : tie.Need-wide-requires Inv-loop μ-loop
 wide-requires c κs = search needs
 
--- src/channels.rt:25:9
 mul-marks : tie.Need-mul-marks Inv-loop μ-loop
 mul-marks c = search needs
 
--- src/channels.rt:25:9
 element-write-marks : tie.Need-element-write-marks Inv-loop μ-loop
 element-write-marks c = search needs
 
--- src/channels.rt:22:5
 loop-less : tie.Need-loop-less Inv-loop μ-loop
 loop-less c = search needs
 
--- src/channels.rt:22:5
 loop-again : tie.Need-loop-again Inv-loop μ-loop
 loop-again c =
     let a = c .before .before .before .before .before .before .args in
@@ -63,7 +49,6 @@ loop-again c =
     let o = c .before .outside-at in
     (omega arith, λ m. marked-as _ (outside-turn (rawIn (a .run .now) .outside) (b .k - 1) (b .k) (c .wide .result) (o .ensures .0) (omega arith) (c .wide .ensures)) (mark (b .marks) _ (c .wide .result) (omega (arith, o .ensures .1 .channel)) (b .inv .1 m)))
 
--- src/channels.rt:16:1
 returns : tie.Need-returns Inv-loop μ-loop
 returns c =
     let a = c .before .before .before .before .args in

@@ -1,8 +1,8 @@
 use borrow.Author.Needs.{needs}
 use native.Mathlib.Omega.{arith}
 use Prim.Native.Nat.{ℕ, _-_, _≤_}
-use mathlib.Core.Path.{refl, sym, ap, _∙_}
-use mathlib.Core.List.{List, [], map}
+use mathlib.Core.Path.{sym, ap}
+use mathlib.Core.List.{List}
 use lib.ListN.{length, drop}
 use Rattle.runs.specs.Raw.{RawProcess, rawIn}
 use Rattle.runs.specs.Values.{Marked}
@@ -10,11 +10,6 @@ use Rattle.runs.specs.Operations.{processChannels}
 use Rattle.runs.proofs.Marks.{marked-as, drop-none, drop-all, process-turn}
 use Rattle.runs.proofs.channels.mark_processes.Statement.{statement}
 use Rattle.runs.proofs.channels.mark_processes.Tie as tie
-use Rattle.runs.proofs.channels.mark_processes.Reads as reads
-use Rattle.runs.proofs.channels.mark_processes.Lts as lts
-use Rattle.runs.proofs.channels.mark_held.Reads as mark-held-reads
-use Rattle.runs.proofs.processes.count.Reads as count-reads
-use Rattle.runs.proofs.processes.load.Reads as load-reads
 
 abbrev Inv-loop : tie.InvT-loop
 Inv-loop marks₀ run i₀ marks i = (i ≤ length (rawIn run .processes)) × ((l : List ℕ) → Marked marks₀ l → Marked marks (processChannels (drop i (rawIn run .processes)) l))
@@ -22,40 +17,32 @@ Inv-loop marks₀ run i₀ marks i = (i ≤ length (rawIn run .processes)) × ((
 abbrev μ-loop : tie.MeasureT-loop
 μ-loop marks₀ run i₀ marks i = i
 
--- src/channels.rt:48:9
 count-requires : tie.Need-count-requires Inv-loop μ-loop
 count-requires c κs = search needs
 
--- src/channels.rt:49:5
 loop-holds : tie.Need-loop-holds Inv-loop μ-loop
 loop-holds c =
     let n = c .count in
     (omega arith, λ l a. marked-as _ (ap (λ (d : List RawProcess). processChannels d l) (sym (drop-none (rawIn (c .before .before .args .run .now) .processes) (n .result) (n .ensures)))) a)
 
--- src/channels.rt:50:9
 sub-i : tie.Need-sub-i Inv-loop μ-loop
 sub-i c = search needs
 
--- src/channels.rt:51:13
 load-requires : tie.Need-load-requires Inv-loop μ-loop
 load-requires c κs = search needs
 
--- src/channels.rt:53:9
 mark-held-requires : tie.Need-mark-held-requires Inv-loop μ-loop
 mark-held-requires c κs = search needs
 
--- src/channels.rt:49:5
 loop-less : tie.Need-loop-less Inv-loop μ-loop
 loop-less c = search needs
 
--- src/channels.rt:49:5
 loop-again : tie.Need-loop-again Inv-loop μ-loop
 loop-again c =
     let a = c .before .before .before .before .before .before .before .before .args in
     let b = c .before .before .before .before .before .loop in
     (omega arith, λ l m. marked-as _ (process-turn (rawIn (a .run .now) .processes) (b .i - 1) (b .i) l (c .before .before .before .load .ensures .0) (omega arith)) (c .mark-held .ensures _ (b .inv .1 l m)))
 
--- src/channels.rt:43:1
 returns : tie.Need-returns Inv-loop μ-loop
 returns c =
     let a = c .before .before .before .before .args in

@@ -4,24 +4,16 @@ use Rattle.runs.specs.Raw.{rawIn}
 use Rattle.runs.proofs.Searches.{far-held, far-used, far-provided}
 use Rattle.runs.proofs.far.far_end.Statement.{statement}
 use Rattle.runs.proofs.far.far_end.Tie as tie
-use Rattle.runs.proofs.far.far_end.Reads as reads
-use Rattle.runs.proofs.far.far_end.Lts as lts
-use Rattle.runs.proofs.far.holder.Reads as holder-reads
-use Rattle.runs.proofs.outside.find_outside.Reads as find-outside-reads
 
--- src/far.rt:41:34
 sub-holder : tie.Need-sub-holder
 sub-holder c = search needs
 
--- src/far.rt:41:9
 holder-requires : tie.Need-holder-requires
 holder-requires c κs = search needs
 
--- src/far.rt:43:20
 enum-known-h : tie.Need-enum-known-h
 enum-known-h c = search needs
 
--- src/far.rt:43:29
 returns : tie.Need-returns
 returns c =
     let s = c .before .before .before .before .before in
@@ -31,33 +23,27 @@ returns c =
 enum-told : tie.Need-enum-told
 enum-told c = search needs
 
--- src/far.rt:47:9
 returns-2 : tie.Need-returns-2
 returns-2 c =
     let s = c .before .before .before .before .before in
     let h = c .before .before .before .holder in
     sym (far-used (rawIn (s .args .run .now)) (s .args .channel) (s .args .side) (s .pre .1 .1) (h .result) (sym (h .ensures)) (c .before .enum-told .given .1) (c .if1 .taken))
 
--- src/far.rt:49:9
 find-outside-requires : tie.Need-find-outside-requires
 find-outside-requires c κs = search needs
 
--- src/far.rt:51:19
 enum-known-f : tie.Need-enum-known-f
 enum-known-f c = search needs
 
--- src/far.rt:52:27
 enum-told-2 : tie.Need-enum-told-2
 enum-told-2 c = search needs
 
--- src/far.rt:35:1
 returns-3 : tie.Need-returns-3
 returns-3 c =
     let s = c .before .before .before .before .before .before .before .before .before in
     let h = c .before .before .before .before .before .before .before .holder in
     sym (far-provided (rawIn (s .args .run .now)) (s .args .channel) (s .args .side) (s .pre .1 .1) (h .result) (sym (h .ensures)) (c .before .before .before .before .before .enum-told .given .1) (c .before .before .before .before .if1 .left) _ (sym (c .before .before .before .find-outside .ensures) ∙ c .before .f .given .1))
 
--- src/far.rt:35:1
 returns-4 : tie.Need-returns-4
 returns-4 c =
     let s = c .before .before .before .before .before .before .before .before in

@@ -1,18 +1,13 @@
 use borrow.Author.Needs.{needs}
 use native.Mathlib.Omega.{arith}
 use Prim.Native.Nat.{_-_}
-use mathlib.Core.Path.{_≡_, refl, sym, ap, _∙_}
+use mathlib.Core.Path.{_≡_, refl, sym, _∙_}
 use lib.ListN.{length}
 use Rattle.runs.specs.Raw.{rawIn, sideOf}
-use Rattle.runs.specs.Operations.{holderHere, holderOf}
+use Rattle.runs.specs.Operations.{holderOf}
 use Rattle.runs.proofs.Searches.{holderFrom, holder-turn, holder-end}
 use Rattle.runs.proofs.far.holder.Statement.{statement}
 use Rattle.runs.proofs.far.holder.Tie as tie
-use Rattle.runs.proofs.far.holder.Reads as reads
-use Rattle.runs.proofs.far.holder.Lts as lts
-use Rattle.runs.proofs.held.position.Reads as position-reads
-use Rattle.runs.proofs.processes.count.Reads as count-reads
-use Rattle.runs.proofs.processes.load.Reads as load-reads
 
 abbrev Inv-loop : tie.InvT-loop
 Inv-loop run channel side n i₀ i = (n ≡ length (rawIn run .processes)) × (holderOf channel (sideOf side) (rawIn run .processes) ≡ holderFrom channel (sideOf side) (rawIn run .processes) i)
@@ -20,28 +15,22 @@ Inv-loop run channel side n i₀ i = (n ≡ length (rawIn run .processes)) × (h
 abbrev μ-loop : tie.MeasureT-loop
 μ-loop run channel side n i₀ i = n - i
 
--- src/far.rt:19:9
 count-requires : tie.Need-count-requires Inv-loop μ-loop
 count-requires c κs = search needs
 
--- src/far.rt:21:5
 loop-holds : tie.Need-loop-holds Inv-loop μ-loop
 unfolding holderOf
 loop-holds c = (c .count .ensures, refl)
 
--- src/far.rt:22:13
 load-requires : tie.Need-load-requires Inv-loop μ-loop
 load-requires c κs = let s = c .before .before .before .before in (s .pre .0, (s .pre .1 .0, omega arith))
 
--- src/far.rt:24:13
 position-requires : tie.Need-position-requires Inv-loop μ-loop
 position-requires c κs = search needs
 
--- src/far.rt:26:23
 enum-known-f : tie.Need-enum-known-f Inv-loop μ-loop
 enum-known-f c = search needs
 
--- src/far.rt:26:29
 returns : tie.Need-returns Inv-loop μ-loop
 returns c =
     let a = c .before .before .before .before .before .before .before .before .before .before .args in
@@ -51,22 +40,18 @@ returns c =
 enum-told : tie.Need-enum-told Inv-loop μ-loop
 enum-told c = search needs
 
--- src/far.rt:29:9
 add-i : tie.Need-add-i Inv-loop μ-loop
 add-i c = search needs
 
--- src/far.rt:21:5
 loop-less : tie.Need-loop-less Inv-loop μ-loop
 loop-less c = search needs
 
--- src/far.rt:21:5
 loop-again : tie.Need-loop-again Inv-loop μ-loop
 loop-again c =
     let a = c .before .before .before .before .before .before .before .before .before .args in
     let b = c .before .before .before .before .before .before .loop in
     (b .inv .0, b .inv .1 ∙ holder-turn (a .channel) (sideOf (a .side)) (rawIn (a .run .now) .processes) (b .i) _ (c .before .before .before .before .load .ensures .0) (sym (c .before .before .position .ensures) ∙ c .enum-told .given .1))
 
--- src/far.rt:13:1
 returns-2 : tie.Need-returns-2 Inv-loop μ-loop
 returns-2 c = let b = c .before .loop in sym (b .inv .1 ∙ holder-end _ _ _ (b .i) (omega arith))
 

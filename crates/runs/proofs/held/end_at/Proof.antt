@@ -5,38 +5,28 @@ use Rattle.runs.specs.Values.{heldIn}
 use Rattle.runs.proofs.Ends.{end-here}
 use Rattle.runs.proofs.held.end_at.Statement.{statement}
 use Rattle.runs.proofs.held.end_at.Tie as tie
-use Rattle.runs.proofs.held.end_at.Reads as reads
-use Rattle.runs.proofs.held.end_at.Lts as lts
 
--- src/held.rt:28:21
 mul-a : tie.Need-mul-a
 mul-a c = search needs
 
--- src/held.rt:28:13
 mul-a-2 : tie.Need-mul-a-2
 mul-a-2 c = search needs
 
--- src/held.rt:28:13
 element-copy-out-a : tie.Need-element-copy-out-a
 element-copy-out-a c = search needs
 
--- src/held.rt:29:21
 mul-b : tie.Need-mul-b
 mul-b c = search needs
 
--- src/held.rt:29:21
 add-b : tie.Need-add-b
 add-b c = search needs
 
--- src/held.rt:29:13
 mul-b-2 : tie.Need-mul-b-2
 mul-b-2 c = search needs
 
--- src/held.rt:29:13
 element-copy-out-b : tie.Need-element-copy-out-b
 element-copy-out-b c = search needs
 
--- src/held.rt:23:1
 returns : tie.Need-returns
 unfolding heldIn
 returns c =

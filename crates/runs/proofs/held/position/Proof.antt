@@ -5,15 +5,11 @@ use mathlib.Core.Path.{_≡_, refl, sym, _∙_}
 use mathlib.Core.Logic.{⊎-elim}
 use Rattle.runs.specs.ListLaws.{scan-end}
 use Rattle.runs.specs.Raw.{sideOf}
-use Rattle.runs.specs.Values.{heldIn}
+use Rattle.runs.specs.Values.{heldIn, held-length}
 use Rattle.runs.specs.Operations.{isEnd, heldAt}
-use Rattle.runs.proofs.Ends.{held-length}
 use Rattle.runs.proofs.Searches.{firstFrom, first-here, first-on, end-found, end-other-side, end-elsewhere}
 use Rattle.runs.proofs.held.position.Statement.{statement}
 use Rattle.runs.proofs.held.position.Tie as tie
-use Rattle.runs.proofs.held.position.Reads as reads
-use Rattle.runs.proofs.held.position.Lts as lts
-use Rattle.runs.proofs.held.end_at.Reads as end-at-reads
 
 abbrev Inv-loop : tie.InvT-loop
 Inv-loop h channel side n k₀ k = heldAt channel (sideOf side) (heldIn h) ≡ firstFrom (isEnd channel (sideOf side)) (heldIn h) k
@@ -21,16 +17,13 @@ Inv-loop h channel side n k₀ k = heldAt channel (sideOf side) (heldIn h) ≡ f
 abbrev μ-loop : tie.MeasureT-loop
 μ-loop h channel side n k₀ k = n - k
 
--- src/held.rt:84:5
 loop-holds : tie.Need-loop-holds Inv-loop μ-loop
 unfolding heldAt
 loop-holds c = refl
 
--- src/held.rt:85:13
 end-at-requires : tie.Need-end-at-requires Inv-loop μ-loop
 end-at-requires c κs = search needs
 
--- src/held.rt:88:17
 returns : tie.Need-returns Inv-loop μ-loop
 returns c =
     let a = c .before .before .before .before .before .before .before .args in
@@ -39,15 +32,12 @@ returns c =
     sym (b .inv ∙ first-here (isEnd (a .channel) (sideOf (a .side))) (heldIn (a .h)) (b .k) (f .ensures .0)
     (end-found (a .channel) (a .side) (f .result) (omega arith) (f .ensures .1 .0) (c .before .before .if1 .taken) (c .if2 .taken)))
 
--- src/held.rt:91:9
 add-k : tie.Need-add-k Inv-loop μ-loop
 add-k c = search needs
 
--- src/held.rt:84:5
 loop-less : tie.Need-loop-less Inv-loop μ-loop
 loop-less c = search needs
 
--- src/held.rt:84:5
 loop-again : tie.Need-loop-again Inv-loop μ-loop
 loop-again c =
     let a = c .before .before .before .before .before .args in
@@ -59,7 +49,6 @@ loop-again c =
     (λ w. end-elsewhere (a .channel) (a .side) (f .result) (omega arith) (f .ensures .1 .0) (w .left))
     (c .if1 .came))
 
--- src/held.rt:78:1
 returns-2 : tie.Need-returns-2 Inv-loop μ-loop
 returns-2 c =
     let b = c .before .loop in

@@ -1,66 +1,51 @@
 use borrow.Author.Needs.{needs}
 use native.Mathlib.Omega.{arith}
-use Prim.Native.Nat.{_+_, _-_, _*_, _≤_}
+use Prim.Native.Nat.{_+_, _-_, _*_}
 use mathlib.Core.Path.{_≡_, refl}
-use lib.ListN.{length, getD}
+use lib.ListN.{length}
 use Rattle.runs.specs.Raw.{endOf}
 use Rattle.runs.specs.Values.{heldIn}
 use Rattle.runs.proofs.Rows.{pair-written, end-packed}
 use Rattle.runs.proofs.Ends.{ends-append}
 use Rattle.runs.proofs.held.with.Statement.{statement}
 use Rattle.runs.proofs.held.with.Tie as tie
-use Rattle.runs.proofs.held.with.Reads as reads
-use Rattle.runs.proofs.held.with.Lts as lts
 
--- src/held.rt:42:16
 mul-w : tie.Need-mul-w
 mul-w c = search needs
 
--- src/held.rt:42:16
 add-w : tie.Need-add-w
 add-w c = search needs
 
--- src/held.rt:42:7
 mul-w-2 : tie.Need-mul-w-2
 mul-w-2 c = search needs
 
--- src/held.rt:42:5
 mul-w-3 : tie.Need-mul-w-3
 mul-w-3 c = search needs
 
--- src/held.rt:42:5
 array-write-w : tie.Need-array-write-w
 array-write-w c = search needs
 
--- src/held.rt:43:20
 mul-w-4 : tie.Need-mul-w-4
 mul-w-4 c = search needs
 
--- src/held.rt:43:20
 add-w-2 : tie.Need-add-w-2
 add-w-2 c = search needs
 
--- src/held.rt:43:7
 mul-w-5 : tie.Need-mul-w-5
 mul-w-5 c = search needs
 
--- src/held.rt:43:7
 add-w-3 : tie.Need-add-w-3
 add-w-3 c = search needs
 
--- src/held.rt:43:5
 mul-w-6 : tie.Need-mul-w-6
 mul-w-6 c = search needs
 
--- src/held.rt:43:5
 array-write-w-2 : tie.Need-array-write-w-2
 array-write-w-2 c = search needs
 
--- src/held.rt:44:19
 add-t8 : tie.Need-add-t8
 add-t8 c = search needs
 
--- src/held.rt:34:1
 returns : tie.Need-returns
 unfolding heldIn
 returns c =

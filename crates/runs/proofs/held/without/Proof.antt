@@ -8,8 +8,6 @@ use Rattle.runs.proofs.Rows.{moved-none, moved-up}
 use Rattle.runs.proofs.Ends.{ends-remove}
 use Rattle.runs.proofs.held.without.Statement.{statement}
 use Rattle.runs.proofs.held.without.Tie as tie
-use Rattle.runs.proofs.held.without.Reads as reads
-use Rattle.runs.proofs.held.without.Lts as lts
 
 abbrev Inv-loop : tie.InvT-loop
 Inv-loop k last w₀ j₀ w j = (2 * k ≤ j) × (j ≤ 2 * last) × Moved w₀ w (2 * k) j (λ t. getD w₀ (t + 2) 0)
@@ -17,51 +15,39 @@ Inv-loop k last w₀ j₀ w j = (2 * k ≤ j) × (j ≤ 2 * last) × Moved w₀ 
 abbrev μ-loop : tie.MeasureT-loop
 μ-loop k last w₀ j₀ w j = 2 * last - j
 
--- src/held.rt:67:16
 sub-last : tie.Need-sub-last Inv-loop μ-loop
 sub-last c = search needs
 
--- src/held.rt:69:17
 mul-j : tie.Need-mul-j Inv-loop μ-loop
 mul-j c = search needs
 
--- src/held.rt:70:5
 loop-holds : tie.Need-loop-holds Inv-loop μ-loop
 loop-holds c = (omega arith, omega arith, moved-none _ _ _ _ (omega arith))
 
--- src/held.rt:70:15
 mul-loop : tie.Need-mul-loop Inv-loop μ-loop
 mul-loop c = search needs
 
--- src/held.rt:71:18
 add-w : tie.Need-add-w Inv-loop μ-loop
 add-w c = search needs
 
--- src/held.rt:71:16
 mul-w : tie.Need-mul-w Inv-loop μ-loop
 mul-w c = search needs
 
--- src/held.rt:71:16
 array-read-w : tie.Need-array-read-w Inv-loop μ-loop
 array-read-w c = search needs
 
--- src/held.rt:71:9
 mul-w-2 : tie.Need-mul-w-2 Inv-loop μ-loop
 mul-w-2 c = search needs
 
--- src/held.rt:71:9
 array-write-w : tie.Need-array-write-w Inv-loop μ-loop
 array-write-w c = search needs
 
--- src/held.rt:72:9
 add-j : tie.Need-add-j Inv-loop μ-loop
 add-j c = search needs
 
--- src/held.rt:70:5
 loop-less : tie.Need-loop-less Inv-loop μ-loop
 loop-less c = search needs
 
--- src/held.rt:70:5
 loop-again : tie.Need-loop-again Inv-loop μ-loop
 loop-again c =
     let a = c .before .before .before .before .args in
@@ -69,7 +55,6 @@ loop-again c =
     let l : length (a .h .words) ≡ 32 = search needs in
     (omega arith, omega arith, moved-up (a .h .words) _ (b .w) (2 * a .k) (b .j) (b .j + 1) _ (b .inv .2) (omega arith) (omega arith) refl (b .inv .2 .above (b .j + 2) (omega arith)))
 
--- src/held.rt:62:1
 returns : tie.Need-returns Inv-loop μ-loop
 unfolding heldIn
 returns c =

@@ -1,49 +1,37 @@
 use borrow.Author.Needs.{needs}
 use native.Mathlib.Omega.{arith}
-use mathlib.Core.Path.{sym, subst}
-use Rattle.runs.specs.Raw.{RawConfig, rawIn, Bounded}
+use Rattle.runs.specs.Raw.{rawIn}
 use Rattle.runs.specs.Values.{outsideIn}
-use Rattle.runs.specs.Bounds.{bounded-append}
+use Rattle.runs.specs.Bounds.{keeps, bounded-append}
 use Rattle.runs.proofs.Outsides.{outside-append}
 use Rattle.runs.proofs.outside.append_outside.Statement.{statement}
 use Rattle.runs.proofs.outside.append_outside.Tie as tie
-use Rattle.runs.proofs.outside.append_outside.Reads as reads
-use Rattle.runs.proofs.outside.append_outside.Lts as lts
-use Rattle.runs.proofs.outside.outside_count.Reads as outside-count-reads
-use Rattle.runs.proofs.outside.put_outside.Reads as put-outside-reads
 
--- src/outside.rt:112:9
 outside-count-requires : tie.Need-outside-count-requires
 outside-count-requires c κs = search needs
 
--- src/outside.rt:113:5
 put-outside-requires : tie.Need-put-outside-requires
 put-outside-requires c κs = search needs
 
--- src/outside.rt:114:15
 add-run : tie.Need-add-run
 add-run c = search needs
 
--- src/outside.rt:114:14
 cast-run : tie.Need-cast-run
 cast-run c = search needs
 
--- src/outside.rt:114:5
 slice-write-run : tie.Need-slice-write-run
 slice-write-run c = search needs
 
--- src/outside.rt:104:1
 same-length : tie.Need-same-length
 same-length c = search needs
 
--- src/outside.rt:104:1
 returns : tie.Need-returns
 returns c =
     let s = c .before .before .before .before .before .before .before in
     let ws = s .args .run .now in
     let n = c .before .before .before .before .outside-count in
     let e = outside-append ws _ (n .result) _ (s .pre .1 .0) (c .before .before .put-outside .ensures) (s .pre .0) (n .ensures) (omega arith) in
-    (e, subst (λ (C : RawConfig). Bounded C) (sym (e .is)) (bounded-append (rawIn ws) (s .pre .1 .0) (outsideIn (s .args .o)) (s .pre .1 .1 .0) (s .pre .1 .1 .1)))
+    keeps e (bounded-append (rawIn ws) (s .pre .1 .0) (outsideIn (s .args .o)) (s .pre .1 .1 .0) (s .pre .1 .1 .1))
 
 pub append-outside-spec : {M : Type 1} → statement M
 append-outside-spec =

@@ -10,10 +10,6 @@ use Rattle.runs.specs.Operations.{onChannel, outsideAt}
 use Rattle.runs.proofs.Searches.{firstFrom, first-here, first-on}
 use Rattle.runs.proofs.outside.find_outside.Statement.{statement}
 use Rattle.runs.proofs.outside.find_outside.Tie as tie
-use Rattle.runs.proofs.outside.find_outside.Reads as reads
-use Rattle.runs.proofs.outside.find_outside.Lts as lts
-use Rattle.runs.proofs.outside.outside_at.Reads as outside-at-reads
-use Rattle.runs.proofs.outside.outside_count.Reads as outside-count-reads
 
 abbrev Inv-loop : tie.InvT-loop
 Inv-loop run channel n k₀ k = (n ≡ length (rawIn run .outside)) × (outsideAt channel (rawIn run .outside) ≡ firstFrom (onChannel channel) (rawIn run .outside) k)
@@ -21,42 +17,34 @@ Inv-loop run channel n k₀ k = (n ≡ length (rawIn run .outside)) × (outsideA
 abbrev μ-loop : tie.MeasureT-loop
 μ-loop run channel n k₀ k = n - k
 
--- src/outside.rt:68:9
 outside-count-requires : tie.Need-outside-count-requires Inv-loop μ-loop
 outside-count-requires c κs = search needs
 
--- src/outside.rt:70:5
 loop-holds : tie.Need-loop-holds Inv-loop μ-loop
 unfolding outsideAt
 loop-holds c = (c .outside-count .ensures, refl)
 
--- src/outside.rt:71:13
 outside-at-requires : tie.Need-outside-at-requires Inv-loop μ-loop
 outside-at-requires c κs = search needs
 
--- src/outside.rt:73:13
 returns : tie.Need-returns Inv-loop μ-loop
 returns c =
     let a = c .before .before .before .before .before .before .before .args in
     let b = c .before .before .before .before .loop in
     sym (b .inv .1 ∙ first-here (onChannel (a .channel)) (rawIn (a .run .now) .outside) (b .k) (c .before .before .outside-at .ensures .0) (eq-eqb _ _ (c .if1 .taken)))
 
--- src/outside.rt:75:9
 add-k : tie.Need-add-k Inv-loop μ-loop
 add-k c = search needs
 
--- src/outside.rt:70:5
 loop-less : tie.Need-loop-less Inv-loop μ-loop
 loop-less c = search needs
 
--- src/outside.rt:70:5
 loop-again : tie.Need-loop-again Inv-loop μ-loop
 loop-again c =
     let a = c .before .before .before .before .before .before .before .args in
     let b = c .before .before .before .before .loop in
     (b .inv .0, b .inv .1 ∙ first-on (onChannel (a .channel)) (rawIn (a .run .now) .outside) (b .k) (c .before .before .outside-at .ensures .0) (ne-eqb _ _ (c .if1 .left)))
 
--- src/outside.rt:63:1
 returns-2 : tie.Need-returns-2 Inv-loop μ-loop
 returns-2 c = let b = c .before .loop in sym (b .inv .1 ∙ scan-end _ _ _ (b .k) (omega arith))
 

@@ -7,38 +7,28 @@ use Rattle.runs.proofs.Rows.{outside-of}
 use Rattle.runs.proofs.Outsides.{outsideRow}
 use Rattle.runs.proofs.outside.get_outside.Statement.{statement}
 use Rattle.runs.proofs.outside.get_outside.Tie as tie
-use Rattle.runs.proofs.outside.get_outside.Reads as reads
-use Rattle.runs.proofs.outside.get_outside.Lts as lts
 
--- src/outside.rt:45:19
 mul-at : tie.Need-mul-at
 mul-at c = search needs
 
--- src/outside.rt:45:14
 add-at : tie.Need-add-at
 add-at c = search needs
 
--- src/outside.rt:46:13
 mul-a : tie.Need-mul-a
 mul-a c = search needs
 
--- src/outside.rt:46:13
 shared-slice-read-a : tie.Need-shared-slice-read-a
 shared-slice-read-a c = search needs
 
--- src/outside.rt:47:17
 add-b : tie.Need-add-b
 add-b c = search needs
 
--- src/outside.rt:47:13
 mul-b : tie.Need-mul-b
 mul-b c = search needs
 
--- src/outside.rt:47:13
 shared-slice-read-b : tie.Need-shared-slice-read-b
 shared-slice-read-b c = search needs
 
--- src/outside.rt:41:1
 returns : tie.Need-returns
 returns c =
     let a = c .before .before .args in

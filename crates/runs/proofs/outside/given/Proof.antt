@@ -3,14 +3,10 @@ use mathlib.Core.Path.{sym}
 use Rattle.runs.proofs.Slices.{numbered}
 use Rattle.runs.proofs.outside.given.Statement.{statement}
 use Rattle.runs.proofs.outside.given.Tie as tie
-use Rattle.runs.proofs.outside.given.Reads as reads
-use Rattle.runs.proofs.outside.given.Lts as lts
 
--- src/outside.rt:26:5
 shared-slice-read-result : tie.Need-shared-slice-read-result
 shared-slice-read-result c = search needs
 
--- src/outside.rt:22:1
 returns : tie.Need-returns
 returns c = sym (numbered (c .before .args .run .now))
 

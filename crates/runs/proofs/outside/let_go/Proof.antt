@@ -1,21 +1,15 @@
 use borrow.Author.Needs.{needs}
 use native.Mathlib.Omega.{arith}
-use mathlib.Core.Path.{sym, subst}
-use Rattle.runs.specs.Raw.{RawConfig, rawIn, Bounded}
-use Rattle.runs.specs.Bounds.{bounded-letGo}
+use mathlib.Core.Path.{_≡_}
+use Rattle.runs.specs.Raw.{rawIn}
+use Rattle.runs.specs.Bounds.{keeps, bounded-letGo}
 use Rattle.runs.proofs.Outsides.{Letting, letting-at, letting-none, letting-row, letting-gone, letting-kept, letting-done}
 use Prim.Native.Nat.{_-_, _≤_, _<_}
-use mathlib.Core.Path.{_≡_}
 use mathlib.Core.Logic.{⊎-elim}
 use borrow.Author.Tests.{eq-eqb, ne-eqb}
 use lib.ListN.{length}
 use Rattle.runs.proofs.outside.let_go.Statement.{statement}
 use Rattle.runs.proofs.outside.let_go.Tie as tie
-use Rattle.runs.proofs.outside.let_go.Reads as reads
-use Rattle.runs.proofs.outside.let_go.Lts as lts
-use Rattle.runs.proofs.outside.get_outside.Reads as get-outside-reads
-use Rattle.runs.proofs.outside.outside_count.Reads as outside-count-reads
-use Rattle.runs.proofs.outside.put_outside.Reads as put-outside-reads
 
 abbrev Inv-loop : tie.InvT-loop
 Inv-loop run₀ channel n j₀ k₀ run j k = (n ≡ length (rawIn run₀ .outside)) × (k ≤ n) × Letting run₀ run channel j k
@@ -23,19 +17,15 @@ Inv-loop run₀ channel n j₀ k₀ run j k = (n ≡ length (rawIn run₀ .outsi
 abbrev μ-loop : tie.MeasureT-loop
 μ-loop run₀ channel n j₀ k₀ run j k = n - k
 
--- src/outside.rt:124:9
 outside-count-requires : tie.Need-outside-count-requires Inv-loop μ-loop
 outside-count-requires c κs = search needs
 
--- src/outside.rt:127:5
 loop-holds : tie.Need-loop-holds Inv-loop μ-loop
 loop-holds c = (c .outside-count .ensures, omega arith, letting-none _ _)
 
--- src/outside.rt:128:13
 get-outside-requires : tie.Need-get-outside-requires Inv-loop μ-loop
 get-outside-requires c κs = search needs
 
--- src/outside.rt:130:13
 put-outside-requires : tie.Need-put-outside-requires Inv-loop μ-loop
 put-outside-requires c κs =
     let s = c .before .before .before .before .before .before .before .before .before .before in
@@ -43,19 +33,15 @@ put-outside-requires c κs =
     let r = letting-row (s .args .run .now) (b .run) (s .args .channel) (b .j) (b .k) (b .inv .2) (s .pre .1) (omega arith) _ (c .before .before .before .get-outside .ensures) in
     ((omega (arith, b .inv .2 .long), omega (arith, s .pre .1 .channels, b .inv .2 .order)), r .1)
 
--- src/outside.rt:131:13
 add-j : tie.Need-add-j Inv-loop μ-loop
 add-j c = search needs
 
--- src/outside.rt:133:9
 add-k : tie.Need-add-k Inv-loop μ-loop
 add-k c = search needs
 
--- src/outside.rt:127:5
 loop-less : tie.Need-loop-less Inv-loop μ-loop
 loop-less c = search needs
 
--- src/outside.rt:127:5
 loop-again : tie.Need-loop-again Inv-loop μ-loop
 loop-again c =
     let s = c .before .before .before .before .before .before .before .before .before in
@@ -70,26 +56,22 @@ loop-again c =
           (c .if1 .came),
     )
 
--- src/outside.rt:135:14
 cast-run : tie.Need-cast-run Inv-loop μ-loop
 cast-run c = search needs
 
--- src/outside.rt:135:5
 slice-write-run : tie.Need-slice-write-run Inv-loop μ-loop
 slice-write-run c = search needs
 
--- src/outside.rt:118:1
 same-length : tie.Need-same-length Inv-loop μ-loop
 same-length c = search needs
 
--- src/outside.rt:118:1
 returns : tie.Need-returns Inv-loop μ-loop
 returns c =
     let s = c .before .before .before .before .before in
     let ws = s .args .run .now in
     let b = c .before .loop in
     let e = letting-done ws _ (s .args .channel) (b .j) (b .k) (b .inv .2) (s .pre .0) (s .pre .1) (omega arith) in
-    (e, subst (λ (C : RawConfig). Bounded C) (sym (e .is)) (bounded-letGo (rawIn ws) (s .pre .1) (s .args .channel)))
+    keeps e (bounded-letGo (rawIn ws) (s .pre .1) (s .args .channel))
 
 pub let-go-spec : {M : Type 1} → statement M
 let-go-spec =

@@ -2,15 +2,10 @@ use borrow.Author.Needs.{needs}
 use Rattle.runs.proofs.Outsides.{outside-here}
 use Rattle.runs.proofs.outside.outside_at.Statement.{statement}
 use Rattle.runs.proofs.outside.outside_at.Tie as tie
-use Rattle.runs.proofs.outside.outside_at.Reads as reads
-use Rattle.runs.proofs.outside.outside_at.Lts as lts
-use Rattle.runs.proofs.outside.get_outside.Reads as get-outside-reads
 
--- src/outside.rt:59:5
 get-outside-requires : tie.Need-get-outside-requires
 get-outside-requires c κs = search needs
 
--- src/outside.rt:52:1
 returns : tie.Need-returns
 returns c = let s = c .before .before in outside-here (s .args .run .now) (s .args .k) _ (s .pre .1 .0) (s .pre .1 .1) (c .get-outside .ensures)
 

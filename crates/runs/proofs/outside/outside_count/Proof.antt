@@ -3,19 +3,13 @@ use mathlib.Core.Path.{sym, _∙_}
 use Rattle.runs.proofs.Slices.{counted-outside}
 use Rattle.runs.proofs.outside.outside_count.Statement.{statement}
 use Rattle.runs.proofs.outside.outside_count.Tie as tie
-use Rattle.runs.proofs.outside.outside_count.Reads as reads
-use Rattle.runs.proofs.outside.outside_count.Lts as lts
-use Rattle.runs.proofs.words.wide.Reads as wide-reads
 
--- src/outside.rt:18:10
 shared-slice-read-wide : tie.Need-shared-slice-read-wide
 shared-slice-read-wide c = search needs
 
--- src/outside.rt:18:5
 wide-requires : tie.Need-wide-requires
 wide-requires c κs = search needs
 
--- src/outside.rt:14:1
 returns : tie.Need-returns
 returns c = c .wide .ensures ∙ sym (counted-outside (c .before .before .before .args .run .now))
 

@@ -6,50 +6,37 @@ use Rattle.runs.specs.Raw.{outsideOf}
 use Rattle.runs.proofs.Rows.{pair-written, outside-packed}
 use Rattle.runs.proofs.outside.put_outside.Statement.{statement}
 use Rattle.runs.proofs.outside.put_outside.Tie as tie
-use Rattle.runs.proofs.outside.put_outside.Reads as reads
-use Rattle.runs.proofs.outside.put_outside.Lts as lts
 
--- src/outside.rt:86:19
 mul-at : tie.Need-mul-at
 mul-at c = search needs
 
--- src/outside.rt:86:14
 add-at : tie.Need-add-at
 add-at c = search needs
 
--- src/outside.rt:87:5
 mul-run : tie.Need-mul-run
 mul-run c = search needs
 
--- src/outside.rt:87:5
 slice-write-run : tie.Need-slice-write-run
 slice-write-run c = search needs
 
--- src/outside.rt:88:19
 mul-run-2 : tie.Need-mul-run-2
 mul-run-2 c = search needs
 
--- src/outside.rt:88:19
 add-run : tie.Need-add-run
 add-run c = search needs
 
--- src/outside.rt:88:9
 add-run-2 : tie.Need-add-run-2
 add-run-2 c = search needs
 
--- src/outside.rt:88:5
 mul-run-3 : tie.Need-mul-run-3
 mul-run-3 c = search needs
 
--- src/outside.rt:88:5
 slice-write-run-2 : tie.Need-slice-write-run-2
 slice-write-run-2 c = simp length-set (omega arith)
 
--- src/outside.rt:81:1
 same-length : tie.Need-same-length
 same-length c = search needs
 
--- src/outside.rt:81:1
 returns : tie.Need-returns
 returns c =
     let a = c .before .before .args in

@@ -1,5 +1,4 @@
 use borrow.Author.Needs.{needs}
-use native.Mathlib.Omega.{arith}
 use mathlib.Core.Path.{sym, _∙_}
 use Rattle.runs.specs.Raw.{rawIn}
 use Rattle.runs.specs.Operations.{retyped}
@@ -7,53 +6,39 @@ use Rattle.runs.specs.SearchLaws.{outside-below}
 use Rattle.runs.proofs.Outsides.{unchanged, changed-changes, changed-same}
 use Rattle.runs.proofs.outside.retype_outside.Statement.{statement}
 use Rattle.runs.proofs.outside.retype_outside.Tie as tie
-use Rattle.runs.proofs.outside.retype_outside.Reads as reads
-use Rattle.runs.proofs.outside.retype_outside.Lts as lts
-use Rattle.runs.proofs.outside.find_outside.Reads as find-outside-reads
-use Rattle.runs.proofs.outside.outside_at.Reads as outside-at-reads
-use Rattle.runs.proofs.outside.set_outside.Reads as set-outside-reads
 
--- src/outside.rt:146:9
 find-outside-requires : tie.Need-find-outside-requires
 find-outside-requires c κs = search needs
 
--- src/outside.rt:147:19
 enum-known-f : tie.Need-enum-known-f
 enum-known-f c = search needs
 
--- src/outside.rt:148:9
 enum-told : tie.Need-enum-told
 enum-told c = search needs
 
--- src/outside.rt:148:9
 same-length : tie.Need-same-length
 same-length c = search needs
 
--- src/outside.rt:148:9
 returns : tie.Need-returns
 returns c =
     let s = c .before .before .before .before .before in
     let ws = s .args .run .now in
     unchanged ws _ (changed-same ws (s .args .channel) (retyped (s .args .node)) (sym (c .before .before .find-outside .ensures) ∙ c .enum-told .given .1)) (s .pre .1 .0)
 
--- src/outside.rt:150:9
 outside-at-requires : tie.Need-outside-at-requires
 outside-at-requires c κs =
     let s = c .before .before .before .before .before .before .before in
     (s .pre .0, (s .pre .1 .0, outside-below (s .args .channel) (rawIn (s .args .run .now) .outside) _ (sym (c .before .before .before .before .find-outside .ensures) ∙ c .before .before .f .given .1)))
 
--- src/outside.rt:152:5
 set-outside-requires : tie.Need-set-outside-requires
 set-outside-requires c κs =
     let s = c .before .before .before .before .before .before .before .before .before in
     let p = c .before .outside-at .ensures .1 in
     (s .pre .0, (s .pre .1 .0, (outside-below (s .args .channel) (rawIn (s .args .run .now) .outside) _ (sym (c .before .before .before .before .before .before .find-outside .ensures) ∙ c .before .before .before .before .f .given .1), record { number = p .number; node = s .pre .1 .1; channel = p .channel })))
 
--- src/outside.rt:139:1
 same-length-2 : tie.Need-same-length-2
 same-length-2 c = search needs
 
--- src/outside.rt:139:1
 returns-2 : tie.Need-returns-2
 returns-2 c =
     let s = c .before .before .before .before .before .before .before .before .before .before .before .before in

@@ -1,84 +1,63 @@
 use borrow.Author.Needs.{needs}
 use native.Mathlib.Omega.{arith}
-use mathlib.Core.Path.{sym, subst, _∙_}
+use mathlib.Core.Path.{_∙_}
 use lib.ListN.{length-set}
-use Rattle.runs.specs.Raw.{RawConfig, rawIn, Bounded}
+use Rattle.runs.specs.Raw.{rawIn}
 use Rattle.runs.specs.Values.{processIn}
-use Rattle.runs.specs.Bounds.{bounded-insert}
+use Rattle.runs.specs.Bounds.{keeps, bounded-insert}
 use Rattle.runs.proofs.Shifts.{inserted-words}
 use Rattle.runs.proofs.places.insert.Statement.{statement}
 use Rattle.runs.proofs.places.insert.Tie as tie
-use Rattle.runs.proofs.places.insert.Reads as reads
-use Rattle.runs.proofs.places.insert.Lts as lts
-use Rattle.runs.proofs.places.relink.Reads as relink-reads
-use Rattle.runs.proofs.processes.count.Reads as count-reads
-use Rattle.runs.proofs.processes.put.Reads as put-reads
-use Rattle.runs.proofs.words.move_up.Reads as move-up-reads
 
--- src/places.rt:51:9
 count-requires : tie.Need-count-requires
 count-requires c κs = search needs
 
--- src/places.rt:52:5
 relink-requires : tie.Need-relink-requires
 relink-requires c κs = search needs
 
--- src/places.rt:53:24
 mul-move-up : tie.Need-mul-move-up
 mul-move-up c = search needs
 
--- src/places.rt:53:18
 add-move-up : tie.Need-add-move-up
 add-move-up c = search needs
 
--- src/places.rt:53:37
 mul-move-up-2 : tie.Need-mul-move-up-2
 mul-move-up-2 c = search needs
 
--- src/places.rt:53:32
 add-move-up-2 : tie.Need-add-move-up-2
 add-move-up-2 c = search needs
 
--- src/places.rt:53:5
 move-up-requires : tie.Need-move-up-requires
 move-up-requires c κs = search needs
 
--- src/places.rt:54:20
 mul-put : tie.Need-mul-put
 mul-put c = search needs
 
--- src/places.rt:54:14
 add-put : tie.Need-add-put
 add-put c = search needs
 
--- src/places.rt:54:5
 put-requires : tie.Need-put-requires
 put-requires c κs = search needs
 
--- src/places.rt:55:15
 add-run : tie.Need-add-run
 add-run c = search needs
 
--- src/places.rt:55:14
 cast-run : tie.Need-cast-run
 cast-run c = search needs
 
--- src/places.rt:55:5
 slice-write-run : tie.Need-slice-write-run
 slice-write-run c = search needs
 
--- src/places.rt:43:1
 same-length : tie.Need-same-length
 same-length c = simp length-set (c .before .before .put .ensures .long ∙ c .before .before .before .before .before .before .move-up .ensures .long ∙ c .before .before .before .before .before .before .before .before .before .before .relink .ensures .long)
 
--- src/places.rt:43:1
 returns : tie.Need-returns
 returns c =
     let s = c .before .before .before .before .before .before .before .before .before .before .before .before .before .before .before in
     let ws = s .args .run .now in
     let n = c .before .before .before .before .before .before .before .before .before .before .before .before .count in
     let e = inserted-words ws _ (n .result) (s .args .i) (s .pre .1 .0) (s .pre .0) (n .ensures) (omega arith) _ _ _ (omega arith) (c .before .before .before .before .before .before .before .before .before .before .relink .ensures) (c .before .before .before .before .before .before .move-up .ensures) (c .before .before .put .ensures) in
-    (e, subst (λ (C : RawConfig). Bounded C) (sym (e .is)) (bounded-insert (rawIn ws) (s .pre .1 .0) (s .args .i) (processIn (s .args .p)) (s .pre .1 .1 .0 .1) (s .pre .1 .1 .1 .0)))
+    keeps e (bounded-insert (rawIn ws) (s .pre .1 .0) (s .args .i) (processIn (s .args .p)) (s .pre .1 .1 .0 .1) (s .pre .1 .1 .1 .0))
 
 pub insert-spec : {M : Type 1} → statement M
 insert-spec =

@@ -4,35 +4,25 @@ use Prim.Native.Nat.{_+_}
 use borrow.Author.Tests.{lt-ltb, le-ltb}
 use Rattle.runs.proofs.places.moved_link.Statement.{statement}
 use Rattle.runs.proofs.places.moved_link.Tie as tie
-use Rattle.runs.proofs.places.moved_link.Reads as reads
-use Rattle.runs.proofs.places.moved_link.Lts as lts
-use Rattle.runs.proofs.words.wide.Reads as wide-reads
 
--- src/places.rt:19:8
 add-if1 : tie.Need-add-if1
 add-if1 c = search needs
 
--- src/places.rt:19:16
 wide-requires : tie.Need-wide-requires
 wide-requires c κs = search needs
 
--- src/places.rt:20:17
 add-result : tie.Need-add-result
 add-result c = search needs
 
--- src/places.rt:20:35
 sub-result : tie.Need-sub-result
 sub-result c = search needs
 
--- src/places.rt:15:1
 returns : tie.Need-returns
 returns c = let a = c .before .before .before .args in rw (lt-ltb (a .i + 1) (a .link) (omega arith), c .if2 .taken)
 
--- src/places.rt:15:1
 returns-2 : tie.Need-returns-2
 returns-2 c = let a = c .before .before .before .args in rw (lt-ltb (a .i + 1) (a .link) (omega arith), c .if2 .left)
 
--- src/places.rt:15:1
 returns-3 : tie.Need-returns-3
 returns-3 c = let a = c .before .before .args in rw (le-ltb (a .i + 1) (a .link) (omega arith))
 

@@ -11,10 +11,6 @@ use Rattle.runs.proofs.Slices.{counted}
 use Rattle.runs.proofs.Shifts.{link-few, relinkedWord, link-turned, link-kept, relinked-words}
 use Rattle.runs.proofs.places.relink.Statement.{statement}
 use Rattle.runs.proofs.places.relink.Tie as tie
-use Rattle.runs.proofs.places.relink.Reads as reads
-use Rattle.runs.proofs.places.relink.Lts as lts
-use Rattle.runs.proofs.places.moved_link.Reads as moved-link-reads
-use Rattle.runs.proofs.processes.count.Reads as count-reads
 
 abbrev Inv-loop : tie.InvT-loop
 Inv-loop run₀ i up n k₀ run k = (n ≡ length (rawIn run₀ .processes)) × (k ≤ n) × Moved run₀ run 80 (80 + 40 * k) (relinkedWord up i run₀)
@@ -22,31 +18,24 @@ Inv-loop run₀ i up n k₀ run k = (n ≡ length (rawIn run₀ .processes)) × 
 abbrev μ-loop : tie.MeasureT-loop
 μ-loop run₀ i up n k₀ run k = n - k
 
--- src/places.rt:32:9
 count-requires : tie.Need-count-requires Inv-loop μ-loop
 count-requires c κs = search needs
 
--- src/places.rt:34:5
 loop-holds : tie.Need-loop-holds Inv-loop μ-loop
 loop-holds c = (c .count .ensures, omega arith, moved-none _ _ _ _ (omega arith))
 
--- src/places.rt:35:23
 mul-at : tie.Need-mul-at Inv-loop μ-loop
 mul-at c = search needs
 
--- src/places.rt:35:18
 add-at : tie.Need-add-at Inv-loop μ-loop
 add-at c = search needs
 
--- src/places.rt:36:31
 mul-moved-link : tie.Need-mul-moved-link Inv-loop μ-loop
 mul-moved-link c = search needs
 
--- src/places.rt:36:31
 slice-read-moved-link : tie.Need-slice-read-moved-link Inv-loop μ-loop
 slice-read-moved-link c = search needs
 
--- src/places.rt:36:13
 moved-link-requires : tie.Need-moved-link-requires Inv-loop μ-loop
 moved-link-requires c κs =
     let s = c .before .before .before .before .before .before in
@@ -56,23 +45,18 @@ moved-link-requires c κs =
     let w : getD (b .run) (81 + 40 * b .k) 0 ≡ getD (s .args .run .now) (80 + 40 * b .k + 1) 0 = b .inv .2 .above (81 + 40 * b .k) (omega arith) ∙ ap (λ m. getD (s .args .run .now) m 0) (sym e) in
     (omega arith, omega arith)
 
--- src/places.rt:37:9
 mul-run : tie.Need-mul-run Inv-loop μ-loop
 mul-run c = search needs
 
--- src/places.rt:37:9
 slice-write-run : tie.Need-slice-write-run Inv-loop μ-loop
 slice-write-run c = search needs
 
--- src/places.rt:38:9
 add-k : tie.Need-add-k Inv-loop μ-loop
 add-k c = search needs
 
--- src/places.rt:34:5
 loop-less : tie.Need-loop-less Inv-loop μ-loop
 loop-less c = search needs
 
--- src/places.rt:34:5
 loop-again : tie.Need-loop-again Inv-loop μ-loop
 loop-again c =
     let s = c .before .before .before .before .before .before .before in
@@ -86,11 +70,9 @@ loop-again c =
           (λ j p q r. link-kept (s .args .up) (s .args .i) (b .k) j ws p q r),
     )
 
--- src/places.rt:27:1
 same-length : tie.Need-same-length Inv-loop μ-loop
 same-length c = search needs
 
--- src/places.rt:27:1
 returns : tie.Need-returns Inv-loop μ-loop
 returns c =
     let s = c .before .before .before .before .before in

@@ -1,70 +1,53 @@
 use borrow.Author.Needs.{needs}
 use native.Mathlib.Omega.{arith}
-use mathlib.Core.Path.{sym, subst, _∙_}
+use mathlib.Core.Path.{_∙_}
 use lib.ListN.{length-set}
-use Rattle.runs.specs.Raw.{RawConfig, rawIn, Bounded}
-use Rattle.runs.specs.Bounds.{bounded-remove}
+use Rattle.runs.specs.Raw.{rawIn}
+use Rattle.runs.specs.Bounds.{keeps, bounded-remove}
 use Rattle.runs.proofs.Shifts.{removed-words}
 use Rattle.runs.proofs.places.remove.Statement.{statement}
 use Rattle.runs.proofs.places.remove.Tie as tie
-use Rattle.runs.proofs.places.remove.Reads as reads
-use Rattle.runs.proofs.places.remove.Lts as lts
-use Rattle.runs.proofs.places.relink.Reads as relink-reads
-use Rattle.runs.proofs.processes.count.Reads as count-reads
-use Rattle.runs.proofs.words.move_down.Reads as move-down-reads
 
--- src/places.rt:67:9
 count-requires : tie.Need-count-requires
 count-requires c κs = search needs
 
--- src/places.rt:68:5
 relink-requires : tie.Need-relink-requires
 relink-requires c κs = search needs
 
--- src/places.rt:69:26
 mul-move-down : tie.Need-mul-move-down
 mul-move-down c = search needs
 
--- src/places.rt:69:20
 add-move-down : tie.Need-add-move-down
 add-move-down c = search needs
 
--- src/places.rt:69:39
 mul-move-down-2 : tie.Need-mul-move-down-2
 mul-move-down-2 c = search needs
 
--- src/places.rt:69:34
 add-move-down-2 : tie.Need-add-move-down-2
 add-move-down-2 c = search needs
 
--- src/places.rt:69:5
 move-down-requires : tie.Need-move-down-requires
 move-down-requires c κs = search needs
 
--- src/places.rt:70:15
 sub-run : tie.Need-sub-run
 sub-run c = search needs
 
--- src/places.rt:70:14
 cast-run : tie.Need-cast-run
 cast-run c = search needs
 
--- src/places.rt:70:5
 slice-write-run : tie.Need-slice-write-run
 slice-write-run c = search needs
 
--- src/places.rt:59:1
 same-length : tie.Need-same-length
 same-length c = simp length-set (c .before .before .move-down .ensures .long ∙ c .before .before .before .before .before .before .relink .ensures .long)
 
--- src/places.rt:59:1
 returns : tie.Need-returns
 returns c =
     let s = c .before .before .before .before .before .before .before .before .before .before .before in
     let ws = s .args .run .now in
     let n = c .before .before .before .before .before .before .before .before .count in
     let e = removed-words ws _ (n .result) (s .args .i) (s .pre .1 .0) (s .pre .0) (n .ensures) (omega arith) _ (c .before .before .before .before .before .before .relink .ensures) (c .before .before .move-down .ensures) in
-    (e, subst (λ (C : RawConfig). Bounded C) (sym (e .is)) (bounded-remove (rawIn ws) (s .pre .1 .0) (s .args .i) (s .pre .1 .1 .0) (s .pre .1 .1 .1)))
+    keeps e (bounded-remove (rawIn ws) (s .pre .1 .0) (s .args .i) (s .pre .1 .1 .0) (s .pre .1 .1 .1))
 
 pub remove-spec : {M : Type 1} → statement M
 remove-spec =

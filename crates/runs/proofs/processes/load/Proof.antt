@@ -7,64 +7,46 @@ use Rattle.runs.specs.Values.{heldIn}
 use Rattle.runs.proofs.Slices.{process-of, held-few, loaded}
 use Rattle.runs.proofs.processes.load.Statement.{statement}
 use Rattle.runs.proofs.processes.load.Tie as tie
-use Rattle.runs.proofs.processes.load.Reads as reads
-use Rattle.runs.proofs.processes.load.Lts as lts
-use Rattle.runs.proofs.words.copy_out.Reads as copy-out-reads
-use Rattle.runs.proofs.words.wide.Reads as wide-reads
 
--- src/processes.rt:29:18
 mul-b : tie.Need-mul-b
 mul-b c = search needs
 
--- src/processes.rt:29:13
 add-b : tie.Need-add-b
 add-b c = search needs
 
--- src/processes.rt:30:17
 mul-doing : tie.Need-mul-doing
 mul-doing c = search needs
 
--- src/processes.rt:30:17
 shared-slice-read-doing : tie.Need-shared-slice-read-doing
 shared-slice-read-doing c = search needs
 
--- src/processes.rt:31:20
 add-link : tie.Need-add-link
 add-link c = search needs
 
--- src/processes.rt:31:16
 mul-link : tie.Need-mul-link
 mul-link c = search needs
 
--- src/processes.rt:31:16
 shared-slice-read-link : tie.Need-shared-slice-read-link
 shared-slice-read-link c = search needs
 
--- src/processes.rt:32:22
 add-wide : tie.Need-add-wide
 add-wide c = search needs
 
--- src/processes.rt:32:18
 mul-wide : tie.Need-mul-wide
 mul-wide c = search needs
 
--- src/processes.rt:32:18
 shared-slice-read-wide : tie.Need-shared-slice-read-wide
 shared-slice-read-wide c = search needs
 
--- src/processes.rt:32:9
 wide-requires : tie.Need-wide-requires
 wide-requires c κs = search needs
 
--- src/processes.rt:33:27
 add-copy-out : tie.Need-add-copy-out
 add-copy-out c = search needs
 
--- src/processes.rt:33:9
 copy-out-requires : tie.Need-copy-out-requires
 copy-out-requires c κs = search needs
 
--- src/processes.rt:21:1
 returns : tie.Need-returns
 unfolding heldIn
 returns c =

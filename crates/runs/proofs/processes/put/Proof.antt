@@ -6,67 +6,49 @@ use Rattle.runs.specs.Values.{heldIn}
 use Rattle.runs.proofs.Slices.{written}
 use Rattle.runs.proofs.processes.put.Statement.{statement}
 use Rattle.runs.proofs.processes.put.Tie as tie
-use Rattle.runs.proofs.processes.put.Reads as reads
-use Rattle.runs.proofs.processes.put.Lts as lts
-use Rattle.runs.proofs.words.copy_in.Reads as copy-in-reads
 
--- src/processes.rt:44:15
 mul-run : tie.Need-mul-run
 mul-run c = search needs
 
--- src/processes.rt:44:15
 add-run : tie.Need-add-run
 add-run c = search needs
 
--- src/processes.rt:44:5
 mul-run-2 : tie.Need-mul-run-2
 mul-run-2 c = search needs
 
--- src/processes.rt:44:5
 slice-write-run : tie.Need-slice-write-run
 slice-write-run c = search needs
 
--- src/processes.rt:45:9
 add-run-2 : tie.Need-add-run-2
 add-run-2 c = search needs
 
--- src/processes.rt:45:5
 mul-run-3 : tie.Need-mul-run-3
 mul-run-3 c = search needs
 
--- src/processes.rt:45:5
 slice-write-run-2 : tie.Need-slice-write-run-2
 slice-write-run-2 c = simp length-set (omega arith)
 
--- src/processes.rt:47:19
 cast-run : tie.Need-cast-run
 cast-run c = search needs
 
--- src/processes.rt:47:9
 add-run-3 : tie.Need-add-run-3
 add-run-3 c = search needs
 
--- src/processes.rt:47:5
 mul-run-4 : tie.Need-mul-run-4
 mul-run-4 c = search needs
 
--- src/processes.rt:47:5
 slice-write-run-3 : tie.Need-slice-write-run-3
 slice-write-run-3 c = simp length-set (omega arith)
 
--- src/processes.rt:49:18
 add-copy-in : tie.Need-add-copy-in
 add-copy-in c = search needs
 
--- src/processes.rt:49:5
 copy-in-requires : tie.Need-copy-in-requires
 copy-in-requires c κs = simp length-set (omega arith)
 
--- src/processes.rt:39:1
 same-length : tie.Need-same-length
 same-length c = c .before .before .copy-in .ensures .long ∙ simp length-set
 
--- src/processes.rt:39:1
 returns : tie.Need-returns
 unfolding heldIn
 returns c =

@@ -1,14 +1,12 @@
 use borrow.Author.Needs.{needs}
 use native.Mathlib.Omega.{arith}
 use Prim.Native.Nat.{_+_, _-_, _≤_}
-use mathlib.Core.Path.{refl, ap, _∙_}
+use mathlib.Core.Path.{refl}
 use lib.ListN.{getD}
 use Rattle.runs.specs.Values.{Moved}
 use Rattle.runs.proofs.Rows.{moved-none, moved-up}
 use Rattle.runs.proofs.words.copy_out.Statement.{statement}
 use Rattle.runs.proofs.words.copy_out.Tie as tie
-use Rattle.runs.proofs.words.copy_out.Reads as reads
-use Rattle.runs.proofs.words.copy_out.Lts as lts
 
 abbrev Inv-loop : tie.InvT-loop
 Inv-loop run at w₀ k₀ w k = (k ≤ 32) × Moved w₀ w 0 k (λ t. getD run (at + t) 0)
@@ -16,45 +14,35 @@ Inv-loop run at w₀ k₀ w k = (k ≤ 32) × Moved w₀ w 0 k (λ t. getD run (
 abbrev μ-loop : tie.MeasureT-loop
 μ-loop run at w₀ k₀ w k = 32 - k
 
--- src/words.rt:14:5
 loop-holds : tie.Need-loop-holds Inv-loop μ-loop
 loop-holds c = (omega arith, moved-none _ _ _ _ (omega arith))
 
--- src/words.rt:15:20
 add-w : tie.Need-add-w Inv-loop μ-loop
 add-w c = search needs
 
--- src/words.rt:15:16
 mul-w : tie.Need-mul-w Inv-loop μ-loop
 mul-w c = search needs
 
--- src/words.rt:15:16
 shared-slice-read-w : tie.Need-shared-slice-read-w Inv-loop μ-loop
 shared-slice-read-w c = search needs
 
--- src/words.rt:15:9
 mul-w-2 : tie.Need-mul-w-2 Inv-loop μ-loop
 mul-w-2 c = search needs
 
--- src/words.rt:15:9
 array-write-w : tie.Need-array-write-w Inv-loop μ-loop
 array-write-w c = search needs
 
--- src/words.rt:16:9
 add-k : tie.Need-add-k Inv-loop μ-loop
 add-k c = search needs
 
--- src/words.rt:14:5
 loop-less : tie.Need-loop-less Inv-loop μ-loop
 loop-less c = search needs
 
--- src/words.rt:14:5
 loop-again : tie.Need-loop-again Inv-loop μ-loop
 loop-again c =
     let b = c .before .before .loop in
     (omega arith, moved-up _ _ (b .w) 0 (b .k) _ _ (b .inv .1) (omega arith) (omega arith) refl refl)
 
--- src/words.rt:8:1
 returns : tie.Need-returns Inv-loop μ-loop
 returns c = λ k l. c .before .loop .inv .1 .inside k (omega arith) (omega arith)
 

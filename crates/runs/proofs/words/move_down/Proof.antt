@@ -7,8 +7,6 @@ use Rattle.runs.specs.Values.{Moved}
 use Rattle.runs.proofs.Rows.{moved-none, moved-up, moved-at}
 use Rattle.runs.proofs.words.move_down.Statement.{statement}
 use Rattle.runs.proofs.words.move_down.Tie as tie
-use Rattle.runs.proofs.words.move_down.Reads as reads
-use Rattle.runs.proofs.words.move_down.Lts as lts
 
 abbrev Inv-loop : tie.InvT-loop
 Inv-loop run₀ from to by k₀ run k = (from ≤ k) × (k ≤ to) × Moved run₀ run (from - by) (k - by) (λ t. getD run₀ (t + by) 0)
@@ -16,39 +14,30 @@ Inv-loop run₀ from to by k₀ run k = (from ≤ k) × (k ≤ to) × Moved run�
 abbrev μ-loop : tie.MeasureT-loop
 μ-loop run₀ from to by k₀ run k = to - k
 
--- src/words.rt:51:5
 loop-holds : tie.Need-loop-holds Inv-loop μ-loop
 loop-holds c = (omega arith, omega arith, moved-none _ _ _ _ (omega arith))
 
--- src/words.rt:52:23
 mul-run : tie.Need-mul-run Inv-loop μ-loop
 mul-run c = search needs
 
--- src/words.rt:52:23
 slice-read-run : tie.Need-slice-read-run Inv-loop μ-loop
 slice-read-run c = search needs
 
--- src/words.rt:52:13
 sub-run : tie.Need-sub-run Inv-loop μ-loop
 sub-run c = search needs
 
--- src/words.rt:52:9
 mul-run-2 : tie.Need-mul-run-2 Inv-loop μ-loop
 mul-run-2 c = search needs
 
--- src/words.rt:52:9
 slice-write-run : tie.Need-slice-write-run Inv-loop μ-loop
 slice-write-run c = search needs
 
--- src/words.rt:53:9
 add-k : tie.Need-add-k Inv-loop μ-loop
 add-k c = search needs
 
--- src/words.rt:51:5
 loop-less : tie.Need-loop-less Inv-loop μ-loop
 loop-less c = search needs
 
--- src/words.rt:51:5
 loop-again : tie.Need-loop-again Inv-loop μ-loop
 loop-again c =
     let a = c .before .before .before .args in
@@ -59,11 +48,9 @@ loop-again c =
           (b .inv .2 .above (b .k) (omega arith) ∙ ap (λ m. getD (a .run .now) m 0) (omega arith)),
     )
 
--- src/words.rt:46:1
 same-length : tie.Need-same-length Inv-loop μ-loop
 same-length c = search needs
 
--- src/words.rt:46:1
 returns : tie.Need-returns Inv-loop μ-loop
 returns c = moved-at _ _ _ _ _ _ _ (c .before .loop .inv .2) refl (omega arith)
 
