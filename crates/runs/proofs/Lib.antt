@@ -5,3 +5,4 @@ pub mod Slices
 pub mod Shifts
 pub mod Outsides
 pub mod Marks
+pub mod Decisions

@@ -22,12 +22,13 @@ use Rattle.runs.specs.Lists.{All}
 abbrev pub outsideRow : List ℕ → ℕ → ℕ → ℕ
 outsideRow ws k t = getD ws (16 + 2 * k + t) 0
 
+pub outside-is : (ws : List ℕ) (k : ℕ) (o : RawOutside) → k < length (rawIn ws .outside) → o ≡ outsideOf (outsideRow ws k) → getElem? (rawIn ws .outside) k ≡ some o
+unfolding rawIn
+outside-is ws k o h e = at-tab _ (getD ws 2 0) k (omega (arith, counted-outside ws)) ∙ ap some (sym e)
+
 pub outside-here : (ws : List ℕ) (k : ℕ) (o : RawOutside) → Bounded (rawIn ws) → k < length (rawIn ws .outside) → o ≡ outsideOf (outsideRow ws k)
     → (getElem? (rawIn ws .outside) k ≡ some o) × BoundedOutside o
-unfolding rawIn
-outside-here ws k o b h e =
-    let at : getElem? (rawIn ws .outside) k ≡ some o = at-tab _ (getD ws 2 0) k (omega (arith, counted-outside ws)) ∙ ap some (sym e) in
-    (at, all-at _ (rawIn ws .outside) k (b .outside) at)
+outside-here ws k o b h e = let at = outside-is ws k o h e in (at, all-at BoundedOutside (rawIn ws .outside) k (b .outside) at)
 
 pub given-set : (ws : List ℕ) (n : ℕ) → 6144 ≤ length ws → Bounded (rawIn ws) → Changed ws (set ws 1 n) (withGiven (rawIn ws) n)
 unfolding rawIn

@@ -6,3 +6,4 @@ pub mod Operations
 pub mod SearchLaws
 pub mod Bounds
 pub mod Decode
+pub mod Examples

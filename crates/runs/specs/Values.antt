@@ -2,7 +2,7 @@
 use Prim.Native.Nat.{ℕ, _+_, _≤_, _<_}
 use mathlib.Core.List.{List}
 use mathlib.Core.Path.{_≡_}
-use mathlib.Core.Bool.{cond}
+use mathlib.Core.Bool.{Bool, true, false, cond}
 use lib.ListN.{length, getD, drop}
 use Rattle.calculus.specs.Configuration.{among}
 use Rattle.runs.specs.ListLaws.{length-tab}
@@ -52,3 +52,8 @@ pub record Written {A : Type 0} (read : (ℕ → ℕ) → A) (width : ℕ) (old 
 pub record Marked (marks : List ℕ) (l : List ℕ) : Type 0 where
   pub long : length marks ≡ 512
   pub each : (k : ℕ) → k < 512 → getD marks k 0 ≡ cond (among k l) 1 0
+
+-- the answer says whether it holds
+pub record Decided (answer : Bool) (P : Type 0) : Type 0 where
+  pub yes : answer ≡ true → P
+  pub no : answer ≡ false → P → ⊥

@@ -1,4 +1,5 @@
 // Runs: the records of the run slice.
+pub mod bounded;
 pub mod channels;
 pub mod far;
 pub mod held;

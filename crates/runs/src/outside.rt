@@ -39,9 +39,10 @@ pub fn set_given(run: &mut [u32], n: u32)
 }
 
 // What the words of a channel at a position say.
-fn get_outside(run: &[u32], k: usize) -> Outside
+pub fn get_outside(run: &[u32], k: usize) -> Outside
     requires { ⌜ (6144 ≤ length (now run)) × (k < 32) ⌝ }
     ensures { λ r. ⌜ outsideIn r ≡ outsideOf (λ t. getD (now (run .entry)) (16 + 2 * k + t) 0) ⌝ }
+    ensures { λ r. ⌜ r .channel < 512 ⌝ }
 {
     let at = 16 + 2 * k;
     let a = run[at];

@@ -1,8 +1,8 @@
 // The processes of a run, by place.
 ghost use mathlib.Core.Path.{_≡_};
-ghost use Prim.Native.Nat.{ℕ, _+_, _≤_, _<_};
+ghost use Prim.Native.Nat.{ℕ, _+_, _*_, _≤_, _<_};
 ghost use mathlib.Core.Option.{some};
-ghost use lib.ListN.{length, getElem?, set};
+ghost use lib.ListN.{length, getD, getElem?, set};
 ghost use Rattle.runs.specs.Raw.{rawIn, processOf, BoundedProcess, Bounded};
 ghost use Rattle.runs.specs.Values.{processIn, Changed, Written};
 ghost use Rattle.runs.specs.Operations.{withProcesses};
@@ -20,6 +20,27 @@ pub fn count(run: &[u32]) -> usize
     wide(run[0])
 }
 
+// What the words of a process say, of which at most 16 channels are held.
+pub fn get(run: &[u32], i: usize) -> Process
+    requires { ⌜ (6144 ≤ length (now run)) × (i < 128) ⌝ }
+    requires { ⌜ getD (now run) (80 + 40 * i + 2) 0 ≤ 16 ⌝ }
+    ensures { λ r. ⌜ processOf (λ t. getD (now (run .entry)) (80 + 40 * i + t) 0) ≡ processIn r ⌝ }
+    ensures { λ r. ⌜ r .held .count ≤ 16 ⌝ }
+{
+    let at = 80 + 40 * i;
+    let doing = run[at];
+    let link = run[at + 1];
+    let n = wide(run[at + 2]);
+    let w = copy_out(run, at + 3);
+    let held = Held { count: n, words: w };
+    Process {
+        kind: doing % 4,
+        pointer: doing / 4,
+        link: link,
+        held: held,
+    }
+}
+
 // The process at a place.
 pub fn load(run: &[u32], i: usize) -> Process
     requires { ⌜ 6144 ≤ length (now run) ⌝ }
@@ -29,18 +50,7 @@ pub fn load(run: &[u32], i: usize) -> Process
     ensures { λ r. ⌜ BoundedProcess (length (rawIn (now (run .entry)) .processes)) (processIn r) ⌝ }
     ensures { λ r. ⌜ r .held .count ≤ 16 ⌝ }
 {
-    let b = 80 + 40 * i;
-    let doing = run[b];
-    let link = run[b + 1];
-    let n = wide(run[b + 2]);
-    let w = copy_out(run, b + 3);
-    let held = Held { count: n, words: w };
-    Process {
-        kind: doing % 4,
-        pointer: doing / 4,
-        link: link,
-        held: held,
-    }
+    get(run, i)
 }
 
 // The words of a process, from `at` on.

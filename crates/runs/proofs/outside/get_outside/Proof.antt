@@ -34,7 +34,7 @@ returns c =
     let a = c .before .before .args in
     let ws = a .run .now in
     let e : 16 + 2 * a .k + 0 ≡ 16 + 2 * a .k = omega arith in
-    sym (outside-of (outsideRow ws (a .k)) (ap (λ m. getD ws m 0) e) refl)
+    (sym (outside-of (outsideRow ws (a .k)) (ap (λ m. getD ws m 0) e) refl), omega arith)
 
 pub get-outside-spec : {M : Type 1} → statement M
 get-outside-spec =

@@ -30,7 +30,7 @@ put-outside-requires : tie.Need-put-outside-requires Inv-loop μ-loop
 put-outside-requires c κs =
     let s = c .before .before .before .before .before .before .before .before .before .before in
     let b = c .before .before .before .before .before .before .loop in
-    let r = letting-row (s .args .run .now) (b .run) (s .args .channel) (b .j) (b .k) (b .inv .2) (s .pre .1) (omega arith) _ (c .before .before .before .get-outside .ensures) in
+    let r = letting-row (s .args .run .now) (b .run) (s .args .channel) (b .j) (b .k) (b .inv .2) (s .pre .1) (omega arith) _ (c .before .before .before .get-outside .ensures .0) in
     ((omega (arith, b .inv .2 .long), omega (arith, s .pre .1 .channels, b .inv .2 .order)), r .1)
 
 add-j : tie.Need-add-j Inv-loop μ-loop
@@ -47,7 +47,7 @@ loop-again c =
     let s = c .before .before .before .before .before .before .before .before .before in
     let b = c .before .before .before .before .before .loop in
     let l : b .k < length (rawIn (s .args .run .now) .outside) = omega arith in
-    let r = letting-row (s .args .run .now) (b .run) (s .args .channel) (b .j) (b .k) (b .inv .2) (s .pre .1) l _ (c .before .before .get-outside .ensures) in (
+    let r = letting-row (s .args .run .now) (b .run) (s .args .channel) (b .j) (b .k) (b .inv .2) (s .pre .1) l _ (c .before .before .get-outside .ensures .0) in (
       b .inv .0,
       omega arith,
       ⊎-elim
