@@ -28,11 +28,11 @@ abbrev pub firstFrom : {A : Type 0} → (A → Bool) → List A → ℕ → Foun
 firstFrom p l i = scan (firstStep p) found.Nothing i (drop i l)
 
 module _ {A : Type 0} (p : A → Bool) (l : List A) (i : ℕ) {x : A} (e : getElem? l i ≡ some x) where
-  pub first-here : p x ≡ true → firstFrom p l i ≡ found.At i
-  first-here t = scan-step (firstStep p) found.Nothing l i e ∙ ap (λ b. cond b (found.At i) (firstFrom p l (i + 1))) t
+  pub stops-here : p x ≡ true → firstFrom p l i ≡ found.At i
+  stops-here t = scan-step (firstStep p) found.Nothing l i e ∙ ap (λ b. cond b (found.At i) (firstFrom p l (i + 1))) t
 
-  pub first-on : p x ≡ false → firstFrom p l i ≡ firstFrom p l (i + 1)
-  first-on t = scan-step (firstStep p) found.Nothing l i e ∙ ap (λ b. cond b (found.At i) (firstFrom p l (i + 1))) t
+  pub goes-on : p x ≡ false → firstFrom p l i ≡ firstFrom p l (i + 1)
+  goes-on t = scan-step (firstStep p) found.Nothing l i e ∙ ap (λ b. cond b (found.At i) (firstFrom p l (i + 1))) t
 
 -- the test of an end
 module _ (channel side : ℕ) (e : End) (s : side < 2) (t : e .side < 2) where

@@ -27,6 +27,7 @@ abbrev pub withGiven : RawConfig → ℕ → RawConfig
 withGiven C n = record { processes = C .processes; outside = C .outside; given = n }
 
 -- ── a process comes or leaves
+-- a run of one process
 abbrev pub single : RawProcess → RawConfig
 single p = record { processes = p ∷ []; outside = []; given = 0 }
 
@@ -41,6 +42,7 @@ moved false i h = movedDown i h
 abbrev pub movedWord : Bool → ℕ → ℕ → ℕ
 movedWord up i l = cond (ltb (i + 1) l) (cond up (l + 1) (l - 1)) l
 
+-- the process q comes to stand after place i; the one at place i leaves
 unfoldable pub inserted : ℕ → RawProcess → List RawProcess → List RawProcess
 inserted i q l = insertAt (suc i) q (map (relinked (movedUp i)) l)
 
@@ -115,11 +117,13 @@ busyFrom busy k (suc n) = let r = busyFrom busy (suc k) n in cond (among k busy)
 unfoldable pub busyPlaces : RawConfig → ℕ
 busyPlaces C = busyFrom (channelsHeld C) 0 channelPlaces
 
+-- the same, as the code answers
 abbrev pub foundIn : Option ℕ → Found
 foundIn none = found.Nothing
 foundIn (some k) = found.At k
 
 -- ── the outside
+-- without a channel; with the first of a channel changed
 unfoldable pub letGo : ℕ → List RawOutside → List RawOutside
 letGo k [] = []
 letGo k (o ∷ l) = let r = letGo k l in cond (eqb k (o .channel)) r (o ∷ r)
@@ -128,6 +132,7 @@ unfoldable pub changedOutside : ℕ → (RawOutside → RawOutside) → List Raw
 changedOutside k f [] = []
 changedOutside k f (o ∷ l) = cond (eqb k (o .channel)) (f o ∷ l) (o ∷ changedOutside k f l)
 
+-- another type; another channel
 abbrev pub retyped : ℕ → RawOutside → RawOutside
 retyped node o = record { number = o .number; node = node; channel = o .channel }
 

@@ -4,6 +4,7 @@ use mathlib.Core.List.{List}
 use mathlib.Core.Path.{_≡_}
 use mathlib.Core.Bool.{Bool, true, false, cond}
 use lib.ListN.{length, getD, drop}
+use Rattle.notation.specs.Limits.{channelPlaces, runWords}
 use Rattle.calculus.specs.Configuration.{among}
 use Rattle.runs.specs.ListLaws.{length-tab}
 use Rattle.runs.specs.Raw.{RawEnd, RawProcess, RawOutside, RawConfig, sideOf, linkOf, rows, endOf, rawIn}
@@ -12,6 +13,7 @@ use Rattle.runs.specs.declared.records.Held.{Held}
 use Rattle.runs.specs.declared.records.Process.{Process}
 use Rattle.runs.specs.declared.records.Outside.{Outside}
 
+-- ── the code's values, in numbers
 abbrev pub endIn : End → RawEnd
 endIn e = record { name = e .name; side = sideOf (e .side); node = e .node; channel = e .channel }
 
@@ -24,14 +26,16 @@ processIn p = record { kind = p .kind; pointer = p .pointer; held = heldIn (p .h
 abbrev pub outsideIn : Outside → RawOutside
 outsideIn o = record { number = o .number; node = o .node; channel = o .channel }
 
+-- a count is a length
 pub held-length : (h : Held) → length (heldIn h) ≡ h .count
 unfolding heldIn
 held-length h = length-tab _ (h .count)
 
+-- ── the words
 -- what a change of the words comes to: the configuration, and that the words past it and the length stay
 pub record Changed (old new : List ℕ) (C : RawConfig) : Type 0 where
   pub is : rawIn new ≡ C
-  pub past : drop 6144 new ≡ drop 6144 old
+  pub past : drop runWords new ≡ drop runWords old
   pub long : length new ≡ length old
 
 -- the words from `lo` up to `hi` are those of g, and the others stay
@@ -50,8 +54,8 @@ pub record Written {A : Type 0} (read : (ℕ → ℕ) → A) (width : ℕ) (old 
 
 -- a word for each channel place: 1 where the channel is in the list, else 0
 pub record Marked (marks : List ℕ) (l : List ℕ) : Type 0 where
-  pub long : length marks ≡ 512
-  pub each : (k : ℕ) → k < 512 → getD marks k 0 ≡ cond (among k l) 1 0
+  pub long : length marks ≡ channelPlaces
+  pub each : (k : ℕ) → k < channelPlaces → getD marks k 0 ≡ cond (among k l) 1 0
 
 -- the answer says whether it holds
 pub record Decided (answer : Bool) (P : Type 0) : Type 0 where

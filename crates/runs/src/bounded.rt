@@ -1,6 +1,7 @@
 // Whether the words of a slice keep the bounds.
 ghost use Prim.Native.Nat.{ℕ, _+_, _*_, _≤_, _<_};
 ghost use lib.ListN.{length, getD};
+ghost use Rattle.notation.specs.Limits.{runWords};
 ghost use Rattle.runs.specs.Lists.{All};
 ghost use Rattle.runs.specs.Raw.{rawIn, processOf, BoundedEnd, BoundedProcess, BoundedOutside, Bounded};
 ghost use Rattle.runs.specs.Values.{heldIn, Decided};
@@ -33,7 +34,7 @@ fn ends_bounded(h: Held) -> bool
 
 // A process, which is one of n.
 fn process_bounded(run: &[u32], i: usize, n: u32) -> bool
-    requires { ⌜ (6144 ≤ length (now run)) × (i < 128) ⌝ }
+    requires { ⌜ (runWords ≤ length (now run)) × (i < 128) ⌝ }
     ensures { λ r. ⌜ Decided r (BoundedProcess n (processOf (λ t. getD (now (run .entry)) (80 + 40 * i + t) 0))) ⌝ }
 {
     if 16 < run[80 + 40 * i + 2] {
@@ -55,7 +56,7 @@ fn process_bounded(run: &[u32], i: usize, n: u32) -> bool
 
 // The processes.
 fn processes_bounded(run: &[u32]) -> bool
-    requires { ⌜ 6144 ≤ length (now run) ⌝ }
+    requires { ⌜ runWords ≤ length (now run) ⌝ }
     requires { ⌜ length (rawIn (now run) .processes) ≤ 128 ⌝ }
     ensures { λ r. ⌜ Decided r (All (BoundedProcess (length (rawIn (now (run .entry)) .processes))) (rawIn (now (run .entry)) .processes)) ⌝ }
 {
@@ -73,7 +74,7 @@ fn processes_bounded(run: &[u32]) -> bool
 
 // The outside's channels.
 fn outside_bounded(run: &[u32]) -> bool
-    requires { ⌜ 6144 ≤ length (now run) ⌝ }
+    requires { ⌜ runWords ≤ length (now run) ⌝ }
     requires { ⌜ length (rawIn (now run) .outside) ≤ 32 ⌝ }
     ensures { λ r. ⌜ Decided r (All BoundedOutside (rawIn (now (run .entry)) .outside)) ⌝ }
 {
@@ -94,7 +95,7 @@ fn outside_bounded(run: &[u32]) -> bool
 
 // The whole configuration.
 pub fn bounded(run: &[u32]) -> bool
-    requires { ⌜ 6144 ≤ length (now run) ⌝ }
+    requires { ⌜ runWords ≤ length (now run) ⌝ }
     ensures { λ r. ⌜ Decided r (Bounded (rawIn (now (run .entry)))) ⌝ }
 {
     if 128 < run[0] {

@@ -3,6 +3,7 @@ ghost use mathlib.Core.Path.{_≡_};
 ghost use Prim.Native.Nat.{ℕ, _≤_, _<_};
 ghost use mathlib.Core.List.{List, [], map};
 ghost use lib.ListN.{length};
+ghost use Rattle.notation.specs.Limits.{runWords};
 ghost use Rattle.runs.specs.Raw.{RawOutside, rawIn, Bounded};
 ghost use Rattle.runs.specs.Values.{heldIn, Marked};
 ghost use Rattle.runs.specs.Operations.{heldChannels, processChannels, channelsHeld, freshChannel, busyPlaces, foundIn};
@@ -17,7 +18,7 @@ use crate::words::wide;
 
 // Marks the channels of the outside.
 fn mark_outside(marks: &mut [u32; 512], run: &[u32])
-    requires { ⌜ 6144 ≤ length (now run) ⌝ }
+    requires { ⌜ runWords ≤ length (now run) ⌝ }
     requires { ⌜ Bounded (rawIn (now run)) ⌝ }
     ensures { λ r. ⌜ (Marked (now (marks .entry)) [] → Marked (now (marks .exit)) (map (λ (o : RawOutside). o .channel) (rawIn (now (run .entry)) .outside))) ⌝ }
 {
@@ -44,7 +45,7 @@ fn mark_held(marks: &mut [u32; 512], h: Held)
 
 // Marks the channels that the processes hold.
 fn mark_processes(marks: &mut [u32; 512], run: &[u32])
-    requires { ⌜ 6144 ≤ length (now run) ⌝ }
+    requires { ⌜ runWords ≤ length (now run) ⌝ }
     requires { ⌜ Bounded (rawIn (now run)) ⌝ }
     ensures { λ r. ⌜ ((l : List ℕ) → Marked (now (marks .entry)) l → Marked (now (marks .exit)) (processChannels (rawIn (now (run .entry)) .processes) l)) ⌝ }
 {
@@ -59,7 +60,7 @@ fn mark_processes(marks: &mut [u32; 512], run: &[u32])
 
 // A mark for each channel of which an end is held.
 fn marked(run: &[u32]) -> [u32; 512]
-    requires { ⌜ 6144 ≤ length (now run) ⌝ }
+    requires { ⌜ runWords ≤ length (now run) ⌝ }
     requires { ⌜ Bounded (rawIn (now run)) ⌝ }
     ensures { λ r. ⌜ Marked r (channelsHeld (rawIn (now (run .entry)))) ⌝ }
 {
@@ -71,7 +72,7 @@ fn marked(run: &[u32]) -> [u32; 512]
 
 // The lowest channel of which no end is held.
 pub fn fresh_channel(run: &[u32]) -> Found
-    requires { ⌜ 6144 ≤ length (now run) ⌝ }
+    requires { ⌜ runWords ≤ length (now run) ⌝ }
     requires { ⌜ Bounded (rawIn (now run)) ⌝ }
     ensures { λ r. ⌜ r ≡ foundIn (freshChannel (rawIn (now (run .entry)))) ⌝ }
 {
@@ -88,7 +89,7 @@ pub fn fresh_channel(run: &[u32]) -> Found
 
 // Of how many channels an end is held.
 pub fn busy_places(run: &[u32]) -> usize
-    requires { ⌜ 6144 ≤ length (now run) ⌝ }
+    requires { ⌜ runWords ≤ length (now run) ⌝ }
     requires { ⌜ Bounded (rawIn (now run)) ⌝ }
     ensures { λ r. ⌜ r ≡ busyPlaces (rawIn (now (run .entry))) ⌝ }
 {

@@ -2,6 +2,7 @@
 ghost use mathlib.Core.Path.{_≡_};
 ghost use Prim.Native.Nat.{ℕ, _-_, _≤_, _<_};
 ghost use lib.ListN.{length};
+ghost use Rattle.notation.specs.Limits.{runWords};
 ghost use Rattle.runs.specs.Raw.{rawIn, sideOf, Bounded};
 ghost use Rattle.runs.specs.Operations.{holderOf, farEnd};
 use crate::held::position;
@@ -14,7 +15,7 @@ use crate::records::Holder;
 
 // The first process that holds an end.
 pub fn holder(run: &[u32], channel: u32, side: u32) -> Holder
-    requires { ⌜ 6144 ≤ length (now run) ⌝ }
+    requires { ⌜ runWords ≤ length (now run) ⌝ }
     requires { ⌜ Bounded (rawIn (now run)) ⌝ }
     requires { ⌜ side < 2 ⌝ }
     ensures { λ r. ⌜ r ≡ holderOf channel (sideOf side) (rawIn (now (run .entry)) .processes) ⌝ }
@@ -36,7 +37,7 @@ pub fn holder(run: &[u32], channel: u32, side: u32) -> Holder
 
 // The far end of the end of a channel at a side.
 pub fn far_end(run: &[u32], channel: u32, side: u32) -> Far
-    requires { ⌜ 6144 ≤ length (now run) ⌝ }
+    requires { ⌜ runWords ≤ length (now run) ⌝ }
     requires { ⌜ Bounded (rawIn (now run)) ⌝ }
     requires { ⌜ side < 2 ⌝ }
     ensures { λ r. ⌜ r ≡ farEnd (rawIn (now (run .entry))) channel (sideOf side) ⌝ }

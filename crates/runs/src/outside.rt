@@ -4,6 +4,7 @@ ghost use Prim.Native.Nat.{ℕ, _+_, _*_, _≤_, _<_};
 ghost use mathlib.Core.List.{[], _∷_, _++_};
 ghost use mathlib.Core.Option.{some};
 ghost use lib.ListN.{length, getD, getElem?, set};
+ghost use Rattle.notation.specs.Limits.{runWords};
 ghost use Rattle.runs.specs.Raw.{rawIn, outsideOf, BoundedOutside, Bounded};
 ghost use Rattle.runs.specs.Values.{outsideIn, Changed, Written};
 ghost use Rattle.runs.specs.Operations.{withOutside, withGiven, outsideAt, letGo, changedOutside, retyped, rerouted};
@@ -13,7 +14,7 @@ use crate::words::wide;
 
 // How many there are.
 pub fn outside_count(run: &[u32]) -> usize
-    requires { ⌜ 6144 ≤ length (now run) ⌝ }
+    requires { ⌜ runWords ≤ length (now run) ⌝ }
     ensures { λ r. ⌜ r ≡ length (rawIn (now (run .entry)) .outside) ⌝ }
 {
     wide(run[2])
@@ -21,7 +22,7 @@ pub fn outside_count(run: &[u32]) -> usize
 
 // How many numbers were given.
 pub fn given(run: &[u32]) -> u32
-    requires { ⌜ 6144 ≤ length (now run) ⌝ }
+    requires { ⌜ runWords ≤ length (now run) ⌝ }
     ensures { λ r. ⌜ r ≡ rawIn (now (run .entry)) .given ⌝ }
 {
     run[1]
@@ -29,7 +30,7 @@ pub fn given(run: &[u32]) -> u32
 
 // So many numbers were given.
 pub fn set_given(run: &mut [u32], n: u32)
-    requires { ⌜ 6144 ≤ length (now run) ⌝ }
+    requires { ⌜ runWords ≤ length (now run) ⌝ }
     requires { ⌜ Bounded (rawIn (now run)) ⌝ }
     requires { ⌜ n ≤ 32 ⌝ }
     ensures { λ r. ⌜ Changed (now (run .entry)) (now (run .exit)) (withGiven (rawIn (now (run .entry))) n) ⌝ }
@@ -40,7 +41,7 @@ pub fn set_given(run: &mut [u32], n: u32)
 
 // What the words of a channel at a position say.
 pub fn get_outside(run: &[u32], k: usize) -> Outside
-    requires { ⌜ (6144 ≤ length (now run)) × (k < 32) ⌝ }
+    requires { ⌜ (runWords ≤ length (now run)) × (k < 32) ⌝ }
     ensures { λ r. ⌜ outsideIn r ≡ outsideOf (λ t. getD (now (run .entry)) (16 + 2 * k + t) 0) ⌝ }
     ensures { λ r. ⌜ r .channel < 512 ⌝ }
 {
@@ -56,7 +57,7 @@ pub fn get_outside(run: &[u32], k: usize) -> Outside
 
 // The channel at a position.
 pub fn outside_at(run: &[u32], k: usize) -> Outside
-    requires { ⌜ 6144 ≤ length (now run) ⌝ }
+    requires { ⌜ runWords ≤ length (now run) ⌝ }
     requires { ⌜ Bounded (rawIn (now run)) ⌝ }
     requires { ⌜ k < length (rawIn (now run) .outside) ⌝ }
     ensures { λ r. ⌜ getElem? (rawIn (now (run .entry)) .outside) k ≡ some (outsideIn r) ⌝ }
@@ -67,7 +68,7 @@ pub fn outside_at(run: &[u32], k: usize) -> Outside
 
 // The first position with a channel.
 pub fn find_outside(run: &[u32], channel: u32) -> Found
-    requires { ⌜ 6144 ≤ length (now run) ⌝ }
+    requires { ⌜ runWords ≤ length (now run) ⌝ }
     requires { ⌜ Bounded (rawIn (now run)) ⌝ }
     ensures { λ r. ⌜ r ≡ outsideAt channel (rawIn (now (run .entry)) .outside) ⌝ }
 {
@@ -85,7 +86,7 @@ pub fn find_outside(run: &[u32], channel: u32) -> Found
 
 // The words of a channel at a position.
 fn put_outside(run: &mut [u32], k: usize, o: Outside)
-    requires { ⌜ (6144 ≤ length (now run)) × (k < 32) ⌝ }
+    requires { ⌜ (runWords ≤ length (now run)) × (k < 32) ⌝ }
     requires { ⌜ BoundedOutside (outsideIn o) ⌝ }
     ensures { λ r. ⌜ Written outsideOf 2 (now (run .entry)) (now (run .exit)) (16 + 2 * k) (outsideIn o) ⌝ }
 {
@@ -96,7 +97,7 @@ fn put_outside(run: &mut [u32], k: usize, o: Outside)
 
 // Another channel at a position.
 pub fn set_outside(run: &mut [u32], k: usize, o: Outside)
-    requires { ⌜ 6144 ≤ length (now run) ⌝ }
+    requires { ⌜ runWords ≤ length (now run) ⌝ }
     requires { ⌜ Bounded (rawIn (now run)) ⌝ }
     requires { ⌜ k < length (rawIn (now run) .outside) ⌝ }
     requires { ⌜ BoundedOutside (outsideIn o) ⌝ }
@@ -108,7 +109,7 @@ pub fn set_outside(run: &mut [u32], k: usize, o: Outside)
 
 // One channel more, the last.
 pub fn append_outside(run: &mut [u32], o: Outside)
-    requires { ⌜ 6144 ≤ length (now run) ⌝ }
+    requires { ⌜ runWords ≤ length (now run) ⌝ }
     requires { ⌜ Bounded (rawIn (now run)) ⌝ }
     requires { ⌜ length (rawIn (now run) .outside) < 32 ⌝ }
     requires { ⌜ BoundedOutside (outsideIn o) ⌝ }
@@ -122,7 +123,7 @@ pub fn append_outside(run: &mut [u32], o: Outside)
 
 // The outside lets go of a channel: the others keep their order.
 pub fn let_go(run: &mut [u32], channel: u32)
-    requires { ⌜ 6144 ≤ length (now run) ⌝ }
+    requires { ⌜ runWords ≤ length (now run) ⌝ }
     requires { ⌜ Bounded (rawIn (now run)) ⌝ }
     ensures { λ r. ⌜ Changed (now (run .entry)) (now (run .exit)) (withOutside (rawIn (now (run .entry))) (letGo channel (rawIn (now (run .entry)) .outside))) ⌝ }
     ensures { λ r. ⌜ Bounded (rawIn (now (run .exit))) ⌝ }
@@ -143,7 +144,7 @@ pub fn let_go(run: &mut [u32], channel: u32)
 
 // Another type for a channel.
 pub fn retype_outside(run: &mut [u32], channel: u32, node: u32)
-    requires { ⌜ 6144 ≤ length (now run) ⌝ }
+    requires { ⌜ runWords ≤ length (now run) ⌝ }
     requires { ⌜ Bounded (rawIn (now run)) ⌝ }
     requires { ⌜ node < 512 ⌝ }
     ensures { λ r. ⌜ Changed (now (run .entry)) (now (run .exit)) (withOutside (rawIn (now (run .entry))) (changedOutside channel (retyped node) (rawIn (now (run .entry)) .outside))) ⌝ }
@@ -164,7 +165,7 @@ pub fn retype_outside(run: &mut [u32], channel: u32, node: u32)
 
 // Another channel in the place of one.
 pub fn reroute_outside(run: &mut [u32], channel: u32, target: u32)
-    requires { ⌜ 6144 ≤ length (now run) ⌝ }
+    requires { ⌜ runWords ≤ length (now run) ⌝ }
     requires { ⌜ Bounded (rawIn (now run)) ⌝ }
     requires { ⌜ target < 512 ⌝ }
     ensures { λ r. ⌜ Changed (now (run .entry)) (now (run .exit)) (withOutside (rawIn (now (run .entry))) (changedOutside channel (rerouted target) (rawIn (now (run .entry)) .outside))) ⌝ }

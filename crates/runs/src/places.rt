@@ -3,6 +3,7 @@ ghost use mathlib.Core.Path.{_≡_};
 ghost use Prim.Native.Nat.{ℕ, suc, _+_, _≤_, _<_};
 ghost use mathlib.Core.List.{map};
 ghost use lib.ListN.{length};
+ghost use Rattle.notation.specs.Limits.{runWords};
 ghost use Rattle.runs.specs.Raw.{rawIn, BoundedProcess, Bounded};
 ghost use Rattle.runs.specs.Values.{processIn, Changed};
 ghost use Rattle.runs.specs.Operations.{single, withProcesses, moved, movedWord, relinked, inserted, removed};
@@ -28,7 +29,7 @@ fn moved_link(link: u32, i: usize, up: bool) -> u32
 
 // Every link, once the places after `i` have moved.
 fn relink(run: &mut [u32], i: usize, up: bool)
-    requires { ⌜ (6144 ≤ length (now run)) × (i < 128) ⌝ }
+    requires { ⌜ (runWords ≤ length (now run)) × (i < 128) ⌝ }
     requires { ⌜ Bounded (rawIn (now run)) ⌝ }
     ensures { λ r. ⌜ Changed (now (run .entry)) (now (run .exit)) (withProcesses (rawIn (now (run .entry))) (map (relinked (moved up i)) (rawIn (now (run .entry)) .processes))) ⌝ }
 {
@@ -44,8 +45,8 @@ fn relink(run: &mut [u32], i: usize, up: bool)
 
 // A run of one process, and nothing outside.
 pub fn begin(run: &mut [u32], p: Process)
-    requires { ⌜ 6144 ≤ length (now run) ⌝ }
-    requires { ⌜ BoundedProcess 1 (processIn p) × (p .held .count ≤ 16) ⌝ }
+    requires { ⌜ runWords ≤ length (now run) ⌝ }
+    requires { ⌜ BoundedProcess 1 (processIn p) ⌝ }
     ensures { λ r. ⌜ Changed (now (run .entry)) (now (run .exit)) (single (processIn p)) ⌝ }
     ensures { λ r. ⌜ Bounded (rawIn (now (run .exit))) ⌝ }
 {
@@ -57,10 +58,10 @@ pub fn begin(run: &mut [u32], p: Process)
 
 // A process comes to stand directly after the one at a place.
 pub fn insert(run: &mut [u32], i: usize, p: Process)
-    requires { ⌜ 6144 ≤ length (now run) ⌝ }
+    requires { ⌜ runWords ≤ length (now run) ⌝ }
     requires { ⌜ Bounded (rawIn (now run)) ⌝ }
     requires { ⌜ (i < length (rawIn (now run) .processes)) × (length (rawIn (now run) .processes) < 128) ⌝ }
-    requires { ⌜ BoundedProcess (suc (length (rawIn (now run) .processes))) (processIn p) × (p .held .count ≤ 16) ⌝ }
+    requires { ⌜ BoundedProcess (suc (length (rawIn (now run) .processes))) (processIn p) ⌝ }
     ensures { λ r. ⌜ Changed (now (run .entry)) (now (run .exit)) (withProcesses (rawIn (now (run .entry))) (inserted i (processIn p) (rawIn (now (run .entry)) .processes))) ⌝ }
     ensures { λ r. ⌜ Bounded (rawIn (now (run .exit))) ⌝ }
 {
@@ -73,7 +74,7 @@ pub fn insert(run: &mut [u32], i: usize, p: Process)
 
 // The process at a place leaves; nobody's link is its place.
 pub fn remove(run: &mut [u32], i: usize)
-    requires { ⌜ 6144 ≤ length (now run) ⌝ }
+    requires { ⌜ runWords ≤ length (now run) ⌝ }
     requires { ⌜ Bounded (rawIn (now run)) ⌝ }
     requires { ⌜ i < length (rawIn (now run) .processes) ⌝ }
     requires { ⌜ Unlinked i (rawIn (now run) .processes) ⌝ }

@@ -3,6 +3,7 @@ ghost use mathlib.Core.Path.{_≡_};
 ghost use Prim.Native.Nat.{ℕ, _+_, _*_, _≤_, _<_};
 ghost use mathlib.Core.Option.{some};
 ghost use lib.ListN.{length, getD, getElem?, set};
+ghost use Rattle.notation.specs.Limits.{runWords};
 ghost use Rattle.runs.specs.Raw.{rawIn, processOf, BoundedProcess, Bounded};
 ghost use Rattle.runs.specs.Values.{processIn, Changed, Written};
 ghost use Rattle.runs.specs.Operations.{withProcesses};
@@ -14,7 +15,7 @@ use crate::words::wide;
 
 // How many there are.
 pub fn count(run: &[u32]) -> usize
-    requires { ⌜ 6144 ≤ length (now run) ⌝ }
+    requires { ⌜ runWords ≤ length (now run) ⌝ }
     ensures { λ r. ⌜ r ≡ length (rawIn (now (run .entry)) .processes) ⌝ }
 {
     wide(run[0])
@@ -22,7 +23,7 @@ pub fn count(run: &[u32]) -> usize
 
 // What the words of a process say, of which at most 16 channels are held.
 pub fn get(run: &[u32], i: usize) -> Process
-    requires { ⌜ (6144 ≤ length (now run)) × (i < 128) ⌝ }
+    requires { ⌜ (runWords ≤ length (now run)) × (i < 128) ⌝ }
     requires { ⌜ getD (now run) (80 + 40 * i + 2) 0 ≤ 16 ⌝ }
     ensures { λ r. ⌜ processOf (λ t. getD (now (run .entry)) (80 + 40 * i + t) 0) ≡ processIn r ⌝ }
     ensures { λ r. ⌜ r .held .count ≤ 16 ⌝ }
@@ -43,7 +44,7 @@ pub fn get(run: &[u32], i: usize) -> Process
 
 // The process at a place.
 pub fn load(run: &[u32], i: usize) -> Process
-    requires { ⌜ 6144 ≤ length (now run) ⌝ }
+    requires { ⌜ runWords ≤ length (now run) ⌝ }
     requires { ⌜ Bounded (rawIn (now run)) ⌝ }
     requires { ⌜ i < length (rawIn (now run) .processes) ⌝ }
     ensures { λ r. ⌜ getElem? (rawIn (now (run .entry)) .processes) i ≡ some (processIn r) ⌝ }
@@ -69,10 +70,10 @@ pub fn put(run: &mut [u32], at: usize, p: Process)
 
 // Another process at a place.
 pub fn store(run: &mut [u32], i: usize, p: Process)
-    requires { ⌜ 6144 ≤ length (now run) ⌝ }
+    requires { ⌜ runWords ≤ length (now run) ⌝ }
     requires { ⌜ Bounded (rawIn (now run)) ⌝ }
     requires { ⌜ i < length (rawIn (now run) .processes) ⌝ }
-    requires { ⌜ BoundedProcess (length (rawIn (now run) .processes)) (processIn p) × (p .held .count ≤ 16) ⌝ }
+    requires { ⌜ BoundedProcess (length (rawIn (now run) .processes)) (processIn p) ⌝ }
     ensures { λ r. ⌜ Changed (now (run .entry)) (now (run .exit)) (withProcesses (rawIn (now (run .entry))) (set (rawIn (now (run .entry)) .processes) i (processIn p))) ⌝ }
     ensures { λ r. ⌜ Bounded (rawIn (now (run .exit))) ⌝ }
 {

@@ -7,7 +7,7 @@ use Rattle.runs.specs.ListLaws.{scan-end}
 use Rattle.runs.specs.Raw.{sideOf}
 use Rattle.runs.specs.Values.{heldIn, held-length}
 use Rattle.runs.specs.Operations.{isEnd, heldAt}
-use Rattle.runs.proofs.Searches.{firstFrom, first-here, first-on, end-found, end-other-side, end-elsewhere}
+use Rattle.runs.proofs.Searches.{firstFrom, stops-here, goes-on, end-found, end-other-side, end-elsewhere}
 use Rattle.runs.proofs.held.position.Statement.{statement}
 use Rattle.runs.proofs.held.position.Tie as tie
 
@@ -29,7 +29,7 @@ returns c =
     let a = c .before .before .before .before .before .before .before .args in
     let b = c .before .before .before .before .before .before .loop in
     let f = c .before .before .before .before .end-at in
-    sym (b .inv ∙ first-here (isEnd (a .channel) (sideOf (a .side))) (heldIn (a .h)) (b .k) (f .ensures .0)
+    sym (b .inv ∙ stops-here (isEnd (a .channel) (sideOf (a .side))) (heldIn (a .h)) (b .k) (f .ensures .0)
     (end-found (a .channel) (a .side) (f .result) (omega arith) (f .ensures .1 .0) (c .before .before .if1 .taken) (c .if2 .taken)))
 
 add-k : tie.Need-add-k Inv-loop μ-loop
@@ -43,7 +43,7 @@ loop-again c =
     let a = c .before .before .before .before .before .args in
     let b = c .before .before .before .before .loop in
     let f = c .before .before .end-at in
-    b .inv ∙ first-on (isEnd (a .channel) (sideOf (a .side))) (heldIn (a .h)) (b .k) (f .ensures .0)
+    b .inv ∙ goes-on (isEnd (a .channel) (sideOf (a .side))) (heldIn (a .h)) (b .k) (f .ensures .0)
     (⊎-elim
     (λ w. end-other-side (a .channel) (a .side) (f .result) (omega arith) (f .ensures .1 .0) (w .0 .taken) (w .2 .left))
     (λ w. end-elsewhere (a .channel) (a .side) (f .result) (omega arith) (f .ensures .1 .0) (w .left))

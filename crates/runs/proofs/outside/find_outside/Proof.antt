@@ -7,7 +7,7 @@ use lib.ListN.{length}
 use Rattle.runs.specs.ListLaws.{scan-end}
 use Rattle.runs.specs.Raw.{rawIn}
 use Rattle.runs.specs.Operations.{onChannel, outsideAt}
-use Rattle.runs.proofs.Searches.{firstFrom, first-here, first-on}
+use Rattle.runs.proofs.Searches.{firstFrom, stops-here, goes-on}
 use Rattle.runs.proofs.outside.find_outside.Statement.{statement}
 use Rattle.runs.proofs.outside.find_outside.Tie as tie
 
@@ -31,7 +31,7 @@ returns : tie.Need-returns Inv-loop μ-loop
 returns c =
     let a = c .before .before .before .before .before .before .before .args in
     let b = c .before .before .before .before .loop in
-    sym (b .inv .1 ∙ first-here (onChannel (a .channel)) (rawIn (a .run .now) .outside) (b .k) (c .before .before .outside-at .ensures .0) (eq-eqb _ _ (c .if1 .taken)))
+    sym (b .inv .1 ∙ stops-here (onChannel (a .channel)) (rawIn (a .run .now) .outside) (b .k) (c .before .before .outside-at .ensures .0) (eq-eqb _ _ (c .if1 .taken)))
 
 add-k : tie.Need-add-k Inv-loop μ-loop
 add-k c = search needs
@@ -43,7 +43,7 @@ loop-again : tie.Need-loop-again Inv-loop μ-loop
 loop-again c =
     let a = c .before .before .before .before .before .before .before .args in
     let b = c .before .before .before .before .loop in
-    (b .inv .0, b .inv .1 ∙ first-on (onChannel (a .channel)) (rawIn (a .run .now) .outside) (b .k) (c .before .before .outside-at .ensures .0) (ne-eqb _ _ (c .if1 .left)))
+    (b .inv .0, b .inv .1 ∙ goes-on (onChannel (a .channel)) (rawIn (a .run .now) .outside) (b .k) (c .before .before .outside-at .ensures .0) (ne-eqb _ _ (c .if1 .left)))
 
 returns-2 : tie.Need-returns-2 Inv-loop μ-loop
 returns-2 c = let b = c .before .loop in sym (b .inv .1 ∙ scan-end _ _ _ (b .k) (omega arith))

@@ -2,7 +2,7 @@ use borrow.Author.Needs.{needs}
 use native.Mathlib.Omega.{arith}
 use mathlib.Core.Path.{_∙_}
 use lib.ListN.{length-set}
-use Rattle.runs.specs.Values.{processIn}
+use Rattle.runs.specs.Values.{processIn, held-length}
 use Rattle.runs.specs.Bounds.{keeps, bounded-single}
 use Rattle.runs.proofs.Slices.{begun}
 use Rattle.runs.proofs.places.begin.Statement.{statement}
@@ -18,7 +18,10 @@ slice-write-run-3 : tie.Need-slice-write-run-3
 slice-write-run-3 c = simp length-set (omega arith)
 
 put-requires : tie.Need-put-requires
-put-requires c κs = let p = c .before .before .pre in (simp length-set (omega arith), (p .1 .0 .kind, p .1 .0 .pointer, p .1 .1))
+put-requires c κs =
+    let s = c .before .before in
+    let b = s .pre .1 in
+    (simp length-set (omega arith), (b .kind, b .pointer, omega (arith, b .many, held-length (s .args .p .held))))
 
 same-length : tie.Need-same-length
 same-length c = c .before .before .put .ensures .long ∙ simp length-set
@@ -27,7 +30,7 @@ returns : tie.Need-returns
 returns c =
     let s = c .before .before .before .before .before in
     let e = begun (s .args .run .now) _ (processIn (s .args .p)) (s .pre .0) (c .before .before .put .ensures) in
-    keeps e (bounded-single (processIn (s .args .p)) (s .pre .1 .0))
+    keeps e (bounded-single (processIn (s .args .p)) (s .pre .1))
 
 pub begin-spec : {M : Type 1} → statement M
 begin-spec =

@@ -3,7 +3,7 @@ use native.Mathlib.Omega.{arith}
 use mathlib.Core.Path.{_∙_}
 use lib.ListN.{length-set}
 use Rattle.runs.specs.Raw.{rawIn}
-use Rattle.runs.specs.Values.{processIn}
+use Rattle.runs.specs.Values.{processIn, held-length}
 use Rattle.runs.specs.Bounds.{keeps, bounded-insert}
 use Rattle.runs.proofs.Shifts.{inserted-words}
 use Rattle.runs.proofs.places.insert.Statement.{statement}
@@ -37,7 +37,11 @@ add-put : tie.Need-add-put
 add-put c = search needs
 
 put-requires : tie.Need-put-requires
-put-requires c κs = search needs
+put-requires c κs =
+    let s = c .before .before .before .before .before .before .before .before .before .before .before .before in
+    let b = s .pre .1 .1 .1 in
+    let n = c .before .before .before .before .before .before .before .before .before .count in
+    (omega (arith, c .before .before .before .move-up .ensures .long, c .before .before .before .before .before .before .before .relink .ensures .long, n .ensures), (b .kind, b .pointer, omega (arith, b .many, held-length (s .args .p .held))))
 
 add-run : tie.Need-add-run
 add-run c = search needs
@@ -57,7 +61,7 @@ returns c =
     let ws = s .args .run .now in
     let n = c .before .before .before .before .before .before .before .before .before .before .before .before .count in
     let e = inserted-words ws _ (n .result) (s .args .i) (s .pre .1 .0) (s .pre .0) (n .ensures) (omega arith) _ _ _ (omega arith) (c .before .before .before .before .before .before .before .before .before .before .relink .ensures) (c .before .before .before .before .before .before .move-up .ensures) (c .before .before .put .ensures) in
-    keeps e (bounded-insert (rawIn ws) (s .pre .1 .0) (s .args .i) (processIn (s .args .p)) (s .pre .1 .1 .0 .1) (s .pre .1 .1 .1 .0))
+    keeps e (bounded-insert (rawIn ws) (s .pre .1 .0) (s .args .i) (processIn (s .args .p)) (s .pre .1 .1 .0 .1) (s .pre .1 .1 .1))
 
 pub insert-spec : {M : Type 1} → statement M
 insert-spec =
