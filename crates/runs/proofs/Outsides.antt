@@ -15,6 +15,7 @@ use Rattle.runs.specs.Raw.{RawOutside, RawConfig, rows, outsideOf, rawIn
 use Rattle.runs.specs.Values.{Changed, Written}
 use Rattle.runs.specs.Operations.{withOutside, withGiven, onChannel, outsideAt, letGo, changedOutside}
 use Rattle.runs.specs.declared.records.Found.the-variants as found
+use Rattle.runs.specs.Bounds.{changed-as}
 use Rattle.runs.proofs.Rows.{outside-local, rows-same, rows-set, rows-append}
 use Rattle.runs.proofs.Slices.{word, counted-outside, numbered, outside-changed}
 use Rattle.runs.specs.Lists.{All}
@@ -155,7 +156,7 @@ unchanged ws C e b = (record { is = e; past = refl; long = refl }, b)
 
 pub changed-changes : (ws new : List ℕ) (c k : ℕ) (f : RawOutside → RawOutside) {o : RawOutside} → outsideAt c (rawIn ws .outside) ≡ found.At k → getElem? (rawIn ws .outside) k ≡ some o
     → Changed ws new (withOutside (rawIn ws) (set (rawIn ws .outside) k (f o))) → Changed ws new (withOutside (rawIn ws) (changedOutside c f (rawIn ws .outside)))
-changed-changes ws new c k f e g h = record { is = h .is ∙ ap (withOutside (rawIn ws)) (sym (changed-found c f (rawIn ws .outside) k e g)); past = h .past; long = h .long }
+changed-changes ws new c k f e g h = changed-as (ap (withOutside (rawIn ws)) (sym (changed-found c f (rawIn ws .outside) k e g))) h
 
 pub changed-same : (ws : List ℕ) (c : ℕ) (f : RawOutside → RawOutside) → outsideAt c (rawIn ws .outside) ≡ found.Nothing → rawIn ws ≡ withOutside (rawIn ws) (changedOutside c f (rawIn ws .outside))
 changed-same ws c f e = ap (withOutside (rawIn ws)) (sym (changed-nothing c f (rawIn ws .outside) e))

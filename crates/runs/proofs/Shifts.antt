@@ -16,6 +16,7 @@ use Rattle.runs.specs.ListLaws.{tab-same, map-tab, all-map, all-at}
 use Rattle.runs.specs.Raw.{RawProcess, RawConfig, linkOf, linksBelow, rows, processOf, rawIn, Bounded}
 use Rattle.runs.specs.Values.{Changed, Moved, Written}
 use Rattle.runs.specs.Operations.{withProcesses, moved, movedWord, relinked, inserted, removed}
+use Rattle.runs.specs.Bounds.{after}
 use Rattle.runs.proofs.Rows.{rows-insert, rows-remove}
 use Rattle.runs.proofs.Slices.{word, counted, processRow, process-at, process-linked, Sixteen, sixteen, processes-local, held-few, processes-changed}
 
@@ -73,10 +74,6 @@ relinked-words old new up i n b e m =
         (ap linkOf (m .inside _ (omega arith) (omega arith) ∙ sym (link-turned up i j (80 + 40 * j + 1) old (omega arith))) ∙ link-moved up i (getD old (80 + 40 * j + 1) 0))
 
 -- ── a process more, a process less
--- one change after another
-after : (old mid new : List ℕ) (C : RawConfig) (f : RawConfig → RawConfig) → Changed old mid C → Changed mid new (f (rawIn mid)) → Changed old new (f C)
-after old mid new C f p q = record { is = q .is ∙ ap f (p .is); past = q .past ∙ p .past; long = q .long ∙ p .long }
-
 module _ (old mid : List ℕ) (f : ℕ → ℕ) (b : Bounded (rawIn old)) (r : Changed old mid (withProcesses (rawIn old) (map (relinked f) (rawIn old .processes)))) where
   relinked-sixteen : Sixteen mid
   relinked-sixteen = record {
@@ -104,7 +101,7 @@ module _ (old mid : List ℕ) (n i : ℕ) (b : Bounded (rawIn old)) (l : 6144 �
       let long : length last ≡ length mid = length-set new 0 (n + 1) ∙ w .long ∙ m .long in
       let row : (t : ℕ) → getD last (80 + 40 * suc i + t) 0 ≡ getD new (120 + 40 * i + t) 0 =
       λ t. let e : 80 + 40 * suc i + t ≡ 120 + 40 * i + t = omega arith in rest _ (omega arith) ∙ ap (word new) e in
-      after old mid last _ (λ C. withProcesses C (insertAt (suc i) p (C .processes))) r
+      after (λ C. withProcesses C (insertAt (suc i) p (C .processes))) r
       (processes-changed mid last long _ (relinked-outside old mid (movedUp i) b r) (λ k a q. low k a (omega arith)) (λ k a. rest k (omega arith) ∙ w .above k (omega arith) ∙ m .above k (omega arith))
       (ap (λ j. rows processOf 40 80 j (word last)) (getD-set-same new 0 (n + 1) 0 (omega (arith, w .long, m .long, r .long)))
       ∙ rows-insert processOf 40 80 (word mid) (word last) (getD mid 0 0) (processes-local mid (relinked-sixteen old mid (movedUp i) b r)) (suc i)
@@ -122,7 +119,7 @@ module _ (old mid : List ℕ) (n i : ℕ) (b : Bounded (rawIn old)) (l : 6144 �
       let rest : (k : ℕ) → 1 ≤ k → getD last k 0 ≡ getD new k 0 = λ k a. getD-set-other new 0 k (n - 1) 0 (omega arith) in
       let low : (k : ℕ) → 1 ≤ k → k < 80 + 40 * i → getD last k 0 ≡ getD mid k 0 = λ k a q. rest k a ∙ m .below k (omega arith) in
       let long : length last ≡ length mid = length-set new 0 (n - 1) ∙ m .long in
-      after old mid last _ (λ C. withProcesses C (removeAt i (C .processes))) r
+      after (λ C. withProcesses C (removeAt i (C .processes))) r
       (processes-changed mid last long _ (relinked-outside old mid (movedDown i) b r) (λ k a q. low k a (omega arith)) (λ k a. rest k (omega arith) ∙ m .above k (omega arith))
       (ap (λ j. rows processOf 40 80 j (word last)) (getD-set-same new 0 (n - 1) 0 (omega (arith, m .long, r .long)))
       ∙ rows-remove processOf 40 80 (word mid) (word last) (getD mid 0 0) (processes-local mid (relinked-sixteen old mid (movedDown i) b r)) i

@@ -1,4 +1,4 @@
--- Bounds are kept.
+-- Changes of a run, and that they keep the bounds.
 use Prim.Native.Nat.{ℕ, suc, _+_, _-_, _≤_, _<_}
 use mathlib.Core.List.{List, [], _∷_, _++_, map}
 use mathlib.Core.Path.{_≡_, sym, subst, ap, _∙_}
@@ -19,6 +19,14 @@ use Rattle.runs.specs.Operations.{single, withProcesses, withOutside, wi
 -- a change to a bounded configuration
 pub keeps : {old new : List ℕ} {C : RawConfig} → Changed old new C → Bounded C → Changed old new C × Bounded (rawIn new)
 keeps e b = (e, subst (λ (D : RawConfig). Bounded D) (sym (e .is)) b)
+
+-- the same change, said otherwise
+pub changed-as : {old new : List ℕ} {C D : RawConfig} → C ≡ D → Changed old new C → Changed old new D
+changed-as e p = record { is = p .is ∙ e; past = p .past; long = p .long }
+
+-- one change after another
+pub after : {old mid new : List ℕ} {C : RawConfig} (f : RawConfig → RawConfig) → Changed old mid C → Changed mid new (f (rawIn mid)) → Changed old new (f C)
+after f p q = record { is = q .is ∙ ap f (p .is); past = q .past ∙ p .past; long = q .long ∙ p .long }
 
 -- no process has the link
 abbrev pub Unlinked : ℕ → List RawProcess → Type 0

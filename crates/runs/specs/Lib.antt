@@ -6,4 +6,5 @@ pub mod Operations
 pub mod SearchLaws
 pub mod Bounds
 pub mod Decode
+pub mod DecodeLaws
 pub mod Examples

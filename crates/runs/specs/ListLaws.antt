@@ -85,6 +85,10 @@ module _ {A : Type 0} where
     all-at (y ∷ l) zero {x} a e = let p : y ≡ x = cc in subst P p (a .0)
     all-at (y ∷ l) (suc k) a e = all-at l k (a .1) e
 
+    pub all-of : (l : List A) → ((k : ℕ) (x : A) → getElem? l k ≡ some x → P x) → All P l
+    all-of [] h = tt
+    all-of (x ∷ l) h = (h 0 x refl, all-of l (λ k y e. h (suc k) y e))
+
     pub all-set : (l : List A) (k : ℕ) (x : A) → All P l → P x → All P (set l k x)
     all-set [] k x a p = tt
     all-set (y ∷ l) zero x a p = (p, a .1)
@@ -137,6 +141,11 @@ module _ {A B : Type 0} (f : A → B) where
   map-at [] k e = let z : _≡_ {A = ℕ} 0 1 = cc in absurd (omega arith)
   map-at (y ∷ l) zero {x} e = let p : y ≡ x = cc in ap {B = Option B} (λ z. some (f z)) p
   map-at (y ∷ l) (suc k) e = map-at l k e
+
+  pub at-map : (l : List A) (k : ℕ) {y : B} → getElem? (map f l) k ≡ some y → (x : A) × (getElem? l k ≡ some x) × (f x ≡ y)
+  at-map [] k e = let z : _≡_ {A = ℕ} 0 1 = cc in absurd (omega arith)
+  at-map (x ∷ l) zero {y} e = let p : f x ≡ y = cc in (x, refl, p)
+  at-map (x ∷ l) (suc k) e = at-map l k e
 
   pub map-take : (k : ℕ) (l : List A) → map f (take k l) ≡ take k (map f l)
   map-take zero l = refl
