@@ -1,7 +1,7 @@
 -- The operations on a run's numbers are the calculus' own on the configuration that they stand for.
 use Prim.Native.Nat.{ℕ, suc, _+_, _-_}
 use mathlib.Core.List.{List, [], _∷_, _++_, map, map-map}
-use mathlib.Core.Path.{_≡_, refl, ap, ap₂, _∙_}
+use mathlib.Core.Path.{_≡_, refl, sym, ap, ap₂, subst, _∙_}
 use mathlib.Core.Bool.{Bool, true, false, cond}
 use mathlib.Core.Option.{Option, some, none}
 use native.Mathlib.Omega.{arith}
@@ -13,7 +13,7 @@ use Rattle.calculus.specs.Configuration.{End, end, Process, process, Outside, C
 use Rattle.calculus.specs.Configuration as calculus
 use Rattle.runs.specs.Lists.{All, insertAt, removeAt}
 use Rattle.runs.specs.ListLaws.{map-at, map-join, map-set, map-insert, map-remove}
-use Rattle.runs.specs.SearchLaws.{First, here, later, first-here, none-from, Holds, holds-here, nobody-from, far-process, far-outside, far-given-up}
+use Rattle.runs.specs.SearchLaws.{First, here, later, first-here, none-from, Holds, held-there, outside-there, holds-of, holds-at, holds-held, holds-here, nobody-from, far-process, far-outside, far-given-up}
 use Rattle.runs.specs.Raw.{RawEnd, RawProcess, RawOutside, RawConfig}
 use Rattle.runs.specs.Operations as raw
 use Rattle.runs.specs.Decode as decode
@@ -213,3 +213,23 @@ module _ (nameOf : ℕ → Name) (typeOf : ℕ → Ty Name) (termOf : ℕ → Pr
         go used f r e = unused (calculus.outsideOf k (map outsideOf (C .outside)))
         go provided found.Nothing r e = ap (calculus.orOutside provided) (decoded-not-outside k (C .outside) r)
         go provided (found.At j) r e = let z : _≡_ {A = ℕ} 0 1 = cc in absurd (omega arith)
+
+  -- what a far end in numbers stands for
+  pub data FarAs (C : RawConfig) : Far → calculus.Far → Type 0 where
+    atProcess : {i j : ℕ} {p : RawProcess} {e : RawEnd} → getElem? (C .processes) i ≡ some p → getElem? (p .held) j ≡ some e → FarAs C (far.Process i j) (calculus.atProcess (holderAs i p e))
+    atOutside : {j : ℕ} {o : RawOutside} → getElem? (C .outside) j ≡ some o → FarAs C (far.Outside j) (calculus.atOutside (o .number))
+    givenUp : FarAs C far.GivenUp calculus.givenUp
+
+  module _ (C : RawConfig) (k : ℕ) (s : Side) (A : Ty Name) where
+    pub decoded-far : FarAs C (raw.farEnd C k s) (calculus.farEnd (decoded C) (end s k A))
+    decoded-far = go (raw.farEnd C k s) refl
+      where
+        go : (f : Far) → raw.farEnd C k s ≡ f → FarAs C f (calculus.farEnd (decoded C) (end s k A))
+        go (far.Process i j) e =
+            let h = holds-of k (other s) (C .processes) i j (far-process C k s i j e) in
+            let g = held-there k (other s) (h .0 .held) j (holds-held k (other s) (h .1)) in
+            subst (FarAs C (far.Process i j)) (sym (decoded-far-process C k s A i j e (holds-at k (other s) (h .1)) (g .1))) (atProcess (holds-at k (other s) (h .1)) (g .1))
+        go (far.Outside j) e =
+            let g = outside-there k (C .outside) j (far-outside C k s j e .2) in
+            subst (FarAs C (far.Outside j)) (sym (decoded-far-outside C k s A j e (g .1))) (atOutside (g .1))
+        go far.GivenUp e = subst (FarAs C far.GivenUp) (sym (decoded-far-given-up C k s A e)) givenUp

@@ -68,6 +68,15 @@ pub held-below : (k : ℕ) (s : Side) (l : List RawEnd) (j : ℕ) → heldAt k s
 unfolding heldAt
 held-below k s l j e = first-below (isEnd k s) l j e
 
+-- what stands where it was found
+pub held-there : (k : ℕ) (s : Side) (l : List RawEnd) (j : ℕ) → heldAt k s l ≡ found.At j → (e : RawEnd) × (getElem? l j ≡ some e)
+unfolding heldAt
+held-there k s l j e = let f = first-of (isEnd k s) l j e in (f .0, first-at (isEnd k s) (f .1))
+
+pub outside-there : (k : ℕ) (l : List RawOutside) (j : ℕ) → outsideAt k l ≡ found.At j → (o : RawOutside) × (getElem? l j ≡ some o)
+unfolding outsideAt
+outside-there k l j e = let f = first-of (onChannel k) l j e in (f .0, first-at (onChannel k) (f .1))
+
 pub outside-below : (k : ℕ) (l : List RawOutside) (j : ℕ) → outsideAt k l ≡ found.At j → j < length l
 unfolding outsideAt
 outside-below k l j e = first-below (onChannel k) l j e

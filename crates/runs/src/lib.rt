@@ -7,4 +7,4 @@ pub mod outside;
 pub mod places;
 pub mod processes;
 pub mod records;
-pub mod words;
+mod words;

@@ -40,7 +40,7 @@ pub fn set_given(run: &mut [u32], n: u32)
 }
 
 // What the words of a channel at a position say.
-pub fn get_outside(run: &[u32], k: usize) -> Outside
+pub(crate) fn get_outside(run: &[u32], k: usize) -> Outside
     requires { ⌜ (runWords ≤ length (now run)) × (k < 32) ⌝ }
     ensures { λ r. ⌜ outsideIn r ≡ outsideOf (λ t. getD (now (run .entry)) (16 + 2 * k + t) 0) ⌝ }
     ensures { λ r. ⌜ r .channel < 512 ⌝ }

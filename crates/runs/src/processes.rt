@@ -22,7 +22,7 @@ pub fn count(run: &[u32]) -> usize
 }
 
 // What the words of a process say, of which at most 16 channels are held.
-pub fn get(run: &[u32], i: usize) -> Process
+pub(crate) fn get(run: &[u32], i: usize) -> Process
     requires { ⌜ (runWords ≤ length (now run)) × (i < 128) ⌝ }
     requires { ⌜ getD (now run) (80 + 40 * i + 2) 0 ≤ 16 ⌝ }
     ensures { λ r. ⌜ processOf (λ t. getD (now (run .entry)) (80 + 40 * i + t) 0) ≡ processIn r ⌝ }
@@ -55,7 +55,7 @@ pub fn load(run: &[u32], i: usize) -> Process
 }
 
 // The words of a process, from `at` on.
-pub fn put(run: &mut [u32], at: usize, p: Process)
+pub(crate) fn put(run: &mut [u32], at: usize, p: Process)
     requires { ⌜ at + 40 ≤ length (now run) ⌝ }
     requires { ⌜ (p .kind < 3) × (p .pointer < 16384) × (p .held .count ≤ 16) ⌝ }
     ensures { λ r. ⌜ Written processOf 40 (now (run .entry)) (now (run .exit)) at (processIn p) ⌝ }

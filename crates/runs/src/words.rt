@@ -5,14 +5,14 @@ ghost use lib.ListN.{length, getD};
 ghost use Rattle.runs.specs.Values.{Moved};
 
 // A word as a place or a position.
-pub fn wide(x: u32) -> usize
+pub(crate) fn wide(x: u32) -> usize
     ensures { λ r. ⌜ r ≡ x ⌝ }
 {
     x as usize
 }
 
 // The 32 words from `at` on.
-pub fn copy_out(run: &[u32], at: usize) -> [u32; 32]
+pub(crate) fn copy_out(run: &[u32], at: usize) -> [u32; 32]
     requires { ⌜ at + 32 ≤ length (now run) ⌝ }
     ensures { λ r. ⌜ ((k : ℕ) → k < 32 → getD r k 0 ≡ getD (now (run .entry)) (at + k) 0) ⌝ }
 {
@@ -26,7 +26,7 @@ pub fn copy_out(run: &[u32], at: usize) -> [u32; 32]
 }
 
 // The words of w, from `at` on.
-pub fn copy_in(run: &mut [u32], at: usize, w: &[u32; 32])
+pub(crate) fn copy_in(run: &mut [u32], at: usize, w: &[u32; 32])
     requires { ⌜ at + 32 ≤ length (now run) ⌝ }
     ensures { λ r. ⌜ Moved (now (run .entry)) (now (run .exit)) at (at + 32) (λ k. getD (now (w .entry)) (k - at) 0) ⌝ }
 {
@@ -38,7 +38,7 @@ pub fn copy_in(run: &mut [u32], at: usize, w: &[u32; 32])
 }
 
 // The words from `from` up to `to` move up.
-pub fn move_up(run: &mut [u32], from: usize, to: usize, by: usize)
+pub(crate) fn move_up(run: &mut [u32], from: usize, to: usize, by: usize)
     requires { ⌜ (from ≤ to) × (to + by ≤ length (now run)) ⌝ }
     ensures { λ r. ⌜ Moved (now (run .entry)) (now (run .exit)) (from + by) (to + by) (λ k. getD (now (run .entry)) (k - by) 0) ⌝ }
 {
@@ -50,7 +50,7 @@ pub fn move_up(run: &mut [u32], from: usize, to: usize, by: usize)
 }
 
 // The words from `from` up to `to` move down.
-pub fn move_down(run: &mut [u32], from: usize, to: usize, by: usize)
+pub(crate) fn move_down(run: &mut [u32], from: usize, to: usize, by: usize)
     requires { ⌜ (by ≤ from) × (from ≤ to) × (to ≤ length (now run)) ⌝ }
     ensures { λ r. ⌜ Moved (now (run .entry)) (now (run .exit)) (from - by) (to - by) (λ k. getD (now (run .entry)) (k + by) 0) ⌝ }
 {
