@@ -26,6 +26,12 @@ withOutside C l = record { processes = C .processes; outside = l; given = C .giv
 abbrev pub withGiven : RawConfig → ℕ → RawConfig
 withGiven C n = record { processes = C .processes; outside = C .outside; given = n }
 
+abbrev pub onProcesses : (List RawProcess → List RawProcess) → RawConfig → RawConfig
+onProcesses f C = withProcesses C (f (C .processes))
+
+abbrev pub onOutside : (List RawOutside → List RawOutside) → RawConfig → RawConfig
+onOutside f C = withOutside C (f (C .outside))
+
 -- ── a process comes or leaves
 -- a run of one process
 abbrev pub single : RawProcess → RawConfig

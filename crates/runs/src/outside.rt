@@ -7,7 +7,7 @@ ghost use lib.ListN.{length, getD, getElem?, set};
 ghost use Rattle.notation.specs.Limits.{runWords};
 ghost use Rattle.runs.specs.Raw.{rawIn, outsideOf, BoundedOutside, Bounded};
 ghost use Rattle.runs.specs.Values.{outsideIn, Changed, Written};
-ghost use Rattle.runs.specs.Operations.{withOutside, withGiven, outsideAt, letGo, changedOutside, retyped, rerouted};
+ghost use Rattle.runs.specs.Operations.{onOutside, withGiven, outsideAt, letGo, changedOutside, retyped, rerouted};
 use crate::records::Found;
 use crate::records::Outside;
 use crate::words::wide;
@@ -101,7 +101,7 @@ pub fn set_outside(run: &mut [u32], k: usize, o: Outside)
     requires { ⌜ Bounded (rawIn (now run)) ⌝ }
     requires { ⌜ k < length (rawIn (now run) .outside) ⌝ }
     requires { ⌜ BoundedOutside (outsideIn o) ⌝ }
-    ensures { λ r. ⌜ Changed (now (run .entry)) (now (run .exit)) (withOutside (rawIn (now (run .entry))) (set (rawIn (now (run .entry)) .outside) k (outsideIn o))) ⌝ }
+    ensures { λ r. ⌜ Changed (now (run .entry)) (now (run .exit)) (onOutside (λ l. set l k (outsideIn o)) (rawIn (now (run .entry)))) ⌝ }
     ensures { λ r. ⌜ Bounded (rawIn (now (run .exit))) ⌝ }
 {
     put_outside(run, k, o);
@@ -113,7 +113,7 @@ pub fn append_outside(run: &mut [u32], o: Outside)
     requires { ⌜ Bounded (rawIn (now run)) ⌝ }
     requires { ⌜ length (rawIn (now run) .outside) < 32 ⌝ }
     requires { ⌜ BoundedOutside (outsideIn o) ⌝ }
-    ensures { λ r. ⌜ Changed (now (run .entry)) (now (run .exit)) (withOutside (rawIn (now (run .entry))) (rawIn (now (run .entry)) .outside ++ (outsideIn o ∷ []))) ⌝ }
+    ensures { λ r. ⌜ Changed (now (run .entry)) (now (run .exit)) (onOutside (λ l. l ++ (outsideIn o ∷ [])) (rawIn (now (run .entry)))) ⌝ }
     ensures { λ r. ⌜ Bounded (rawIn (now (run .exit))) ⌝ }
 {
     let n = outside_count(run);
@@ -125,7 +125,7 @@ pub fn append_outside(run: &mut [u32], o: Outside)
 pub fn let_go(run: &mut [u32], channel: u32)
     requires { ⌜ runWords ≤ length (now run) ⌝ }
     requires { ⌜ Bounded (rawIn (now run)) ⌝ }
-    ensures { λ r. ⌜ Changed (now (run .entry)) (now (run .exit)) (withOutside (rawIn (now (run .entry))) (letGo channel (rawIn (now (run .entry)) .outside))) ⌝ }
+    ensures { λ r. ⌜ Changed (now (run .entry)) (now (run .exit)) (onOutside (letGo channel) (rawIn (now (run .entry)))) ⌝ }
     ensures { λ r. ⌜ Bounded (rawIn (now (run .exit))) ⌝ }
 {
     let n = outside_count(run);
@@ -147,7 +147,7 @@ pub fn retype_outside(run: &mut [u32], channel: u32, node: u32)
     requires { ⌜ runWords ≤ length (now run) ⌝ }
     requires { ⌜ Bounded (rawIn (now run)) ⌝ }
     requires { ⌜ node < 512 ⌝ }
-    ensures { λ r. ⌜ Changed (now (run .entry)) (now (run .exit)) (withOutside (rawIn (now (run .entry))) (changedOutside channel (retyped node) (rawIn (now (run .entry)) .outside))) ⌝ }
+    ensures { λ r. ⌜ Changed (now (run .entry)) (now (run .exit)) (onOutside (changedOutside channel (retyped node)) (rawIn (now (run .entry)))) ⌝ }
     ensures { λ r. ⌜ Bounded (rawIn (now (run .exit))) ⌝ }
 {
     let f = find_outside(run, channel);
@@ -168,7 +168,7 @@ pub fn reroute_outside(run: &mut [u32], channel: u32, target: u32)
     requires { ⌜ runWords ≤ length (now run) ⌝ }
     requires { ⌜ Bounded (rawIn (now run)) ⌝ }
     requires { ⌜ target < 512 ⌝ }
-    ensures { λ r. ⌜ Changed (now (run .entry)) (now (run .exit)) (withOutside (rawIn (now (run .entry))) (changedOutside channel (rerouted target) (rawIn (now (run .entry)) .outside))) ⌝ }
+    ensures { λ r. ⌜ Changed (now (run .entry)) (now (run .exit)) (onOutside (changedOutside channel (rerouted target)) (rawIn (now (run .entry)))) ⌝ }
     ensures { λ r. ⌜ Bounded (rawIn (now (run .exit))) ⌝ }
 {
     let f = find_outside(run, channel);

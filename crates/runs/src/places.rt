@@ -6,7 +6,7 @@ ghost use lib.ListN.{length};
 ghost use Rattle.notation.specs.Limits.{runWords};
 ghost use Rattle.runs.specs.Raw.{rawIn, BoundedProcess, Bounded};
 ghost use Rattle.runs.specs.Values.{processIn, Changed};
-ghost use Rattle.runs.specs.Operations.{single, withProcesses, moved, movedWord, relinked, inserted, removed};
+ghost use Rattle.runs.specs.Operations.{single, onProcesses, moved, movedWord, relinked, inserted, removed};
 ghost use Rattle.runs.specs.Bounds.{Unlinked};
 use crate::processes::count;
 use crate::processes::put;
@@ -31,7 +31,7 @@ fn moved_link(link: u32, i: usize, up: bool) -> u32
 fn relink(run: &mut [u32], i: usize, up: bool)
     requires { ⌜ (runWords ≤ length (now run)) × (i < 128) ⌝ }
     requires { ⌜ Bounded (rawIn (now run)) ⌝ }
-    ensures { λ r. ⌜ Changed (now (run .entry)) (now (run .exit)) (withProcesses (rawIn (now (run .entry))) (map (relinked (moved up i)) (rawIn (now (run .entry)) .processes))) ⌝ }
+    ensures { λ r. ⌜ Changed (now (run .entry)) (now (run .exit)) (onProcesses (map (relinked (moved up i))) (rawIn (now (run .entry)))) ⌝ }
 {
     let n = count(run);
     let mut k: usize = 0;
@@ -62,7 +62,7 @@ pub fn insert(run: &mut [u32], i: usize, p: Process)
     requires { ⌜ Bounded (rawIn (now run)) ⌝ }
     requires { ⌜ (i < length (rawIn (now run) .processes)) × (length (rawIn (now run) .processes) < 128) ⌝ }
     requires { ⌜ BoundedProcess (suc (length (rawIn (now run) .processes))) (processIn p) ⌝ }
-    ensures { λ r. ⌜ Changed (now (run .entry)) (now (run .exit)) (withProcesses (rawIn (now (run .entry))) (inserted i (processIn p) (rawIn (now (run .entry)) .processes))) ⌝ }
+    ensures { λ r. ⌜ Changed (now (run .entry)) (now (run .exit)) (onProcesses (inserted i (processIn p)) (rawIn (now (run .entry)))) ⌝ }
     ensures { λ r. ⌜ Bounded (rawIn (now (run .exit))) ⌝ }
 {
     let n = count(run);
@@ -78,7 +78,7 @@ pub fn remove(run: &mut [u32], i: usize)
     requires { ⌜ Bounded (rawIn (now run)) ⌝ }
     requires { ⌜ i < length (rawIn (now run) .processes) ⌝ }
     requires { ⌜ Unlinked i (rawIn (now run) .processes) ⌝ }
-    ensures { λ r. ⌜ Changed (now (run .entry)) (now (run .exit)) (withProcesses (rawIn (now (run .entry))) (removed i (rawIn (now (run .entry)) .processes))) ⌝ }
+    ensures { λ r. ⌜ Changed (now (run .entry)) (now (run .exit)) (onProcesses (removed i) (rawIn (now (run .entry)))) ⌝ }
     ensures { λ r. ⌜ Bounded (rawIn (now (run .exit))) ⌝ }
 {
     let n = count(run);

@@ -6,7 +6,7 @@ ghost use lib.ListN.{length, getD, getElem?, set};
 ghost use Rattle.notation.specs.Limits.{runWords};
 ghost use Rattle.runs.specs.Raw.{rawIn, processOf, BoundedProcess, Bounded};
 ghost use Rattle.runs.specs.Values.{processIn, Changed, Written};
-ghost use Rattle.runs.specs.Operations.{withProcesses};
+ghost use Rattle.runs.specs.Operations.{onProcesses};
 use crate::records::Held;
 use crate::records::Process;
 use crate::words::copy_in;
@@ -74,7 +74,7 @@ pub fn store(run: &mut [u32], i: usize, p: Process)
     requires { ⌜ Bounded (rawIn (now run)) ⌝ }
     requires { ⌜ i < length (rawIn (now run) .processes) ⌝ }
     requires { ⌜ BoundedProcess (length (rawIn (now run) .processes)) (processIn p) ⌝ }
-    ensures { λ r. ⌜ Changed (now (run .entry)) (now (run .exit)) (withProcesses (rawIn (now (run .entry))) (set (rawIn (now (run .entry)) .processes) i (processIn p))) ⌝ }
+    ensures { λ r. ⌜ Changed (now (run .entry)) (now (run .exit)) (onProcesses (λ l. set l i (processIn p)) (rawIn (now (run .entry)))) ⌝ }
     ensures { λ r. ⌜ Bounded (rawIn (now (run .exit))) ⌝ }
 {
     put(run, 80 + 40 * i, p);
