@@ -334,7 +334,7 @@ fn read_fwd(text: &[u8], scratch: &mut [u32], c: Cursor, k: Tally) -> Out
 }
 
 // A process, by what begins it.
-pub fn read_process(text: &[u8], scratch: &mut [u32], c: Cursor, k: Tally) -> Out
+pub(crate) fn read_process(text: &[u8], scratch: &mut [u32], c: Cursor, k: Tally) -> Out
     requires { ⌜ Room (now text) (now scratch) c k ⌝ }
     ensures { λ r. ⌜ ProcessRead (now (text .entry)) (now (scratch .entry)) c k r (now (scratch .exit)) ⌝ }
 {

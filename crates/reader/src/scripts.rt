@@ -141,7 +141,7 @@ fn declaration_head(kind: usize) -> DeclarationHead
 }
 
 // Declarations, none or more, up to the end of the text.
-pub fn read_script(text: &[u8], scratch: &mut [u32], c: Cursor, k: Tally) -> Out
+pub(crate) fn read_script(text: &[u8], scratch: &mut [u32], c: Cursor, k: Tally) -> Out
     requires { ⌜ Room (now text) (now scratch) c k × Counted k ⌝ }
     ensures { λ r. ⌜ ScriptRead (now (text .entry)) (now (scratch .entry)) c k r (now (scratch .exit)) ⌝ }
 {

@@ -89,7 +89,7 @@ fn entries_or_none(text: &[u8], scratch: &mut [u32], c: Cursor, k: Tally, close:
 }
 
 // A signature's list in its brackets.
-pub fn entry_list(
+pub(crate) fn entry_list(
     text: &[u8],
     scratch: &mut [u32],
     c: Cursor,
