@@ -1,0 +1,149 @@
+-- What is written leaves alone what stood before: the frame law of the tables, once for all of them.
+use Prim.Native.Nat.{ℕ, _+_, _*_, _<_, _≤_}
+use mathlib.Core.Path.{_≡_, refl, _∙_, ap}
+use mathlib.Core.List.{List}
+use native.Mathlib.Omega.{arith}
+use lib.ListN.{length, getD, set, length-set}
+use lib.Seq.{getD-set-same, getD-set-other}
+use Rattle.notation.specs.Tables.{typesAt, processesAt, execsAt, entriesAt, nodesAt, alternativesAt, termsAt, branchesAt, lasting, moreNodes, moreAlternatives, putNode, putAlternative}
+use Rattle.notation.specs.declared.reading.Tally.{Tally}
+use Rattle.notation.specs.declared.reading.TypeNode.{TypeNode}
+use Rattle.tables.specs.Decode.{typeNodeOf, pairOf, nodeAt, alternativeAt}
+
+-- each table has as many entries as before, or more
+abbrev pub Upto : Tally → Tally → Type 0
+Upto k l =
+    (k .types ≤ l .types)
+    × (k .processes ≤ l .processes)
+    × (k .execs ≤ l .execs)
+    × (k .entries ≤ l .entries)
+    × (k .nodes ≤ l .nodes)
+    × (k .alternatives ≤ l .alternatives)
+    × (k .terms ≤ l .terms)
+    × (k .branches ≤ l .branches)
+
+-- each table is within its own words
+abbrev pub Within : Tally → Type 0
+Within k =
+    (k .types ≤ 64)
+    × (k .processes ≤ 64)
+    × (k .execs ≤ 16)
+    × (k .entries ≤ 512)
+    × (k .nodes ≤ 512)
+    × (k .alternatives ≤ 512)
+    × (k .terms ≤ 1024)
+    × (k .branches ≤ 1640)
+
+abbrev Apart : ℕ → ℕ → ℕ → Type 0
+Apart lo hi j = lo ≤ j → j < hi → ⊥
+
+-- the word j is of no entry that l has and k has not
+pub record Outside (k l : Tally) (j : ℕ) : Type 0 where
+  pub types : Apart (typesAt + 2 * k .types) (typesAt + 2 * l .types) j
+  pub processes : Apart (processesAt + 4 * k .processes) (processesAt + 4 * l .processes) j
+  pub execs : Apart (execsAt + k .execs) (execsAt + l .execs) j
+  pub entries : Apart (entriesAt + k .entries) (entriesAt + l .entries) j
+  pub nodes : Apart (nodesAt + k .nodes) (nodesAt + l .nodes) j
+  pub alternatives : Apart (alternativesAt + k .alternatives) (alternativesAt + l .alternatives) j
+  pub terms : Apart (termsAt + 2 * k .terms) (termsAt + 2 * l .terms) j
+  pub branches : Apart (branchesAt + k .branches) (branchesAt + l .branches) j
+
+-- words w filled up to k came to be v filled up to l by appending
+pub record Grown (k l : Tally) (w v : List ℕ) : Type 0 where
+  pub more : Upto k l
+  pub long : length v ≡ length w
+  pub kept : (j : ℕ) → Outside k l j → getD v j 0 ≡ getD w j 0
+
+-- ── it composes
+first-of : {lo hi j : ℕ} (m : ℕ) → m ≤ hi → Apart lo hi j → Apart lo m j
+first-of m h f a b = f a (omega arith)
+
+second-of : {lo hi j : ℕ} (m : ℕ) → lo ≤ m → Apart lo hi j → Apart m hi j
+second-of m h f a b = f (omega arith) b
+
+module _ {k l m : Tally} {j : ℕ} (p : Upto k l) (q : Upto l m) (o : Outside k m j) where
+  outside-first : Outside k l j
+  outside-first = record {
+    types = first-of _ (omega arith) (o .types);
+    processes = first-of _ (omega arith) (o .processes);
+    execs = first-of _ (omega arith) (o .execs);
+    entries = first-of _ (omega arith) (o .entries);
+    nodes = first-of _ (omega arith) (o .nodes);
+    alternatives = first-of _ (omega arith) (o .alternatives);
+    terms = first-of _ (omega arith) (o .terms);
+    branches = first-of _ (omega arith) (o .branches);
+  }
+
+  outside-second : Outside l m j
+  outside-second = record {
+    types = second-of _ (omega arith) (o .types);
+    processes = second-of _ (omega arith) (o .processes);
+    execs = second-of _ (omega arith) (o .execs);
+    entries = second-of _ (omega arith) (o .entries);
+    nodes = second-of _ (omega arith) (o .nodes);
+    alternatives = second-of _ (omega arith) (o .alternatives);
+    terms = second-of _ (omega arith) (o .terms);
+    branches = second-of _ (omega arith) (o .branches);
+  }
+
+pub grown-then : {k l m : Tally} {w v x : List ℕ} → Grown k l w v → Grown l m v x → Grown k m w x
+grown-then {k = k} {l = l} {m = m} f g =
+    let p = f .more in
+    let q = g .more in
+    record {
+      more = omega arith;
+      long = g .long ∙ f .long;
+      kept = λ j o. g .kept j (outside-second {k = k} {l = l} {m = m} p q o) ∙ f .kept j (outside-first {k = k} {l = l} {m = m} p q o);
+    }
+
+-- ── one entry more
+pub grown-lasting : (n : ℕ) (k : Tally) (w : List ℕ) → Grown k (lasting n k) w w
+grown-lasting n k w = record { more = omega arith; long = refl; kept = λ j o. refl }
+
+pub grown-node : (k : Tally) (w : List ℕ) (n : TypeNode) → Grown k (moreNodes k) w (putNode w (k .nodes) n)
+unfolding putNode
+grown-node k w n = record {
+  more = omega arith;
+  long = length-set w _ _;
+  kept = λ j o. getD-set-other w _ j _ 0 (λ e. o .nodes (omega arith) (omega arith));
+}
+
+pub grown-alternative : (k : Tally) (w : List ℕ) (at n : ℕ) → Grown k (moreAlternatives k) w (putAlternative w (k .alternatives) at n)
+unfolding putAlternative
+grown-alternative k w at n = record {
+  more = omega arith;
+  long = length-set w _ _;
+  kept = λ j o. getD-set-other w _ j _ 0 (λ e. o .alternatives (omega arith) (omega arith));
+}
+
+-- ── an entry that stood before stands still
+module _ {k l : Tally} {w v : List ℕ} (g : Grown k l w v) (h : Within l) (i : ℕ) where
+  pub node-kept : i < k .nodes → nodeAt v i ≡ nodeAt w i
+  unfolding nodeAt
+  node-kept b =
+      let p = g .more in
+      ap typeNodeOf (g .kept (nodesAt + i) (record {
+        types = λ x y. omega arith;
+        processes = λ x y. omega arith;
+        execs = λ x y. omega arith;
+        entries = λ x y. omega arith;
+        nodes = λ x y. omega arith;
+        alternatives = λ x y. omega arith;
+        terms = λ x y. omega arith;
+        branches = λ x y. omega arith;
+      }))
+
+  pub alternative-kept : i < k .alternatives → alternativeAt v i ≡ alternativeAt w i
+  unfolding alternativeAt
+  alternative-kept b =
+      let p = g .more in
+      ap pairOf (g .kept (alternativesAt + i) (record {
+        types = λ x y. omega arith;
+        processes = λ x y. omega arith;
+        execs = λ x y. omega arith;
+        entries = λ x y. omega arith;
+        nodes = λ x y. omega arith;
+        alternatives = λ x y. omega arith;
+        terms = λ x y. omega arith;
+        branches = λ x y. omega arith;
+      }))

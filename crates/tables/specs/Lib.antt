@@ -1,0 +1,7 @@
+pub mod Decode
+pub mod Packing
+pub mod Growth
+pub mod Stands
+pub mod Types
+pub mod Read
+pub mod ReadTypes

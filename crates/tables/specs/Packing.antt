@@ -1,0 +1,38 @@
+-- What is packed into words is read back from them: one law for each packing, then one for each table.
+use Prim.Native.Nat.{ℕ, _+_, _*_, _/_, _%_, _<_, _≤_}
+use mathlib.Core.Path.{_≡_, refl, _∙_, ap}
+use mathlib.Core.List.{List}
+use native.Mathlib.Omega.{arith}
+use lib.ListN.{length, getD, set, length-set}
+use lib.Seq.{getD-set-same, getD-set-other}
+use Rattle.notation.specs.Tables.{nodesAt, alternativesAt, typeNode, typeWord, pairWord, putNode, putAlternative}
+use Rattle.notation.specs.declared.reading.TypeNode.{TypeNode}
+use Rattle.reader.specs.Filling.{Area}
+use Rattle.tables.specs.Decode.{typeNodeOf, pairOf, nodeAt, alternativeAt}
+
+-- a + b * n with a < b: both are read back
+pub type-word : (kind first second : ℕ) → kind < 8 → first < 1024 → typeNodeOf (typeWord (typeNode kind first second)) ≡ typeNode kind first second
+unfolding typeNodeOf typeWord
+type-word kind first second a b =
+    let x = kind + 8 * first + 8192 * second in
+    let k : x % 8 ≡ kind = omega arith in
+    let d : x / 8 ≡ first + 1024 * second = omega arith in
+    let f : (first + 1024 * second) % 1024 ≡ first = omega arith in
+    let t : x / 8192 ≡ second = omega arith in
+    λ j. typeNode (k j) ((ap (λ y. y % 1024) d ∙ f) j) (t j)
+
+pub pair-word : (at n : ℕ) → at < 8192 → pairOf (pairWord at n) ≡ (at, n)
+unfolding pairOf pairWord
+pair-word at n a =
+    let x = at + 8192 * n in
+    let p : x % 8192 ≡ at = omega arith in
+    let q : x / 8192 ≡ n = omega arith in
+    λ j. (p j, q j)
+
+pub node-put : (w : List ℕ) (i kind first second : ℕ) → Area w → i < 512 → kind < 8 → first < 1024 → nodeAt (putNode w i (typeNode kind first second)) i ≡ typeNode kind first second
+unfolding nodeAt putNode
+node-put w i kind first second h l a b = ap typeNodeOf (getD-set-same w (nodesAt + i) _ 0 (omega arith)) ∙ type-word kind first second a b
+
+pub alternative-put : (w : List ℕ) (i at n : ℕ) → Area w → i < 512 → at < 8192 → alternativeAt (putAlternative w i at n) i ≡ (at, n)
+unfolding alternativeAt putAlternative
+alternative-put w i at n h l a = ap pairOf (getD-set-same w (alternativesAt + i) _ 0 (omega arith)) ∙ pair-word at n a

@@ -1,0 +1,1 @@
+// Tables: no code yet; specs/ proves that the words of the tables decode to the trees that were read.
