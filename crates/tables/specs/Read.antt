@@ -120,7 +120,7 @@ module _ (s : List ℕ) (k : ℕ) (c : Cursor) (l : k < kEnd) where
   pub takes-expect : InText s (expect s k c)
   unfolding expect
   takes-expect =
-      cond-both (InText s) _ _ _ (λ e. record { holds = start-in s (c .at) (omega (arith, eqb-true (tokenAt s (c .at) .kind) k e)) }) (λ e. record { holds = omega arith })
+      cond-both (InText s) (eqb (tokenAt s (c .at) .kind) k) _ _ (λ e. record { holds = start-in s (c .at) (omega (arith, eqb-true (tokenAt s (c .at) .kind) k e)) }) (λ e. record { holds = omega arith })
 
   pub takes-opening : InText s (opening s k c)
   unfolding opening

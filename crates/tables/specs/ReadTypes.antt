@@ -65,8 +65,8 @@ module _ (s : List ℕ) (short : length s ≤ textLimit) where
       atom-from One c = reads-take _ (takes-any (typeTerm s kOne c)) λ i d _. reads-got unit d (omega arith)
       atom-from Name c = reads-take _ (takes-type s kName c (omega arith)) λ i d l. reads-got (named (nameIn s i)) d (refl, omega arith)
       atom-from Round c = round-from c
-      atom-from Plus c = choice-from kPlus plus (λ r ((a, b), h). (a, b, h)) c
-      atom-from With c = choice-from kWith with (λ r ((a, b), h). (a, b, h)) c
+      atom-from Plus c = choice-from kPlus plus (λ r ((a, b), h). (a, (b, h))) c
+      atom-from With c = choice-from kWith with (λ r ((a, b), h). (a, (b, h))) c
       atom-from Other c = reads-misfit s c
 
       alternatives-from : (n : ℕ) (c : Cursor) → Reads (ReadLabels s) (alternativesBy type more s n c)
@@ -77,8 +77,8 @@ module _ (s : List ℕ) (short : length s ≤ textLimit) where
           reads-part _ (t e) λ A f (a, h).
           reads-lastly {Q = ReadList s} _
           (reads-choose (eqb (kindAt s (f .at)) kComma) _ _ f
-            (reads-take _ (takes-any (expect s kComma f)) λ p g _. reads-weak (m g) λ r o. o .0)
-            (reads-got Alternatives.none f (omega arith)))
+          (reads-take _ (takes-any (expect s kComma f)) λ p g _. reads-weak (m g) λ r o. o .0)
+          (reads-got Alternatives.none f (omega arith)))
           λ r (b, o). (((refl, a, b), (omega arith, h, o)), omega arith)
 
   mutual

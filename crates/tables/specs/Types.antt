@@ -112,8 +112,7 @@ infix-written A B k w kind small area h first second =
     let ua = ga .more in
     let ub = gb .more in
     let la = type-last A k in
-    let lb = type-last B d in
-    (
+    let lb = type-last B d in (
       d .last,
       e .last,
       node-put w₂ (e .nodes) kind (d .last) (e .last) (omega (arith, ga .long, gb .long)) (omega arith) small (omega arith),
@@ -131,8 +130,7 @@ choice-written r k w kind small area h list =
     let d = afterAlternatives r k in
     let w₁ = writeAlternatives r k w in
     let g = alternatives-grown r k w in
-    let n = typeNode kind (d .alternatives) (d .last) in
-    (
+    let n = typeNode kind (d .alternatives) (d .last) in (
       d .alternatives,
       node-put w₁ (d .nodes) kind (d .alternatives) (d .last) (omega (arith, g .long)) (omega arith) small (omega arith) ∙ ap (typeNode kind (d .alternatives)) (alternatives-last r k),
       omega arith,
