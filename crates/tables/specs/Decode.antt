@@ -1,17 +1,28 @@
 -- The tables, read back: entries by value, and the trees that stand at a number. Names and labels are those of the text.
 use Prim.Native.Nat.{ℕ, zero, suc, _+_, _-_, _*_, _/_, _%_}
 use mathlib.Core.List.{List, [], _∷_}
+use mathlib.Core.Bool.{cond}
 use lib.ListN.{getD}
-use Rattle.notation.specs.Limits.{typeTermLimit}
-use Rattle.notation.specs.Tree.{Located, Ty, unit, named, tensor, par, lolli, plus, with, Alternatives, alternative}
-use Rattle.notation.specs.Reader.{nameIn, labelIn}
-use Rattle.notation.specs.Tables.{nodesAt, alternativesAt, typeNode}
+use lib.Dec.{ltb}
+use Rattle.notation.specs.Limits.{typeTermLimit, processTermLimit}
+use Rattle.notation.specs.Token.{kRoundOpen, kRoundClose, kSquareOpen, kSquareClose}
+use Rattle.notation.specs.Tree.{Located, Ty, unit, named, tensor, par, lolli, plus, with, Alternatives, alternative, Proc, empty, sendUnit, sendChannel, sendLabel, cancel, spawn, recvUnit, recvChannel, recvLabel, fwd, call, raise, try, Branches, branch}
+use Rattle.notation.specs.Reader.{Result, got, refused, part, nameIn, labelIn}
+use Rattle.notation.specs.Processes.{nameList}
+use Rattle.notation.specs.Scripts.{fuel}
+use Rattle.notation.specs.Tables.{nodesAt, alternativesAt, termsAt, branchesAt, typeNode, termNode}
+use Rattle.notation.specs.declared.reading.Cursor.{Cursor}
 use Rattle.notation.specs.declared.reading.TypeNode.{TypeNode}
+use Rattle.notation.specs.declared.reading.TermNode.{TermNode}
 
 -- ── one entry of each table
 -- the node that `typeWord` packs
 unfoldable pub typeNodeOf : ℕ → TypeNode
 typeNodeOf x = typeNode (x % 8) (x / 8 % 1024) (x / 8192)
+
+-- the node that `termWord` and `termWord′` pack
+unfoldable pub termNodeOf : ℕ → ℕ → TermNode
+termNodeOf x y = termNode (x % 16) (x / 16 % 8192) (x / 131072) (y % 16384) (y / 16384)
 
 -- the two numbers that `pairWord` packs
 unfoldable pub pairOf : ℕ → ℕ × ℕ
@@ -22,6 +33,12 @@ nodeAt w i = typeNodeOf (getD w (nodesAt + i) 0)
 
 unfoldable pub alternativeAt : List ℕ → ℕ → ℕ × ℕ
 alternativeAt w i = pairOf (getD w (alternativesAt + i) 0)
+
+unfoldable pub termAt : List ℕ → ℕ → TermNode
+termAt w i = termNodeOf (getD w (termsAt + 2 * i) 0) (getD w (termsAt + 2 * i + 1) 0)
+
+unfoldable pub branchAt : List ℕ → ℕ → ℕ × ℕ
+branchAt w i = pairOf (getD w (branchesAt + i) 0)
 
 -- ── types
 -- n alternatives, the first of them at the place before e
@@ -53,3 +70,60 @@ typeOf (suc f) s w i = typeBy (λ x. typeOf f s w x) s w (nodeAt w i)
 -- the type at a node's number
 abbrev pub typeIn : List ℕ → List ℕ → ℕ → Ty Located
 typeIn s w i = typeOf typeTermLimit s w i
+
+-- ── processes
+-- the two lists of names of a call whose round bracket stands at i: read again in the text
+abbrev pub fromStart : ℕ → Cursor
+fromStart i = record { at = i; types = 0; terms = 0; depth = 0 }
+
+abbrev pub readArguments : ℕ → List ℕ → Cursor → Result (List Located × List Located)
+readArguments n s c =
+    part (nameList n s kRoundOpen kRoundClose c) λ xs d.
+    part (nameList n s kSquareOpen kSquareClose d) λ ys e. got (xs, ys) e
+
+abbrev pub argumentsOr : Result (List Located × List Located) → List Located × List Located
+argumentsOr (got a d) = a
+argumentsOr (refused n i) = ([], [])
+
+unfoldable pub argumentsAt : List ℕ → ℕ → List Located × List Located
+argumentsAt s i = argumentsOr (readArguments (fuel s) s (fromStart i))
+
+-- n branches, the first of them at the place before e
+abbrev pub branchesBy : (ℕ → Proc) → List ℕ → List ℕ → ℕ → ℕ → Branches
+branchesBy process s w e zero = Branches.none
+branchesBy process s w e (suc n) =
+    branch (labelIn s (branchAt w (e - 1) .0)) (process (branchAt w (e - 1) .1)) (branchesBy process s w (e - 1) n)
+
+-- what a node of each kind means, in the order of kinds, over the types and processes of its parts; an empty process has no node
+abbrev pub termForms : (ℕ → Ty Located) → (ℕ → Proc) → List ℕ → List ℕ → List (TermNode → Proc)
+termForms type process s w =
+    (λ n. empty 0)
+    ∷ (λ n. sendUnit (n .at) (nameIn s (n .first)) (process (n .third)))
+    ∷ (λ n. sendChannel (n .at) (nameIn s (n .first)) (nameIn s (n .second)) (process (n .third)))
+    ∷ (λ n. sendLabel (n .at) (nameIn s (n .first)) (labelIn s (n .second)) (process (n .third)))
+    ∷ (λ n. cancel (n .at) (nameIn s (n .first)) (process (n .third)))
+    ∷ (λ n. spawn (nameIn s (n .at)) (type (n .first)) (process (n .second)) (process (n .third)))
+    ∷ (λ n. recvUnit (n .at) (nameIn s (n .first)) (process (n .third)))
+    ∷ (λ n. recvChannel (n .at) (nameIn s (n .first)) (nameIn s (n .second)) (process (n .third)))
+    ∷ (λ n. recvLabel (n .at) (nameIn s (n .first)) (branchesBy process s w (n .second) (n .third)))
+    ∷ (λ n. fwd (n .at) (nameIn s (n .first)) (nameIn s (n .second)))
+    ∷ (λ n. call (n .at) (nameIn s (n .first)) (n .second) (argumentsAt s (n .second) .0) (argumentsAt s (n .second) .1))
+    ∷ (λ n. raise (n .at) (process (n .third)))
+    ∷ (λ n. try (n .at) (process (n .second)) (process (n .third)))
+    ∷ []
+
+abbrev pub termBy : (ℕ → Ty Located) → (ℕ → Proc) → List ℕ → List ℕ → TermNode → Proc
+termBy type process s w n = getD (termForms type process s w) (n .kind) (λ _. empty 0) n
+
+-- a pointer: a node's number, or an empty process by its offset
+unfoldable pub processOf : ℕ → List ℕ → List ℕ → ℕ → Proc
+processOf zero s w p = empty (p - processTermLimit)
+processOf (suc f) s w p =
+    cond {A = ℕ → Proc} (ltb p processTermLimit)
+    (λ p. termBy (λ x. typeIn s w x) (λ x. processOf f s w x) s w (termAt w p))
+    (λ p. empty (p - processTermLimit))
+    p
+
+-- the process at a pointer
+abbrev pub processIn : List ℕ → List ℕ → ℕ → Proc
+processIn s w p = processOf processTermLimit s w p

@@ -5,10 +5,11 @@ use mathlib.Core.List.{List}
 use native.Mathlib.Omega.{arith}
 use lib.ListN.{length, getD, set, length-set}
 use lib.Seq.{getD-set-same, getD-set-other}
-use Rattle.notation.specs.Tables.{typesAt, processesAt, execsAt, entriesAt, nodesAt, alternativesAt, termsAt, branchesAt, lasting, moreNodes, moreAlternatives, putNode, putAlternative}
+use Rattle.notation.specs.Tables.{typesAt, processesAt, execsAt, entriesAt, nodesAt, alternativesAt, termsAt, branchesAt, lasting, moreNodes, moreAlternatives, moreTerms, moreBranches, putNode, putAlternative, putTerm, putBranch, termWord, termWord′}
 use Rattle.notation.specs.declared.reading.Tally.{Tally}
 use Rattle.notation.specs.declared.reading.TypeNode.{TypeNode}
-use Rattle.tables.specs.Decode.{typeNodeOf, pairOf, nodeAt, alternativeAt}
+use Rattle.notation.specs.declared.reading.TermNode.{TermNode}
+use Rattle.tables.specs.Decode.{typeNodeOf, termNodeOf, pairOf, nodeAt, alternativeAt, termAt, branchAt}
 
 -- each table has as many entries as before, or more
 abbrev pub Upto : Tally → Tally → Type 0
@@ -116,34 +117,82 @@ grown-alternative k w at n = record {
   kept = λ j o. getD-set-other w _ j _ 0 (λ e. o .alternatives (omega arith) (omega arith));
 }
 
+pub grown-branch : (k : Tally) (w : List ℕ) (at n : ℕ) → Grown k (moreBranches k) w (putBranch w (k .branches) at n)
+unfolding putBranch
+grown-branch k w at n = record {
+  more = omega arith;
+  long = length-set w _ _;
+  kept = λ j o. getD-set-other w _ j _ 0 (λ e. o .branches (omega arith) (omega arith));
+}
+
+pub grown-term : (k : Tally) (w : List ℕ) (n : TermNode) → Grown k (moreTerms k) w (putTerm w (k .terms) n)
+unfolding putTerm
+grown-term k w n =
+    let v = set w (termsAt + 2 * k .terms) (termWord n) in
+    record {
+      more = omega arith;
+      long = length-set v _ _ ∙ length-set w _ _;
+      kept = λ j o.
+          getD-set-other v _ j _ 0 (λ e. o .terms (omega arith) (omega arith)) ∙ getD-set-other w _ j _ 0 (λ e. o .terms (omega arith) (omega arith));
+    }
+
 -- ── an entry that stood before stands still
 module _ {k l : Tally} {w v : List ℕ} (g : Grown k l w v) (h : Within l) (i : ℕ) where
   pub node-kept : i < k .nodes → nodeAt v i ≡ nodeAt w i
   unfolding nodeAt
-  node-kept b =
-      let p = g .more in
-      ap typeNodeOf (g .kept (nodesAt + i) (record {
-        types = λ x y. omega arith;
-        processes = λ x y. omega arith;
-        execs = λ x y. omega arith;
-        entries = λ x y. omega arith;
-        nodes = λ x y. omega arith;
-        alternatives = λ x y. omega arith;
-        terms = λ x y. omega arith;
-        branches = λ x y. omega arith;
-      }))
+  node-kept b = let p = g .more in ap typeNodeOf (g .kept (nodesAt + i) (record {
+    types = λ x y. omega arith;
+    processes = λ x y. omega arith;
+    execs = λ x y. omega arith;
+    entries = λ x y. omega arith;
+    nodes = λ x y. omega arith;
+    alternatives = λ x y. omega arith;
+    terms = λ x y. omega arith;
+    branches = λ x y. omega arith;
+  }))
 
   pub alternative-kept : i < k .alternatives → alternativeAt v i ≡ alternativeAt w i
   unfolding alternativeAt
-  alternative-kept b =
-      let p = g .more in
-      ap pairOf (g .kept (alternativesAt + i) (record {
-        types = λ x y. omega arith;
-        processes = λ x y. omega arith;
-        execs = λ x y. omega arith;
-        entries = λ x y. omega arith;
-        nodes = λ x y. omega arith;
-        alternatives = λ x y. omega arith;
-        terms = λ x y. omega arith;
-        branches = λ x y. omega arith;
-      }))
+  alternative-kept b = let p = g .more in ap pairOf (g .kept (alternativesAt + i) (record {
+    types = λ x y. omega arith;
+    processes = λ x y. omega arith;
+    execs = λ x y. omega arith;
+    entries = λ x y. omega arith;
+    nodes = λ x y. omega arith;
+    alternatives = λ x y. omega arith;
+    terms = λ x y. omega arith;
+    branches = λ x y. omega arith;
+  }))
+
+  -- either word of a process node
+  word-kept : (t : ℕ) → t < 2 → i < k .terms → getD v (termsAt + 2 * i + t) 0 ≡ getD w (termsAt + 2 * i + t) 0
+  word-kept t c b = let p = g .more in g .kept (termsAt + 2 * i + t) (record {
+    types = λ x y. omega arith;
+    processes = λ x y. omega arith;
+    execs = λ x y. omega arith;
+    entries = λ x y. omega arith;
+    nodes = λ x y. omega arith;
+    alternatives = λ x y. omega arith;
+    terms = λ x y. omega arith;
+    branches = λ x y. omega arith;
+  })
+
+  pub term-kept : i < k .terms → termAt v i ≡ termAt w i
+  unfolding termAt
+  term-kept b = let p : termsAt + 2 * i + 0 ≡ termsAt + 2 * i = omega arith in
+      let q : getD v (termsAt + 2 * i) 0 ≡ getD w (termsAt + 2 * i) 0 = rw p at (word-kept 0 (omega arith) b) in
+      let r = word-kept 1 (omega arith) b in
+      λ j. termNodeOf (q j) (r j)
+
+  pub branch-kept : i < k .branches → branchAt v i ≡ branchAt w i
+  unfolding branchAt
+  branch-kept b = let p = g .more in ap pairOf (g .kept (branchesAt + i) (record {
+    types = λ x y. omega arith;
+    processes = λ x y. omega arith;
+    execs = λ x y. omega arith;
+    entries = λ x y. omega arith;
+    nodes = λ x y. omega arith;
+    alternatives = λ x y. omega arith;
+    terms = λ x y. omega arith;
+    branches = λ x y. omega arith;
+  }))

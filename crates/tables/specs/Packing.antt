@@ -5,12 +5,12 @@ use mathlib.Core.List.{List}
 use native.Mathlib.Omega.{arith}
 use lib.ListN.{length, getD, set, length-set}
 use lib.Seq.{getD-set-same, getD-set-other}
-use Rattle.notation.specs.Tables.{nodesAt, alternativesAt, typeNode, typeWord, pairWord, putNode, putAlternative}
+use Rattle.notation.specs.Tables.{nodesAt, alternativesAt, termsAt, branchesAt, typeNode, termNode, typeWord, termWord, termWord′, pairWord, putNode, putAlternative, putTerm, putBranch}
 use Rattle.notation.specs.declared.reading.TypeNode.{TypeNode}
 use Rattle.reader.specs.Filling.{Area}
-use Rattle.tables.specs.Decode.{typeNodeOf, pairOf, nodeAt, alternativeAt}
+use Rattle.tables.specs.Decode.{typeNodeOf, termNodeOf, pairOf, nodeAt, alternativeAt, termAt, branchAt}
 
--- a + b * n with a < b: both are read back
+-- ── packings
 pub type-word : (kind first second : ℕ) → kind < 8 → first < 1024 → typeNodeOf (typeWord (typeNode kind first second)) ≡ typeNode kind first second
 unfolding typeNodeOf typeWord
 type-word kind first second a b =
@@ -21,6 +21,20 @@ type-word kind first second a b =
     let t : x / 8192 ≡ second = omega arith in
     λ j. typeNode (k j) ((ap (λ y. y % 1024) d ∙ f) j) (t j)
 
+pub term-word : (kind at first second third : ℕ) → kind < 16 → at < 8192 → second < 16384
+    → termNodeOf (termWord (termNode kind at first second third)) (termWord′ (termNode kind at first second third)) ≡ termNode kind at first second third
+unfolding termNodeOf termWord termWord′
+term-word kind at first second third a b c =
+    let x = kind + 16 * at + 131072 * first in
+    let y = second + 16384 * third in
+    let k : x % 16 ≡ kind = omega arith in
+    let d : x / 16 ≡ at + 8192 * first = omega arith in
+    let o : (at + 8192 * first) % 8192 ≡ at = omega arith in
+    let f : x / 131072 ≡ first = omega arith in
+    let t : y % 16384 ≡ second = omega arith in
+    let u : y / 16384 ≡ third = omega arith in
+    λ j. termNode (k j) ((ap (λ y. y % 8192) d ∙ o) j) (f j) (t j) (u j)
+
 pub pair-word : (at n : ℕ) → at < 8192 → pairOf (pairWord at n) ≡ (at, n)
 unfolding pairOf pairWord
 pair-word at n a =
@@ -29,6 +43,7 @@ pair-word at n a =
     let q : x / 8192 ≡ n = omega arith in
     λ j. (p j, q j)
 
+-- ── tables
 pub node-put : (w : List ℕ) (i kind first second : ℕ) → Area w → i < 512 → kind < 8 → first < 1024 → nodeAt (putNode w i (typeNode kind first second)) i ≡ typeNode kind first second
 unfolding nodeAt putNode
 node-put w i kind first second h l a b = ap typeNodeOf (getD-set-same w (nodesAt + i) _ 0 (omega arith)) ∙ type-word kind first second a b
@@ -36,3 +51,17 @@ node-put w i kind first second h l a b = ap typeNodeOf (getD-set-same w (nodesAt
 pub alternative-put : (w : List ℕ) (i at n : ℕ) → Area w → i < 512 → at < 8192 → alternativeAt (putAlternative w i at n) i ≡ (at, n)
 unfolding alternativeAt putAlternative
 alternative-put w i at n h l a = ap pairOf (getD-set-same w (alternativesAt + i) _ 0 (omega arith)) ∙ pair-word at n a
+
+pub branch-put : (w : List ℕ) (i at n : ℕ) → Area w → i < 1640 → at < 8192 → branchAt (putBranch w i at n) i ≡ (at, n)
+unfolding branchAt putBranch
+branch-put w i at n h l a = ap pairOf (getD-set-same w (branchesAt + i) _ 0 (omega arith)) ∙ pair-word at n a
+
+pub term-put : (w : List ℕ) (i kind at first second third : ℕ) → Area w → i < 1024 → kind < 16 → at < 8192 → second < 16384
+    → termAt (putTerm w i (termNode kind at first second third)) i ≡ termNode kind at first second third
+unfolding termAt putTerm
+term-put w i kind at first second third h l a b c =
+    let n = termNode kind at first second third in
+    let v = set w (termsAt + 2 * i) (termWord n) in
+    let p = getD-set-other v (termsAt + 2 * i + 1) (termsAt + 2 * i) (termWord′ n) 0 (omega arith) ∙ getD-set-same w (termsAt + 2 * i) (termWord n) 0 (omega arith) in
+    let q = getD-set-same v (termsAt + 2 * i + 1) (termWord′ n) 0 (omega (arith, length-set w (termsAt + 2 * i) (termWord n))) in
+    (λ j. termNodeOf (p j) (q j)) ∙ term-word kind at first second third a b c

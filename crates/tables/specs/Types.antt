@@ -176,33 +176,34 @@ mutual
       )
 
 -- ── what stands is read back
+node-read : (f : ℕ) (s w : List ℕ) (i : ℕ) (n : TypeNode) → i < f → nodeAt w i ≡ n → typeOf f s w i ≡ typeBy (λ x. typeOf (f - 1) s w x) s w n
+unfolding typeOf
+node-read zero s w i n b e = absurd (omega arith)
+node-read (suc f) s w i n b e =
+    let z : f ≡ suc f - 1 = omega arith in
+    let under : ℕ → Ty Located = λ g. typeBy (λ x. typeOf g s w x) s w n in
+    ap (typeBy (λ x. typeOf f s w x) s w) e ∙ ap under z
+
 mutual
-  unfolding typeOf TypeAt TypeFrom
+  unfolding TypeAt TypeFrom
 
   pub type-read : (A : Ty Located) (s w : List ℕ) (k : Tally) (i f : ℕ) → TypeFrom s A → TypeAt w k i A → i < f → typeOf f s w i ≡ A
-  type-read unit s w k i zero t e b = absurd (omega arith)
-  type-read unit s w k i (suc f) t e b = ap (typeBy (λ x. typeOf f s w x) s w) e
-  type-read (named n) s w k i zero t e b = absurd (omega arith)
-  type-read (named n) s w k i (suc f) t e b = ap (typeBy (λ x. typeOf f s w x) s w) e ∙ ap named t
-  type-read (tensor A B) s w k i zero t e b = absurd (omega arith)
-  type-read (tensor A B) s w k i (suc f) (t, u) (x, y, e, p, q, a, c) b =
-      let m = type-read A s w k x f t a (omega arith) in
-      let n = type-read B s w k y f u c (omega arith) in
-      ap (typeBy (λ x. typeOf f s w x) s w) e ∙ λ j. tensor (m j) (n j)
-  type-read (par A B) s w k i zero t e b = absurd (omega arith)
-  type-read (par A B) s w k i (suc f) (t, u) (x, y, e, p, q, a, c) b =
-      let m = type-read A s w k x f t a (omega arith) in
-      let n = type-read B s w k y f u c (omega arith) in
-      ap (typeBy (λ x. typeOf f s w x) s w) e ∙ λ j. par (m j) (n j)
-  type-read (lolli A B) s w k i zero t e b = absurd (omega arith)
-  type-read (lolli A B) s w k i (suc f) (t, u) (x, y, e, p, q, a, c) b =
-      let m = type-read A s w k x f t a (omega arith) in
-      let n = type-read B s w k y f u c (omega arith) in
-      ap (typeBy (λ x. typeOf f s w x) s w) e ∙ λ j. lolli (m j) (n j)
-  type-read (plus r) s w k i zero t e b = absurd (omega arith)
-  type-read (plus r) s w k i (suc f) t (a, e, p, c) b = ap (typeBy (λ x. typeOf f s w x) s w) e ∙ ap plus (alternatives-read r s w k i a f t c (omega arith))
-  type-read (with r) s w k i zero t e b = absurd (omega arith)
-  type-read (with r) s w k i (suc f) t (a, e, p, c) b = ap (typeBy (λ x. typeOf f s w x) s w) e ∙ ap with (alternatives-read r s w k i a f t c (omega arith))
+  type-read unit s w k i f t e b = node-read f s w i _ b e
+  type-read (named n) s w k i f t e b = node-read f s w i _ b e ∙ ap named t
+  type-read (tensor A B) s w k i f (t, u) (x, y, e, p, q, a, c) b =
+      let m = type-read A s w k x (f - 1) t a (omega arith) in
+      let n = type-read B s w k y (f - 1) u c (omega arith) in
+      node-read f s w i _ b e ∙ λ j. tensor (m j) (n j)
+  type-read (par A B) s w k i f (t, u) (x, y, e, p, q, a, c) b =
+      let m = type-read A s w k x (f - 1) t a (omega arith) in
+      let n = type-read B s w k y (f - 1) u c (omega arith) in
+      node-read f s w i _ b e ∙ λ j. par (m j) (n j)
+  type-read (lolli A B) s w k i f (t, u) (x, y, e, p, q, a, c) b =
+      let m = type-read A s w k x (f - 1) t a (omega arith) in
+      let n = type-read B s w k y (f - 1) u c (omega arith) in
+      node-read f s w i _ b e ∙ λ j. lolli (m j) (n j)
+  type-read (plus r) s w k i f t (a, e, p, c) b = node-read f s w i _ b e ∙ ap plus (alternatives-read r s w k i a (f - 1) t c (omega arith))
+  type-read (with r) s w k i f t (a, e, p, c) b = node-read f s w i _ b e ∙ ap with (alternatives-read r s w k i a (f - 1) t c (omega arith))
 
   pub alternatives-read : (r : Alternatives Located) (s w : List ℕ) (k : Tally) (i e f : ℕ) → AlternativesFrom s r → AlternativesAt w k i e r → i ≤ f
       → alternativesBy (λ x. typeOf f s w x) s w e (count r) ≡ r
