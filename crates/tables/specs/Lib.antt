@@ -5,4 +5,5 @@ pub mod Stands
 pub mod Types
 pub mod Processes
 pub mod Read
+pub mod Arguments
 pub mod ReadTypes

@@ -41,7 +41,7 @@ module _ (s : List ℕ) (i : ℕ) where
       either i (ltb two kRoundOpen) (token two i (i + 2)) (cond (ltb one kName) (token one i (i + 1)) (token kFault i (i + 1))) refl
       (either i (ltb one kName) (token one i (i + 1)) (token kFault i (i + 1)) refl refl)
 
-  first-start : firstAt s i .start ≡ i
+  pub first-start : firstAt s i .start ≡ i
   unfolding firstAt
   first-start =
       either i (letter (getD s i 0)) (wordAt s i) (cond (eqb (getD s i 0) 39) (labelAt s i) (markAt s i)) word-start
