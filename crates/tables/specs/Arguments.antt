@@ -183,7 +183,7 @@ list-again n m s open′ close c d h l =
     again-take _ _ (opening-again s open′ c d l) λ _ c₁ d₁ l₁.
     again-part _ _
     (again-choose (eqb (kindAt s (c₁ .at)) kName) (eqb (kindAt s (d₁ .at)) kName) _ _ _ _ c₁ d₁ (kind-again s kName c₁ d₁ l₁) (names-again n m s close c₁ d₁ h l₁)
-      (again-take _ _ (expect-again s close c₁ d₁ l₁) λ _ c₂ d₂ l₂. again-got [] l₂))
+    (again-take _ _ (expect-again s close c₁ d₁ l₁) λ _ c₂ d₂ l₂. again-got [] l₂))
     λ xs c₂ d₂ l₂. again-got xs (record { same = l₂ .same; open′ = l .open′ })
 
 arguments-again : (n m : ℕ) (s : List ℕ) (c d : Cursor) → n ≤ m → Like s c d → Again s (readArguments n s c) (readArguments m s d)

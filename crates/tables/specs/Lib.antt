@@ -7,3 +7,4 @@ pub mod Processes
 pub mod Read
 pub mod Arguments
 pub mod ReadTypes
+pub mod ReadProcesses

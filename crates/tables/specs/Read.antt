@@ -95,6 +95,14 @@ pub reads-weak : {A : Type 0} {Q P : A → Type 0} {r : Result A} → Reads Q r 
 reads-weak {r = got a d} h g = record { holds = g a (h .holds) }
 reads-weak {r = refused n i} h g = reads-refused n i
 
+pub reads-fact : {A C : Type 0} (r : Result A) → C → Reads (λ _. C) r
+reads-fact (got a d) h = record { holds = h }
+reads-fact (refused n i) h = reads-refused n i
+
+pub reads-and : {A : Type 0} {Q P : A → Type 0} {r : Result A} → Reads Q r → Reads P r → Reads (λ a. Q a × P a) r
+reads-and {r = got a d} h g = record { holds = (h .holds, g .holds) }
+reads-and {r = refused n i} h g = reads-refused n i
+
 pub reads-choose : {A : Type 0} {P : A → Type 0} (b : Bool) (f g : Cursor → Result A) (c : Cursor) → Reads P (f c) → Reads P (g c) → Reads P (choose b f g c)
 reads-choose true f g c x y = x
 reads-choose false f g c x y = y
@@ -133,3 +141,10 @@ module _ (s : List ℕ) (k : ℕ) (c : Cursor) (l : k < kEnd) where
   pub takes-process : InText s (processTerm s k c)
   unfolding processTerm
   takes-process = takes-limited (expect s k c) _ _ takes-expect
+
+  -- a bracket that opens is the token at hand
+  pub takes-start : Takes (λ _. tokenAt s (c .at) .start < length s) (opening s k c)
+  unfolding opening expect
+  takes-start =
+      takes-limited (expect s k c) _ _
+      (cond-both (Takes (λ _. tokenAt s (c .at) .start < length s)) (eqb (tokenAt s (c .at) .kind) k) _ _ (λ e. record { holds = start-in s (c .at) (omega (arith, eqb-true (tokenAt s (c .at) .kind) k e)) }) (λ e. record { holds = omega arith }))
