@@ -1,16 +1,16 @@
 -- The tables, read back: entries by value, and the trees that stand at a number. Names and labels are those of the text.
 use Prim.Native.Nat.{ℕ, zero, suc, _+_, _-_, _*_, _/_, _%_}
-use mathlib.Core.List.{List, [], _∷_}
+use mathlib.Core.List.{List, [], _∷_, _++_}
 use mathlib.Core.Bool.{cond}
 use lib.ListN.{getD}
 use lib.Dec.{ltb}
 use Rattle.notation.specs.Limits.{typeTermLimit, processTermLimit}
 use Rattle.notation.specs.Token.{kRoundOpen, kRoundClose, kSquareOpen, kSquareClose}
-use Rattle.notation.specs.Tree.{Located, Ty, unit, named, tensor, par, lolli, plus, with, Alternatives, alternative, Proc, empty, sendUnit, sendChannel, sendLabel, cancel, spawn, recvUnit, recvChannel, recvLabel, fwd, call, raise, try, Branches, branch}
+use Rattle.notation.specs.Tree.{Located, Ty, unit, named, tensor, par, lolli, plus, with, Alternatives, alternative, Proc, empty, sendUnit, sendChannel, sendLabel, cancel, spawn, recvUnit, recvChannel, recvLabel, fwd, call, raise, try, Branches, branch, Entry, Declaration, declareType, declareProc, declareExec}
 use Rattle.notation.specs.Reader.{Result, got, refused, part, nameIn, labelIn}
 use Rattle.notation.specs.Processes.{nameList}
 use Rattle.notation.specs.Scripts.{fuel}
-use Rattle.notation.specs.Tables.{nodesAt, alternativesAt, termsAt, branchesAt, typeNode, termNode}
+use Rattle.notation.specs.Tables.{typesAt, processesAt, execsAt, entriesAt, nodesAt, alternativesAt, termsAt, branchesAt, typeNode, termNode}
 use Rattle.notation.specs.declared.reading.Cursor.{Cursor}
 use Rattle.notation.specs.declared.reading.TypeNode.{TypeNode}
 use Rattle.notation.specs.declared.reading.TermNode.{TermNode}
@@ -39,6 +39,34 @@ termAt w i = termNodeOf (getD w (termsAt + 2 * i) 0) (getD w (termsAt + 2 * i + 
 
 unfoldable pub branchAt : List ℕ → ℕ → ℕ × ℕ
 branchAt w i = pairOf (getD w (branchesAt + i) 0)
+
+unfoldable pub entryAt : List ℕ → ℕ → ℕ × ℕ
+entryAt w i = pairOf (getD w (entriesAt + i) 0)
+
+unfoldable pub typeAt : List ℕ → ℕ → ℕ × ℕ
+typeAt w i = (getD w (typesAt + 2 * i) 0, getD w (typesAt + 2 * i + 1) 0)
+
+-- a process: its name, its first signature entry, how many it provides and uses, its body
+pub record ProcessEntry : Type 0 where
+  pub at : ℕ
+  pub first : ℕ
+  pub provided : ℕ
+  pub used : ℕ
+  pub body : ℕ
+
+abbrev pub processEntry : ℕ → ℕ → ℕ → ℕ → ℕ → ProcessEntry
+processEntry at first provided used body = record { at = at; first = first; provided = provided; used = used; body = body }
+
+-- what `putProcess` packs
+unfoldable pub processEntryOf : ℕ → ℕ → ℕ → ℕ → ProcessEntry
+processEntryOf at first counts body = processEntry at first (counts % 1024) (counts / 1024) body
+
+unfoldable pub processAt : List ℕ → ℕ → ProcessEntry
+processAt w i =
+    processEntryOf (getD w (processesAt + 4 * i) 0) (getD w (processesAt + 4 * i + 1) 0) (getD w (processesAt + 4 * i + 2) 0) (getD w (processesAt + 4 * i + 3) 0)
+
+unfoldable pub execAt : List ℕ → ℕ → ℕ
+execAt w i = getD w (execsAt + i) 0
 
 -- ── types
 -- n alternatives, the first of them at the place before e
@@ -127,3 +155,30 @@ processOf (suc f) s w p =
 -- the process at a pointer
 abbrev pub processIn : List ℕ → List ℕ → ℕ → Proc
 processIn s w p = processOf processTermLimit s w p
+
+-- ── declarations
+-- n signature entries from the place i on
+unfoldable pub entriesIn : List ℕ → List ℕ → ℕ → ℕ → List Entry
+entriesIn s w i zero = []
+entriesIn s w i (suc n) = record { channel = nameIn s (entryAt w i .0); type = typeIn s w (entryAt w i .1) } ∷ entriesIn s w (i + 1) n
+
+unfoldable pub typeDeclaration : List ℕ → List ℕ → ℕ → Declaration
+typeDeclaration s w i = declareType (nameIn s (typeAt w i .0)) (typeIn s w (typeAt w i .1))
+
+abbrev pub procBy : List ℕ → List ℕ → ProcessEntry → Declaration
+procBy s w e = declareProc (nameIn s (e .at)) (entriesIn s w (e .first) (e .provided)) (entriesIn s w (e .first + e .provided) (e .used)) (processIn s w (e .body))
+
+unfoldable pub procDeclaration : List ℕ → List ℕ → ℕ → Declaration
+procDeclaration s w i = procBy s w (processAt w i)
+
+unfoldable pub execDeclaration : List ℕ → List ℕ → ℕ → Declaration
+execDeclaration s w i = declareExec (nameIn s (execAt w i))
+
+-- what f says of n numbers from i on
+abbrev pub numbered : (ℕ → Declaration) → ℕ → ℕ → List Declaration
+numbered f i zero = []
+numbered f i (suc n) = f i ∷ numbered f (i + 1) n
+
+-- the script that the tables hold: each kind of declaration in text order, types first, then processes, then execs
+unfoldable pub scriptIn : List ℕ → List ℕ → List Declaration
+scriptIn s w = numbered (typeDeclaration s w) 0 (getD w 0 0) ++ (numbered (procDeclaration s w) 0 (getD w 1 0) ++ numbered (execDeclaration s w) 0 (getD w 2 0))

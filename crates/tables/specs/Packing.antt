@@ -5,10 +5,10 @@ use mathlib.Core.List.{List}
 use native.Mathlib.Omega.{arith}
 use lib.ListN.{length, getD, set, length-set}
 use lib.Seq.{getD-set-same, getD-set-other}
-use Rattle.notation.specs.Tables.{nodesAt, alternativesAt, termsAt, branchesAt, typeNode, termNode, typeWord, termWord, termWord′, pairWord, putNode, putAlternative, putTerm, putBranch}
+use Rattle.notation.specs.Tables.{typesAt, processesAt, execsAt, entriesAt, nodesAt, alternativesAt, termsAt, branchesAt, typeNode, termNode, typeWord, termWord, termWord′, pairWord, putNode, putAlternative, putTerm, putBranch, putEntry, putType, putProcess, putExec}
 use Rattle.notation.specs.declared.reading.TypeNode.{TypeNode}
 use Rattle.reader.specs.Filling.{Area}
-use Rattle.tables.specs.Decode.{typeNodeOf, termNodeOf, pairOf, nodeAt, alternativeAt, termAt, branchAt}
+use Rattle.tables.specs.Decode.{typeNodeOf, termNodeOf, pairOf, nodeAt, alternativeAt, termAt, branchAt, entryAt, typeAt, execAt, processEntry, processEntryOf, processAt}
 
 -- ── packings
 pub type-word : (kind first second : ℕ) → kind < 8 → first < 1024 → typeNodeOf (typeWord (typeNode kind first second)) ≡ typeNode kind first second
@@ -43,6 +43,13 @@ pair-word at n a =
     let q : x / 8192 ≡ n = omega arith in
     λ j. (p j, q j)
 
+pub process-words : (at first provided used body : ℕ) → provided < 1024 → processEntryOf at first (provided + 1024 * used) body ≡ processEntry at first provided used body
+unfolding processEntryOf
+process-words at first provided used body l =
+    let p : (provided + 1024 * used) % 1024 ≡ provided = omega arith in
+    let q : (provided + 1024 * used) / 1024 ≡ used = omega arith in
+    λ j. processEntry at first (p j) (q j) body
+
 -- ── tables
 pub node-put : (w : List ℕ) (i kind first second : ℕ) → Area w → i < 512 → kind < 8 → first < 1024 → nodeAt (putNode w i (typeNode kind first second)) i ≡ typeNode kind first second
 unfolding nodeAt putNode
@@ -65,3 +72,37 @@ term-put w i kind at first second third h l a b c =
     let p = getD-set-other v (termsAt + 2 * i + 1) (termsAt + 2 * i) (termWord′ n) 0 (omega arith) ∙ getD-set-same w (termsAt + 2 * i) (termWord n) 0 (omega arith) in
     let q = getD-set-same v (termsAt + 2 * i + 1) (termWord′ n) 0 (omega (arith, length-set w (termsAt + 2 * i) (termWord n))) in
     (λ j. termNodeOf (p j) (q j)) ∙ term-word kind at first second third a b c
+
+pub entry-put : (w : List ℕ) (i at n : ℕ) → Area w → i < 512 → at < 8192 → entryAt (putEntry w i at n) i ≡ (at, n)
+unfolding entryAt putEntry
+entry-put w i at n h l a = ap pairOf (getD-set-same w (entriesAt + i) _ 0 (omega arith)) ∙ pair-word at n a
+
+pub exec-put : (w : List ℕ) (i at : ℕ) → Area w → i < 16 → execAt (putExec w i at) i ≡ at
+unfolding execAt putExec
+exec-put w i at h l = getD-set-same w (execsAt + i) at 0 (omega arith)
+
+pub type-put : (w : List ℕ) (i at n : ℕ) → Area w → i < 64 → typeAt (putType w i at n) i ≡ (at, n)
+unfolding typeAt putType
+type-put w i at n h l =
+    let v = set w (typesAt + 2 * i) at in
+    let p = getD-set-other v (typesAt + 2 * i + 1) (typesAt + 2 * i) n 0 (omega arith) ∙ getD-set-same w (typesAt + 2 * i) at 0 (omega arith) in
+    let q = getD-set-same v (typesAt + 2 * i + 1) n 0 (omega (arith, length-set w (typesAt + 2 * i) at)) in
+    λ j. (p j, q j)
+
+pub process-put : (w : List ℕ) (i at first provided used body : ℕ) → Area w → i < 64 → provided < 1024
+    → processAt (putProcess w i at first provided used body) i ≡ processEntry at first provided used body
+unfolding processAt putProcess
+process-put w i at first provided used body h l a =
+    let b = processesAt + 4 * i in
+    let c = provided + 1024 * used in
+    let w₀ = set w b at in
+    let w₁ = set w₀ (b + 1) first in
+    let w₂ = set w₁ (b + 2) c in
+    let l₀ = length-set w b at in
+    let l₁ = length-set w₀ (b + 1) first in
+    let l₂ = length-set w₁ (b + 2) c in
+    let p₀ = getD-set-other w₂ (b + 3) b body 0 (omega arith) ∙ getD-set-other w₁ (b + 2) b c 0 (omega arith) ∙ getD-set-other w₀ (b + 1) b first 0 (omega arith) ∙ getD-set-same w b at 0 (omega arith) in
+    let p₁ = getD-set-other w₂ (b + 3) (b + 1) body 0 (omega arith) ∙ getD-set-other w₁ (b + 2) (b + 1) c 0 (omega arith) ∙ getD-set-same w₀ (b + 1) first 0 (omega arith) in
+    let p₂ = getD-set-other w₂ (b + 3) (b + 2) body 0 (omega arith) ∙ getD-set-same w₁ (b + 2) c 0 (omega arith) in
+    let p₃ = getD-set-same w₂ (b + 3) body 0 (omega arith) in
+    (λ j. processEntryOf (p₀ j) (p₁ j) (p₂ j) (p₃ j)) ∙ process-words at first provided used body a
