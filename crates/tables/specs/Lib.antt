@@ -4,6 +4,7 @@ pub mod Growth
 pub mod Stands
 pub mod Types
 pub mod Processes
+pub mod Declarations
 pub mod Read
 pub mod Arguments
 pub mod ReadTypes

@@ -1,13 +1,14 @@
 -- A tree stands in the tables: each node says its kind and its parts, and each part stands at a smaller number, so that a walk over numbers ends.
 use Prim.Native.Nat.{ℕ, suc, _+_, _-_, _<_, _≤_}
 use mathlib.Core.Path.{_≡_}
-use mathlib.Core.List.{List}
-use Rattle.notation.specs.Tree.{Located, Ty, unit, named, tensor, par, lolli, plus, with, Alternatives, alternative, Proc, empty, sendUnit, sendChannel, sendLabel, cancel, spawn, recvUnit, recvChannel, recvLabel, fwd, call, raise, try, Branches, branch}
+use mathlib.Core.List.{List, [], _∷_}
+use lib.ListN.{length}
+use Rattle.notation.specs.Tree.{Located, Ty, unit, named, tensor, par, lolli, plus, with, Alternatives, alternative, Proc, empty, sendUnit, sendChannel, sendLabel, cancel, spawn, recvUnit, recvChannel, recvLabel, fwd, call, raise, try, Branches, branch, Entry, Declaration, declareType, declareProc, declareExec}
 use Rattle.notation.specs.Reader.{nameIn, labelIn}
 use Rattle.notation.specs.Limits.{processTermLimit}
-use Rattle.notation.specs.Tables.{typeNode, termNode, emptyPointer}
+use Rattle.notation.specs.Tables.{typeNode, termNode, emptyPointer, afterDeclaration}
 use Rattle.notation.specs.declared.reading.Tally.{Tally}
-use Rattle.tables.specs.Decode.{nodeAt, alternativeAt, termAt, branchAt, argumentsAt}
+use Rattle.tables.specs.Decode.{nodeAt, alternativeAt, termAt, branchAt, entryAt, typeAt, execAt, processEntry, processAt, argumentsAt}
 
 abbrev pub count : Alternatives Located → ℕ
 count Alternatives.none = 0
@@ -81,6 +82,29 @@ unfoldable mutual
   BranchesAt w k p e (branch l P B) =
       (x : ℕ) × (1 ≤ e) × (branchAt w (e - 1) ≡ (l .at, x)) × Smaller p x × ProcessAt w k x P × BranchesAt w k p (e - 1) B
 
+-- ── declarations
+-- signature entries stand side by side from the place i on
+unfoldable pub EntriesAt : List ℕ → Tally → ℕ → List Entry → Type 0
+EntriesAt w k i [] = 0 ≤ 0
+EntriesAt w k i (e ∷ es) =
+    (x : ℕ) × (i < k .entries) × (entryAt w i ≡ (e .channel .at, x)) × (x < k .nodes) × TypeAt w k x (e .type) × EntriesAt w k (i + 1) es
+
+-- a declaration stands in its table at the place that j counts
+unfoldable pub DeclarationAt : List ℕ → Tally → Tally → Declaration → Type 0
+DeclarationAt w k j (declareType n A) = (x : ℕ) × (j .types < k .types) × (typeAt w (j .types) ≡ (n .at, x)) × (x < k .nodes) × TypeAt w k x A
+DeclarationAt w k j (declareProc n xs ys P) =
+    (p : ℕ)
+    × (j .processes < k .processes)
+    × (processAt w (j .processes) ≡ processEntry (n .at) (j .entries) (length xs) (length ys) p)
+    × EntriesAt w k (j .entries) xs
+    × EntriesAt w k (j .entries + length xs) ys
+    × ProcessAt w k p P
+DeclarationAt w k j (declareExec n) = (j .execs < k .execs) × (execAt w (j .execs) ≡ n .at)
+
+unfoldable pub ScriptAt : List ℕ → Tally → Tally → List Declaration → Type 0
+ScriptAt w k j [] = 0 ≤ 0
+ScriptAt w k j (a ∷ r) = DeclarationAt w k j a × ScriptAt w k (afterDeclaration a j) r
+
 -- ── what comes from the text: each name and label is the one that stands in the text at its offset
 unfoldable mutual
   pub TypeFrom : List ℕ → Ty Located → Type 0
@@ -121,3 +145,16 @@ unfoldable mutual
   pub BranchesFrom : List ℕ → Branches → Type 0
   BranchesFrom s Branches.none = 0 ≤ 0
   BranchesFrom s (branch l P B) = LabelFrom s l × ProcessFrom s P × BranchesFrom s B
+
+unfoldable pub EntriesFrom : List ℕ → List Entry → Type 0
+EntriesFrom s [] = 0 ≤ 0
+EntriesFrom s (e ∷ es) = NameFrom s (e .channel) × TypeFrom s (e .type) × EntriesFrom s es
+
+unfoldable pub DeclarationFrom : List ℕ → Declaration → Type 0
+DeclarationFrom s (declareType n A) = NameFrom s n × TypeFrom s A
+DeclarationFrom s (declareProc n xs ys P) = NameFrom s n × EntriesFrom s xs × EntriesFrom s ys × ProcessFrom s P
+DeclarationFrom s (declareExec n) = NameFrom s n
+
+unfoldable pub ScriptFrom : List ℕ → List Declaration → Type 0
+ScriptFrom s [] = 0 ≤ 0
+ScriptFrom s (a ∷ r) = DeclarationFrom s a × ScriptFrom s r
