@@ -136,3 +136,85 @@ module _ {k l : Tally} {w v : List ℕ} (g : Grown k l w v) (h : Within l) where
   unfolding ScriptAt
   script-kept [] j e = e
   script-kept (a ∷ r) j (e, m) = (declaration-kept a j e, script-kept r (afterDeclaration a j) m)
+
+-- ── what is written stands
+pub entries-written : (es : List Entry) (k : Tally) (w : List ℕ) → FineEntries es → Area w → Within (afterEntries es k) → EntriesAt (writeEntries es k w) (afterEntries es k) (k .entries) es
+unfolding afterEntries writeEntries FineEntries EntriesAt
+entries-written [] k w f area h = omega arith
+entries-written (e ∷ es) k w (f, f′, f″) area h =
+    let d = afterType (e .type) k in
+    let m = moreEntries d in
+    let w₁ = writeType (e .type) k w in
+    let w₂ = putEntry w₁ (k .entries) (e .channel .at) (d .last) in
+    let ga = type-grown (e .type) k w in
+    let ge : Grown d m w₁ w₂ = subst (λ i. Grown d m w₁ (putEntry w₁ i (e .channel .at) (d .last))) (type-steady (e .type) k .3) (grown-entry d w₁ (e .channel .at) (d .last)) in
+    let gr = entries-grown es m w₂ in
+    let ua = ga .more in
+    let ue = ge .more in
+    let ur = gr .more in
+    let st = type-steady (e .type) k in
+    let la = type-last (e .type) k in
+    let z : m .entries ≡ k .entries + 1 = omega arith in
+    (
+      d .last,
+      omega arith,
+      entry-kept gr h (k .entries) (omega arith) ∙ entry-put w₁ (k .entries) (e .channel .at) (d .last) (omega (arith, ga .long)) (omega arith) f,
+      omega arith,
+      type-kept (grown-then ge gr) h (e .type) (d .last) (omega arith) (type-written (e .type) k w f′ area (omega arith)),
+      subst (λ i. EntriesAt (writeEntries es m w₂) (afterEntries es m) i es) z (entries-written es m w₂ f″ (omega (arith, ga .long, ge .long)) h),
+    )
+
+pub declaration-written : (a : Declaration) (k : Tally) (w : List ℕ) → FineDeclaration a → Area w → Within (afterDeclaration a k) → DeclarationAt (writeDeclaration a k w) (afterDeclaration a k) k a
+unfolding afterDeclaration writeDeclaration FineDeclaration DeclarationAt
+declaration-written (declareType n A) k w (f, f′) area h =
+    let d = afterType A k in
+    let w₁ = writeType A k w in
+    let ga = type-grown A k w in
+    let gt : Grown d (moreTypes d) w₁ (putType w₁ (k .types) (n .at) (d .last)) = subst (λ i. Grown d (moreTypes d) w₁ (putType w₁ i (n .at) (d .last))) (type-steady A k .0) (grown-type d w₁ (n .at) (d .last)) in
+    let st = type-steady A k in
+    let la = type-last A k in
+    (
+      d .last,
+      omega arith,
+      type-put w₁ (k .types) (n .at) (d .last) (omega (arith, ga .long)) (omega arith),
+      omega arith,
+      type-kept gt h A (d .last) (omega arith) (type-written A k w f′ area (omega arith)),
+    )
+declaration-written (declareProc n xs ys P) k w (f, f′, f″, m) area h =
+    let d = afterEntries xs k in
+    let e = afterEntries ys d in
+    let r = afterProcess P e in
+    let w₁ = writeEntries xs k w in
+    let w₂ = writeEntries ys d w₁ in
+    let w₃ = writeProcess P e w₂ in
+    let gx = entries-grown xs k w in
+    let gy = entries-grown ys d w₁ in
+    let gp = process-grown P e w₂ in
+    let cx = entries-count xs k in
+    let cy = entries-count ys d in
+    let cp = process-steady P e in
+    let z : r .processes ≡ k .processes = omega arith in
+    let gn : Grown r (moreProcesses r) w₃ (putProcess w₃ (k .processes) (n .at) (k .entries) (length xs) (length ys) (r .last)) =
+    subst (λ i. Grown r (moreProcesses r) w₃ (putProcess w₃ i (n .at) (k .entries) (length xs) (length ys) (r .last))) z (grown-process r w₃ (n .at) (k .entries) (length xs) (length ys) (r .last)) in
+    let uy = gy .more in
+    let up = gp .more in
+    (
+      r .last,
+      omega arith,
+      process-put w₃ (k .processes) (n .at) (k .entries) (length xs) (length ys) (r .last) (omega (arith, gx .long, gy .long, gp .long)) (omega arith) (omega arith),
+      entries-kept (grown-then gy (grown-then gp gn)) h xs (k .entries) (entries-written xs k w f′ area (omega arith)),
+      subst (λ i. EntriesAt (putProcess w₃ (k .processes) (n .at) (k .entries) (length xs) (length ys) (r .last)) (moreProcesses r) i ys) (cx .0) (entries-kept (grown-then gp gn) h ys (d .entries) (entries-written ys d w₁ f″ (omega (arith, gx .long)) (omega arith))),
+      process-kept gn h P (r .last) (process-written P e w₂ m (omega (arith, gx .long, gy .long)) (omega arith)),
+    )
+declaration-written (declareExec n) k w f area h = (omega arith, exec-put w (k .execs) (n .at) area (omega arith))
+
+pub script-written : (ds : List Declaration) (k : Tally) (w : List ℕ) → FineScript ds → Area w → Within (afterScript ds k) → ScriptAt (writeScript ds k w) (afterScript ds k) k ds
+unfolding afterScript writeScript FineScript ScriptAt
+script-written [] k w f area h = omega arith
+script-written (a ∷ r) k w (f, f′) area h =
+    let d = afterDeclaration a k in
+    let w₁ = writeDeclaration a k w in
+    let ga = declaration-grown a k w in
+    let gr = script-grown r d w₁ in
+    let u = gr .more in
+    (declaration-kept gr h a k (declaration-written a k w f area (omega arith)), script-written r d w₁ f′ (omega (arith, ga .long)) h)
