@@ -154,8 +154,7 @@ entries-written (e ∷ es) k w (f, f′, f″) area h =
     let ur = gr .more in
     let st = type-steady (e .type) k in
     let la = type-last (e .type) k in
-    let z : m .entries ≡ k .entries + 1 = omega arith in
-    (
+    let z : m .entries ≡ k .entries + 1 = omega arith in (
       d .last,
       omega arith,
       entry-kept gr h (k .entries) (omega arith) ∙ entry-put w₁ (k .entries) (e .channel .at) (d .last) (omega (arith, ga .long)) (omega arith) f,
@@ -172,8 +171,7 @@ declaration-written (declareType n A) k w (f, f′) area h =
     let ga = type-grown A k w in
     let gt : Grown d (moreTypes d) w₁ (putType w₁ (k .types) (n .at) (d .last)) = subst (λ i. Grown d (moreTypes d) w₁ (putType w₁ i (n .at) (d .last))) (type-steady A k .0) (grown-type d w₁ (n .at) (d .last)) in
     let st = type-steady A k in
-    let la = type-last A k in
-    (
+    let la = type-last A k in (
       d .last,
       omega arith,
       type-put w₁ (k .types) (n .at) (d .last) (omega (arith, ga .long)) (omega arith),
@@ -197,8 +195,7 @@ declaration-written (declareProc n xs ys P) k w (f, f′, f″, m) area h =
     let gn : Grown r (moreProcesses r) w₃ (putProcess w₃ (k .processes) (n .at) (k .entries) (length xs) (length ys) (r .last)) =
     subst (λ i. Grown r (moreProcesses r) w₃ (putProcess w₃ i (n .at) (k .entries) (length xs) (length ys) (r .last))) z (grown-process r w₃ (n .at) (k .entries) (length xs) (length ys) (r .last)) in
     let uy = gy .more in
-    let up = gp .more in
-    (
+    let up = gp .more in (
       r .last,
       omega arith,
       process-put w₃ (k .processes) (n .at) (k .entries) (length xs) (length ys) (r .last) (omega (arith, gx .long, gy .long, gp .long)) (omega arith) (omega arith),

@@ -5,6 +5,7 @@ pub mod Stands
 pub mod Types
 pub mod Processes
 pub mod Declarations
+pub mod Scripts
 pub mod Read
 pub mod Arguments
 pub mod ReadTypes
