@@ -10,3 +10,4 @@ pub mod Read
 pub mod Arguments
 pub mod ReadTypes
 pub mod ReadProcesses
+pub mod ReadScripts
