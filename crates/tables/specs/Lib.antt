@@ -6,6 +6,7 @@ pub mod Types
 pub mod Processes
 pub mod Declarations
 pub mod Scripts
+pub mod Roots
 pub mod Read
 pub mod Arguments
 pub mod ReadTypes
