@@ -7,6 +7,7 @@ pub mod Processes
 pub mod Declarations
 pub mod Scripts
 pub mod Roots
+pub mod Whole
 pub mod Read
 pub mod Arguments
 pub mod ReadTypes

@@ -75,7 +75,7 @@ module _ (own : Declaration → List Declaration) (index : Tally → ℕ) (next 
 
 -- ── the three tables
 -- what a declaration adds to each
-grows-by : (a : Declaration) (j : Tally)
+pub grows-by : (a : Declaration) (j : Tally)
     → (afterDeclaration a j .types ≡ j .types + length (ownType a)) × (afterDeclaration a j .processes ≡ j .processes + length (ownProc a)) × (afterDeclaration a j .execs ≡ j .execs + length (ownExec a))
 unfolding afterDeclaration
 grows-by (declareType n A) j = omega (arith, type-steady A j)
