@@ -1,4 +1,5 @@
 pub mod Decode
+pub mod Examples
 pub mod Packing
 pub mod Growth
 pub mod Stands
@@ -7,9 +8,9 @@ pub mod Processes
 pub mod Declarations
 pub mod Scripts
 pub mod Roots
-pub mod Whole
 pub mod Read
 pub mod Arguments
 pub mod ReadTypes
 pub mod ReadProcesses
 pub mod ReadScripts
+pub mod Whole

@@ -8,15 +8,19 @@ use native.Mathlib.Omega.{arith}
 use lib.ListN.{length, length-replicate}
 use Rattle.notation.specs.Limits.{scratchWords}
 use Rattle.notation.specs.Tree.{Located, Entry, Declaration, declareType, declareProc, declareExec}
-use Rattle.notation.specs.Reader.{nameIn}
-use Rattle.notation.specs.Tables.{afterDeclaration, afterScript, writeScript, writeCounts, nothing, zeros, tablesOf}
+use Rattle.notation.specs.Reader.{got, nameIn}
+use Rattle.notation.specs.Scripts.{readText}
+use Rattle.notation.specs.Tables.{afterDeclaration, afterScript, writeScript, writeCounts, nothing, zeros, tablesOf, tables}
+use Rattle.notation.specs.declared.reading.Cursor.{Cursor}
 use Rattle.notation.specs.declared.reading.Tally.{Tally}
 use Rattle.reader.specs.Filling.{Area}
-use Rattle.tables.specs.Decode.{entryAt, typeAt, processAt, ProcessEntry, processEntry, entriesIn, typeIn}
+use Rattle.tables.specs.Decode.{entryAt, typeAt, processAt, ProcessEntry, processEntry, entriesIn, typeIn, scriptIn}
 use Rattle.tables.specs.Growth.{Within, grown-counts}
 use Rattle.tables.specs.Stands.{EntriesAt, DeclarationAt, ScriptAt, EntriesFrom, DeclarationFrom, ScriptFrom}
 use Rattle.tables.specs.Declarations.{FineScript, script-kept, script-written}
-use Rattle.tables.specs.Scripts.{grows-by}
+use Rattle.tables.specs.Scripts.{sorted, grows-by, script-decoded}
+use Rattle.tables.specs.Read.{Reads}
+use Rattle.tables.specs.ReadScripts.{ReadScript, text-read-from}
 use Rattle.tables.specs.Roots.{TypeIn, ProcessIn}
 
 -- n signature entries stand from the place i on
@@ -107,3 +111,12 @@ tables-in ds s t f h =
     let area : Area zeros = omega (arith, length-replicate {A = ℕ} scratchWords 0) in
     let e : ScriptAt v k nothing ds = script-kept (grown-counts k w) h ds nothing (script-written ds nothing zeros f area h) in
     record { within = h; types = λ i l. each-type s v k ds nothing t e i (omega arith) l; processes = λ i l. each-process s v k ds nothing t e i (omega arith) l }
+
+-- whatever text is read: its tables give back its script, where they have room for it
+pub text-decoded : (s : List ℕ) (ds : List Declaration) (d : Cursor) → readText s ≡ got ds d → Within (afterScript ds nothing)
+    → (scriptIn s (tables s) ≡ sorted ds) × TablesIn s (tables s) (afterScript ds nothing)
+unfolding tables
+text-decoded s ds d e h =
+    let r : Reads (ReadScript s) (got ds d) = subst (Reads (ReadScript s)) e (text-read-from s) in
+    let (t, f) = r .holds in
+    rw e (script-decoded ds s t f h, tables-in ds s t f h)
