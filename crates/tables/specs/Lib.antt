@@ -14,3 +14,4 @@ pub mod ReadTypes
 pub mod ReadProcesses
 pub mod ReadScripts
 pub mod Whole
+pub mod Access
