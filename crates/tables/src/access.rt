@@ -5,8 +5,8 @@ ghost use mathlib.Core.Path.{_≡_};
 ghost use Prim.Native.Nat.{_<_, _≤_};
 ghost use lib.ListN.{length};
 ghost use Rattle.reader.specs.Filling.{Area};
-ghost use Rattle.tables.specs.Access.{Holds};
-ghost use Rattle.tables.specs.Decode.{nodeAt, alternativeAt, termAt, branchAt, entryAt};
+ghost use Rattle.tables.specs.Access.{Holds, asEntry};
+ghost use Rattle.tables.specs.Decode.{nodeAt, alternativeAt, termAt, branchAt, entryAt, typeAt, processAt, execAt};
 
 fn wide(x: u32) -> usize
     ensures { λ r. ⌜ r ≡ x ⌝ }
@@ -83,4 +83,49 @@ pub fn entry(scratch: &[u32], i: usize) -> Labelled
         at: x % 8192,
         number: x / 8192,
     }
+}
+
+// The type i: its name, and the node of its definition.
+pub fn declared_type(scratch: &[u32], i: usize) -> Labelled
+    requires { ⌜ Area (now scratch) × (i < 64) ⌝ }
+    ensures { λ r. ⌜ Holds r (typeAt (now (scratch .entry)) i) ⌝ }
+{
+    let x = wide(scratch[16 + 2 * i]);
+    let y = wide(scratch[16 + 2 * i + 1]);
+    Labelled { at: x, number: y }
+}
+
+// A process's entry: its name, its first signature entry, how many it provides and uses, its body.
+pub struct Declared {
+    pub at: usize,
+    pub first: usize,
+    pub provided: usize,
+    pub used: usize,
+    pub body: usize,
+}
+
+// The process i.
+pub fn declared_process(scratch: &[u32], i: usize) -> Declared
+    requires { ⌜ Area (now scratch) × (i < 64) ⌝ }
+    ensures { λ r. ⌜ asEntry r ≡ processAt (now (scratch .entry)) i ⌝ }
+{
+    let x = wide(scratch[144 + 4 * i]);
+    let y = wide(scratch[144 + 4 * i + 1]);
+    let z = wide(scratch[144 + 4 * i + 2]);
+    let u = wide(scratch[144 + 4 * i + 3]);
+    Declared {
+        at: x,
+        first: y,
+        provided: z % 1024,
+        used: z / 1024,
+        body: u,
+    }
+}
+
+// Where the name of the exec i stands.
+pub fn exec_at(scratch: &[u32], i: usize) -> usize
+    requires { ⌜ Area (now scratch) × (i < 16) ⌝ }
+    ensures { λ r. ⌜ r ≡ execAt (now (scratch .entry)) i ⌝ }
+{
+    wide(scratch[400 + i])
 }
