@@ -17,3 +17,4 @@ pub mod Forest
 pub mod WellFormed
 pub mod Demands
 pub mod Starred
+pub mod Astray

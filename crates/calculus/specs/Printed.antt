@@ -92,5 +92,5 @@ printedOf s (faulty n at) = line (bytes "refused " ++ (decimal n ++ (bytes " at 
 
 -- to unfold it is to unfold all that it is made of, so that it computes
 unfoldable pub printed : List ℕ → List ℕ
-unfolding readNow plain Named.lookup Named.without Named.changed Named.kept Named.names Named.distinct Types.sameType Types.passing Types.choosing Types.labelled Types.labelsOf programOf faults Declarations.repeats Declarations.typeRepeats Declarations.processRepeats Declarations.repeated Declarations.typeUndefined Declarations.processUndefined Declarations.undefined Declarations.bareNames Declarations.hasOther Declarations.reachOther Declarations.outward Declarations.wrongExecs Declarations.declared Mentions.mentions Mentions.halfMentions Mentions.spawnTakes Mentions.spawnLeaves Mentions.tryTakes Mentions.neverBoth Mentions.exactlyOne Typing.fitting Typing.listFits Typing.withoutAll Checking.check Checking.typed checked Configuration.heldAs Configuration.holderFrom Configuration.outsideOf Configuration.farEnd Configuration.channelsHeld Configuration.freshChannel Configuration.inserted Configuration.removed Configuration.letGo Configuration.changedOutside Steps.afterMessage Steps.afterSend Steps.afterReceive Steps.parting Steps.send Steps.receive Steps.cancelling Steps.spawning Steps.trying Steps.calling Steps.raising Steps.forwarding Steps.leaving Steps.foldingUp Steps.stepTerm Steps.step Runs.startConfig Runs.execOf Runs.firstFrom Runs.choosePlace Runs.runFrom Runs.runOn digits sighting runLines
+unfolding readNow plain Named.lookup Named.without Named.changed Named.kept Named.names Named.distinct Types.sameType Types.passing Types.choosing Types.labelled Types.labelsOf programOf faults Declarations.repeats Declarations.typeRepeats Declarations.processRepeats Declarations.repeated Declarations.typeUndefined Declarations.processUndefined Declarations.undefined Declarations.bareNames Declarations.hasOther Declarations.reachOther Declarations.outward Declarations.wrongExecs Declarations.declared Mentions.mentions Mentions.halfMentions Mentions.spawnTakes Mentions.spawnLeaves Mentions.tryTakes Mentions.neverBoth Mentions.exactlyOne Typing.fitting Typing.listFits Typing.withoutAll Checking.check Checking.typed checked Configuration.heldAs Configuration.holderFrom Configuration.outsideOf Configuration.farEnd Configuration.channelsHeld Configuration.freshChannel Configuration.inserted Configuration.removed Configuration.letGo Configuration.changedOutside Steps.afterMessage Steps.afterSend Steps.afterReceive Steps.parting Steps.send Steps.receive Steps.cancelling Steps.spawning Steps.trying Steps.calling Steps.raising Steps.movedEnd Steps.forwarding Steps.leaving Steps.foldingUp Steps.stepTerm Steps.step Runs.startConfig Runs.execOf Runs.firstFrom Runs.choosePlace Runs.runFrom Runs.runOn digits sighting runLines
 printed s = printedOf s (checked s)

@@ -1,15 +1,15 @@
 -- The step at a place: "Which rule applies is decided by the term's kind". One definition for each rule of document 01.
 use Prim.Native.Nat.{ℕ, zero, suc, _+_}
 use mathlib.Core.List.{List, [], _∷_, _++_}
-use mathlib.Core.Bool.{Bool, true, false, cond, not}
+use mathlib.Core.Bool.{Bool, true, false, cond, not, _&&_}
 use mathlib.Core.Option.{Option, some, none, Option·map, Option·getD}
 use lib.ListN.{length, set, getElem?}
-use lib.Dec.{ltb}
+use lib.Dec.{ltb, eqb}
 use Rattle.notation.specs.Limits.{processPlaces, outsideNumbers}
 use Rattle.notation.specs.Bytes.{same}
 use Rattle.notation.specs.Tree.{Name, Located, Ty, unit, Alternatives, Proc, empty, sendUnit, sendChannel, sendLabel, cancel, spawn, recvUnit, recvChannel, recvLabel, fwd, call, raise, try, Branches, branch, plain}
 use Rattle.calculus.specs.Named.{lookup, without, changed}
-use Rattle.calculus.specs.Types.{Side, provided, used, standing, Passing, passing, Choosing, choosing, labelled}
+use Rattle.calculus.specs.Types.{Side, provided, used, other, sameSide, standing, Passing, passing, Choosing, choosing, labelled}
 use Rattle.calculus.specs.Program.{Slot, Context, Signature, Program, signatureContext}
 use Rattle.calculus.specs.Mentions.{spawnTakes, spawnLeaves, tryTakes}
 use Rattle.calculus.specs.Typing.{namesOf}
@@ -279,13 +279,19 @@ raising C i q P =
 abbrev pub emptied : Process → Process
 emptied q = process folding [] (q .link)
 
-abbrev pub onChannelPlace : ℕ → Name → Process → Process
-onChannelPlace k n r = process (r .doing) (changed n (λ (f : End). end (f .side) k (f .type)) (r .held)) (r .link)
+-- the end of channel k on side s becomes one of channel m, under whatever name it is held
+unfoldable pub movedEnd : ℕ → Side → ℕ → List (Name × End) → List (Name × End)
+movedEnd k s m [] = []
+movedEnd k s m (e ∷ l) = cond (eqb k (e .1 .channel) && sameSide s (e .1 .side)) ((e .0, end (e .1 .side) m (e .1 .type)) ∷ l) (e ∷ movedEnd k s m l)
+
+-- the process r holds the far end of e, which takes the place of d: so the far ends of e and d are one channel
+abbrev pub farMoved : End → End → Process → Process
+farMoved e d r = process (r .doing) (movedEnd (e .channel) (other (e .side)) (d .channel) (r .held)) (r .link)
 
 abbrev pub joinedTo : Config → ℕ → Process → End → End → Far → Outcome
 joinedTo C i q e d (atProcess h) =
     carried Nothing
-    (config (set (set (C .processes) i (emptied q)) (h .place) (onChannelPlace (d .channel) (h .name) (h .process))) (C .outside) (C .given))
+    (config (set (set (C .processes) i (emptied q)) (h .place) (farMoved e d (h .process))) (C .outside) (C .given))
 joinedTo C i q e d (atOutside n) = carried Nothing (config (set (C .processes) i (emptied q)) (movedOutside (e .channel) (d .channel) (C .outside)) (C .given))
 joinedTo C i q e d givenUp = carried Nothing (replaced i (emptied q) C)
 

@@ -12,11 +12,12 @@ use Rattle.calculus.specs.Configuration.{Process, Config, at}
 use Rattle.calculus.specs.WellFormed.{In, isWaiting, Stands}
 use Rattle.derivations.specs.Booleans.{never, itself, eqb-iff, any-iff}
 use Rattle.derivations.specs.Equality.{decides-sym, eqb-decides}
-use Rattle.decision.specs.Lists.{implies, implies-iff, all-law, at-in, in-at, allFrom, allFrom-law, pairwise, apart-iff}
+use Rattle.holding.specs.Lists.{found-in, in-found}
+use Rattle.decision.specs.Lists.{implies, implies-iff, all-law, allFrom, allFrom-law, pairwise, apart-iff}
 
 -- ── processes by their places
 pub stands-iff : (C : Config) (A : Process → Type 0) → ((q : Process) → In q (C .processes) → A q) ↔ ((i : ℕ) (q : Process) → Stands C i q → A q)
-stands-iff C A = (λ h i q s. h q (at-in (C .processes) i (s .there)), λ h q m. let r = in-at m in h (r .0) q (record { there = r .1 }))
+stands-iff C A = (λ h i q s. h q (found-in (C .processes) i (s .there)), λ h q m. let r = in-found m in h (r .0) q (record { there = r .1 }))
 
 pub places-law : {A : Process → Type 0} (C : Config) (f : Process → Bool) → ((q : Process) → So (f q) ↔ A q)
     → So (all f (C .processes)) ↔ ((i : ℕ) (q : Process) → Stands C i q → A q)
@@ -88,8 +89,8 @@ Linker C h = (i : ℕ) × (q : Process) × Stands C i q × (q .link ≡ some h)
 
 linker-iff : (C : Config) (h : ℕ) → So (any (λ q. isLink h (q .link)) (C .processes)) ↔ Linker C h
 linker-iff C h = Iff·trans (any-iff (λ q. isLink h (q .link)) (C .processes)) (
-  λ (q, m, e). let r = in-at m in (r .0, q, record { there = r .1 }, isLink-iff h (q .link) .0 e),
-  λ (i, q, s, e). (q, at-in (C .processes) i (s .there), isLink-iff h (q .link) .1 e),
+  λ (q, m, e). let r = in-found m in (r .0, q, record { there = r .1 }, isLink-iff h (q .link) .0 e),
+  λ (i, q, s, e). (q, found-in (C .processes) i (s .there), isLink-iff h (q .link) .1 e),
 )
 
 pub handlersLinked-iff : (C : Config) → So (handlersLinked C) ↔ ((h : ℕ) (r : Process) → Stands C h r → So (isWaiting (r .doing)) → Linker C h)

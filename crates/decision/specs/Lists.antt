@@ -11,6 +11,7 @@ use lib.ListN.{getElem?}
 use Rattle.calculus.specs.Named.{all}
 use Rattle.calculus.specs.WellFormed.{In}
 use Rattle.derivations.specs.Booleans.{never, bool-cases, and-cond, each-cons, all-iff}
+use Rattle.holding.specs.Lists.{found-in, in-found}
 
 -- the second test where the first passes
 abbrev pub implies : Bool → Bool → Bool
@@ -23,16 +24,6 @@ implies-iff {a = false} f g = (λ e x. never (f .1 x), λ h. refl)
 module _ {X : Type 0} where
   pub all-law : {A : X → Type 0} (f : X → Bool) (l : List X) → ((x : X) → So (f x) ↔ A x) → So (all f l) ↔ ((x : X) → In x l → A x)
   all-law f l g = Iff·trans (all-iff f l) (λ h x m. g x .0 (h x m), λ h x m. g x .1 (h x m))
-
-  -- ── elements by their places
-  pub at-in : (l : List X) (i : ℕ) {x : X} → getElem? l i ≡ some x → In x l
-  at-in [] i {x} e = absurd (Option·none-ne-some x e)
-  at-in (y ∷ l) zero {x} e = List·Memᴰ·head (sym (Option·some-injective y x e))
-  at-in (y ∷ l) (suc i) e = List·Memᴰ·tail (at-in l i e)
-
-  pub in-at : {x : X} {l : List X} → In x l → (i : ℕ) × (getElem? l i ≡ some x)
-  in-at (List·Memᴰ·head e) = (zero, ap some (sym e))
-  in-at (List·Memᴰ·tail m) = let r = in-at m in (suc (r .0), r .1)
 
   -- each element passes the test with its place, counted from k
   unfoldable pub allFrom : (ℕ → X → Bool) → ℕ → List X → Bool
@@ -103,14 +94,14 @@ module _ {X : Type 0} (f : X → X → Bool) (symmetric : (x y : X) → f x y �
   pairwise-apart [] p i j x y a b e = absurd (Option·none-ne-some x a)
   pairwise-apart (z ∷ l) p zero zero x y a b e = refl
   pairwise-apart (z ∷ l) p zero (suc j) x y a b e =
-      absurd (true≢false (sym (p .0 y (at-in l j b)) ∙ ap (λ w. f w y) (Option·some-injective z x a) ∙ e))
+      absurd (true≢false (sym (p .0 y (found-in l j b)) ∙ ap (λ w. f w y) (Option·some-injective z x a) ∙ e))
   pairwise-apart (z ∷ l) p (suc i) zero x y a b e =
-      absurd (true≢false (sym (p .0 x (at-in l i a)) ∙ ap (λ w. f w x) (Option·some-injective z y b) ∙ symmetric y x ∙ e))
+      absurd (true≢false (sym (p .0 x (found-in l i a)) ∙ ap (λ w. f w x) (Option·some-injective z y b) ∙ symmetric y x ∙ e))
   pairwise-apart (z ∷ l) p (suc i) (suc j) x y a b e = ap suc (pairwise-apart l (p .1) i j x y a b e)
 
   apart-pairwise : (l : List X) → Apart l → Pairwise f l
   apart-pairwise [] h = tt
-  apart-pairwise (x ∷ l) h = (λ y m. ⊎-elim (λ e. e) (λ e. absurd (elsewhere (in-at m) e)) (bool-cases (f x y)), apart-pairwise l later)
+  apart-pairwise (x ∷ l) h = (λ y m. ⊎-elim (λ e. e) (λ e. absurd (elsewhere (in-found m) e)) (bool-cases (f x y)), apart-pairwise l later)
     where
       elsewhere : {y : X} → (j : ℕ) × (getElem? l j ≡ some y) → f x y ≡ false → ⊥
       elsewhere {y} r e = let n = h zero (suc (r .0)) x y refl (r .1) e in omega arith

@@ -23,8 +23,8 @@ carried-out (carried s D) e f = (s, D, refl)
 carried-out notOpen e f = absurd (false≢true e)
 carried-out lacking e f = absurd (true≢false f)
 
--- a step that is carried out has a process at its place
-placed : (p : Program) (C : Config) (i : ℕ) (o : Option Process) → isOpenBy (stepOf p C i o) ≡ true → (q : Process) × (o ≡ some q)
+-- a step that is open has a process at its place
+pub placed : (p : Program) (C : Config) (i : ℕ) (o : Option Process) → isOpenBy (stepOf p C i o) ≡ true → (q : Process) × (o ≡ some q)
 placed p C i none e = absurd (false≢true e)
 placed p C i (some q) e = (q, refl)
 

@@ -1,10 +1,9 @@
 -- The laws of joints that close no circle, and the pigeonhole.
 use mathlib.Core.Path.{_≡_, refl, sym, _∙_, ap, subst}
-use mathlib.Core.Logic.{_↔_, _≢_, _⊎_, inl, inr}
-use mathlib.Core.List.{List, [], _∷_, map, List·Memᴰ, List·Memᴰ·head, List·Memᴰ·tail, List·Memᴰ·cases-cons, Memᴰ·map, Memᴰ·of-map, Memᴰ·cast, List·Permᴰ, List·Permᴰ·nil, List·Permᴰ·cons, List·Permᴰ·swap, List·Permᴰ·trans, Permᴰ·symm}
-use mathlib.Core.Bool.{Bool, true, false, So, false≢true}
+use mathlib.Core.Logic.{_≢_, _⊎_, inl, inr}
+use mathlib.Core.List.{List, [], _∷_, map, List·Memᴰ·head, List·Memᴰ·tail, List·Memᴰ·cases-cons, Memᴰ·map, Memᴰ·of-map, Memᴰ·cast, List·Permᴰ, List·Permᴰ·nil, List·Permᴰ·cons, List·Permᴰ·swap, List·Permᴰ·trans, Permᴰ·symm}
 use mathlib.Core.HLevel.{Discrete}
-use Prim.Native.Nat.{ℕ, zero, suc, _+_, _≤_, _<_}
+use Prim.Native.Nat.{ℕ, zero, suc, _≤_, _<_}
 use native.Mathlib.Omega.{arith}
 use native.Mathlib.Decide.{ℕ-discrete}
 use lib.ListN.{length, length-map}
@@ -304,38 +303,3 @@ pigeonhole {A} {B} d g W K u h lt = go (twins-or-none-twice d g W u)
     go (inr n) =
         let le = none-twice-length (map g W) K n (λ x m. holes x (Memᴰ·of-map g W m)) in
         absurd (omega (arith, length-map W g))
-
--- ── the decision
-abbrev ifno : {P : Type 0} → Dec P → Bool → Bool
-ifno (yes _) b = false
-ifno (no _) b = b
-
-ifno-iff : {P : Type 0} (d : Dec P) (b : Bool) → So (ifno d b) ↔ ((¬ P) × So b)
-ifno-iff (yes p) b = (λ e. absurd (false≢true e), λ h. absurd (h .0 p))
-ifno-iff (no n) b = (λ e. (n, e), λ h. h .1)
-
-forestb-fuel : ℕ → List Joint → Bool
-forestb-fuel zero [] = true
-forestb-fuel (suc n) [] = true
-forestb-fuel zero (j ∷ J) = false
-forestb-fuel (suc n) (j ∷ J) = ifno (ℕ-discrete (j .0) (j .1)) (forestb-fuel n (glued (j .0) (j .1) J))
-
-pub forestb : List Joint → Bool
-forestb J = forestb-fuel (length J) J
-
-forestb-fuel-iff : (n : ℕ) (J : List Joint) → length J ≡ n → So (forestb-fuel n J) ↔ Forest J
-unfolding forestb-fuel
-forestb-fuel-iff zero [] e = (λ _. tt, λ _. refl)
-forestb-fuel-iff (suc n) [] e = (λ _. tt, λ _. refl)
-forestb-fuel-iff zero (j ∷ J) e = absurd (omega arith)
-forestb-fuel-iff (suc n) (j ∷ J) e =
-    let l = length-map J (glueJ (j .0) (j .1)) in
-    let ih = forestb-fuel-iff n (glued (j .0) (j .1) J) (l ∙ omega arith) in
-    let t = ifno-iff (ℕ-discrete (j .0) (j .1)) (forestb-fuel n (glued (j .0) (j .1) J)) in (
-      λ b. expand (j .0) (j .1) (t .0 b .0) J (ih .0 (t .0 b .1)),
-      λ f. t .1 ((λ z. f .1 (connected-refl J z)), ih .1 (contract (j .0) (j .1) J f)),
-    )
-
-pub forestb-iff : (J : List Joint) → So (forestb J) ↔ Forest J
-unfolding forestb
-forestb-iff J = forestb-fuel-iff (length J) J refl

@@ -17,6 +17,12 @@ pub struct Token {
 }
 
 impl Token {
+    pub const TYPE: usize = 0;
+
+    pub const PROC: usize = 1;
+
+    pub const EXEC: usize = 2;
+
     pub const SEND: usize = 3;
 
     pub const RECV: usize = 4;

@@ -1,26 +1,27 @@
 -- A call: the process holds the same ends, under the names of the signature.
 use mathlib.Core.Path.{_≡_, refl, sym, _∙_, ap, subst}
-use mathlib.Core.Logic.{_≢_, _⊎_, inl, inr}
-use mathlib.Core.List.{List, [], _∷_, _++_, map, Sublistᴰ·refl, List·Memᴰ·head, List·Memᴰ·tail, List·Memᴰ·not-nil, Memᴰ·map, Memᴰ·of-map, Memᴰ·cast}
-use mathlib.Core.Option.{Option, some, none, Option·map, Option·none-ne-some, Option·some-injective}
-use mathlib.Core.Bool.{Bool, true, false, _&&_, false≢true, and-eq-true-iff}
-use Prim.Native.Nat.{ℕ, _≤_, _<_}
-use lib.ListN.{length, set, getElem?}
-use Rattle.notation.specs.Limits.{heldLimit, channelPlaces}
+use mathlib.Core.List.{List, [], _∷_, _++_, map, Sublistᴰ·refl, List·Memᴰ·head, List·Memᴰ·tail, List·Memᴰ·not-nil, Memᴰ·of-map, Memᴰ·cast}
+use mathlib.Core.Option.{Option, some, none, Option·map}
+use mathlib.Core.Bool.{true, false, and-eq-true-iff}
+use Prim.Native.Nat.{ℕ, _≤_}
+use lib.ListN.{length, getElem?}
+use Rattle.notation.specs.Limits.{heldLimit}
 use Rattle.notation.specs.Tree.{Name, Located, Ty}
 use Rattle.calculus.specs.Named.{lookup, names, distinct, isSome}
 use Rattle.calculus.specs.Types.{Side, provided, used, sameSide, sameType}
 use Rattle.calculus.specs.Program.{Slot, slot, Context, Signature, Program, onSide, signatureContext}
 use Rattle.calculus.specs.Typing.{Typed, TypedBody, namesOf, entryFits, listFits}
-use Rattle.calculus.specs.Configuration.{End, end, Doing, running, Process, process, relinked, Outside, Config, config}
+use Rattle.calculus.specs.Configuration.{End, end, running, Process, process, relinked, Config}
 use Rattle.calculus.specs.Steps.{renamedEnd, renamed, entering, calling}
 use Rattle.calculus.specs.WellFormed.{In, NoneTwice, contextOf, key, isWaiting}
 use Rattle.derivations.specs.Booleans.{never}
 use Rattle.derivations.specs.Equality.{sameSide-iff, sameType-iff}
-use Rattle.preservation.specs.Lists.{once-by, lookup-in, distinct-iff}
-use Rattle.preservation.specs.Roster.{keyAt, Fine, Good}
+use Rattle.holding.specs.Lists.{once-by}
+use Rattle.holding.specs.Names.{lookup-in, distinct-iff}
+use Rattle.holding.specs.Contexts.{context-names, context-length, held-plain, Held}
+use Rattle.holding.specs.Ends.{keyAt}
+use Rattle.preservation.specs.Roster.{Fine}
 use Rattle.preservation.specs.LettingGo.{less}
-use Rattle.preservation.specs.Contexts.{context-names, context-length, held-plain, Held, context-lookup}
 use Rattle.preservation.specs.Invariant.{Inv, Keeps, at-roster, fine-at, inv-set}
 use Rattle.preservation.specs.Weakening.{weakened}
 
@@ -59,7 +60,8 @@ fits-append l (a ∷ ns) ms (s ∷ G) H f g = (f .0, fits-append l ns ms G H (f 
 renamed-one : (l : List (Name × End)) (a : Name) (s : Name × Slot) (h : Held a l (s .1 .side) (s .1 .type)) → renamedEnd s (lookup a l) ≡ (s .0, h .end) ∷ []
 renamed-one l a s h = ap (renamedEnd s) (h .found) ∙ (λ i. (s .0, end (sym (h .side) i) (h .end .channel) (sym (h .type) i)) ∷ [])
 
-renamed-cons : (l : List (Name × End)) (a : Name) (ns : List Name) (s : Name × Slot) (G : Context) (h : Held a l (s .1 .side) (s .1 .type)) → renamed (a ∷ ns) (s ∷ G) l ≡ (s .0, h .end) ∷ renamed ns G l
+renamed-cons : (l : List (Name × End)) (a : Name) (ns : List Name) (s : Name × Slot) (G : Context) (h : Held a l (s .1 .side) (s .1 .type))
+    → renamed (a ∷ ns) (s ∷ G) l ≡ (s .0, h .end) ∷ renamed ns G l
 renamed-cons l a ns s G h = ap (λ r. r ++ renamed ns G l) (renamed-one l a s h)
 
 renamed-context : (l : List (Name × End)) (ns : List Name) (G : Context) → Fits l ns G → contextOf (renamed ns G l) ≡ G
@@ -77,7 +79,7 @@ renamed-held l (a ∷ ns) [] f x i = absurd f
 renamed-held l (a ∷ ns) (s ∷ G) f x i = go (renamed-held l ns G (f .1) x) (subst (In x) (renamed-cons l a ns s G (f .0)) i)
   where
     go : (In x (renamed ns G l) → (a : Name) × In a ns × In (a, x .1) l) → In x ((s .0, f .0 .end) ∷ renamed ns G l) → (b : Name) × In b (a ∷ ns) × In (b, x .1) l
-    go r (List·Memᴰ·head e) = (a, List·Memᴰ·head refl, Memᴰ·cast (λ i. (a, e i .1)) (lookup-in a l (f .0 .end) (f .0 .found)))
+    go r (List·Memᴰ·head e) = (a, List·Memᴰ·head refl, Memᴰ·cast (λ i. (a, e i .1)) (lookup-in a l (f .0 .found)))
     go r (List·Memᴰ·tail j) = let y = r j in (y .0, List·Memᴰ·tail (y .1), y .2)
 
 renamed-once : (l : List (Name × End)) (ns : List Name) (G : Context) → Fits l ns G → NoneTwice ns → NoneTwice (map keyAt l) → NoneTwice (map keyAt (renamed ns G l))
@@ -90,7 +92,7 @@ renamed-once l (a ∷ ns) (s ∷ G) f u w = subst (λ r. NoneTwice (map keyAt r)
     fresh m =
         let y = Memᴰ·of-map keyAt (renamed ns G l) m in
         let z = renamed-held l ns G (f .1) (y .0) (y .1) in
-        let e = once-by keyAt w (z .2) (lookup-in a l (f .0 .end) (f .0 .found)) (y .2) in
+        let e = once-by keyAt w (z .2) (lookup-in a l (f .0 .found)) (y .2) in
         u .0 (Memᴰ·cast (ap (λ (x : Name × End). x .0) (sym e)) (z .1))
 
 module _ {p : Program} {C : Config} (I : Inv p C) (i : ℕ) (q : Process) (at : getElem? (C .processes) i ≡ some q) where
@@ -101,7 +103,8 @@ module _ {p : Program} {C : Config} (I : Inv p C) (i : ℕ) (q : Process) (at : 
   call-keeps w f xs ys s e fx fy d ds t =
       subst (λ o. Keeps p (entering C i q ns o)) (sym e)
       (inv-set I i q at (running (s .body)) l (I .numbers)
-      (less (I .good) (I .id i) (relinked (I .id) q) (at-roster I i q at) (running (s .body)) l w fine (λ x m. let y = renamed-held (q .held) ns G fits x m in (y .0, y .2)) (Sublistᴰ·refl (C .outside))))
+      (less (I .good) (I .id i) (relinked (I .id) q) (at-roster I i q at) (running (s .body)) l w fine
+      (λ x m. let y = renamed-held (q .held) ns G fits x m in (y .0, y .2)) (Sublistᴰ·refl (C .outside))))
     where
       ns : List Name
       ns = namesOf xs ++ namesOf ys

@@ -1,27 +1,28 @@
 -- Rules that make a process: the new one takes some ends of its maker, and is joined to it by a new channel or link.
 use mathlib.Core.Path.{_≡_, refl, sym, _∙_, ap, subst}
 use mathlib.Core.Logic.{_≢_, _⊎_, inl, inr}
-use mathlib.Core.List.{List, [], _∷_, _++_, map, List·Memᴰ·head, List·Memᴰ·tail, List·Memᴰ·not-nil, List·Memᴰ·append-cases, List·Memᴰ·eq-of-singleton, Memᴰ·map, Memᴰ·of-map, Memᴰ·cast, Memᴰ·append-left, Memᴰ·append-right}
+use mathlib.Core.List.{List, [], _∷_, _++_, map, List·Memᴰ·head, List·Memᴰ·not-nil, List·Memᴰ·append-cases, List·Memᴰ·eq-of-singleton, Memᴰ·map, Memᴰ·of-map, Memᴰ·cast, Memᴰ·append-left, Memᴰ·append-right, Sublistᴰ}
 use mathlib.Core.Option.{Option, some, none, Option·none-ne-some, Option·some-injective}
-use mathlib.Core.Bool.{Bool, true, false, cond, So, not, true≢false}
-use Prim.Native.Nat.{ℕ, zero, suc, _+_, _≤_, _<_}
+use mathlib.Core.Bool.{Bool, true, false, So, not, true≢false}
+use Prim.Native.Nat.{ℕ, suc, _≤_, _<_}
 use native.Mathlib.Omega.{arith}
 use lib.ListN.{length}
 use Rattle.notation.specs.Limits.{heldLimit, channelPlaces}
 use Rattle.notation.specs.Tree.{Name, Ty, Proc}
 use Rattle.calculus.specs.Named.{lookup, kept, names, isSome}
-use Rattle.calculus.specs.Types.{Side, provided, used, other}
+use Rattle.calculus.specs.Types.{Side, provided, used}
 use Rattle.calculus.specs.Program.{Program}
 use Rattle.calculus.specs.Typing.{Typed}
 use Rattle.calculus.specs.Configuration.{End, end, Doing, running, folding, waiting, Process, process, Outside}
 use Rattle.calculus.specs.WellFormed.{In, NoneTwice, contextOf, key, isWaiting}
-use Rattle.preservation.specs.Witness.{Key, Tip, Rel, Witness, fewer, Moved, Joined, sides, Between, over, joined-uses, joined-provides}
-use Rattle.preservation.specs.Lists.{once-by, sub-in, sub-once, sub-length, lookup-in, absent, kept-sub, kept-in, names-map, names-in, names-append, once-snoc, length-snoc}
-use Rattle.preservation.specs.Mates.{put, put-elim, put-at, put-off, Profile, Mates, mates-same, mates-put, mates-new, Quiet, quiet-none, quiet-some}
-use Rattle.preservation.specs.Roster.{Roster, channelKey, linkKey, channel-key-one, link-key-one, channel-no-link, keyOf, tipOf, linkTip, outsideTip, Tips, holds, links, waits, Has, outside, inside, TypedDoing, keyAt, Fine, fine-less, Fair, profile, Good}
-use Rattle.preservation.specs.LettingGo.{profile-put, profile-put-two}
-use Rattle.preservation.specs.Retyping.{key-of-key, key-from-key, above, owner, held-tip}
-use Rattle.preservation.specs.Passing.{map-append}
+use Rattle.holding.specs.Lists.{once-by, sub-in, sub-once, once-snoc, length-snoc, map-append}
+use Rattle.holding.specs.Names.{absent, kept-sub, kept-in, names-map, names-in, names-append}
+use Rattle.holding.specs.Ends.{keyAt}
+use Rattle.preservation.specs.Witness.{Key, Tip, Rel, Witness, fewer, Moved, Joined, sides, Between, over, joined-uses, joined-provides, tipNumber, keyNumber}
+use Rattle.preservation.specs.Mates.{put, put-elim, Profile, Mates, mates-same, mates-put, mates-new, Quiet, quiet-none, quiet-some}
+use Rattle.preservation.specs.Roster.{Roster, channelKey, linkKey, link-key-one, channel-no-link, keyOf, tipOf, linkTip, Tips, holds, links, waits, Has, outside, inside, TypedDoing, Fine, fine-less, profile, Good, NamesOf, Goes, Runs, runs-on, runs-awake, folds, names-less, names-snoc}
+use Rattle.preservation.specs.LettingGo.{profile-put-two}
+use Rattle.preservation.specs.Retyping.{key-from-key, above, owner, held-tip}
 
 abbrev linkKeys : Option ℕ → List Key
 linkKeys none = []
@@ -30,6 +31,22 @@ linkKeys (some h) = (linkKey h, provided) ∷ []
 -- the keys of what is held, as joints have them
 abbrev keysOf : List (Name × End) → List Key
 keysOf l = map (λ (x : Name × End). keyOf (x .1)) l
+
+-- The process r of u makes a new one. What `goes` picks of its channels, and the link `given`, go to the new one; what `keeps` picks stays.
+-- The new joint has the number k and the type T, and its ends are where `ends` says.
+pub record Fork (S : Roster) (o : List Outside) : Type 0 where
+  pub u : ℕ
+  pub r : Process
+  pub there : S u ≡ some r
+  pub keeps : Name → Bool
+  pub goes : Name → Bool
+  pub disjoint : (x : Name × End) → In x (r .held) → So (keeps (x .0)) → So (goes (x .0)) → ⊥
+  pub given : Option ℕ
+  pub own-link : (h : ℕ) → given ≡ some h → r .link ≡ some h
+  pub k : ℕ
+  pub free : (v : ℕ) (t : Tip) → Has S o v t → t .0 .0 ≢ k
+  pub ends : Side → ℕ
+  pub T : Option (Ty Name)
 
 module _ {p : Program} {S : Roster} {o : List Outside} {given next : ℕ} (G : Good p S o given next) where
   -- no process is at `next`, and no link leads there
@@ -41,105 +58,108 @@ module _ {p : Program} {S : Roster} {o : List Outside} {given next : ℕ} (G : G
       go (some r) e = let b = G .placed next r e .1 in absurd (omega arith)
 
   link-free : (v : ℕ) (t : Tip) → Has S o v t → t .0 .0 ≢ linkKey next
-  link-free v t (outside _ y _ h) z = channel-no-link (y .channel) next (sym (ap (λ (t : Tip). t .0 .0) h) ∙ z)
-  link-free v t (inside r s (holds x _ h)) z = channel-no-link (x .1 .channel) next (sym (ap (λ (t : Tip). t .0 .0) h) ∙ z)
+  link-free v t (outside _ y _ h) z = channel-no-link (y .channel) next (sym (ap tipNumber h) ∙ z)
+  link-free v t (inside r s (holds x _ h)) z = channel-no-link (x .1 .channel) next (sym (ap tipNumber h) ∙ z)
   link-free v t (inside r s (waits _ h)) z =
       let b = G .placed v r s .1 in
-      let e = link-key-one v next (sym (ap (λ (t : Tip). t .0 .0) h) ∙ z) in omega arith
+      let e = link-key-one v next (sym (ap tipNumber h) ∙ z) in omega arith
   link-free v t (inside r s (links k l h)) z =
-      let e = link-key-one k next (sym (ap (λ (t : Tip). t .0 .0) h) ∙ z) in
+      let e = link-key-one k next (sym (ap tipNumber h) ∙ z) in
       let m = G .mates .up v k (isWaiting (r .doing)) (ap profile s ∙ ap (λ l. some (l, isWaiting (r .doing))) l) in
       Option·none-ne-some (m .0, true) (sym (ap profile nobody) ∙ ap (λ k. profile (S k)) (sym e) ∙ m .1)
 
-  -- the process r of u: what t₂ picks of its channels, and the link lk, go to the new process, whose identity is `next`; what t₁ picks stays
-  module _ (u : ℕ) (r : Process) (su : S u ≡ some r) (wr : isWaiting (r .doing) ≡ false) (t₁ t₂ : Name → Bool) (disjoint : (x : Name × End) → In x (r .held) → So (t₁ (x .0)) → So (t₂ (x .0)) → ⊥)
-      (lk : Option ℕ) (lkr : (h : ℕ) → lk ≡ some h → r .link ≡ some h) (k : ℕ) (free : (v : ℕ) (t : Tip) → Has S o v t → t .0 .0 ≢ k) (at : Side → ℕ) (T : Option (Ty Name)) where
-    u0 : u ≢ 0
-    u0 = above G u r su
+  module _ (F : Fork S o) where
+    u0 : F.u ≢ 0
+    u0 = above G F.u F.r F.there
 
-    un : u < next
-    un = G .placed u r su .1
+    un : F.u < next
+    un = G .placed F.u F.r F.there .1
 
-    abbrev goes : List Key
-    goes = keysOf (kept t₂ (r .held)) ++ linkKeys lk
+    abbrev moving : List Key
+    moving = keysOf (kept F.goes (F.r .held)) ++ linkKeys F.given
 
     abbrev R : Rel
-    R = Moved (Joined (Has S o) k at T) goes u next
+    R = Moved (Joined (Has S o) F.k F.ends F.T) moving F.u next
 
-    goes-has : (q : Key) → In q goes → (t : Option (Ty Name)) × Has S o u (q, t)
-    goes-has q m = go (List·Memᴰ·append-cases (keysOf (kept t₂ (r .held))) m)
+    goes-has : (q : Key) → In q moving → (t : Option (Ty Name)) × Has S o F.u (q, t)
+    goes-has q m = go (List·Memᴰ·append-cases (keysOf (kept F.goes (F.r .held))) m)
       where
-        on-link : (l : Option ℕ) → ((h : ℕ) → l ≡ some h → r .link ≡ some h) → In q (linkKeys l) → (t : Option (Ty Name)) × Has S o u (q, t)
+        on-link : (l : Option ℕ) → ((h : ℕ) → l ≡ some h → F.r .link ≡ some h) → In q (linkKeys l) → (t : Option (Ty Name)) × Has S o F.u (q, t)
         on-link none z i = absurd (List·Memᴰ·not-nil i)
-        on-link (some h) z i = (none, inside r su (links h (z h refl) (λ j. (List·Memᴰ·eq-of-singleton i j, none))))
+        on-link (some h) z i = (none, inside F.r F.there (links h (z h refl) (λ j. (List·Memᴰ·eq-of-singleton i j, none))))
 
-        go : In q (keysOf (kept t₂ (r .held))) ⊎ In q (linkKeys lk) → (t : Option (Ty Name)) × Has S o u (q, t)
+        go : In q (keysOf (kept F.goes (F.r .held))) ⊎ In q (linkKeys F.given) → (t : Option (Ty Name)) × Has S o F.u (q, t)
         go (inl i) =
-            let x = Memᴰ·of-map (λ (x : Name × End). keyOf (x .1)) (kept t₂ (r .held)) i in
-            (some (x .0 .1 .type), inside r su (holds (x .0) (sub-in (kept-sub t₂ (r .held)) (x .1)) (λ j. (sym (x .2) j, some (x .0 .1 .type)))))
-        go (inr i) = on-link lk lkr i
+            let x = Memᴰ·of-map (λ (x : Name × End). keyOf (x .1)) (kept F.goes (F.r .held)) i in
+            (some (x .0 .1 .type), inside F.r F.there (holds (x .0) (sub-in (kept-sub F.goes (F.r .held)) (x .1)) (λ j. (sym (x .2) j, some (x .0 .1 .type)))))
+        go (inr i) = on-link F.given F.own-link i
 
     link-key : (l : Option ℕ) (q : Key) → In q (linkKeys l) → (h : ℕ) × (q .0 ≡ linkKey h)
     link-key none q i = absurd (List·Memᴰ·not-nil i)
-    link-key (some h) q i = (h, ap (λ (q : Key). q .0) (List·Memᴰ·eq-of-singleton i))
+    link-key (some h) q i = (h, ap keyNumber (List·Memᴰ·eq-of-singleton i))
 
-    stays : (x : Name × End) → In x (kept t₁ (r .held)) → R u (tipOf (x .1))
-    stays x i = inl ((λ m. go (List·Memᴰ·append-cases (keysOf (kept t₂ (r .held))) m)), inl (held-tip G u r su x xin))
+    stays : (x : Name × End) → In x (kept F.keeps (F.r .held)) → R F.u (tipOf (x .1))
+    stays x i = inl ((λ m. go (List·Memᴰ·append-cases (keysOf (kept F.goes (F.r .held))) m)), inl (held-tip G F.u F.r F.there x xin))
       where
-        xin : In x (r .held)
-        xin = sub-in (kept-sub t₁ (r .held)) i
+        xin : In x (F.r .held)
+        xin = sub-in (kept-sub F.keeps (F.r .held)) i
 
-        go : In (keyOf (x .1)) (keysOf (kept t₂ (r .held))) ⊎ In (keyOf (x .1)) (linkKeys lk) → ⊥
+        go : In (keyOf (x .1)) (keysOf (kept F.goes (F.r .held))) ⊎ In (keyOf (x .1)) (linkKeys F.given) → ⊥
         go (inl j) =
-            let y = Memᴰ·of-map (λ (x : Name × End). keyOf (x .1)) (kept t₂ (r .held)) j in
-            let e = once-by keyAt (G .fine u r su .keys) (sub-in (kept-sub t₂ (r .held)) (y .1)) xin (key-from-key (y .0 .1) (x .1) (y .2)) in
-            disjoint x xin (kept-in t₁ (r .held) i) (subst (λ (y : Name × End). So (t₂ (y .0))) e (kept-in t₂ (r .held) (y .1)))
-        go (inr j) = let h = link-key lk (keyOf (x .1)) j in channel-no-link (x .1 .channel) (h .0) (h .1)
+            let y = Memᴰ·of-map (λ (x : Name × End). keyOf (x .1)) (kept F.goes (F.r .held)) j in
+            let e = once-by keyAt (G .fine F.u F.r F.there .keys) (sub-in (kept-sub F.goes (F.r .held)) (y .1)) xin (key-from-key (y .0 .1) (x .1) (y .2)) in
+            F.disjoint x xin (kept-in F.keeps (F.r .held) i) (subst (λ (y : Name × End). So (F.goes (y .0))) e (kept-in F.goes (F.r .held) (y .1)))
+        go (inr j) = let h = link-key F.given (keyOf (x .1)) j in channel-no-link (x .1 .channel) (h .0) (h .1)
 
-    comes : (x : Name × End) → In x (kept t₂ (r .held)) → R next (tipOf (x .1))
-    comes x i = inr (Memᴰ·append-left (linkKeys lk) (Memᴰ·map (λ (x : Name × End). keyOf (x .1)) i), refl, inl (held-tip G u r su x (sub-in (kept-sub t₂ (r .held)) i)))
+    comes : (x : Name × End) → In x (kept F.goes (F.r .held)) → R next (tipOf (x .1))
+    comes x i = inr (Memᴰ·append-left (linkKeys F.given) (Memᴰ·map (λ (x : Name × End). keyOf (x .1)) i), refl, inl (held-tip G F.u F.r F.there x (sub-in (kept-sub F.goes (F.r .held)) i)))
 
-    link-comes : (h : ℕ) → lk ≡ some h → R next (linkTip h provided)
+    link-comes : (h : ℕ) → F.given ≡ some h → R next (linkTip h provided)
     link-comes h e =
-        inr (Memᴰ·append-right (keysOf (kept t₂ (r .held))) (subst (λ l. In (linkKey h, provided) (linkKeys l)) (sym e) (List·Memᴰ·head refl)), refl, inl (inside r su (links h (lkr h e) refl)))
+        inr (
+          Memᴰ·append-right (keysOf (kept F.goes (F.r .held))) (subst (λ l. In (linkKey h, provided) (linkKeys l)) (sym e) (List·Memᴰ·head refl)),
+          refl,
+          inl (inside F.r F.there (links h (F.own-link h e) refl)),
+        )
 
-    link-stays : lk ≡ none → (h : ℕ) → r .link ≡ some h → R u (linkTip h provided)
-    link-stays n h e = inl ((λ m. go (List·Memᴰ·append-cases (keysOf (kept t₂ (r .held))) m)), inl (inside r su (links h e refl)))
+    link-stays : F.given ≡ none → (h : ℕ) → F.r .link ≡ some h → R F.u (linkTip h provided)
+    link-stays n h e = inl ((λ m. go (List·Memᴰ·append-cases (keysOf (kept F.goes (F.r .held))) m)), inl (inside F.r F.there (links h e refl)))
       where
-        go : In (linkKey h, provided) (keysOf (kept t₂ (r .held))) ⊎ In (linkKey h, provided) (linkKeys lk) → ⊥
-        go (inl j) = let y = Memᴰ·of-map (λ (x : Name × End). keyOf (x .1)) (kept t₂ (r .held)) j in channel-no-link (y .0 .1 .channel) h (ap (λ (q : Key). q .0) (y .2))
+        go : In (linkKey h, provided) (keysOf (kept F.goes (F.r .held))) ⊎ In (linkKey h, provided) (linkKeys F.given) → ⊥
+        go (inl j) = let y = Memᴰ·of-map (λ (x : Name × End). keyOf (x .1)) (kept F.goes (F.r .held)) j in channel-no-link (y .0 .1 .channel) h (ap keyNumber (y .2))
         go (inr j) = List·Memᴰ·not-nil (subst (λ l. In (linkKey h, provided) (linkKeys l)) n j)
 
-    joint-at : (s : Side) → R (at s) ((k, s), T)
-    joint-at s = inl ((λ m. let x = goes-has (k, s) m in free u ((k, s), x .0) (x .1) refl), inr (refl, refl, refl))
+    joint-at : (s : Side) → R (F.ends s) ((F.k, s), F.T)
+    joint-at s = inl ((λ m. let x = goes-has (F.k, s) m in F.free F.u ((F.k, s), x .0) (x .1) refl), inr (refl, refl, refl))
 
-    elsewhere : (v : ℕ) (t : Tip) → v ≢ u → Has S o v t → R v t
-    elsewhere v t n h = inl ((λ m. let x = goes-has (t .0) m in n (owner G v u (t .0) (t .1) (x .0) h (x .1))), inl h)
+    elsewhere : (v : ℕ) (t : Tip) → v ≢ F.u → Has S o v t → R v t
+    elsewhere v t n h = inl ((λ m. let x = goes-has (t .0) m in n (owner G v F.u (t .0) (t .1) (x .0) h (x .1))), inl h)
 
-    -- the new joint is between u and the new process
-    grown : Witness (Joined (Has S o) k at T) (suc next) → ((at provided ≡ u) × (at used ≡ next)) ⊎ ((at provided ≡ next) × (at used ≡ u)) → Witness R (suc next)
+    -- the new joint is between F.u and the new process
+    grown : Witness (Joined (Has S o) F.k F.ends F.T) (suc next) → ((F.ends provided ≡ F.u) × (F.ends used ≡ next)) ⊎ ((F.ends provided ≡ next) × (F.ends used ≡ F.u)) → Witness R (suc next)
     grown W b =
-        over W goes u next (λ q i. let x = goes-has q i in W .sound u (q, x .0) (inl (x .1))) u0 k
-        (W .live (at provided) (at used) ((k, provided), T) ((k, used), T) (inr (refl, refl, refl)) (inr (refl, refl, refl)) (nonzero provided b) (nonzero used b) refl refl refl)
-        (λ s m. let x = goes-has (k, s) m in free u ((k, s), x .0) (x .1) refl) (between b)
+        over W moving F.u next (λ q i. let x = goes-has q i in W .sound F.u (q, x .0) (inl (x .1))) u0 F.k
+        (W .live (F.ends provided) (F.ends used) ((F.k, provided), F.T) ((F.k, used), F.T) (inr (refl, refl, refl)) (inr (refl, refl, refl)) (nonzero provided b)
+        (nonzero used b) refl refl refl)
+        (λ s m. let x = goes-has (F.k, s) m in F.free F.u ((F.k, s), x .0) (x .1) refl) (between b)
       where
         n0 : next ≢ 0
         n0 e = omega (arith, un)
 
-        nonzero : (s : Side) → ((at provided ≡ u) × (at used ≡ next)) ⊎ ((at provided ≡ next) × (at used ≡ u)) → at s ≢ 0
+        nonzero : (s : Side) → ((F.ends provided ≡ F.u) × (F.ends used ≡ next)) ⊎ ((F.ends provided ≡ next) × (F.ends used ≡ F.u)) → F.ends s ≢ 0
         nonzero provided (inl x) e = u0 (sym (x .0) ∙ e)
         nonzero used (inl x) e = n0 (sym (x .1) ∙ e)
         nonzero provided (inr x) e = n0 (sym (x .0) ∙ e)
         nonzero used (inr x) e = u0 (sym (x .1) ∙ e)
 
-        own-is : (s : Side) → W .own (k, s) ≡ at s
-        own-is s = W .sound (at s) ((k, s), T) (inr (refl, refl, refl))
+        own-is : (s : Side) → W .own (F.k, s) ≡ F.ends s
+        own-is s = W .sound (F.ends s) ((F.k, s), F.T) (inr (refl, refl, refl))
 
-        between : ((at provided ≡ u) × (at used ≡ next)) ⊎ ((at provided ≡ next) × (at used ≡ u)) → Between (W .own) k u next
+        between : ((F.ends provided ≡ F.u) × (F.ends used ≡ next)) ⊎ ((F.ends provided ≡ next) × (F.ends used ≡ F.u)) → Between (W .own) F.k F.u next
         between (inl x) = inl (own-is provided ∙ x .0, own-is used ∙ x .1)
         between (inr x) = inr (own-is provided ∙ x .0, own-is used ∙ x .1)
 
-    -- ── what stands at v afterwards
+    -- ── what stands F.ends v afterwards
     record Grows (v : ℕ) (y : Option Process) : Type 0 where
       fine : (q : Process) → y ≡ some q → Fine p q
       tips : (q : Process) → y ≡ some q → (t : Tip) → Tips v q t → R v t
@@ -158,7 +178,7 @@ module _ {p : Program} {S : Roster} {o : List Outside} {given next : ℕ} (G : G
         have v t (outside z y i h) = elsewhere v t (λ e. u0 (sym e ∙ z)) (outside z y i h)
         have v t (inside q s x) = c v .tips q s t x
 
-    old : (v : ℕ) → v ≢ u → Grows v (S v)
+    old : (v : ℕ) → v ≢ F.u → Grows v (S v)
     old v n = record { fine = λ q e. G .fine v q e; tips = λ q e t x. elsewhere v t n (inside q e x); place = λ q e. let b = G .placed v q e in (b .0, let c = b .1 in omega arith) }
 
     at-one : (v : ℕ) → (0 < v) × (v < suc next) → (q : Process) → Fine p q → ((t : Tip) → Tips v q t → R v t) → Grows v (some q)
@@ -168,20 +188,20 @@ module _ {p : Program} {S : Roster} {o : List Outside} {given next : ℕ} (G : G
       place = λ _ _. b;
     }
 
-    u-place : (0 < u) × (u < suc next)
-    u-place = let b = G .placed u r su in (b .0, let c = b .1 in omega arith)
+    u-place : (0 < F.u) × (F.u < suc next)
+    u-place = let b = G .placed F.u F.r F.there in (b .0, let c = b .1 in omega arith)
 
     next-place : (0 < next) × (next < suc next)
     next-place = let b = un in (omega arith, omega arith)
 
   -- ── a process that holds less and one more channel
-  brought : (r : Process) → Fine p r → (d : Doing) (k : Option ℕ) (t : Name → Bool) (x : Name) (e : End) → lookup x (r .held) ≡ none → ¬ In (key e) (map keyAt (r .held)) → length (kept t (r .held)) < heldLimit
+  brought : (r : Process) → Fine p r → (d : Doing) → Goes (r .doing) d → (k : Option ℕ) (t : Name → Bool) (x : Name) (e : End) → lookup x (r .held) ≡ none
+      → ¬ In (key e) (map keyAt (r .held)) → length (kept t (r .held)) < heldLimit
       → e .channel < channelPlaces → TypedDoing p (contextOf (kept t (r .held) ++ ((x, e) ∷ []))) (isSome k) d → Fine p (process d (kept t (r .held) ++ ((x, e) ∷ [])) k)
   unfolding names
-  brought r f d k t x e new nk room lt td = record {
+  brought r f d w k t x e new nk room lt td = record {
     typed = td;
-    names = subst NoneTwice (sym (names-append l ((x, e) ∷ [])))
-        (once-snoc (names l) x (subst NoneTwice (sym (names-map l)) (sub-once (λ (y : Name × End). y .0) sub (subst NoneTwice (names-map (r .held)) (f .names)))) no-name);
+    names = subst (NamesOf d) (sym (names-append l ((x, e) ∷ []))) (names-snoc d (names l) x (names-less d sub (w .names (names (r .held)) (f .names))) no-name);
     keys = subst NoneTwice (sym (map-append keyAt l ((x, e) ∷ []))) (once-snoc (map keyAt l) (key e) (sub-once keyAt sub (f .keys)) no-key);
     room = subst (λ n. n ≤ heldLimit) (sym (length-snoc l (x, e))) room;
     channels = λ y i. chan y (List·Memᴰ·append-cases l i);
@@ -190,7 +210,7 @@ module _ {p : Program} {S : Roster} {o : List Outside} {given next : ℕ} (G : G
       l : List (Name × End)
       l = kept t (r .held)
 
-      sub : mathlib.Core.List.Sublistᴰ (kept t (r .held)) (r .held)
+      sub : Sublistᴰ (kept t (r .held)) (r .held)
       sub = kept-sub t (r .held)
 
       no-name : ¬ In x (names (kept t (r .held)))
@@ -206,7 +226,8 @@ module _ {p : Program} {S : Roster} {o : List Outside} {given next : ℕ} (G : G
       chan y (inr i) = subst (λ (y : Name × End). y .1 .channel < channelPlaces) (sym (List·Memᴰ·eq-of-singleton i)) lt
 
   -- ── spawn: the new process takes what t picks, and provides x on the channel n
-  module _ (u : ℕ) (r : Process) (su : S u ≡ some r) (wr : isWaiting (r .doing) ≡ false) (t : Name → Bool) (x : Name) (A : Ty Name) (n : ℕ) (free : (v : ℕ) (e : Tip) → Has S o v e → e .0 .0 ≢ channelKey n)
+  module _ (u : ℕ) (r : Process) (su : S u ≡ some r) (wr : Runs (r .doing)) (t : Name → Bool) (x : Name) (A : Ty Name) (n : ℕ)
+      (free : (v : ℕ) (e : Tip) → Has S o v e → e .0 .0 ≢ channelKey n)
       (lt : n < channelPlaces) (new : lookup x (r .held) ≡ none) (P Q : Proc) where
     abbrev rest : Name → Bool
     rest m = not (t m)
@@ -230,29 +251,33 @@ module _ {p : Program} {S : Roster} {o : List Outside} {given next : ℕ} (G : G
     no-key : (s : Side) → ¬ In (n, s) (map keyAt (r .held))
     no-key s m = let y = Memᴰ·of-map keyAt (r .held) m in free u (tipOf (y .0 .1)) (held-tip G u r su (y .0) (y .1)) (ap (λ (k : ℕ × Side). channelKey (k .0)) (y .2))
 
-    abbrev R₁ : Rel
-    R₁ = R u r su wr rest t disjoint none none-link (channelKey n) free (sides next u) (some A)
+    abbrev fork : Fork S o
+    fork = record { u = u; r = r; there = su; keeps = rest; goes = t; disjoint = disjoint; given = none; own-link = none-link; k = channelKey n; free = free; ends = sides next u; T = some A }
 
-    pub spawned : length (kept t (r .held)) < heldLimit → length (kept rest (r .held)) < heldLimit → Typed p (contextOf (made .held)) false P → Typed p (contextOf (maker .held)) (isSome (r .link)) Q
+    abbrev R₁ : Rel
+    R₁ = R fork
+
+    pub spawned : length (kept t (r .held)) < heldLimit → length (kept rest (r .held)) < heldLimit → Typed p (contextOf (made .held)) false P
+        → Typed p (contextOf (maker .held)) (isSome (r .link)) Q
         → Good p (put next (some made) (put u (some maker) S)) o given (suc next)
     spawned roomP roomQ tP tQ =
-        grown-good u r su wr rest t disjoint none none-link (channelKey n) free (sides next u) (some A)
-        (grown u r su wr rest t disjoint none none-link (channelKey n) free (sides next u) (some A) (joined-provides (G .witness) (channelKey n) u next (some A) free (omega arith) (G .placed u r su .1)) (inr (refl, refl)))
-        (put-elim (Grows u r su wr rest t disjoint none none-link (channelKey n) free (sides next u) (some A)) next (some made) (put u (some maker) S)
-        (at-one u r su wr rest t disjoint none none-link (channelKey n) free (sides next u) (some A) next (next-place u r su wr rest t disjoint none none-link (channelKey n) free (sides next u) (some A)) made
-        (brought r (G .fine u r su) (running P) none t x (end provided n A) new (no-key provided) roomP lt tP) made-tips)
-        (λ v _. put-elim (Grows u r su wr rest t disjoint none none-link (channelKey n) free (sides next u) (some A)) u (some maker) S
-        (at-one u r su wr rest t disjoint none none-link (channelKey n) free (sides next u) (some A) u (u-place u r su wr rest t disjoint none none-link (channelKey n) free (sides next u) (some A)) maker
-        (brought r (G .fine u r su) (running Q) (r .link) rest x (end used n A) new (no-key used) roomQ lt tQ) maker-tips)
-        (old u r su wr rest t disjoint none none-link (channelKey n) free (sides next u) (some A)) v))
+        grown-good fork
+        (grown fork (joined-provides (G .witness) (channelKey n) u next (some A) free (omega arith) (G .placed u r su .1)) (inr (refl, refl)))
+        (put-elim (Grows fork) next (some made) (put u (some maker) S)
+        (at-one fork next (next-place fork) made
+        (brought r (G .fine u r su) (running P) (runs-on wr P) none t x (end provided n A) new (no-key provided) roomP lt tP) made-tips)
+        (λ v _. put-elim (Grows fork) u (some maker) S
+        (at-one fork u (u-place fork) maker
+        (brought r (G .fine u r su) (running Q) (runs-on wr Q) (r .link) rest x (end used n A) new (no-key used) roomQ lt tQ) maker-tips)
+        (old fork) v))
         mates′
       where
         made-tips : (e : Tip) → Tips next made e → R₁ next e
         made-tips e (holds y i z) = rw z (go y (List·Memᴰ·append-cases (kept t (r .held)) i))
           where
             go : (y : Name × End) → In y (kept t (r .held)) ⊎ In y ((x, end provided n A) ∷ []) → R₁ next (tipOf (y .1))
-            go y (inl j) = comes u r su wr rest t disjoint none none-link (channelKey n) free (sides next u) (some A) y j
-            go y (inr j) = subst (λ (y : Name × End). R₁ next (tipOf (y .1))) (sym (List·Memᴰ·eq-of-singleton j)) (joint-at u r su wr rest t disjoint none none-link (channelKey n) free (sides next u) (some A) provided)
+            go y (inl j) = comes fork y j
+            go y (inr j) = subst (λ (y : Name × End). R₁ next (tipOf (y .1))) (sym (List·Memᴰ·eq-of-singleton j)) (joint-at fork provided)
         made-tips e (links h k z) = absurd (Option·none-ne-some h k)
         made-tips e (waits k z) = absurd (true≢false (sym k))
 
@@ -260,16 +285,16 @@ module _ {p : Program} {S : Roster} {o : List Outside} {given next : ℕ} (G : G
         maker-tips e (holds y i z) = rw z (go y (List·Memᴰ·append-cases (kept rest (r .held)) i))
           where
             go : (y : Name × End) → In y (kept rest (r .held)) ⊎ In y ((x, end used n A) ∷ []) → R₁ u (tipOf (y .1))
-            go y (inl j) = stays u r su wr rest t disjoint none none-link (channelKey n) free (sides next u) (some A) y j
-            go y (inr j) = subst (λ (y : Name × End). R₁ u (tipOf (y .1))) (sym (List·Memᴰ·eq-of-singleton j)) (joint-at u r su wr rest t disjoint none none-link (channelKey n) free (sides next u) (some A) used)
-        maker-tips e (links h k z) = rw z (link-stays u r su wr rest t disjoint none none-link (channelKey n) free (sides next u) (some A) refl h k)
+            go y (inl j) = stays fork y j
+            go y (inr j) = subst (λ (y : Name × End). R₁ u (tipOf (y .1))) (sym (List·Memᴰ·eq-of-singleton j)) (joint-at fork used)
+        maker-tips e (links h k z) = rw z (link-stays fork refl h k)
         maker-tips e (waits k z) = absurd (true≢false (sym k))
 
         F : ℕ → Profile
         F v = profile (S v)
 
         same : (v : ℕ) → F v ≡ put u (some (r .link, false)) F v
-        same = put-elim (λ v y. F v ≡ y) u (some (r .link, false)) F (ap profile su ∙ ap (λ b. some (r .link, b)) wr) (λ v _. refl)
+        same = put-elim (λ v y. F v ≡ y) u (some (r .link, false)) F (ap profile su ∙ ap (λ b. some (r .link, b)) (runs-awake wr)) (λ v _. refl)
 
         mates′ : Mates (λ v. profile (put next (some made) (put u (some maker) S) v))
         mates′ =
@@ -277,40 +302,61 @@ module _ {p : Program} {S : Roster} {o : List Outside} {given next : ℕ} (G : G
             (mates-put (mates-same same (G .mates)) next (some (none, false)) (subst Quiet (sym (sym (same next) ∙ ap profile nobody)) quiet-none) quiet-some)
 
   -- ── try: the new process takes what t₂ picks, and waits as the handler
-  module _ (u : ℕ) (r : Process) (su : S u ≡ some r) (wr : isWaiting (r .doing) ≡ false) (t₁ t₂ : Name → Bool) (disjoint : (x : Name × End) → In x (r .held) → So (t₁ (x .0)) → So (t₂ (x .0)) → ⊥) (P Q : Proc) where
+  module _ (u : ℕ) (r : Process) (su : S u ≡ some r) (wr : Runs (r .doing)) (t₁ t₂ : Name → Bool)
+      (disjoint : (x : Name × End) → In x (r .held) → So (t₁ (x .0)) → So (t₂ (x .0)) → ⊥) (P Q : Proc) where
     abbrev tryer : Process
     tryer = process (running P) (kept t₁ (r .held)) (some next)
 
     abbrev waiter : Process
     waiter = process (waiting Q) (kept t₂ (r .held)) (r .link)
 
+    abbrev fork′ : Fork S o
+    fork′ = record {
+      u = u;
+      r = r;
+      there = su;
+      keeps = t₁;
+      goes = t₂;
+      disjoint = disjoint;
+      given = r .link;
+      own-link =
+          λ h e. e;
+      k = linkKey next;
+      free = link-free;
+      ends = sides u next;
+      T = none;
+    }
+
     abbrev R₂ : Rel
-    R₂ = R u r su wr t₁ t₂ disjoint (r .link) (λ h e. e) (linkKey next) link-free (sides u next) none
+    R₂ = R fork′
 
-    half : (d : Doing) (k : Option ℕ) (t : Name → Bool) → TypedDoing p (contextOf (kept t (r .held))) (isSome k) d → Fine p (process d (kept t (r .held)) k)
-    half d k t td = let f = fine-less (G .fine u r su) folding (kept-sub t (r .held)) tt in record { typed = td; names = f .names; keys = f .keys; room = f .room; channels = f .channels }
+    half : (d : Doing) → NamesOf d (names (r .held)) → (k : Option ℕ) (t : Name → Bool) → TypedDoing p (contextOf (kept t (r .held))) (isSome k) d → Fine p (process d (kept t (r .held)) k)
+    half d n k t td =
+        let f = fine-less (G .fine u r su) folding (folds (runs-awake wr)) (kept-sub t (r .held)) tt in
+        record { typed = td; names = names-less d (kept-sub t (r .held)) n; keys = f .keys; room = f .room; channels = f .channels }
 
-    pub tried : Typed p (contextOf (kept t₁ (r .held))) true P → Typed p (contextOf (kept t₂ (r .held))) (isSome (r .link)) Q → Good p (put u (some tryer) (put next (some waiter) S)) o given (suc next)
+    pub tried : Typed p (contextOf (kept t₁ (r .held))) true P → Typed p (contextOf (kept t₂ (r .held))) (isSome (r .link)) Q
+        → Good p (put u (some tryer) (put next (some waiter) S)) o given (suc next)
     tried tP tQ =
-        grown-good u r su wr t₁ t₂ disjoint (r .link) (λ h e. e) (linkKey next) link-free (sides u next) none
-        (grown u r su wr t₁ t₂ disjoint (r .link) (λ h e. e) (linkKey next) link-free (sides u next) none (joined-uses (G .witness) (linkKey next) u next none link-free (omega arith) (G .placed u r su .1)) (inl (refl, refl)))
-        (put-elim (Grows u r su wr t₁ t₂ disjoint (r .link) (λ h e. e) (linkKey next) link-free (sides u next) none) u (some tryer) (put next (some waiter) S)
-        (at-one u r su wr t₁ t₂ disjoint (r .link) (λ h e. e) (linkKey next) link-free (sides u next) none u (u-place u r su wr t₁ t₂ disjoint (r .link) (λ h e. e) (linkKey next) link-free (sides u next) none) tryer
-        (half (running P) (some next) t₁ tP) tryer-tips)
-        (λ v nu. put-elim (λ v y. v ≢ u → Grows u r su wr t₁ t₂ disjoint (r .link) (λ h e. e) (linkKey next) link-free (sides u next) none v y) next (some waiter) S
-        (λ _. at-one u r su wr t₁ t₂ disjoint (r .link) (λ h e. e) (linkKey next) link-free (sides u next) none next (next-place u r su wr t₁ t₂ disjoint (r .link) (λ h e. e) (linkKey next) link-free (sides u next) none) waiter
-        (half (waiting Q) (r .link) t₂ tQ) waiter-tips)
-        (λ v _ n. old u r su wr t₁ t₂ disjoint (r .link) (λ h e. e) (linkKey next) link-free (sides u next) none v n) v nu))
+        grown-good fork′
+        (grown fork′ (joined-uses (G .witness) (linkKey next) u next none link-free (omega arith) (G .placed u r su .1)) (inl (refl, refl)))
+        (put-elim (Grows fork′) u (some tryer) (put next (some waiter) S)
+        (at-one fork′ u (u-place fork′) tryer
+        (half (running P) (runs-on wr P .names _ (G .fine u r su .names)) (some next) t₁ tP) tryer-tips)
+        (λ v nu. put-elim (λ v y. v ≢ u → Grows fork′ v y) next (some waiter) S
+        (λ _. at-one fork′ next (next-place fork′) waiter
+        (half (waiting Q) (runs-on wr Q .names _ (G .fine u r su .names)) (r .link) t₂ tQ) waiter-tips)
+        (λ v _ n. old fork′ v n) v nu))
         (mates-same (λ v. sym (profile-put-two u next (some tryer) (some waiter) S v))
-        (mates-new (G .mates) u next (r .link) (ap profile su ∙ ap (λ b. some (r .link, b)) wr) (ap profile nobody)))
+        (mates-new (G .mates) u next (r .link) (ap profile su ∙ ap (λ b. some (r .link, b)) (runs-awake wr)) (ap profile nobody)))
       where
         tryer-tips : (e : Tip) → Tips u tryer e → R₂ u e
-        tryer-tips e (holds y i z) = rw z (stays u r su wr t₁ t₂ disjoint (r .link) (λ h e. e) (linkKey next) link-free (sides u next) none y i)
+        tryer-tips e (holds y i z) = rw z (stays fork′ y i)
         tryer-tips e (links h k z) =
-            subst (R₂ u) (ap (λ h. linkTip h provided) (Option·some-injective _ _ k) ∙ sym z) (joint-at u r su wr t₁ t₂ disjoint (r .link) (λ h e. e) (linkKey next) link-free (sides u next) none provided)
+            subst (R₂ u) (ap (λ h. linkTip h provided) (Option·some-injective _ _ k) ∙ sym z) (joint-at fork′ provided)
         tryer-tips e (waits k z) = absurd (true≢false (sym k))
 
         waiter-tips : (e : Tip) → Tips next waiter e → R₂ next e
-        waiter-tips e (holds y i z) = rw z (comes u r su wr t₁ t₂ disjoint (r .link) (λ h e. e) (linkKey next) link-free (sides u next) none y i)
-        waiter-tips e (links h k z) = rw z (link-comes u r su wr t₁ t₂ disjoint (r .link) (λ h e. e) (linkKey next) link-free (sides u next) none h k)
-        waiter-tips e (waits k z) = rw z (joint-at u r su wr t₁ t₂ disjoint (r .link) (λ h e. e) (linkKey next) link-free (sides u next) none used)
+        waiter-tips e (holds y i z) = rw z (comes fork′ y i)
+        waiter-tips e (links h k z) = rw z (link-comes fork′ h k)
+        waiter-tips e (waits k z) = rw z (joint-at fork′ used)

@@ -2,11 +2,11 @@
 -- Why identities: inserting or removing a process shifts places and links, and under identities nothing of the forest changes then;
 -- only the map from places to identities does. So each rule is proved on rosters, and read off the list by one of three laws of Places.
 use mathlib.Core.Path.{_≡_, refl, sym, _∙_, ap, subst}
-use mathlib.Core.Logic.{_≢_, _⊎_, inl, inr}
-use mathlib.Core.List.{List, [], _∷_, _++_, map, Sublistᴰ, Sublistᴰ·refl}
+use mathlib.Core.Logic.{_≢_}
+use mathlib.Core.List.{List, Sublistᴰ}
 use mathlib.Core.Option.{Option, some, none, Option·map, Option·some-injective}
 use mathlib.Core.Bool.{Bool, true, false, cond, true≢false}
-use Prim.Native.Nat.{ℕ, zero, suc, _≤_, _<_}
+use Prim.Native.Nat.{ℕ, _≤_}
 use native.Mathlib.Omega.{arith}
 use lib.ListN.{length, set, getElem?, length-set}
 use Rattle.notation.specs.Limits.{processPlaces, outsideNumbers}
@@ -16,10 +16,11 @@ use Rattle.calculus.specs.Program.{Program}
 use Rattle.calculus.specs.Configuration.{End, Doing, Process, process, relinked, Outside, Config, config}
 use Rattle.calculus.specs.Steps.{Outcome, carried, notOpen, lacking, onHeld}
 use Rattle.calculus.specs.WellFormed.{contextOf, isWaiting}
+use Rattle.holding.specs.Lists.{found-below, below-found}
 use Rattle.preservation.specs.Mates.{put}
-use Rattle.preservation.specs.Roster.{Roster, TypedDoing, Fine, profile, Good}
+use Rattle.preservation.specs.Roster.{Roster, TypedDoing, Fine, profile, Good, Goes}
 use Rattle.preservation.specs.LettingGo.{lessen}
-use Rattle.preservation.specs.Places.{Shows, shows-set, found-below, below-found}
+use Rattle.preservation.specs.Places.{Shows, shows-set}
 
 pub record Inv (p : Program) (C : Config) : Type 0 where
   pub id : ℕ → ℕ
@@ -70,7 +71,7 @@ module _ {p : Program} {C : Config} (I : Inv p C) where
     }
 
     -- it lets go of some of what it holds, and so does the outside
-    pub inv-less : (d : Doing) → isWaiting (q .doing) ≡ isWaiting d → {l : List (Name × End)} → Sublistᴰ l (q .held) → TypedDoing p (contextOf l) (isSome (Option·map (I .id) (q .link))) d
+    pub inv-less : (d : Doing) → Goes (q .doing) d → {l : List (Name × End)} → Sublistᴰ l (q .held) → TypedDoing p (contextOf l) (isSome (Option·map (I .id) (q .link))) d
         → {o : List Outside} → Sublistᴰ o (C .outside) → Inv p (config (set (C .processes) i (process d l (q .link))) o (C .given))
     inv-less d w {l} s t k = inv-set d l (I .numbers) (lessen (I .good) (I .id i) (relinked (I .id) q) at-roster d w s t k)
 
@@ -89,7 +90,8 @@ module _ {p : Program} {C : Config} (I : Inv p C) where
 
   -- those at i and j change
   pub inv-two : (i j : ℕ) (q r : Process) → getElem? (C .processes) i ≡ some q → getElem? (C .processes) j ≡ some r → (d d′ : Doing) (l l′ : List (Name × End))
-      → Good p (put (I .id j) (some (process d′ l′ (Option·map (I .id) (r .link)))) (put (I .id i) (some (process d l (Option·map (I .id) (q .link)))) (I .roster))) (C .outside) (C .given) (I .next)
+      → Good p (put (I .id j) (some (process d′ l′ (Option·map (I .id) (r .link)))) (put (I .id i) (some (process d l (Option·map (I .id) (q .link)))) (I .roster)))
+      (C .outside) (C .given) (I .next)
       → Inv p (config (set (set (C .processes) i (process d l (q .link))) j (process d′ l′ (r .link))) (C .outside) (C .given))
   inv-two i j q r a b d d′ l l′ g = record {
     id = I .id;

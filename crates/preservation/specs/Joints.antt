@@ -1,24 +1,24 @@
 -- The joints of a configuration by their numbers: what `joints` lists, with identities for places.
 use mathlib.Core.Path.{_≡_, refl, sym, _∙_, ap, subst}
 use mathlib.Core.Logic.{_≢_, _⊎_, inl, inr}
-use mathlib.Core.List.{List, [], _∷_, _++_, map, map-map, List·Memᴰ·head, List·Memᴰ·tail, List·Memᴰ·not-nil, List·Memᴰ·append-cases, List·Memᴰ·eq-of-singleton, Memᴰ·map, Memᴰ·of-map, Memᴰ·cast, Memᴰ·append-left, Memᴰ·append-right}
+use mathlib.Core.List.{List, [], _∷_, _++_, map, map-map, List·Memᴰ·head, List·Memᴰ·tail, List·Memᴰ·not-nil, List·Memᴰ·append-cases, List·Memᴰ·eq-of-singleton, Memᴰ·map, Memᴰ·cast, Memᴰ·append-left, Memᴰ·append-right}
 use mathlib.Core.Option.{Option, some, none, Option·map, Option·none-ne-some, Option·some-injective, map-eq-some-iff}
-use mathlib.Core.Bool.{Bool, true, false}
-use Prim.Native.Nat.{ℕ, zero, suc, _+_, _≤_, _<_}
+use mathlib.Core.Bool.{true}
+use Prim.Native.Nat.{ℕ, zero, suc, _+_, _≤_}
 use native.Mathlib.Omega.{arith}
-use lib.ListN.{length, getElem?}
+use lib.ListN.{getElem?}
 use Rattle.notation.specs.Tree.{Name}
 use Rattle.calculus.specs.Types.{Side, provided, used, other}
 use Rattle.calculus.specs.Configuration.{End, Process, relinked, Config, Holder, Far, atProcess, atOutside, givenUp, farEnd}
 use Rattle.calculus.specs.Forest.{Joint, Connected, here, past, over, back, Forest, jointAt, channelJoints, linkJoint, jointsFrom, joints}
-use Rattle.calculus.specs.WellFormed.{In, NoneTwice, key, isWaiting}
-use Rattle.graphs.specs.Moves.{map-cong}
-use Rattle.preservation.specs.Witness.{Key, Tip, side-clash, joint}
-use Rattle.preservation.specs.Lists.{once-append, once-by}
-use Rattle.preservation.specs.Passing.{map-append}
-use Rattle.preservation.specs.Roster.{Roster, channelKey, linkKey, channel-key-one, channel-no-link, tipOf, linkTip, Tips, holds, links, waits, Has, outside, inside, keyAt}
-use Rattle.preservation.specs.Places.{Shows, found-below}
-use Rattle.preservation.specs.FarEnds.{held-back, nobody-has, Found, FarIs, at-process, at-outside, at-nobody, far-is}
+use Rattle.calculus.specs.WellFormed.{In, NoneTwice, isWaiting}
+use Rattle.holding.specs.Lists.{once-append, map-append, found-below}
+use Rattle.holding.specs.Ends.{side-clash, keyAt}
+use Rattle.holding.specs.FarEnds.{Found, FarIs, at-process, at-outside, at-nobody, far-is}
+use Rattle.preservation.specs.Witness.{Key, Tip, joint, tipNumber, tipSide}
+use Rattle.preservation.specs.Roster.{Roster, channelKey, linkKey, channel-key-one, channel-no-link, tipOf, linkTip, holds, links, waits, Has, outside, inside}
+use Rattle.preservation.specs.Places.{Shows}
+use Rattle.preservation.specs.FarEnds.{held-back, nobody-has}
 
 -- ── vertices under other names
 abbrev pub both : (ℕ → ℕ) → Joint → Joint
@@ -63,7 +63,8 @@ numbersFrom id C [] = []
 numbersFrom id C (q ∷ l) = (heldKeys C (q .held) ++ linkNumbers id (q .link)) ++ numbersFrom id C l
 
 -- a number among them: a provided end with its far end at a process, or a link
-far-key : (C : Config) (e : End) (s : Side) (f : Far) → FarIs C e f → e .side ≡ s → (k : ℕ) → In k (farKey e s f) → (k ≡ channelKey (e .channel)) × (e .side ≡ provided) × (h : Holder) × Found (C .processes) (e .channel) (other (e .side)) h
+far-key : (C : Config) (e : End) (s : Side) (f : Far) → FarIs C e f → e .side ≡ s → (k : ℕ) → In k (farKey e s f)
+    → (k ≡ channelKey (e .channel)) × (e .side ≡ provided) × (h : Holder) × Found (C .processes) (e .channel) (other (e .side)) h
 far-key C e provided _ (at-process h f) z k i = (List·Memᴰ·eq-of-singleton i, z, h, f)
 far-key C e provided _ (at-outside n y _ _ _) z k i = absurd (List·Memᴰ·not-nil i)
 far-key C e provided _ (at-nobody _ _) z k i = absurd (List·Memᴰ·not-nil i)
@@ -74,7 +75,8 @@ held-key : (C : Config) (l : List (Name × End)) (k : ℕ) → In k (heldKeys C 
 held-key C [] k i = absurd (List·Memᴰ·not-nil i)
 held-key C (x ∷ l) k i = go (held-key C l k) (List·Memᴰ·append-cases (farKey (x .1) (x .1 .side) (farEnd C (x .1))) i)
   where
-    go : (In k (heldKeys C l) → (x : Name × End) × In x l × (k ≡ channelKey (x .1 .channel)) × (x .1 .side ≡ provided) × (h : Holder) × Found (C .processes) (x .1 .channel) (other (x .1 .side)) h)
+    go : (In k (heldKeys C l) → (x : Name × End) × In x l × (k ≡ channelKey (x .1 .channel)) × (x .1 .side ≡ provided) × (h : Holder) × Found (C .processes)
+        (x .1 .channel) (other (x .1 .side)) h)
         → In k (farKey (x .1) (x .1 .side) (farEnd C (x .1))) ⊎ In k (heldKeys C l)
         → (y : Name × End) × In y (x ∷ l) × (k ≡ channelKey (y .1 .channel)) × (y .1 .side ≡ provided) × (h : Holder) × Found (C .processes) (y .1 .channel) (other (y .1 .side)) h
     go r (inl j) = let z = far-key C (x .1) (x .1 .side) (farEnd C (x .1)) (far-is C (x .1)) refl k j in (x, List·Memᴰ·head refl, z .0, z .1, z .2, z .3)
@@ -85,7 +87,8 @@ link-number id none k i = absurd (List·Memᴰ·not-nil i)
 link-number id (some h) k i = (h, refl, List·Memᴰ·eq-of-singleton i)
 
 module _ (C : Config) {id : ℕ → ℕ} {S : Roster} (s : Shows id (C .processes) S) (own : Key → ℕ) (sound : (v : ℕ) (t : Tip) → Has S (C .outside) v t → own (t .0) ≡ v)
-    (handlers : (i : ℕ) (q : Process) → getElem? (C .processes) i ≡ some q → (h : ℕ) → q .link ≡ some h → (r : Process) × (getElem? (C .processes) h ≡ some r) × (isWaiting (r .doing) ≡ true)) where
+    (handlers : (i : ℕ) (q : Process) → getElem? (C .processes) i ≡ some q → (h : ℕ) → q .link ≡ some h
+    → (r : Process) × (getElem? (C .processes) h ≡ some r) × (isWaiting (r .doing) ≡ true)) where
   held-has : (i : ℕ) (q : Process) → getElem? (C .processes) i ≡ some q → (x : Name × End) → In x (q .held) → Has S (C .outside) (id i) (tipOf (x .1))
   held-has i q e x m = inside (relinked id q) (s .there i q e) (holds x m refl)
 
@@ -104,12 +107,14 @@ module _ (C : Config) {id : ℕ → ℕ} {S : Roster} (s : Shows id (C .processe
 
       far : own (channelKey (e .channel), used) ≡ id (h .place)
       far =
-          (λ j. own (channelKey (sym (f .channel) j), sym (f .side ∙ ap other z) j)) ∙ sound (id (h .place)) (tipOf (f .end)) (held-has (h .place) (h .process) (f .stands) (h .name, f .end) (f .held))
+          (λ j. own (channelKey (sym (f .channel) j), sym (f .side ∙ ap other z) j)) ∙ sound (id (h .place)) (tipOf (f .end))
+          (held-has (h .place) (h .process) (f .stands) (h .name, f .end) (f .held))
   far-joint i e he provided z _ (at-outside n y _ _ _) = refl
   far-joint i e he provided z _ (at-nobody _ _) = refl
   far-joint i e he used z f _ = refl
 
-  held-joints : (i : ℕ) (l : List (Name × End)) → ((x : Name × End) → In x l → Has S (C .outside) (id i) (tipOf (x .1))) → map (joint own) (heldKeys C l) ≡ map (both id) (channelJoints C i l)
+  held-joints : (i : ℕ) (l : List (Name × End)) → ((x : Name × End) → In x l → Has S (C .outside) (id i) (tipOf (x .1)))
+      → map (joint own) (heldKeys C l) ≡ map (both id) (channelJoints C i l)
   held-joints i [] h = refl
   held-joints i (x ∷ l) h =
       map-append (joint own) (farKey (x .1) (x .1 .side) (farEnd C (x .1))) (heldKeys C l)
@@ -175,14 +180,16 @@ module _ (C : Config) {id : ℕ → ℕ} {S : Roster} (s : Shows id (C .processe
           u .0 (Memᴰ·cast (λ i. (channel-key-one (x .1 .channel) (b .0 .1 .channel) (sym (a .0) ∙ b .2) i, (a .1 ∙ sym (b .3)) i)) (Memᴰ·map keyAt (b .1)))
 
   process-once : (q : Process) → NoneTwice (map keyAt (q .held)) → NoneTwice (heldKeys C (q .held) ++ linkNumbers id (q .link))
-  process-once q u = once-append (heldKeys C (q .held)) (linkNumbers id (q .link)) (held-once (q .held) u) (one (q .link)) (λ k i j. let a = held-key C (q .held) k i in let b = link-number id (q .link) k j in channel-no-link (a .0 .1 .channel) (id (b .0)) (sym (a .2) ∙ b .2))
+  process-once q u = once-append (heldKeys C (q .held)) (linkNumbers id (q .link)) (held-once (q .held) u) (one (q .link))
+      (λ k i j. let a = held-key C (q .held) k i in let b = link-number id (q .link) k j in channel-no-link (a .0 .1 .channel) (id (b .0)) (sym (a .2) ∙ b .2))
     where
       one : (o : Option ℕ) → NoneTwice (linkNumbers id o)
       one none = tt
       one (some h) = (List·Memᴰ·not-nil, tt)
 
   -- which process a number comes from
-  number-from : (i : ℕ) (l : List Process) → From i l → (k : ℕ) → In k (numbersFrom id C l) → (j : ℕ) × (q : Process) × (getElem? (C .processes) j ≡ some q) × (i ≤ j) × In k (heldKeys C (q .held) ++ linkNumbers id (q .link))
+  number-from : (i : ℕ) (l : List Process) → From i l → (k : ℕ) → In k (numbersFrom id C l)
+      → (j : ℕ) × (q : Process) × (getElem? (C .processes) j ≡ some q) × (i ≤ j) × In k (heldKeys C (q .held) ++ linkNumbers id (q .link))
   number-from i [] f k m = absurd (List·Memᴰ·not-nil m)
   number-from i (q ∷ l) f k m = go (number-from (suc i) l (from-tail i q l f) k) (List·Memᴰ·append-cases (heldKeys C (q .held) ++ linkNumbers id (q .link)) m)
     where
@@ -203,7 +210,8 @@ module _ (C : Config) {id : ℕ → ℕ} {S : Roster} (s : Shows id (C .processe
       disjoint : (k : ℕ) → In k (heldKeys C (q .held) ++ linkNumbers id (q .link)) → In k (numbersFrom id C l) → ⊥
       disjoint k a b =
           let x = number-from (suc i) l (from-tail i q l f) k b in
-          let z : i ≡ x .0 = s .apart i (x .0) (found-below (C .processes) i e) (found-below (C .processes) (x .0) (x .2)) (sym (number-own i q e k a) ∙ number-own (x .0) (x .1) (x .2) k (x .4)) in
+          let z : i ≡ x .0 = s .apart i (x .0) (found-below (C .processes) i e) (found-below (C .processes) (x .0) (x .2))
+          (sym (number-own i q e k a) ∙ number-own (x .0) (x .1) (x .2) k (x .4)) in
           let w = x .3 in omega arith
 
   pub numbers-once : ((j : ℕ) (q : Process) → getElem? (C .processes) j ≡ some q → NoneTwice (map keyAt (q .held))) → NoneTwice numbers
@@ -224,12 +232,14 @@ module _ (C : Config) {id : ℕ → ℕ} {S : Roster} (s : Shows id (C .processe
               let x = held-key C (q .held) k n in
               let f = x .5 in
               let h = x .4 in
-              Memᴰ·cast (x .2) (live (id j) (id (h .place)) (tipOf (x .0 .1)) (tipOf (f .end)) (held-has j q e (x .0) (x .1)) (held-has (h .place) (h .process) (f .stands) (h .name, f .end) (f .held))
+              Memᴰ·cast (x .2) (live (id j) (id (h .place)) (tipOf (x .0 .1)) (tipOf (f .end)) (held-has j q e (x .0) (x .1))
+              (held-has (h .place) (h .process) (f .stands) (h .name, f .end) (f .held))
               (pos j q e) (pos (h .place) (h .process) (f .stands)) (ap channelKey (sym (f .channel))) (x .3) (f .side ∙ ap other (x .3)))
           two (inr n) =
               let x = link-number id (q .link) k n in
               let r = handlers j q e (x .0) (x .1) in
-              Memᴰ·cast (x .2) (live (id j) (id (x .0)) (linkTip (id (x .0)) provided) (linkTip (id (x .0)) used) (link-has j q e (x .0) (x .1)) (wait-has (x .0) (r .0) (r .1) (r .2)) (pos j q e) (pos (x .0) (r .0) (r .1)) refl refl refl)
+              Memᴰ·cast (x .2) (live (id j) (id (x .0)) (linkTip (id (x .0)) provided) (linkTip (id (x .0)) used) (link-has j q e (x .0) (x .1))
+              (wait-has (x .0) (r .0) (r .1) (r .2)) (pos j q e) (pos (x .0) (r .0) (r .1)) refl refl refl)
 
   -- and every such joint is among them
   in-numbers : (l : List Process) (i : ℕ) (q : Process) → getElem? l i ≡ some q → (k : ℕ) → In k (heldKeys C (q .held) ++ linkNumbers id (q .link)) → In k (numbersFrom id C l)
@@ -244,21 +254,22 @@ module _ (C : Config) {id : ℕ → ℕ} {S : Roster} (s : Shows id (C .processe
 
   pub numbers-all : (u v : ℕ) (e f : Tip) → Has S (C .outside) u e → Has S (C .outside) v f → u ≢ 0 → v ≢ 0 → e .0 .0 ≡ f .0 .0 → e .0 .1 ≡ provided → f .0 .1 ≡ used → In (e .0 .0) numbers
   numbers-all u v e f (outside z _ _ _) g u0 v0 p a b = absurd (u0 z)
-  numbers-all u v e f (inside r w (waits _ h)) g u0 v0 p a b = absurd (side-clash (sym a ∙ ap (λ (t : Tip). t .0 .1) h))
+  numbers-all u v e f (inside r w (waits _ h)) g u0 v0 p a b = absurd (side-clash (sym a ∙ ap tipSide h))
   numbers-all u v e f (inside r w (links h l y)) g u0 v0 p a b =
       let x = s .back u r w in
       let z : relinked id (x .1) ≡ r = Option·some-injective _ _ (sym (s .there (x .0) (x .1) (x .2)) ∙ ap S (x .3) ∙ w) in
       let k = map-eq-some-iff {B = ℕ} id (x .1 .link) .0 (ap (λ (r : Process). r .link) z ∙ l) in
-      Memᴰ·cast (ap (λ (t : Tip). t .0 .0) y ∙ ap linkKey (sym (k .2)))
-      (in-numbers (C .processes) (x .0) (x .1) (x .2) _ (Memᴰ·append-right (heldKeys C (x .1 .held)) (subst (λ o. In (linkKey (id (k .0))) (linkNumbers id o)) (sym (k .1)) (List·Memᴰ·head refl))))
+      Memᴰ·cast (ap tipNumber y ∙ ap linkKey (sym (k .2)))
+      (in-numbers (C .processes) (x .0) (x .1) (x .2) _ (Memᴰ·append-right (heldKeys C (x .1 .held))
+      (subst (λ o. In (linkKey (id (k .0))) (linkNumbers id o)) (sym (k .1)) (List·Memᴰ·head refl))))
   numbers-all u v e f (inside r w (holds x m y)) g u0 v0 p a b =
       let q = held-back C s u r w x m in
-      Memᴰ·cast (ap (λ (t : Tip). t .0 .0) y)
+      Memᴰ·cast (ap tipNumber y)
       (in-numbers (C .processes) (q .0) (q .1) (q .2) (channelKey (x .1 .channel))
-      (Memᴰ·append-left (linkNumbers id (q .1 .link)) (in-held (q .1 .held) x (q .3) _ (at-far (x .1 .side) (sym (ap (λ (t : Tip). t .0 .1) y) ∙ a) (farEnd C (x .1)) (far-is C (x .1))))))
+      (Memᴰ·append-left (linkNumbers id (q .1 .link)) (in-held (q .1 .held) x (q .3) _ (at-far (x .1 .side) (sym (ap tipSide y) ∙ a) (farEnd C (x .1)) (far-is C (x .1))))))
     where
       far : f .0 ≡ (channelKey (x .1 .channel), used)
-      far i = ((sym p ∙ ap (λ (t : Tip). t .0 .0) y) i, b i)
+      far i = ((sym p ∙ ap tipNumber y) i, b i)
 
       at-far : (t : Side) → t ≡ provided → (d : Far) → FarIs C (x .1) d → In (channelKey (x .1 .channel)) (farKey (x .1) t d)
       at-far used z d k = absurd (side-clash (sym z))
@@ -266,4 +277,4 @@ module _ (C : Config) {id : ℕ → ℕ} {S : Roster} (s : Shows id (C .processe
       at-far provided z _ (at-outside n o i c _) =
           absurd (v0 (sym (sound v f g) ∙ ap own far ∙ sound 0 ((channelKey (x .1 .channel), used), some (o .type)) (outside refl o i (λ j. ((channelKey (sym c j), used), some (o .type))))))
       at-far provided z _ (at-nobody n o) =
-          absurd (nobody-has C s (x .1) n o v (f .1) (subst (λ k. Has S (C .outside) v (k, f .1)) (far ∙ (λ i. (channelKey (x .1 .channel), other ((sym a ∙ ap (λ (t : Tip). t .0 .1) y) i)))) g))
+          absurd (nobody-has C s (x .1) n o v (f .1) (subst (λ k. Has S (C .outside) v (k, f .1)) (far ∙ (λ i. (channelKey (x .1 .channel), other ((sym a ∙ ap tipSide y) i)))) g))

@@ -1,25 +1,23 @@
 -- Rules that only let go: of channels, of a link, of a place in the list.
 use mathlib.Core.Path.{_≡_, refl, sym, _∙_, ap, subst}
-use mathlib.Core.Logic.{_≢_, _⊎_, inl, inr, ite, apply-ite}
-use mathlib.Core.List.{List, [], _∷_, map, List·Memᴰ·not-nil, Sublistᴰ, Sublistᴰ·slnil, Sublistᴰ·cons, Sublistᴰ·cons-cons, Sublistᴰ·refl}
+use mathlib.Core.Logic.{ite, apply-ite}
+use mathlib.Core.List.{List, [], _∷_, map, Sublistᴰ, Sublistᴰ·slnil, Sublistᴰ·cons, Sublistᴰ·cons-cons}
 use mathlib.Core.Option.{Option, some, none, Option·none-ne-some, Option·some-injective}
 use mathlib.Core.Bool.{Bool, true, false, cond, true≢false}
-use Prim.Native.Nat.{ℕ, zero, suc, _+_, _≤_, _<_}
+use Prim.Native.Nat.{ℕ, suc, _≤_}
 use native.Mathlib.Omega.{arith}
 use native.Mathlib.Decide.{ℕ-discrete}
 use lib.Dec.{eqb}
-use Rattle.notation.specs.Tree.{Name, Ty, Proc}
-use Rattle.calculus.specs.Named.{isSome}
-use Rattle.calculus.specs.Types.{Side, provided, used}
+use Rattle.notation.specs.Tree.{Name, Proc}
+use Rattle.calculus.specs.Named.{isSome, names}
 use Rattle.calculus.specs.Program.{Program}
 use Rattle.calculus.specs.Typing.{Typed}
-use Rattle.calculus.specs.Configuration.{End, Doing, running, folding, waiting, Process, process, Outside, letGo}
-use Rattle.calculus.specs.Steps.{startedDoing, startedHandler, foldedHandler}
-use Rattle.calculus.specs.WellFormed.{In, NoneTwice, Rising, contextOf, isWaiting}
-use Rattle.preservation.specs.Witness.{Tip, Witness, fewer}
-use Rattle.preservation.specs.Lists.{sub-in, sub-once}
+use Rattle.calculus.specs.Configuration.{End, Doing, running, Process, process, Outside, letGo}
+use Rattle.calculus.specs.WellFormed.{In, Rising, contextOf, isWaiting, NoneTwice}
+use Rattle.holding.specs.Lists.{sub-in, sub-once}
+use Rattle.preservation.specs.Witness.{Tip, fewer}
 use Rattle.preservation.specs.Mates.{put, put-elim, put-at, Profile, Mates, mates-same, mates-put, mates-cut, Quiet, quiet-none, quiet-some}
-use Rattle.preservation.specs.Roster.{Roster, tipOf, linkTip, outsideTip, Tips, holds, links, waits, Has, outside, inside, TypedDoing, Fine, fine-less, Fair, profile, Good, becomes, one-good}
+use Rattle.preservation.specs.Roster.{Roster, Tips, holds, links, waits, Has, outside, inside, TypedDoing, Fine, fine-less, Fair, profile, Good, becomes, one-good, NamesOf, Goes}
 
 -- ── the outside lets go
 rising-from : {low high : ℕ} (l : List ℕ) → low ≤ high → Rising high l → Rising low l
@@ -72,9 +70,9 @@ module _ {p : Program} {S : Roster} {o : List Outside} {given next : ℕ} (G : G
       (becomes G (Has S o) u r su d l w f (λ x i. let m = s x i in inside r su (holds (m .0, x .1) (m .1) refl)) (λ h s t. t))
       (λ v e n z t. t) (λ y i. outside refl y (sub-in k i) refl) (fair-less (G .fair) k)
 
-  pub lessen : (u : ℕ) (r : Process) → S u ≡ some r → (d : Doing) {l : List (Name × End)} → isWaiting (r .doing) ≡ isWaiting d → Sublistᴰ l (r .held)
+  pub lessen : (u : ℕ) (r : Process) → S u ≡ some r → (d : Doing) → Goes (r .doing) d → {l : List (Name × End)} → Sublistᴰ l (r .held)
       → TypedDoing p (contextOf l) (isSome (r .link)) d → {o′ : List Outside} → Sublistᴰ o′ o → Good p (put u (some (process d l (r .link))) S) o′ given next
-  lessen u r su d {l} w s t k = less u r su d l w (fine-less (G .fine u r su) d s t) (λ x i. (x .0, sub-in s i)) k
+  lessen u r su d w {l} s t k = less u r su d l (w .waits) (fine-less (G .fine u r su) d w s t) (λ x i. (x .0, sub-in s i)) k
 
   -- ── links go too: y is what stands at v afterwards
   pub record Shrinks (v : ℕ) (y : Option Process) : Type 0 where
@@ -102,16 +100,17 @@ module _ {p : Program} {S : Roster} {o : List Outside} {given next : ℕ} (G : G
   leaves v = record { fine = λ r e. absurd (Option·none-ne-some r e); tips = λ r s. absurd (Option·none-ne-some r s); was = λ r e. absurd (Option·none-ne-some r e) }
 
   -- the process r of v does d from now on, which is no waiting, with its link or none
-  shrinks : (v : ℕ) (r : Process) → S v ≡ some r → (d : Doing) (k : Option ℕ) → isWaiting d ≡ false → ((h : ℕ) → k ≡ some h → r .link ≡ some h) → TypedDoing p (contextOf (r .held)) (isSome k) d
+  shrinks : (v : ℕ) (r : Process) → S v ≡ some r → (d : Doing) (k : Option ℕ) → isWaiting d ≡ false → ((h : ℕ) → k ≡ some h → r .link ≡ some h)
+      → NamesOf d (names (r .held)) → TypedDoing p (contextOf (r .held)) (isSome k) d
       → Shrinks v (some (process d (r .held) k))
-  shrinks v r sv d k w s t = record {
+  shrinks v r sv d k w s n t = record {
     fine = λ q e. subst (Fine p) (Option·some-injective _ _ e) fine′;
     tips = λ q e. subst (λ q. (t : Tip) → Tips v q t → Has S o v t) (Option·some-injective _ _ e) here;
     was = λ _ _. (r, sv);
   }
     where
       fine′ : Fine p (process d (r .held) k)
-      fine′ = let f = G .fine v r sv in record { typed = t; names = f .names; keys = f .keys; room = f .room; channels = f .channels }
+      fine′ = let f = G .fine v r sv in record { typed = t; names = n; keys = f .keys; room = f .room; channels = f .channels }
 
       here : (e : Tip) → Tips v (process d (r .held) k) e → Has S o v e
       here e (holds x i z) = inside r sv (holds x i z)
@@ -123,22 +122,25 @@ module _ {p : Program} {S : Roster} {o : List Outside} {given next : ℕ} (G : G
 
   -- the process r of u, linked to the waiting s of h, goes on without its link, and s without waiting
   module _ (u h : ℕ) (r s : Process) (su : S u ≡ some r) (sh : S h ≡ some s) (w : isWaiting (r .doing) ≡ false) (lk : r .link ≡ some h) (wh : isWaiting (s .doing) ≡ true)
-      (d : Doing) (wd : isWaiting d ≡ false) (td : TypedDoing p (contextOf (s .held)) (isSome (s .link)) d) where
+      (d : Doing) (wd : isWaiting d ≡ false) (nd : NamesOf d (names (s .held))) (td : TypedDoing p (contextOf (s .held)) (isSome (s .link)) d) where
     cut-mates : Mates (put u (some (none, false)) (put h (some (s .link, false)) (λ v. profile (S v))))
     cut-mates = mates-cut (G .mates) u h (s .link) (profile-at u r su false w ∙ ap (λ l. some (l, false)) lk) (profile-at h s sh true wh)
 
     handler : Shrinks h (some (process d (s .held) (s .link)))
-    handler = shrinks h s sh d (s .link) wd (λ _ e. e) td
+    handler = shrinks h s sh d (s .link) wd (λ _ e. e) nd td
 
-    rest-same : (x : Option Process) (y : Profile) → profile x ≡ y → (v : ℕ) → put u y (put h (some (s .link, false)) (λ v. profile (S v))) v ≡ profile (put u x (put h (some (process d (s .held) (s .link))) S) v)
+    rest-same : (x : Option Process) (y : Profile) → profile x ≡ y → (v : ℕ)
+        → put u y (put h (some (s .link, false)) (λ v. profile (S v))) v ≡ profile (put u x (put h (some (process d (s .held) (s .link))) S) v)
     rest-same x y e v =
         sym (profile-put-two u h x (some (process d (s .held) (s .link))) S v
         ∙ (λ i. put u (e i) (put h (some (s .link, wd i)) (λ v. profile (S v))) v))
 
-    pub raised : (P : Proc) → Typed p (contextOf (r .held)) false P → Good p (put u (some (process (running P) (r .held) none)) (put h (some (process d (s .held) (s .link))) S)) o given next
-    raised P t =
+    pub raised : (P : Proc) → NoneTwice (names (r .held)) → Typed p (contextOf (r .held)) false P
+        → Good p (put u (some (process (running P) (r .held) none)) (put h (some (process d (s .held) (s .link))) S)) o given next
+    raised P n t =
         shrunk-good
-        (put-elim Shrinks u _ (put h (some (process d (s .held) (s .link))) S) (shrinks u r su (running P) none refl (λ k e. absurd (Option·none-ne-some k e)) t) (λ v _. put-elim Shrinks h _ S handler (λ v _. stays v) v))
+        (put-elim Shrinks u _ (put h (some (process d (s .held) (s .link))) S) (shrinks u r su (running P) none refl (λ k e. absurd (Option·none-ne-some k e)) n t)
+        (λ v _. put-elim Shrinks h _ S handler (λ v _. stays v) v))
         (mates-same (rest-same (some (process (running P) (r .held) none)) (some (none, false)) refl) cut-mates)
 
     pub left : Good p (put u none (put h (some (process d (s .held) (s .link))) S)) o given next

@@ -1,15 +1,14 @@
 pub mod Witness
-pub mod Lists
 pub mod Mates
 pub mod Roster
 pub mod LettingGo
 pub mod Retyping
 pub mod Passing
+pub mod Relocating
 pub mod Forwarding
 pub mod Growing
 pub mod Places
 pub mod FarEnds
-pub mod Contexts
 pub mod Invariant
 pub mod Alone
 pub mod Weakening
@@ -18,7 +17,7 @@ pub mod Outward
 pub mod Sending
 pub mod Stepping
 pub mod Joints
-pub mod Ends
 pub mod WellFormed
 pub mod Start
 pub mod Preserved
+pub mod Accepted

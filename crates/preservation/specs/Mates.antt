@@ -1,6 +1,6 @@
 -- Links and waiting handlers, apart from everything else: each process is seen as its link and whether it waits.
 use mathlib.Core.Path.{_≡_, refl, sym, _∙_, ap, subst, fun-ext}
-use mathlib.Core.Logic.{_≢_, _⊎_, inl, inr, ite, if-pos, if-neg, apply-ite}
+use mathlib.Core.Logic.{_≢_, _⊎_, inl, inr, ite, if-pos, if-neg}
 use mathlib.Core.Option.{Option, some, none, Option·none-ne-some, Option·some-injective}
 use mathlib.Core.Bool.{Bool, true, false, true≢false}
 use Prim.Native.Nat.{ℕ}
@@ -28,6 +28,12 @@ module _ {X : Type 0} where
 abbrev pub Profile : Type 0
 Profile = Option (Option ℕ × Bool)
 
+pub link-of : {l m : Option ℕ} {b c : Bool} → Path Profile (some (l, b)) (some (m, c)) → l ≡ m
+link-of e = ap (λ (x : Option ℕ × Bool). x .0) (Option·some-injective _ _ e)
+
+pub waits-of : {l m : Option ℕ} {b c : Bool} → Path Profile (some (l, b)) (some (m, c)) → b ≡ c
+waits-of e = ap (λ (x : Option ℕ × Bool). x .1) (Option·some-injective _ _ e)
+
 -- a link leads to a waiting handler; to a waiting handler leads one link
 pub record Mates (F : ℕ → Profile) : Type 0 where
   pub up : (v h : ℕ) (w : Bool) → F v ≡ some (some h, w) → (l : Option ℕ) × (F h ≡ some (l, true))
@@ -47,8 +53,8 @@ quiet-none = record { unlinked = λ h w. Option·none-ne-some (some h, w); activ
 
 pub quiet-some : Quiet (some (none, false))
 quiet-some = record {
-  unlinked = λ h w e. Option·none-ne-some h (ap (λ (x : Option ℕ × Bool). x .0) (Option·some-injective _ _ e));
-  active = λ l e. true≢false (sym (ap (λ (x : Option ℕ × Bool). x .1) (Option·some-injective _ _ e)));
+  unlinked = λ h w e. Option·none-ne-some h (link-of e);
+  active = λ l e. true≢false (sym (waits-of e));
 }
 
 pub mates-quiet : {F : ℕ → Profile} → ((v : ℕ) → Quiet (F v)) → Mates F
@@ -95,22 +101,23 @@ module _ {F : ℕ → Profile} (m : Mates F) where
       linked = put-elim (λ v y. (k : ℕ) (w : Bool) → y ≡ some (some k, w) → (v ≢ u) × (x : Bool) × (F v ≡ some (some k, x))) u (some (none, false)) (put h (some (l, false)) F)
           (λ k w e. absurd (quiet-some .unlinked k w e))
           (λ v n. put-elim (λ v y. v ≢ u → (k : ℕ) (w : Bool) → y ≡ some (some k, w) → (v ≢ u) × (x : Bool) × (F v ≡ some (some k, x))) h (some (l, false)) F
-          (λ n k w e. (n, true, fh ∙ ap (λ a. some (a, true)) (ap (λ (x : Option ℕ × Bool). x .0) (Option·some-injective _ _ e)))) (λ v _ n k w e. (n, w, e)) v n)
+          (λ n k w e. (n, true, fh ∙ ap (λ a. some (a, true)) (link-of e))) (λ v _ n k w e. (n, w, e)) v n)
 
       link : (v k : ℕ) (w : Bool) → v ≢ u → F v ≡ some (some k, w) → (x : Bool) × (G v ≡ some (some k, x))
       link v k w n e = go (ℕ-discrete v h)
         where
           go : Dec (v ≡ h) → (x : Bool) × (G v ≡ some (some k, x))
-          go (yes z) = (false, past v n ∙ put-at h (some (l, false)) F v z ∙ ap (λ a. some (a, false)) (ap (λ (x : Option ℕ × Bool). x .0) (Option·some-injective _ _ (sym fh ∙ ap F (sym z) ∙ e))))
+          go (yes z) = (false, past v n ∙ put-at h (some (l, false)) F v z ∙ ap (λ a. some (a, false)) (link-of (sym fh ∙ ap F (sym z) ∙ e)))
           go (no z) = (w, past v n ∙ put-off h (some (l, false)) F v z ∙ e)
 
       waiting : (k : ℕ) (a : Option ℕ) → k ≢ h → F k ≡ some (a, true) → G k ≡ some (a, true)
-      waiting k a n e = past k (λ z. true≢false (sym (ap (λ (x : Option ℕ × Bool). x .1) (Option·some-injective _ _ (sym fu ∙ ap F (sym z) ∙ e))))) ∙ put-off h (some (l, false)) F k n ∙ e
+      waiting k a n e = past k (λ z. true≢false (sym (waits-of (sym fu ∙ ap F (sym z) ∙ e)))) ∙ put-off h (some (l, false)) F k n ∙ e
 
       waited : (k : ℕ) (a : Option ℕ) → G k ≡ some (a, true) → (k ≢ h) × (F k ≡ some (a, true))
-      waited = put-elim (λ k y. (a : Option ℕ) → y ≡ some (a, true) → (k ≢ h) × (F k ≡ some (a, true))) u (some (none, false)) (put h (some (l, false)) F) (λ a e. absurd (quiet-some .active a e))
+      waited = put-elim (λ k y. (a : Option ℕ) → y ≡ some (a, true) → (k ≢ h) × (F k ≡ some (a, true))) u (some (none, false)) (put h (some (l, false)) F)
+          (λ a e. absurd (quiet-some .active a e))
           (λ k _. put-elim (λ k y. (a : Option ℕ) → y ≡ some (a, true) → (k ≢ h) × (F k ≡ some (a, true))) h (some (l, false)) F
-          (λ a e. absurd (true≢false (sym (ap (λ (x : Option ℕ × Bool). x .1) (Option·some-injective _ _ e))))) (λ k n a e. (n, e)) k)
+          (λ a e. absurd (true≢false (sym (waits-of e)))) (λ k n a e. (n, e)) k)
 
       up′ : (v k : ℕ) (w : Bool) → G v ≡ some (some k, w) → (a : Option ℕ) × (G k ≡ some (a, true))
       up′ v k w e =
@@ -122,7 +129,7 @@ module _ {F : ℕ → Profile} (m : Mates F) where
       down′ k a e =
           let f = waited k a e in
           let r = m .down k a (f .1) in
-          let g = link (r .0) k (r .1) (λ z. f .0 (Option·some-injective _ _ (ap (λ (x : Option ℕ × Bool). x .0) (Option·some-injective _ _ (sym (r .2) ∙ ap F z ∙ fu))))) (r .2) in
+          let g = link (r .0) k (r .1) (λ z. f .0 (Option·some-injective _ _ (link-of (sym (r .2) ∙ ap F z ∙ fu)))) (r .2) in
           (r .0, g .0, g .1)
 
       once′ : (a b k : ℕ) (w y : Bool) → G a ≡ some (some k, w) → G b ≡ some (some k, y) → a ≡ b
@@ -155,20 +162,22 @@ module _ {F : ℕ → Profile} (m : Mates F) where
       link v k w e = go (ℕ-discrete v u)
         where
           go : Dec (v ≡ u) → (x : ℕ) × (y : Bool) × (G x ≡ some (some k, y))
-          go (yes y) = (z, true, at-z ∙ ap (λ a. some (a, true)) (ap (λ (x : Option ℕ × Bool). x .0) (Option·some-injective _ _ (sym fu ∙ ap F (sym y) ∙ e))))
+          go (yes y) = (z, true, at-z ∙ ap (λ a. some (a, true)) (link-of (sym fu ∙ ap F (sym y) ∙ e)))
           go (no n) = (v, w, past v n ∙ put-off z (some (l, true)) F v (λ y. Option·none-ne-some (some k, w) (sym fz ∙ ap F (sym y) ∙ e)) ∙ e)
 
       waiting : (k : ℕ) (a : Option ℕ) → F k ≡ some (a, true) → G k ≡ some (a, true)
       waiting k a e =
-          past k (λ y. true≢false (sym (ap (λ (x : Option ℕ × Bool). x .1) (Option·some-injective _ _ (sym fu ∙ ap F (sym y) ∙ e)))))
+          past k (λ y. true≢false (sym (waits-of (sym fu ∙ ap F (sym y) ∙ e))))
           ∙ put-off z (some (l, true)) F k (λ y. Option·none-ne-some (a, true) (sym fz ∙ ap F (sym y) ∙ e)) ∙ e
 
       -- a link afterwards: the new one, or an old one, at its heir
       linked : (v k : ℕ) (w : Bool) → G v ≡ some (some k, w) → ((v ≡ u) × (k ≡ z)) ⊎ ((x : ℕ) × (y : Bool) × (F x ≡ some (some k, y)) × (v ≡ heir x))
-      linked = put-elim (λ v y. (k : ℕ) (w : Bool) → y ≡ some (some k, w) → ((v ≡ u) × (k ≡ z)) ⊎ ((x : ℕ) × (y : Bool) × (F x ≡ some (some k, y)) × (v ≡ heir x))) u (some (some z, false)) (put z (some (l, true)) F)
-          (λ k w e. inl (refl, sym (Option·some-injective _ _ (ap (λ (x : Option ℕ × Bool). x .0) (Option·some-injective _ _ e)))))
-          (λ v n. put-elim (λ v y. v ≢ u → (k : ℕ) (w : Bool) → y ≡ some (some k, w) → ((v ≡ u) × (k ≡ z)) ⊎ ((x : ℕ) × (y : Bool) × (F x ≡ some (some k, y)) × (v ≡ heir x))) z (some (l, true)) F
-          (λ _ k w e. inr (u, false, fu ∙ ap (λ a. some (a, false)) (ap (λ (x : Option ℕ × Bool). x .0) (Option·some-injective _ _ e)), sym (if-pos (ℕ-discrete u u) refl _ _)))
+      linked = put-elim (λ v y. (k : ℕ) (w : Bool) → y ≡ some (some k, w) → ((v ≡ u) × (k ≡ z)) ⊎ ((x : ℕ) × (y : Bool) × (F x ≡ some (some k, y)) × (v ≡ heir x))) u
+          (some (some z, false)) (put z (some (l, true)) F)
+          (λ k w e. inl (refl, sym (Option·some-injective _ _ (link-of e))))
+          (λ v n. put-elim (λ v y. v ≢ u → (k : ℕ) (w : Bool) → y ≡ some (some k, w) → ((v ≡ u) × (k ≡ z)) ⊎
+          ((x : ℕ) × (y : Bool) × (F x ≡ some (some k, y)) × (v ≡ heir x))) z (some (l, true)) F
+          (λ _ k w e. inr (u, false, fu ∙ ap (λ a. some (a, false)) (link-of e), sym (if-pos (ℕ-discrete u u) refl _ _)))
           (λ v _ n k w e. inr (v, w, e, sym (if-neg (ℕ-discrete v u) n _ _))) v n)
 
       old : (k : ℕ) (x : ℕ) (y : Bool) → F x ≡ some (some k, y) → k ≢ z
@@ -183,14 +192,15 @@ module _ {F : ℕ → Profile} (m : Mates F) where
 
       down′ : (k : ℕ) (a : Option ℕ) → G k ≡ some (a, true) → (v : ℕ) × (w : Bool) × (G v ≡ some (some k, w))
       down′ = put-elim (λ k y. (a : Option ℕ) → y ≡ some (a, true) → (v : ℕ) × (w : Bool) × (G v ≡ some (some k, w))) u (some (some z, false)) (put z (some (l, true)) F)
-          (λ a e. absurd (true≢false (sym (ap (λ (x : Option ℕ × Bool). x .1) (Option·some-injective _ _ e)))))
+          (λ a e. absurd (true≢false (sym (waits-of e))))
           (λ k _. put-elim (λ k y. (a : Option ℕ) → y ≡ some (a, true) → (v : ℕ) × (w : Bool) × (G v ≡ some (some k, w))) z (some (l, true)) F
           (λ a e. (u, false, at-u)) (λ k n a e. let r = m .down k a e in link (r .0) k (r .1) (r .2)) k)
 
       once′ : (a b k : ℕ) (w y : Bool) → G a ≡ some (some k, w) → G b ≡ some (some k, y) → a ≡ b
       once′ a b k w y e f = go (linked a k w e) (linked b k y f)
         where
-          go : ((a ≡ u) × (k ≡ z)) ⊎ ((x : ℕ) × (y : Bool) × (F x ≡ some (some k, y)) × (a ≡ heir x)) → ((b ≡ u) × (k ≡ z)) ⊎ ((x : ℕ) × (y : Bool) × (F x ≡ some (some k, y)) × (b ≡ heir x)) → a ≡ b
+          go : ((a ≡ u) × (k ≡ z)) ⊎ ((x : ℕ) × (y : Bool) × (F x ≡ some (some k, y)) × (a ≡ heir x))
+              → ((b ≡ u) × (k ≡ z)) ⊎ ((x : ℕ) × (y : Bool) × (F x ≡ some (some k, y)) × (b ≡ heir x)) → a ≡ b
           go (inl r) (inl s) = r .0 ∙ sym (s .0)
           go (inl r) (inr s) = absurd (old k (s .0) (s .1) (s .2) (r .1))
           go (inr r) (inl s) = absurd (old k (r .0) (r .1) (r .2) (s .1))

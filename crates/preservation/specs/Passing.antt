@@ -1,26 +1,28 @@
 -- A channel goes over a channel.
 use mathlib.Core.Path.{_≡_, refl, sym, _∙_, ap, subst}
 use mathlib.Core.Logic.{_≢_, _⊎_, inl, inr}
-use mathlib.Core.List.{List, [], _∷_, _++_, map, append-nil, Sublistᴰ, List·Memᴰ·head, List·Memᴰ·tail, List·Memᴰ·not-nil, List·Memᴰ·append-cases, List·Memᴰ·eq-of-singleton, Memᴰ·map, Memᴰ·of-map, Memᴰ·cast}
+use mathlib.Core.List.{List, [], _∷_, _++_, map, append-nil, Sublistᴰ, List·Memᴰ·head, List·Memᴰ·tail, List·Memᴰ·append-cases, List·Memᴰ·eq-of-singleton, Memᴰ·of-map}
 use mathlib.Core.Option.{Option, some, none}
-use mathlib.Core.Bool.{Bool, true, false, cond, So}
-use Prim.Native.Nat.{ℕ, zero, suc, _+_, _≤_, _<_}
+use mathlib.Core.Bool.{true, cond}
+use Prim.Native.Nat.{ℕ, suc, _≤_, _<_}
 use native.Mathlib.Omega.{arith}
 use lib.ListN.{length}
 use Rattle.notation.specs.Limits.{heldLimit, channelPlaces}
 use Rattle.notation.specs.Bytes.{same}
 use Rattle.notation.specs.Tree.{Name, Ty}
-use Rattle.calculus.specs.Named.{lookup, without, changed, names, isSome}
+use Rattle.calculus.specs.Named.{lookup, without, names, isSome}
 use Rattle.calculus.specs.Types.{Side, provided, used, other}
 use Rattle.calculus.specs.Program.{Program}
 use Rattle.calculus.specs.Declarations.{outward}
-use Rattle.calculus.specs.Configuration.{End, end, Doing, folding, Process, process, Outside, changedOutside, retypedOutside}
+use Rattle.calculus.specs.Configuration.{End, end, Doing, Process, process, Outside, retypedOutside}
 use Rattle.calculus.specs.Steps.{retypedEnd}
-use Rattle.calculus.specs.WellFormed.{In, NoneTwice, Rising, contextOf, key, isWaiting}
-use Rattle.preservation.specs.Witness.{Key, Tip, Rel, Witness, Retyped, retyping, Moved, Between, over, outing}
-use Rattle.preservation.specs.Lists.{by-test, sub-in, sub-once, lookup-in, absent, without-sub, without-cases, changed-cases, changed-names, changed-length, names-append, once-snoc, length-snoc}
+use Rattle.calculus.specs.WellFormed.{In, NoneTwice, Rising, contextOf, key}
+use Rattle.holding.specs.Lists.{sub-in, sub-once, once-snoc, length-snoc, map-append}
+use Rattle.holding.specs.Names.{by-test, lookup-in, absent, without-sub, without-cases, changed-cases, changed-names, changed-length, names-append}
+use Rattle.holding.specs.Ends.{keyAt}
+use Rattle.preservation.specs.Witness.{Tip, Rel, Witness, Retyped, retyping, Moved, Between, over, outing, keyNumber}
 use Rattle.preservation.specs.Mates.{put}
-use Rattle.preservation.specs.Roster.{Roster, channelKey, linkKey, channel-key-one, channel-no-link, keyOf, tipOf, linkTip, outsideTip, Has, outside, inside, TypedDoing, keyAt, Fine, fine-less, Fair, Good, Change, becomes, one-good, two-good}
+use Rattle.preservation.specs.Roster.{Roster, channelKey, channel-no-link, keyOf, tipOf, linkTip, outsideTip, Has, outside, TypedDoing, Fine, Fair, Good, Change, becomes, one-good, two-good, NamesOf, Goes, names-snoc}
 use Rattle.preservation.specs.LettingGo.{fair-less}
 use Rattle.preservation.specs.Retyping.{retyped-off, key-cases, retyped-tip, key-of-key, key-from-key, retyped-keys, retyped-channels, fine-retyped, above, owner, joins, far-owner, near-owner, ends-apart, whose, held-tip, out-retyped, out-far, fair-retyped, other-other}
 
@@ -32,17 +34,13 @@ lookup-without {X} c a (x ∷ l) n =
     (λ z. sym (by-test (λ b. cond b (some (x .1)) (lookup c l) ≡ lookup c l) c (x .0) (λ y. absurd (n (y ∙ sym z))) (λ _. refl)))
     (λ _. ap (λ r. cond (same c (x .0)) (some (x .1)) r) (lookup-without c a l n))
 
-pub map-append : {A B : Type 0} (f : A → B) (l m : List A) → map f (l ++ m) ≡ map f l ++ map f m
-map-append f [] m = refl
-map-append f (x ∷ l) m = ap (λ r. f x ∷ r) (map-append f l m)
-
 rising-snoc : (l : List ℕ) (low n : ℕ) → Rising low l → low ≤ n → ((m : ℕ) → In m l → m < n) → Rising low (l ++ (n ∷ []))
 rising-snoc [] low n r h b = (h, tt)
 rising-snoc (m ∷ l) low n r h b = (r .0, rising-snoc l (suc m) n (r .1) (b m (List·Memᴰ·head refl)) (λ k i. b k (List·Memᴰ·tail i)))
 
 module _ {p : Program} {S : Roster} {o : List Outside} {given next : ℕ} (G : Good p S o given next) where
   -- the process r of u sends its channel a, of which it has the end d, over c, of which it has the end e, and c then has the type B
-  module _ (u : ℕ) (r : Process) (su : S u ≡ some r) (P : Doing) (wP : isWaiting (r .doing) ≡ isWaiting P) (c a : Name) (ca : c ≢ a) (e d : End) (B : Ty Name)
+  module _ (u : ℕ) (r : Process) (su : S u ≡ some r) (P : Doing) (wP : Goes (r .doing) P) (c a : Name) (ca : c ≢ a) (e d : End) (B : Ty Name)
       (lc : lookup c (r .held) ≡ some e) (la : lookup a (r .held) ≡ some d) (tP : TypedDoing p (contextOf (retypedEnd c B (without a (r .held)))) (isSome (r .link)) P) where
     abbrev k : ℕ
     k = channelKey (e .channel)
@@ -54,10 +52,10 @@ module _ {p : Program} {S : Roster} {o : List Outside} {given next : ℕ} (G : G
     u0 = above G u r su
 
     hu : Has S o u (tipOf e)
-    hu = held-tip G u r su (c, e) (lookup-in c (r .held) e lc)
+    hu = held-tip G u r su (c, e) (lookup-in c (r .held) lc)
 
     ha : Has S o u (tipOf d)
-    ha = held-tip G u r su (a, d) (lookup-in a (r .held) d la)
+    ha = held-tip G u r su (a, d) (lookup-in a (r .held) la)
 
     left-names : (x : Name × End) → In x (without a (r .held)) → In x (r .held) × (key (x .1) ≢ key d)
     left-names = without-cases key a (r .held) d (G .fine u r su .keys) la
@@ -66,7 +64,7 @@ module _ {p : Program} {S : Roster} {o : List Outside} {given next : ℕ} (G : G
     lc′ = lookup-without c a (r .held) ca ∙ lc
 
     ed : key e ≢ key d
-    ed = left-names (c, e) (lookup-in c (without a (r .held)) e lc′) .1
+    ed = left-names (c, e) (lookup-in c (without a (r .held)) lc′) .1
 
     -- the sender's ends afterwards: none of them is that of d
     module _ (far : (t : Option (Ty Name)) → ¬ Has S o u ((k, other (e .side)), t)) where
@@ -84,14 +82,18 @@ module _ {p : Program} {S : Roster} {o : List Outside} {given next : ℕ} (G : G
       passed-end = retyped-tip (Has S o) u e B hu far d (inr (ha, λ z. ed (sym z)))
 
       sender-fine : Fine p (process P (retypedEnd c B (without a (r .held))) (r .link))
-      sender-fine = fine-retyped {r = process folding (without a (r .held)) (r .link)} (fine-less (G .fine u r su) folding (without-sub a (r .held)) tt) P c B tP
+      sender-fine = fine-retyped (G .fine u r su) P wP (without-sub a (r .held)) c B tP
 
       -- to v, by whatever way
       sender : (v : ℕ) → Change p (Moved R (keyOf d ∷ []) u v) u (S u) (some (process P (retypedEnd c B (without a (r .held))) (r .link)))
       sender v =
-          becomes G (Moved R (keyOf d ∷ []) u v) u r su P (retypedEnd c B (without a (r .held))) wP sender-fine
+          becomes G (Moved R (keyOf d ∷ []) u v) u r su P (retypedEnd c B (without a (r .held))) (wP .waits) sender-fine
           (λ x i. let t = sender-end x i in inl ((λ m. t .1 (key-from-key (x .1) d (List·Memᴰ·eq-of-singleton m))), t .0))
-          (λ h s t. inl ((λ m. channel-no-link (d .channel) h (sym (ap (λ (q : Key). q .0) (List·Memᴰ·eq-of-singleton m)))), retyped-off (Has S o) u (linkTip h s) t (λ z. channel-no-link (e .channel) h (sym z))))
+          (λ h s t. inl (
+            (λ m. channel-no-link (d .channel) h (sym (ap keyNumber (List·Memᴰ·eq-of-singleton m)))),
+            retyped-off (Has S o) u (linkTip h s) t
+                (λ z. channel-no-link (e .channel) h (sym z)),
+          ))
 
     -- another's end stays, where it is no end of c
     else-stays : (v w : ℕ) (t : Tip) → v ≢ u → Has S o v t → t .0 .0 ≢ k → Moved R (keyOf d ∷ []) u w v t
@@ -99,14 +101,14 @@ module _ {p : Program} {S : Roster} {o : List Outside} {given next : ℕ} (G : G
         inl ((λ m. nu (owner G v u (keyOf d) (t .1) (some (d .type)) (subst (λ q. Has S o v (q, t .1)) (List·Memᴰ·eq-of-singleton m) h) ha)), retyped-off (Has S o) v t h n)
 
     -- ── to the process q of w, which takes it as x
-    module _ (w : ℕ) (q : Process) (sw : S w ≡ some q) (Q : Doing) (wQ : isWaiting (q .doing) ≡ isWaiting Q) (c′ x : Name) (f : End) (lf : lookup c′ (q .held) ≡ some f)
+    module _ (w : ℕ) (q : Process) (sw : S w ≡ some q) (Q : Doing) (wQ : Goes (q .doing) Q) (c′ x : Name) (f : End) (lf : lookup c′ (q .held) ≡ some f)
         (z : f .channel ≡ e .channel) (s : f .side ≡ other (e .side)) (new : lookup x (q .held) ≡ none) (room : length (q .held) < heldLimit)
         (tQ : TypedDoing p (contextOf (retypedEnd c′ B (q .held) ++ ((x, d) ∷ []))) (isSome (q .link)) Q) where
       w0 : w ≢ 0
       w0 = above G w q sw
 
       hw : Has S o w (tipOf f)
-      hw = held-tip G w q sw (c′, f) (lookup-in c′ (q .held) f lf)
+      hw = held-tip G w q sw (c′, f) (lookup-in c′ (q .held) lf)
 
       uw : u ≢ w
       uw = ends-apart G u w e f z s hu hw u0 w0
@@ -142,8 +144,9 @@ module _ {p : Program} {S : Roster} {o : List Outside} {given next : ℕ} (G : G
       unfolding names
       taker-fine = record {
         typed = tQ;
-        names = subst NoneTwice (sym (names-append (retypedEnd c′ B (q .held)) ((x, d) ∷ [])))
-            (once-snoc (names (retypedEnd c′ B (q .held))) x (subst NoneTwice (sym same-names) (g .names)) (λ m. absent x (q .held) new (subst (In x) same-names m)));
+        names = subst (NamesOf Q) (sym (names-append (retypedEnd c′ B (q .held)) ((x, d) ∷ [])))
+            (names-snoc Q (names (retypedEnd c′ B (q .held))) x (subst (NamesOf Q) (sym same-names) (wQ .names (names (q .held)) (g .names)))
+            (λ m. absent x (q .held) new (subst (In x) same-names m)));
         keys = subst NoneTwice (sym (map-append keyAt (retypedEnd c′ B (q .held)) ((x, d) ∷ [])))
             (once-snoc (map keyAt (retypedEnd c′ B (q .held))) (key d) (subst NoneTwice (sym (retyped-keys c′ B (q .held))) (g .keys)) no-key);
         room = subst (λ n. n ≤ heldLimit) (sym (length-snoc (retypedEnd c′ B (q .held)) (x, d) ∙ ap suc (changed-length c′ _ (q .held)))) room;
@@ -163,11 +166,11 @@ module _ {p : Program} {S : Roster} {o : List Outside} {given next : ℕ} (G : G
 
           chan : (y : Name × End) → In y (retypedEnd c′ B (q .held)) ⊎ In y ((x, d) ∷ []) → y .1 .channel < channelPlaces
           chan y (inl i) = retyped-channels c′ B (q .held) channelPlaces (g .channels) y i
-          chan y (inr i) = subst (λ (y : Name × End). y .1 .channel < channelPlaces) (sym (List·Memᴰ·eq-of-singleton i)) (G .fine u r su .channels (a, d) (lookup-in a (r .held) d la))
+          chan y (inr i) = subst (λ (y : Name × End). y .1 .channel < channelPlaces) (sym (List·Memᴰ·eq-of-singleton i)) (G .fine u r su .channels (a, d) (lookup-in a (r .held) la))
 
       taker : Change p (Moved R (keyOf d ∷ []) u w) w (S w) (some (process Q (retypedEnd c′ B (q .held) ++ ((x, d) ∷ [])) (q .link)))
       taker =
-          becomes G (Moved R (keyOf d ∷ []) u w) w q sw Q (retypedEnd c′ B (q .held) ++ ((x, d) ∷ [])) wQ taker-fine
+          becomes G (Moved R (keyOf d ∷ []) u w) w q sw Q (retypedEnd c′ B (q .held) ++ ((x, d) ∷ [])) (wQ .waits) taker-fine
           (λ y i. taken y (List·Memᴰ·append-cases (retypedEnd c′ B (q .held)) i))
           (λ h s t. else-stays w w (linkTip h s) (λ y. uw (sym y)) t (λ y. channel-no-link (e .channel) h (sym y)))
 
@@ -182,7 +185,7 @@ module _ {p : Program} {S : Roster} {o : List Outside} {given next : ℕ} (G : G
           off s m = go (passed-end far-u .2)
             where
               same : channelKey (d .channel) ≡ k
-              same = sym (ap (λ (q : Key). q .0) (List·Memᴰ·eq-of-singleton m))
+              same = sym (ap keyNumber (List·Memᴰ·eq-of-singleton m))
 
               go : ((channelKey (d .channel) ≡ k) × (some (d .type) ≡ some B)) ⊎ ((channelKey (d .channel) ≢ k) × (some (d .type) ≡ passed-end far-u .0)) → ⊥
               go (inr y) = y .0 same
@@ -193,10 +196,19 @@ module _ {p : Program} {S : Roster} {o : List Outside} {given next : ℕ} (G : G
                   two (inr h) = far-u (some (d .type)) (subst (λ q. Has S o u (q, some (d .type))) h ha)
 
           between : (t : Side) → e .side ≡ t → Between (G .witness .own) k u w
-          between provided y = inl (ap (λ t. G .witness .own (k, t)) (sym y) ∙ near-owner G u w e f z s hu hw u0 w0, ap (λ t. G .witness .own (k, other t)) (sym y) ∙ far-owner G u w e f z s hu hw u0 w0)
-          between used y = inr (ap (λ t. G .witness .own (k, other t)) (sym y) ∙ far-owner G u w e f z s hu hw u0 w0, ap (λ t. G .witness .own (k, t)) (sym y) ∙ near-owner G u w e f z s hu hw u0 w0)
+          between provided y = inl (
+            ap (λ t. G .witness .own (k, t)) (sym y) ∙ near-owner G u w e f z s hu hw u0 w0,
+            ap (λ t. G .witness .own (k, other t)) (sym y)
+                ∙ far-owner G u w e f z s hu hw u0 w0,
+          )
+          between used y = inr (
+            ap (λ t. G .witness .own (k, other t)) (sym y) ∙ far-owner G u w e f z s hu hw u0 w0,
+            ap (λ t. G .witness .own (k, t)) (sym y)
+                ∙ near-owner G u w e f z s hu hw u0 w0,
+          )
 
-      pub passed : Good p (put w (some (process Q (retypedEnd c′ B (q .held) ++ ((x, d) ∷ [])) (q .link))) (put u (some (process P (retypedEnd c B (without a (r .held))) (r .link))) S)) o given next
+      pub passed : Good p (put w (some (process Q (retypedEnd c′ B (q .held) ++ ((x, d) ∷ [])) (q .link)))
+          (put u (some (process P (retypedEnd c B (without a (r .held))) (r .link))) S)) o given next
       passed =
           two-good G moving u w (process P (retypedEnd c B (without a (r .held))) (r .link)) (process Q (retypedEnd c′ B (q .held) ++ ((x, d) ∷ [])) (q .link))
           (sender far-u w) taker (λ v t nu nw h. else-stays v w t nu h (λ y. rest v t nu nw (whose G u v e hu t h y))) u0 w0
@@ -210,9 +222,11 @@ module _ {p : Program} {S : Roster} {o : List Outside} {given next : ℕ} (G : G
         → Good p (put u (some (process P (retypedEnd c B (without a (r .held))) (r .link))) S) o′ given next
     passed-unheard far {o′} sub =
         one-good G (retyping (G .witness) k (some B)) u (process P (retypedEnd c B (without a (r .held))) (r .link))
-        (becomes G R u r su P (retypedEnd c B (without a (r .held))) wP (sender-fine (far u)) (λ x i. sender-end (far u) x i .0) (λ h s t. retyped-off (Has S o) u (linkTip h s) t (λ z. channel-no-link (e .channel) h (sym z))))
+        (becomes G R u r su P (retypedEnd c B (without a (r .held))) (wP .waits) (sender-fine (far u)) (λ x i. sender-end (far u) x i .0)
+        (λ h s t. retyped-off (Has S o) u (linkTip h s) t (λ z. channel-no-link (e .channel) h (sym z))))
         (λ v t nu _ h. retyped-off (Has S o) v t h (λ y. rest v t nu (whose G u v e hu t h y)))
-        (λ y i. let h : Has S o 0 (outsideTip y) = outside refl y (sub-in sub i) refl in retyped-off (Has S o) 0 (outsideTip y) h (λ z. rest 0 (outsideTip y) (λ k. u0 (sym k)) (whose G u 0 e hu (outsideTip y) h z)))
+        (λ y i. let h : Has S o 0 (outsideTip y) = outside refl y (sub-in sub i) refl in retyped-off (Has S o) 0 (outsideTip y) h
+        (λ z. rest 0 (outsideTip y) (λ k. u0 (sym k)) (whose G u 0 e hu (outsideTip y) h z)))
         (fair-less (G .fair) sub)
       where
         rest : (v : ℕ) (t : Tip) → v ≢ u → (v ≡ u) ⊎ Has S o v ((k, other (e .side)), t .1) → ⊥
@@ -272,7 +286,7 @@ module _ {p : Program} {S : Roster} {o : List Outside} {given next : ℕ} (G : G
         below = λ x j. last (λ x. x .number < suc given) (λ x j. let b = f₁ .below x j in omega arith) (omega arith) x (List·Memᴰ·append-cases o₁ j);
         rising = subst (Rising 0) (sym (map-append _ o₁ (shown ∷ []))) (rising-snoc (map (λ (x : Outside). x .number) o₁) 0 given (f₁ .rising) (omega arith) num);
         keys = subst NoneTwice (sym (map-append _ o₁ (shown ∷ []))) (once-snoc (map (λ (x : Outside). x .channel) o₁) (d .channel) (f₁ .keys) fresh);
-        channels = λ x j. last (λ x. x .channel < channelPlaces) (f₁ .channels) (G .fine u r su .channels (a, d) (lookup-in a (r .held) d la)) x (List·Memᴰ·append-cases o₁ j);
+        channels = λ x j. last (λ x. x .channel < channelPlaces) (f₁ .channels) (G .fine u r su .channels (a, d) (lookup-in a (r .held) la)) x (List·Memᴰ·append-cases o₁ j);
       })
         where
           last : (Q : Outside → Type 0) → ((x : Outside) → In x o₁ → Q x) → Q shown → (x : Outside) → In x o₁ ⊎ In x (shown ∷ []) → Q x

@@ -1,142 +1,55 @@
 -- Places and identities: the list of processes shows a roster, and what the machine does to the list is done to the roster.
 use mathlib.Core.Path.{_≡_, refl, sym, _∙_, ap, subst}
 use mathlib.Core.Logic.{_≢_, _⊎_, inl, inr}
-use mathlib.Core.List.{List, [], _∷_, _++_, map}
+use mathlib.Core.List.{List, map}
 use mathlib.Core.Option.{Option, some, none, Option·map, Option·none-ne-some, Option·some-injective, map-eq-some-iff}
-use mathlib.Core.Bool.{Bool, true, false, cond}
-use Prim.Native.Nat.{ℕ, zero, suc, _+_, _-_, _≤_, _<_}
+use mathlib.Core.Bool.{true, false, cond}
+use Prim.Native.Nat.{ℕ, zero, suc, _-_, _≤_, _<_}
 use native.Mathlib.Omega.{arith}
-use native.Mathlib.Decide.{ℕ-discrete}
-use lib.ListN.{length, take, drop, set, getElem?, length-set, length-map, length-append, length-take, length-drop}
+use native.Mathlib.Decide.{ℕ-discrete, decLt}
+use lib.ListN.{length, set, getElem?, length-set, length-map}
 use lib.Dec.{ltb}
 use Rattle.calculus.specs.Configuration.{Process, process, movedUp, movedDown, relinked, inserted, removed}
 use Rattle.derivations.specs.Booleans.{bool-cases, cond-true, cond-false, ltb-iff}
+use Rattle.holding.specs.Lists.{found-below, below-found, set-at, set-off, set-cases, putIn, takeOut, in-low, in-here, in-high, out-low, out-high, length-in, length-removed, found-map, not-below}
 use Rattle.preservation.specs.Mates.{put, put-at, put-off, put-elim}
 use Rattle.preservation.specs.Roster.{Roster}
 
--- ── elements of lists
-module _ {A : Type 0} where
-  pub found-below : (l : List A) (i : ℕ) {a : A} → getElem? l i ≡ some a → i < length l
-  found-below [] i {a} e = absurd (Option·none-ne-some a e)
-  found-below (x ∷ l) zero e = omega arith
-  found-below (x ∷ l) (suc i) e = omega (arith, found-below l i e)
-
-  pub below-found : (l : List A) (i : ℕ) → i < length l → (a : A) × (getElem? l i ≡ some a)
-  below-found [] i h = absurd (omega arith)
-  below-found (x ∷ l) zero h = (x, refl)
-  below-found (x ∷ l) (suc i) h = below-found l i (omega arith)
-
-  pub set-at : (l : List A) (i : ℕ) (a : A) → i < length l → getElem? (set l i a) i ≡ some a
-  set-at [] i a h = absurd (omega arith)
-  set-at (x ∷ l) zero a h = refl
-  set-at (x ∷ l) (suc i) a h = set-at l i a (omega arith)
-
-  pub set-off : (l : List A) (i j : ℕ) (a : A) → j ≢ i → getElem? (set l i a) j ≡ getElem? l j
-  set-off [] i j a n = refl
-  set-off (x ∷ l) zero zero a n = absurd (n refl)
-  set-off (x ∷ l) zero (suc j) a n = refl
-  set-off (x ∷ l) (suc i) zero a n = refl
-  set-off (x ∷ l) (suc i) (suc j) a n = set-off l i j a (λ e. n (ap suc e))
-
-  -- an element after one was replaced: the new one, or an old one elsewhere
-  pub set-cases : (l : List A) (i : ℕ) (a : A) → i < length l → (j : ℕ) (r : A) → getElem? (set l i a) j ≡ some r → ((j ≡ i) × (a ≡ r)) ⊎ ((j ≢ i) × (getElem? l j ≡ some r))
-  set-cases l i a h j r e = go (ℕ-discrete j i)
-    where
-      go : Dec (j ≡ i) → ((j ≡ i) × (a ≡ r)) ⊎ ((j ≢ i) × (getElem? l j ≡ some r))
-      go (yes z) = inl (z, Option·some-injective a r (sym (set-at l i a h) ∙ ap (getElem? (set l i a)) (sym z) ∙ e))
-      go (no n) = inr (n, sym (set-off l i j a n) ∙ e)
-
-  -- an element put in at n, and the one at n taken out
-  abbrev pub putIn : ℕ → A → List A → List A
-  putIn n a l = take n l ++ (a ∷ drop n l)
-
-  abbrev pub takeOut : ℕ → List A → List A
-  takeOut n l = take n l ++ drop (suc n) l
-
-  in-low : (n : ℕ) (a : A) (l : List A) (j : ℕ) → n ≤ length l → j < n → getElem? (putIn n a l) j ≡ getElem? l j
-  in-low zero a l j h k = absurd (omega arith)
-  in-low (suc n) a [] j h k = absurd (omega arith)
-  in-low (suc n) a (x ∷ l) zero h k = refl
-  in-low (suc n) a (x ∷ l) (suc j) h k = in-low n a l j (omega arith) (omega arith)
-
-  in-here : (n : ℕ) (a : A) (l : List A) → n ≤ length l → getElem? (putIn n a l) n ≡ some a
-  in-here zero a l h = refl
-  in-here (suc n) a [] h = absurd (omega arith)
-  in-here (suc n) a (x ∷ l) h = in-here n a l (omega arith)
-
-  in-high : (n : ℕ) (a : A) (l : List A) (j : ℕ) → n ≤ length l → n ≤ j → getElem? (putIn n a l) (suc j) ≡ getElem? l j
-  in-high zero a l j h k = refl
-  in-high (suc n) a [] j h k = absurd (omega arith)
-  in-high (suc n) a (x ∷ l) zero h k = absurd (omega arith)
-  in-high (suc n) a (x ∷ l) (suc j) h k = in-high n a l j (omega arith) (omega arith)
-
-  out-low : (n : ℕ) (l : List A) (j : ℕ) → j < n → getElem? (takeOut n l) j ≡ getElem? l j
-  out-low zero l j k = absurd (omega arith)
-  out-low (suc n) [] j k = refl
-  out-low (suc n) (x ∷ l) zero k = refl
-  out-low (suc n) (x ∷ l) (suc j) k = out-low n l j (omega arith)
-
-  out-high : (n : ℕ) (l : List A) (j : ℕ) → n ≤ j → getElem? (takeOut n l) j ≡ getElem? l (suc j)
-  out-high zero [] j k = refl
-  out-high zero (x ∷ l) j k = refl
-  out-high (suc n) [] j k = refl
-  out-high (suc n) (x ∷ l) zero k = absurd (omega arith)
-  out-high (suc n) (x ∷ l) (suc j) k = out-high n l j (omega arith)
-
-  pub length-in : (n : ℕ) (a : A) (l : List A) → length (putIn n a l) ≡ suc (length l)
-  length-in zero a l = refl
-  length-in (suc n) a [] = refl
-  length-in (suc n) a (x ∷ l) = ap suc (length-in n a l)
-
-  pub length-out : (n : ℕ) (l : List A) → n < length l → suc (length (takeOut n l)) ≡ length l
-  length-out n [] h = absurd (omega arith)
-  length-out zero (x ∷ l) h = refl
-  length-out (suc n) (x ∷ l) h = ap suc (length-out n l (omega arith))
-
-found-map : {A B : Type 0} (f : A → B) (l : List A) (i : ℕ) → getElem? (map f l) i ≡ Option·map f (getElem? l i)
-found-map f [] i = refl
-found-map f (x ∷ l) zero = refl
-found-map f (x ∷ l) (suc i) = found-map f l i
-
 -- ── where a place goes
-pub up-cases : (i h : ℕ) → ((i < h) × (movedUp i h ≡ suc h)) ⊎ ((h ≤ i) × (movedUp i h ≡ h))
-up-cases i h = go (bool-cases (ltb i h))
+-- a choice by whether one place is before another
+tested : (i j : ℕ) (a b : ℕ) → ((i < j) × (cond (ltb i j) a b ≡ a)) ⊎ ((j ≤ i) × (cond (ltb i j) a b ≡ b))
+tested i j a b = go (bool-cases (ltb i j))
   where
-    go : (ltb i h ≡ true) ⊎ (ltb i h ≡ false) → ((i < h) × (movedUp i h ≡ suc h)) ⊎ ((h ≤ i) × (movedUp i h ≡ h))
-    go (inl e) = inl (ltb-iff i h .0 e, cond-true _ _ e)
-    go (inr e) = inr (not-below e, cond-false _ _ e)
-      where
-        not-below : ltb i h ≡ false → h ≤ i
-        not-below e = let n : ¬ (i < h) = λ k. mathlib.Core.Bool.false≢true (sym e ∙ ltb-iff i h .1 k) in omega arith
+    go : (ltb i j ≡ true) ⊎ (ltb i j ≡ false) → ((i < j) × (cond (ltb i j) a b ≡ a)) ⊎ ((j ≤ i) × (cond (ltb i j) a b ≡ b))
+    go (inl e) = inl (ltb-iff i j .0 e, cond-true a b e)
+    go (inr e) = inr (not-below i j .0 e, cond-false a b e)
 
-pub down-cases : (i h : ℕ) → ((i < h) × (movedDown i h ≡ h - 1)) ⊎ ((h ≤ i) × (movedDown i h ≡ h))
-down-cases i h = go (bool-cases (ltb i h))
-  where
-    go : (ltb i h ≡ true) ⊎ (ltb i h ≡ false) → ((i < h) × (movedDown i h ≡ h - 1)) ⊎ ((h ≤ i) × (movedDown i h ≡ h))
-    go (inl e) = inl (ltb-iff i h .0 e, cond-true _ _ e)
-    go (inr e) = inr (not-below e, cond-false _ _ e)
-      where
-        not-below : ltb i h ≡ false → h ≤ i
-        not-below e = let n : ¬ (i < h) = λ k. mathlib.Core.Bool.false≢true (sym e ∙ ltb-iff i h .1 k) in omega arith
+abbrev Up : ℕ → ℕ → Type 0
+Up i h = ((i < h) × (movedUp i h ≡ suc h)) ⊎ ((h ≤ i) × (movedUp i h ≡ h))
+
+up-cases : (i h : ℕ) → Up i h
+up-cases i h = tested i h (suc h) h
+
+abbrev Down : ℕ → ℕ → Type 0
+Down i h = ((i < h) × (movedDown i h ≡ h - 1)) ⊎ ((h ≤ i) × (movedDown i h ≡ h))
+
+down-cases : (i h : ℕ) → Down i h
+down-cases i h = tested i h (h - 1) h
 
 -- the place that goes to j when place i is taken out
 abbrev skip : ℕ → ℕ → ℕ
 skip i j = cond (ltb j i) j (suc j)
 
-skip-cases : (i j : ℕ) → ((j < i) × (skip i j ≡ j)) ⊎ ((i ≤ j) × (skip i j ≡ suc j))
-skip-cases i j = go (bool-cases (ltb j i))
-  where
-    go : (ltb j i ≡ true) ⊎ (ltb j i ≡ false) → ((j < i) × (skip i j ≡ j)) ⊎ ((i ≤ j) × (skip i j ≡ suc j))
-    go (inl e) = inl (ltb-iff j i .0 e, cond-true _ _ e)
-    go (inr e) = inr (not-below e, cond-false _ _ e)
-      where
-        not-below : ltb j i ≡ false → i ≤ j
-        not-below e = let n : ¬ (j < i) = λ k. mathlib.Core.Bool.false≢true (sym e ∙ ltb-iff j i .1 k) in omega arith
+abbrev Skip : ℕ → ℕ → Type 0
+Skip i j = ((j < i) × (skip i j ≡ j)) ⊎ ((i ≤ j) × (skip i j ≡ suc j))
+
+skip-cases : (i j : ℕ) → Skip i j
+skip-cases i j = tested j i j (suc j)
 
 down-up : (i h : ℕ) → (movedUp i h ≢ suc i) × (movedDown i (movedUp i h) ≡ h)
 down-up i h = go (up-cases i h) (down-cases i (movedUp i h))
   where
-    go : ((i < h) × (movedUp i h ≡ suc h)) ⊎ ((h ≤ i) × (movedUp i h ≡ h)) → ((i < movedUp i h) × (movedDown i (movedUp i h) ≡ movedUp i h - 1)) ⊎ ((movedUp i h ≤ i) × (movedDown i (movedUp i h) ≡ movedUp i h))
+    go : Up i h → Down i (movedUp i h)
         → (movedUp i h ≢ suc i) × (movedDown i (movedUp i h) ≡ h)
     go (inl a) (inl b) = let a0 = a .0 in let a1 = a .1 in let b1 = b .1 in ((λ e. omega arith), omega arith)
     go (inl a) (inr b) = let a0 = a .0 in let a1 = a .1 in let b0 = b .0 in absurd (omega arith)
@@ -146,7 +59,7 @@ down-up i h = go (up-cases i h) (down-cases i (movedUp i h))
 skip-down : (i h : ℕ) → h ≢ i → skip i (movedDown i h) ≡ h
 skip-down i h n = go (down-cases i h) (skip-cases i (movedDown i h))
   where
-    go : ((i < h) × (movedDown i h ≡ h - 1)) ⊎ ((h ≤ i) × (movedDown i h ≡ h)) → ((movedDown i h < i) × (skip i (movedDown i h) ≡ movedDown i h)) ⊎ ((i ≤ movedDown i h) × (skip i (movedDown i h) ≡ suc (movedDown i h)))
+    go : Down i h → Skip i (movedDown i h)
         → skip i (movedDown i h) ≡ h
     go (inl a) (inl b) = let a0 = a .0 in let a1 = a .1 in let b0 = b .0 in absurd (omega arith)
     go (inl a) (inr b) = let a0 = a .0 in let a1 = a .1 in let b1 = b .1 in omega arith
@@ -167,7 +80,13 @@ pub record Shows (id : ℕ → ℕ) (l : List Process) (S : Roster) : Type 0 whe
 module _ {id : ℕ → ℕ} {l : List Process} {S : Roster} (s : Shows id l S) where
   -- ── the process at place i is replaced
   pub shows-set : (i : ℕ) → i < length l → (q : Process) → ((h : ℕ) → q .link ≡ some h → h < length l) → Shows id (set l i q) (put (id i) (some (relinked id q)) S)
-  shows-set i h q k = record { there = there′; back = put-elim (Back id (set l i q)) (id i) (some (relinked id q)) S (λ r e. (i, q, set-at l i q h, refl)) back′; apart = apart′; within = within′ }
+  shows-set i h q k = record {
+    there = there′;
+    back = put-elim (Back id (set l i q)) (id i) (some (relinked id q)) S
+        (λ r e. (i, q, set-at l i q h, refl)) back′;
+    apart = apart′;
+    within = within′;
+  }
     where
       len : length (set l i q) ≡ length l
       len = length-set l i q
@@ -207,7 +126,7 @@ module _ {id : ℕ → ℕ} {l : List Process} {S : Roster} (s : Shows id l S) w
   pub id-in-low : (i z : ℕ) → idIn i z i ≡ id i
   id-in-low i z = go (up-cases i i)
     where
-      go : ((i < i) × (movedUp i i ≡ suc i)) ⊎ ((i ≤ i) × (movedUp i i ≡ i)) → idIn i z i ≡ id i
+      go : Up i i → idIn i z i ≡ id i
       go (inl h) = let h0 = h .0 in absurd (omega arith)
       go (inr h) = ap (idIn i z) (sym (h .1)) ∙ id-in-up i z i
 
@@ -226,56 +145,56 @@ module _ {id : ℕ → ℕ} {l : List Process} {S : Roster} (s : Shows id l S) w
     len-m : length m ≡ length l
     len-m = length-map l (relinked (movedUp i))
 
+    -- the new one, or an old one where it went
+    abbrev InCase : ℕ → Process → Type 0
+    InCase j r = ((j ≡ suc i) × (q ≡ r)) ⊎ ((k : ℕ) × (r′ : Process) × (getElem? l k ≡ some r′) × (j ≡ movedUp i k) × (relinked (movedUp i) r′ ≡ r))
+
     old-in : (j : ℕ) (r : Process) → getElem? l j ≡ some r → getElem? (putIn (suc i) q m) (movedUp i j) ≡ some (relinked (movedUp i) r)
     old-in j r e = go (up-cases i j)
       where
         e′ : getElem? m j ≡ some (relinked (movedUp i) r)
         e′ = found-map (relinked (movedUp i)) l j ∙ ap (Option·map (relinked (movedUp i))) e
 
-        go : ((i < j) × (movedUp i j ≡ suc j)) ⊎ ((j ≤ i) × (movedUp i j ≡ j)) → getElem? (putIn (suc i) q m) (movedUp i j) ≡ some (relinked (movedUp i) r)
+        go : Up i j → getElem? (putIn (suc i) q m) (movedUp i j) ≡ some (relinked (movedUp i) r)
         go (inl z) = ap (getElem? (putIn (suc i) q m)) (z .1) ∙ in-high (suc i) q m j (omega (arith, len-m)) (z .0) ∙ e′
         go (inr z) = let z0 = z .0 in ap (getElem? (putIn (suc i) q m)) (z .1) ∙ in-low (suc i) q m j (omega (arith, len-m)) (omega arith) ∙ e′
 
-    in-old : (j : ℕ) (r : Process) → getElem? (putIn (suc i) q m) j ≡ some r → ((j ≡ suc i) × (q ≡ r)) ⊎ ((k : ℕ) × (r′ : Process) × (getElem? l k ≡ some r′) × (j ≡ movedUp i k) × (relinked (movedUp i) r′ ≡ r))
+    in-old : (j : ℕ) (r : Process) → getElem? (putIn (suc i) q m) j ≡ some r → InCase j r
     in-old j r e = go (ℕ-discrete j (suc i))
       where
-        from : (k : ℕ) → j ≡ movedUp i k → getElem? m k ≡ some r → ((j ≡ suc i) × (q ≡ r)) ⊎ ((k : ℕ) × (r′ : Process) × (getElem? l k ≡ some r′) × (j ≡ movedUp i k) × (relinked (movedUp i) r′ ≡ r))
+        from : (k : ℕ) → j ≡ movedUp i k → getElem? m k ≡ some r → InCase j r
         from k z y = let x = map-eq-some-iff {B = Process} (relinked (movedUp i)) (getElem? l k) .0 (sym (found-map (relinked (movedUp i)) l k) ∙ y) in inr (k, x .0, x .1, z, x .2)
 
-        past : (k : ℕ) → j ≡ suc k → i < k → ((j ≡ suc i) × (q ≡ r)) ⊎ ((k : ℕ) × (r′ : Process) × (getElem? l k ≡ some r′) × (j ≡ movedUp i k) × (relinked (movedUp i) r′ ≡ r))
+        past : (k : ℕ) → j ≡ suc k → i < k → InCase j r
         past k z y = from k (z ∙ sym (up (up-cases i k))) (sym (in-high (suc i) q m k (omega (arith, len-m)) y) ∙ ap (getElem? (putIn (suc i) q m)) (sym z) ∙ e)
           where
-            up : ((i < k) × (movedUp i k ≡ suc k)) ⊎ ((k ≤ i) × (movedUp i k ≡ k)) → movedUp i k ≡ suc k
+            up : Up i k → movedUp i k ≡ suc k
             up (inl x) = x .1
             up (inr x) = let x0 = x .0 in absurd (omega arith)
 
-        before : j ≤ i → ((j ≡ suc i) × (q ≡ r)) ⊎ ((k : ℕ) × (r′ : Process) × (getElem? l k ≡ some r′) × (j ≡ movedUp i k) × (relinked (movedUp i) r′ ≡ r))
+        before : j ≤ i → InCase j r
         before y = from j (sym (up (up-cases i j))) (sym (in-low (suc i) q m j (omega (arith, len-m)) (omega arith)) ∙ e)
           where
-            up : ((i < j) × (movedUp i j ≡ suc j)) ⊎ ((j ≤ i) × (movedUp i j ≡ j)) → movedUp i j ≡ j
+            up : Up i j → movedUp i j ≡ j
             up (inl x) = let x0 = x .0 in absurd (omega arith)
             up (inr x) = x .1
 
-        side : (j′ : ℕ) → j ≡ j′ → j ≢ suc i → ((j ≡ suc i) × (q ≡ r)) ⊎ ((k : ℕ) × (r′ : Process) × (getElem? l k ≡ some r′) × (j ≡ movedUp i k) × (relinked (movedUp i) r′ ≡ r))
+        side : (j′ : ℕ) → j ≡ j′ → j ≢ suc i → InCase j r
         side zero z n = before (omega arith)
-        side (suc k) z n = two (native.Mathlib.Decide.decLt i k)
+        side (suc k) z n = two (decLt i k)
           where
-            two : Dec (i < k) → ((j ≡ suc i) × (q ≡ r)) ⊎ ((k : ℕ) × (r′ : Process) × (getElem? l k ≡ some r′) × (j ≡ movedUp i k) × (relinked (movedUp i) r′ ≡ r))
+            two : Dec (i < k) → InCase j r
             two (yes y) = past k z y
             two (no y) = before (omega arith)
 
-        go : Dec (j ≡ suc i) → ((j ≡ suc i) × (q ≡ r)) ⊎ ((k : ℕ) × (r′ : Process) × (getElem? l k ≡ some r′) × (j ≡ movedUp i k) × (relinked (movedUp i) r′ ≡ r))
+        go : Dec (j ≡ suc i) → InCase j r
         go (yes z) = inl (z, Option·some-injective q r (sym (in-here (suc i) q m (omega (arith, len-m))) ∙ ap (getElem? (putIn (suc i) q m)) (sym z) ∙ e))
         go (no n) = side j refl n
-
-  pub length-inserted : (i : ℕ) (q : Process) → length (inserted i q l) ≡ suc (length l)
-  unfolding inserted
-  length-inserted i q = length-in (suc i) q (map (relinked (movedUp i)) l) ∙ ap suc (length-map l (relinked (movedUp i)))
 
   pub up-below : (i h : ℕ) → h < length l → movedUp i h < suc (length l)
   up-below i h b = go (up-cases i h)
     where
-      go : ((i < h) × (movedUp i h ≡ suc h)) ⊎ ((h ≤ i) × (movedUp i h ≡ h)) → movedUp i h < suc (length l)
+      go : Up i h → movedUp i h < suc (length l)
       go (inl z) = let z1 = z .1 in omega arith
       go (inr z) = let z1 = z .1 in omega arith
 
@@ -293,7 +212,7 @@ module _ {id : ℕ → ℕ} {l : List Process} {S : Roster} (s : Shows id l S) w
       there′ : (j : ℕ) (r : Process) → getElem? (putIn (suc i) q m′) j ≡ some r → put z (some (relinked (idIn i z) q)) S (idIn i z j) ≡ some (relinked (idIn i z) r)
       there′ j r e = go (in-old i h q j r e)
         where
-          go : ((j ≡ suc i) × (q ≡ r)) ⊎ ((k : ℕ) × (r′ : Process) × (getElem? l k ≡ some r′) × (j ≡ movedUp i k) × (relinked (movedUp i) r′ ≡ r)) → put z (some (relinked (idIn i z) q)) S (idIn i z j) ≡ some (relinked (idIn i z) r)
+          go : InCase i h q j r → put z (some (relinked (idIn i z) q)) S (idIn i z j) ≡ some (relinked (idIn i z) r)
           go (inl y) = put-at z (some (relinked (idIn i z) q)) S (idIn i z j) (ap (idIn i z) (y .0) ∙ id-in-new i z) ∙ ap (λ r. some (relinked (idIn i z) r)) (y .1)
           go (inr y) =
               let e : idIn i z j ≡ id (y .0) = ap (idIn i z) (y .3) ∙ id-in-up i z (y .0) in
@@ -309,7 +228,7 @@ module _ {id : ℕ → ℕ} {l : List Process} {S : Roster} (s : Shows id l S) w
       from : (j : ℕ) → j < length (putIn (suc i) q m′) → (j ≡ suc i) ⊎ ((k : ℕ) × (k < length l) × (j ≡ movedUp i k))
       from j b = let x = below-found (putIn (suc i) q m′) j b in go (in-old i h q j (x .0) (x .1))
         where
-          go : {r : Process} → ((j ≡ suc i) × (q ≡ r)) ⊎ ((k : ℕ) × (r′ : Process) × (getElem? l k ≡ some r′) × (j ≡ movedUp i k) × (relinked (movedUp i) r′ ≡ r)) → (j ≡ suc i) ⊎ ((k : ℕ) × (k < length l) × (j ≡ movedUp i k))
+          go : {r : Process} → InCase i h q j r → (j ≡ suc i) ⊎ ((k : ℕ) × (k < length l) × (j ≡ movedUp i k))
           go (inl y) = inl (y .0)
           go (inr y) = inr (y .0, found-below l (y .0) (y .2), y .3)
 
@@ -331,7 +250,7 @@ module _ {id : ℕ → ℕ} {l : List Process} {S : Roster} (s : Shows id l S) w
       within′ : (j : ℕ) (r : Process) → getElem? (putIn (suc i) q m′) j ≡ some r → (a : ℕ) → r .link ≡ some a → a < length (putIn (suc i) q m′)
       within′ j r e a w = subst (λ n. a < n) (sym len) (go (in-old i h q j r e))
         where
-          go : ((j ≡ suc i) × (q ≡ r)) ⊎ ((k : ℕ) × (r′ : Process) × (getElem? l k ≡ some r′) × (j ≡ movedUp i k) × (relinked (movedUp i) r′ ≡ r)) → a < suc (length l)
+          go : InCase i h q j r → a < suc (length l)
           go (inl y) = k a (ap (λ (r : Process). r .link) (y .1) ∙ w)
           go (inr y) =
               let x = map-eq-some-iff {B = ℕ} (movedUp i) (y .1 .link) .0 (ap (λ (r : Process). r .link) (y .4) ∙ w) in
@@ -345,28 +264,24 @@ module _ {id : ℕ → ℕ} {l : List Process} {S : Roster} (s : Shows id l S) w
   unfolding idOut
   id-out-down i h n = ap id (skip-down i h n)
 
-  pub length-removed : (i : ℕ) → i < length l → suc (length (removed i l)) ≡ length l
-  unfolding removed
-  length-removed i h = length-out i (map (relinked (movedDown i)) l) (omega (arith, length-map l (relinked (movedDown i)))) ∙ length-map l (relinked (movedDown i))
-
   skip-below : (i j n : ℕ) → i < suc n → j < n → skip i j < suc n
   skip-below i j n h k = go (skip-cases i j)
     where
-      go : ((j < i) × (skip i j ≡ j)) ⊎ ((i ≤ j) × (skip i j ≡ suc j)) → skip i j < suc n
+      go : Skip i j → skip i j < suc n
       go (inl z) = let z1 = z .1 in omega arith
       go (inr z) = let z1 = z .1 in omega arith
 
   down-below : (i h n : ℕ) → i < suc n → h < suc n → h ≢ i → movedDown i h < n
   down-below i h n a b c = go (down-cases i h)
     where
-      go : ((i < h) × (movedDown i h ≡ h - 1)) ⊎ ((h ≤ i) × (movedDown i h ≡ h)) → movedDown i h < n
+      go : Down i h → movedDown i h < n
       go (inl z) = let z0 = z .0 in let z1 = z .1 in omega arith
       go (inr z) = let z0 = z .0 in let z1 = z .1 in omega arith
 
   skip-one : (i a b : ℕ) → skip i a ≡ skip i b → a ≡ b
   skip-one i a b e = go (skip-cases i a) (skip-cases i b)
     where
-      go : ((a < i) × (skip i a ≡ a)) ⊎ ((i ≤ a) × (skip i a ≡ suc a)) → ((b < i) × (skip i b ≡ b)) ⊎ ((i ≤ b) × (skip i b ≡ suc b)) → a ≡ b
+      go : Skip i a → Skip i b → a ≡ b
       go (inl x) (inl y) = sym (x .1) ∙ e ∙ y .1
       go (inl x) (inr y) = let x0 = x .0 in let x1 = x .1 in let y0 = y .0 in let y1 = y .1 in absurd (omega arith)
       go (inr x) (inl y) = let x0 = x .0 in let x1 = x .1 in let y0 = y .0 in let y1 = y .1 in absurd (omega arith)
@@ -375,24 +290,30 @@ module _ {id : ℕ → ℕ} {l : List Process} {S : Roster} (s : Shows id l S) w
   skip-not : (i j : ℕ) → skip i j ≢ i
   skip-not i j e = go (skip-cases i j)
     where
-      go : ((j < i) × (skip i j ≡ j)) ⊎ ((i ≤ j) × (skip i j ≡ suc j)) → ⊥
+      go : Skip i j → ⊥
       go (inl z) = let z0 = z .0 in let z1 = z .1 in omega arith
       go (inr z) = let z0 = z .0 in let z1 = z .1 in omega arith
 
   pub shows-out : (i : ℕ) → i < length l → ((j : ℕ) (r : Process) → getElem? l j ≡ some r → r .link ≢ some i) → Shows (idOut i) (removed i l) (put (id i) none S)
   unfolding removed idOut
-  shows-out i h alone = record { there = there′; back = put-elim (Back (idOut i) (takeOut i m′)) (id i) none S (λ r e. absurd (Option·none-ne-some r e)) back′; apart = apart′; within = within′ }
+  shows-out i h alone = record {
+    there = there′;
+    back = put-elim (Back (idOut i) (takeOut i m′)) (id i) none S
+        (λ r e. absurd (Option·none-ne-some r e)) back′;
+    apart = apart′;
+    within = within′;
+  }
     where
       m′ : List Process
       m′ = map (relinked (movedDown i)) l
 
       len : suc (length (takeOut i m′)) ≡ length l
-      len = length-removed i h
+      len = length-removed i l h
 
       at-skip : (j : ℕ) → getElem? (takeOut i m′) j ≡ Option·map (relinked (movedDown i)) (getElem? l (skip i j))
       at-skip j = go (skip-cases i j)
         where
-          go : ((j < i) × (skip i j ≡ j)) ⊎ ((i ≤ j) × (skip i j ≡ suc j)) → getElem? (takeOut i m′) j ≡ Option·map (relinked (movedDown i)) (getElem? l (skip i j))
+          go : Skip i j → getElem? (takeOut i m′) j ≡ Option·map (relinked (movedDown i)) (getElem? l (skip i j))
           go (inl z) = out-low i m′ j (z .0) ∙ found-map (relinked (movedDown i)) l j ∙ ap (λ k. Option·map (relinked (movedDown i)) (getElem? l k)) (sym (z .1))
           go (inr z) = out-high i m′ j (z .0) ∙ found-map (relinked (movedDown i)) l (suc j) ∙ ap (λ k. Option·map (relinked (movedDown i)) (getElem? l k)) (sym (z .1))
 
@@ -410,8 +331,13 @@ module _ {id : ℕ → ℕ} {l : List Process} {S : Roster} (s : Shows id l S) w
       back′ : (v : ℕ) → v ≢ id i → (r : Process) → S v ≡ some r → (j : ℕ) × (q : Process) × (getElem? (takeOut i m′) j ≡ some q) × (id (skip i j) ≡ v)
       back′ v n r e =
           let b = s .back v r e in
-          let z : skip i (movedDown i (b .0)) ≡ b .0 = skip-down i (b .0) (λ z. n (sym (b .3) ∙ ap id z)) in
-          (movedDown i (b .0), relinked (movedDown i) (b .1), at-skip (movedDown i (b .0)) ∙ ap (λ k. Option·map (relinked (movedDown i)) (getElem? l k)) z ∙ ap (Option·map (relinked (movedDown i))) (b .2), ap id z ∙ b .3)
+          let z : skip i (movedDown i (b .0)) ≡ b .0 = skip-down i (b .0) (λ z. n (sym (b .3) ∙ ap id z)) in (
+            movedDown i (b .0),
+            relinked (movedDown i) (b .1),
+            at-skip (movedDown i (b .0)) ∙ ap (λ k. Option·map (relinked (movedDown i)) (getElem? l k)) z
+                ∙ ap (Option·map (relinked (movedDown i))) (b .2),
+            ap id z ∙ b .3,
+          )
 
       apart′ : (a b : ℕ) → a < length (takeOut i m′) → b < length (takeOut i m′) → id (skip i a) ≡ id (skip i b) → a ≡ b
       apart′ a b x y e =
@@ -423,4 +349,5 @@ module _ {id : ℕ → ℕ} {l : List Process} {S : Roster} (s : Shows id l S) w
           let x = from j r e in
           let y = map-eq-some-iff {B = ℕ} (movedDown i) (x .0 .link) .0 (ap (λ (r : Process). r .link) (x .2) ∙ w) in
           let b = s .within (skip i j) (x .0) (x .1) (y .0) (y .1) in
-          subst (λ a. a < length (takeOut i m′)) (y .2) (down-below i (y .0) (length (takeOut i m′)) (omega (arith, len)) (omega (arith, len)) (λ z. alone (skip i j) (x .0) (x .1) (y .1 ∙ ap some z)))
+          subst (λ a. a < length (takeOut i m′)) (y .2) (down-below i (y .0) (length (takeOut i m′)) (omega (arith, len)) (omega (arith, len))
+          (λ z. alone (skip i j) (x .0) (x .1) (y .1 ∙ ap some z)))

@@ -1,23 +1,25 @@
 -- The invariant that the rules keep, on identities: a process keeps its identity while places shift, and a link is the handler's identity.
 use mathlib.Core.Path.{_≡_, refl, sym, _∙_, ap, subst}
-use mathlib.Core.Logic.{_≢_, _⊎_, inl, inr}
-use mathlib.Core.List.{List, [], _∷_, _++_, map, List·Memᴰ·not-nil, Sublistᴰ}
+use mathlib.Core.Logic.{_≢_}
+use mathlib.Core.List.{List, map, Sublistᴰ, _++_, [], _∷_}
 use mathlib.Core.Option.{Option, some, none, Option·none-ne-some, Option·some-injective}
-use mathlib.Core.Bool.{Bool, true, false, true≢false}
-use Prim.Native.Nat.{ℕ, zero, suc, _+_, _≤_, _<_}
+use mathlib.Core.Bool.{Bool, true, false}
+use Prim.Native.Nat.{ℕ, suc, _+_, _≤_, _<_}
 use native.Mathlib.Omega.{arith}
 use lib.ListN.{length}
 use Rattle.notation.specs.Limits.{heldLimit, channelPlaces}
-use Rattle.notation.specs.Tree.{Name, Ty}
+use Rattle.notation.specs.Tree.{Name, Proc}
 use Rattle.calculus.specs.Named.{names, isSome}
 use Rattle.calculus.specs.Types.{Side, provided, used}
-use Rattle.calculus.specs.Program.{Slot, slot, Context, Program}
+use Rattle.calculus.specs.Program.{Context, Program}
 use Rattle.calculus.specs.Declarations.{outward}
 use Rattle.calculus.specs.Typing.{Typed}
 use Rattle.calculus.specs.Configuration.{End, end, Doing, running, folding, waiting, Process, process, Outside}
-use Rattle.calculus.specs.WellFormed.{In, NoneTwice, Rising, contextOf, key, isWaiting}
+use Rattle.calculus.specs.WellFormed.{In, NoneTwice, Rising, contextOf, isWaiting}
+use Rattle.holding.specs.Lists.{sub-in, sub-once, sub-length, once-snoc}
+use Rattle.holding.specs.Names.{names-map}
+use Rattle.holding.specs.Ends.{keyAt}
 use Rattle.preservation.specs.Witness.{Key, Tip, Rel, Witness, fewer}
-use Rattle.preservation.specs.Lists.{names-map, sub-in, sub-once, sub-length}
 use Rattle.preservation.specs.Mates.{put, put-elim, Profile, Mates, mates-same}
 
 -- the process of each identity; 0 is no process's: it is the outside's
@@ -68,12 +70,43 @@ TypedDoing p G link (running P) = Typed p G link P
 TypedDoing p G link folding = Unit {0}
 TypedDoing p G link (waiting Q) = Typed p G link Q
 
-abbrev pub keyAt : Name × End → ℕ × Side
-keyAt x = key (x .1)
+-- the names that a process holds differ, unless it folds up
+abbrev pub NamesOf : Doing → List Name → Type 0
+NamesOf (running P) ns = NoneTwice ns
+NamesOf folding ns = Unit {0}
+NamesOf (waiting Q) ns = NoneTwice ns
+
+-- a process that does d goes on to do d′, under the same names
+pub record Goes (d d′ : Doing) : Type 0 where
+  pub waits : isWaiting d ≡ isWaiting d′
+  pub names : (ns : List Name) → NamesOf d ns → NamesOf d′ ns
+
+pub record Runs (d : Doing) : Type 0 where
+  pub term : Proc
+  pub runs : d ≡ running term
+
+pub runs-on : {d : Doing} → Runs d → (P : Proc) → Goes d (running P)
+runs-on r P = record { waits = ap isWaiting (r .runs); names = λ ns n. subst (λ d. NamesOf d ns) (r .runs) n }
+
+pub folds : {d : Doing} → isWaiting d ≡ false → Goes d folding
+folds w = record { waits = w; names = λ ns n. tt }
+
+pub runs-awake : {d : Doing} → Runs d → isWaiting d ≡ false
+runs-awake r = ap isWaiting (r .runs)
+
+pub names-less : (d : Doing) {l m : List (Name × End)} → Sublistᴰ l m → NamesOf d (names m) → NamesOf d (names l)
+names-less (running P) {l} {m} s n = subst NoneTwice (sym (names-map l)) (sub-once (λ (e : Name × End). e .0) s (subst NoneTwice (names-map m) n))
+names-less folding s n = tt
+names-less (waiting P) {l} {m} s n = subst NoneTwice (sym (names-map l)) (sub-once (λ (e : Name × End). e .0) s (subst NoneTwice (names-map m) n))
+
+pub names-snoc : (d : Doing) (ns : List Name) (x : Name) → NamesOf d ns → ¬ In x ns → NamesOf d (ns ++ (x ∷ []))
+names-snoc (running P) ns x n f = once-snoc ns x n f
+names-snoc folding ns x n f = tt
+names-snoc (waiting P) ns x n f = once-snoc ns x n f
 
 pub record Fine (p : Program) (r : Process) : Type 0 where
   pub typed : TypedDoing p (contextOf (r .held)) (isSome (r .link)) (r .doing)
-  pub names : NoneTwice (names (r .held))
+  pub names : NamesOf (r .doing) (names (r .held))
   pub keys : NoneTwice (map keyAt (r .held))
   pub room : length (r .held) ≤ heldLimit
   pub channels : (x : Name × End) → In x (r .held) → x .1 .channel < channelPlaces
@@ -145,7 +178,8 @@ module _ {p : Program} {S : Roster} {o : List Outside} {given next : ℕ} (G : G
   pub one-good : {R : Rel} {o′ : List Outside} {given′ : ℕ} → Witness R next → (u : ℕ) (q : Process) → Change p R u (S u) (some q)
       → ((v : ℕ) (e : Tip) → v ≢ u → v ≢ 0 → Has S o v e → R v e) → ((y : Outside) → In y o′ → R 0 (outsideTip y)) → Fair p given′ o′ → Good p (put u (some q) S) o′ given′ next
   one-good {R} W u q c rest out f =
-      changed-good W (put-elim (λ v y. Change p R v (S v) y) u (some q) S c (λ v n. record { alike = refl; fine = λ r e. G .fine v r e; tips = λ r s e t. rest v e n (above v r s) (inside r s t) })) out f
+      changed-good W (put-elim (λ v y. Change p R v (S v) y) u (some q) S c
+      (λ v n. record { alike = refl; fine = λ r e. G .fine v r e; tips = λ r s e t. rest v e n (above v r s) (inside r s t) })) out f
     where
       above : (v : ℕ) (r : Process) → S v ≡ some r → v ≢ 0
       above v r s e = let b = G .placed v r s .0 in omega arith
@@ -160,10 +194,11 @@ module _ {p : Program} {S : Roster} {o : List Outside} {given next : ℕ} (G : G
       (λ y i. rest 0 (outsideTip y) (λ e. u0 (sym e)) (λ e. w0 (sym e)) (outside refl y i refl)) (G .fair)
 
 -- ── a process that holds less
-pub fine-less : {p : Program} {r : Process} → Fine p r → (d : Doing) {l : List (Name × End)} → Sublistᴰ l (r .held) → TypedDoing p (contextOf l) (isSome (r .link)) d → Fine p (process d l (r .link))
-fine-less {p} {r} f d {l} s t = record {
+pub fine-less : {p : Program} {r : Process} → Fine p r → (d : Doing) → Goes (r .doing) d → {l : List (Name × End)} → Sublistᴰ l (r .held) → TypedDoing p (contextOf l) (isSome (r .link)) d
+    → Fine p (process d l (r .link))
+fine-less {p} {r} f d w s t = record {
   typed = t;
-  names = subst NoneTwice (sym (names-map l)) (sub-once (λ (e : Name × End). e .0) s (subst NoneTwice (names-map (r .held)) (f .names)));
+  names = names-less d s (w .names (names (r .held)) (f .names));
   keys = sub-once keyAt s (f .keys);
   room = let a = f .room in let b = sub-length s in omega arith;
   channels = λ x i. f .channels x (sub-in s i);

@@ -1,33 +1,34 @@
 -- The configuration that a start makes keeps the invariant.
 use mathlib.Core.Path.{_≡_, refl, sym, _∙_, ap, subst}
 use mathlib.Core.Logic.{_≢_, _⊎_, inl, inr}
-use mathlib.Core.List.{List, [], _∷_, _++_, map, append-nil, List·Memᴰ·head, List·Memᴰ·tail, List·Memᴰ·not-nil, Memᴰ·map, Memᴰ·of-map, Memᴰ·cast}
+use mathlib.Core.List.{List, [], _∷_, _++_, map, append-nil, List·Memᴰ·head, List·Memᴰ·tail, List·Memᴰ·not-nil, Memᴰ·of-map}
 use mathlib.Core.Option.{Option, some, none, Option·none-ne-some, Option·some-injective}
-use mathlib.Core.Bool.{Bool, true, false, true≢false}
+use mathlib.Core.Bool.{true, false, true≢false}
 use Prim.Native.Nat.{ℕ, zero, suc, _+_, _≤_, _<_}
 use native.Mathlib.Omega.{arith}
 use native.Mathlib.Decide.{ℕ-discrete}
 use lib.ListN.{length, getElem?}
 use lib.Dec.{lit≤}
-use Rattle.notation.specs.Limits.{heldLimit, processPlaces, channelPlaces, outsideNumbers}
+use Rattle.notation.specs.Limits.{heldLimit, channelPlaces, outsideNumbers}
 use Rattle.notation.specs.Tree.{Name, Ty}
 use Rattle.calculus.specs.Named.{names, distinct, all}
-use Rattle.calculus.specs.Types.{Side, provided, used}
-use Rattle.calculus.specs.Program.{slot, Context, Signature, Program, onSide, signatureContext}
+use Rattle.calculus.specs.Types.{provided, used}
+use Rattle.calculus.specs.Program.{slot, Signature, Program, onSide, signatureContext}
 use Rattle.calculus.specs.Declarations.{outward, entryTypes}
 use Rattle.calculus.specs.Typing.{Typed, TypedBody}
-use Rattle.calculus.specs.Configuration.{End, end, running, Process, process, relinked, Outside, Config}
+use Rattle.calculus.specs.Configuration.{End, end, running, Process, process, relinked, Outside}
 use Rattle.calculus.specs.Runs.{startHeld, startOutside, startConfig}
-use Rattle.calculus.specs.WellFormed.{In, NoneTwice, Rising, contextOf, key, isWaiting, WellFormed}
+use Rattle.calculus.specs.WellFormed.{In, NoneTwice, Rising, contextOf, isWaiting, WellFormed}
 use Rattle.derivations.specs.Booleans.{all-iff}
-use Rattle.preservation.specs.Witness.{Key, Tip, Witness, side-clash}
-use Rattle.preservation.specs.Lists.{distinct-iff, once-by, search}
+use Rattle.holding.specs.Lists.{once-by, search}
+use Rattle.holding.specs.Names.{distinct-iff}
+use Rattle.holding.specs.Contexts.{context-names, context-length}
+use Rattle.holding.specs.Ends.{side-clash, keyAt}
+use Rattle.preservation.specs.Witness.{Key, Tip, Witness, tipNumber, tipSide, tipType, keyNumber}
 use Rattle.preservation.specs.Mates.{Quiet, quiet-none, quiet-some, mates-quiet}
-use Rattle.preservation.specs.Roster.{Roster, channelKey, channel-key-one, tipOf, outsideTip, Tips, holds, links, waits, Has, outside, inside, keyAt, Fine, Fair, profile, Good}
-use Rattle.preservation.specs.Contexts.{context-names, context-length}
-use Rattle.preservation.specs.Places.{Shows}
+use Rattle.preservation.specs.Roster.{Roster, channelKey, channel-key-one, Tips, holds, links, waits, Has, outside, inside, Fine, Fair, profile}
 use Rattle.preservation.specs.Invariant.{Inv}
-use Rattle.preservation.specs.WellFormed.{Named, inv-well-formed, inv-named}
+use Rattle.preservation.specs.WellFormed.{inv-well-formed}
 
 -- ── the channels of a start, from k on
 start-context : (k : ℕ) (l : List (Name × Ty Name)) → contextOf (startHeld k l) ≡ onSide provided l
@@ -44,7 +45,7 @@ start-end k (e ∷ l) x (List·Memᴰ·tail i) = let r = start-end (suc k) l x i
 start-keys : (k : ℕ) (l : List (Name × Ty Name)) → NoneTwice (map keyAt (startHeld k l))
 start-keys k [] = tt
 start-keys k (e ∷ l) = (
-  (λ m. let x = Memᴰ·of-map keyAt (startHeld (suc k) l) m in let b = start-end (suc k) l (x .0) (x .1) .0 in let c = ap (λ (q : ℕ × Side). q .0) (x .2) in omega arith),
+  (λ m. let x = Memᴰ·of-map keyAt (startHeld (suc k) l) m in let b = start-end (suc k) l (x .0) (x .1) .0 in let c = ap keyNumber (x .2) in omega arith),
   start-keys (suc k) l,
 )
 
@@ -54,7 +55,8 @@ start-other k [] y i = absurd (List·Memᴰ·not-nil i)
 start-other k (e ∷ l) y (List·Memᴰ·head h) = ((e .0, end provided k (e .1)), List·Memᴰ·head refl, ap (λ (y : Outside). y .channel) (sym h), ap (λ (y : Outside). y .type) (sym h))
 start-other k (e ∷ l) y (List·Memᴰ·tail i) = let r = start-other (suc k) l y i in (r .0, List·Memᴰ·tail (r .1), r .2, r .3)
 
-start-number : (k : ℕ) (l : List (Name × Ty Name)) (y : Outside) → In y (startOutside k l) → (y .number ≡ y .channel) × (k ≤ y .channel) × (y .channel < k + length l) × In (y .type) (entryTypes l)
+start-number : (k : ℕ) (l : List (Name × Ty Name)) (y : Outside) → In y (startOutside k l)
+    → (y .number ≡ y .channel) × (k ≤ y .channel) × (y .channel < k + length l) × In (y .type) (entryTypes l)
 start-number k [] y i = absurd (List·Memᴰ·not-nil i)
 start-number k (e ∷ l) y (List·Memᴰ·head h) =
     let c : y .channel ≡ k = ap (λ (y : Outside). y .channel) h in
@@ -104,16 +106,20 @@ module _ (p : Program) (s : Signature) (d : distinct (names (signatureContext s)
   at-one (suc (suc v)) r e = absurd (Option·none-ne-some r e)
 
   -- an end is provided by the process or used by the outside
-  ends-are : (v : ℕ) (e : Tip) → Has S O v e → (x : Name × End) × In x (startHeld 0 l) × (e .0 .0 ≡ channelKey (x .1 .channel)) × (e .1 ≡ some (x .1 .type)) × (((v ≡ 1) × (e .0 .1 ≡ provided)) ⊎ ((v ≡ 0) × (e .0 .1 ≡ used)))
+  ends-are : (v : ℕ) (e : Tip) → Has S O v e
+      → (x : Name × End) × In x (startHeld 0 l) × (e .0 .0 ≡ channelKey (x .1 .channel)) × (e .1 ≡ some (x .1 .type)) ×
+      (((v ≡ 1) × (e .0 .1 ≡ provided)) ⊎ ((v ≡ 0) × (e .0 .1 ≡ used)))
   ends-are v e (outside z y i h) =
       let x = start-other 0 l y i in
-      (x .0, x .1, ap (λ (t : Tip). t .0 .0) h ∙ ap channelKey (sym (x .2)), ap (λ (t : Tip). t .1) h ∙ ap some (sym (x .3)), inr (z, ap (λ (t : Tip). t .0 .1) h))
+      (x .0, x .1, ap tipNumber h ∙ ap channelKey (sym (x .2)), ap tipType h ∙ ap some (sym (x .3)), inr (z, ap tipSide h))
   ends-are v e (inside r w h) = go (at-one v r w) h
     where
-      go : (v ≡ 1) × (q ≡ r) → Tips v r e → (x : Name × End) × In x (startHeld 0 l) × (e .0 .0 ≡ channelKey (x .1 .channel)) × (e .1 ≡ some (x .1 .type)) × (((v ≡ 1) × (e .0 .1 ≡ provided)) ⊎ ((v ≡ 0) × (e .0 .1 ≡ used)))
+      go : (v ≡ 1) × (q ≡ r) → Tips v r e
+          → (x : Name × End) × In x (startHeld 0 l) × (e .0 .0 ≡ channelKey (x .1 .channel)) × (e .1 ≡ some (x .1 .type)) ×
+          (((v ≡ 1) × (e .0 .1 ≡ provided)) ⊎ ((v ≡ 0) × (e .0 .1 ≡ used)))
       go (z, y) (holds x i k) =
           let m : In x (startHeld 0 l) = subst (λ (r : Process). In x (r .held)) (sym y) i in
-          (x, m, ap (λ (t : Tip). t .0 .0) k, ap (λ (t : Tip). t .1) k, inl (z, ap (λ (t : Tip). t .0 .1) k ∙ start-end 0 l x m .2))
+          (x, m, ap tipNumber k, ap tipType k, inl (z, ap tipSide k ∙ start-end 0 l x m .2))
       go (z, y) (links h k _) = absurd (Option·none-ne-some h (ap (λ (r : Process). r .link) y ∙ k))
       go (z, y) (waits k _) = absurd (true≢false (sym k ∙ ap (λ (r : Process). isWaiting (r .doing)) (sym y)))
 
@@ -147,7 +153,8 @@ module _ (p : Program) (s : Signature) (d : distinct (names (signatureContext s)
       type : (v : ℕ) (e : Tip) → Has S O v e → (d : Dec ((x : Name × End) × In x (startHeld 0 l) × (channelKey (x .1 .channel) ≡ e .0 .0))) → typeIf d ≡ e .1
       type v e h (yes r) =
           let x = ends-are v e h in
-          let z : r .0 ≡ x .0 = once-by keyAt (start-keys 0 l) (r .1) (x .1) (λ j. (channel-key-one (r .0 .1 .channel) (x .0 .1 .channel) (r .2 ∙ x .2) j, (start-end 0 l (r .0) (r .1) .2 ∙ sym (start-end 0 l (x .0) (x .1) .2)) j)) in
+          let z : r .0 ≡ x .0 = once-by keyAt (start-keys 0 l) (r .1) (x .1)
+          (λ j. (channel-key-one (r .0 .1 .channel) (x .0 .1 .channel) (r .2 ∙ x .2) j, (start-end 0 l (r .0) (r .1) .2 ∙ sym (start-end 0 l (x .0) (x .1) .2)) j)) in
           ap (λ (x : Name × End). some (x .1 .type)) z ∙ sym (x .3)
       type v e h (no n) = let x = ends-are v e h in absurd (n (x .0, x .1, sym (x .2)))
 
@@ -209,6 +216,3 @@ module _ (p : Program) (s : Signature) (d : distinct (names (signatureContext s)
 
   pub start-well-formed : WellFormed p (startConfig s)
   start-well-formed = inv-well-formed start-inv
-
-  pub start-named : Named (startConfig s)
-  start-named = inv-named start-inv

@@ -1,6 +1,5 @@
 -- A step keeps the invariant: the dispatch over what a process does.
-use mathlib.Core.Path.{_≡_, refl, sym, ap}
-use mathlib.Core.List.{_++_}
+use mathlib.Core.Path.{_≡_, refl, ap}
 use mathlib.Core.Option.{Option, some, none, Option·map}
 use mathlib.Core.Bool.{true}
 use Prim.Native.Nat.{ℕ}
@@ -29,15 +28,15 @@ module _ {p : Program} (B : Bodies p) {C : Config} (I : Inv p C) (i : ℕ) (q : 
   term-keeps (sendUnit o c P) z t = send-keeps I i q here (running (sendUnit o c P)) z c closing P a-close
   term-keeps (sendChannel o c a P) z t = send-keeps I i q here (running (sendChannel o c a P)) z c (passes a) P a-channel
   term-keeps (sendLabel o c l P) z t = send-keeps I i q here (running (sendLabel o c l P)) z c (chooses l) P a-label
-  term-keeps (cancel o c P) z (cancels e d) = cancel-keeps I i q here (ap isWaiting z) c P d
-  term-keeps (spawn x A P Q) z (spawns nb bP bQ dP dQ) = spawn-keeps I i q here (ap isWaiting z) x A P Q bP bQ dP dQ
+  term-keeps (cancel o c P) z (cancels e d) = cancel-keeps I i q here (record { term = cancel o c P; runs = z }) c P d
+  term-keeps (spawn x A P Q) z (spawns nb bP bQ dP dQ) = spawn-keeps I i q here (record { term = spawn x A P Q; runs = z }) x A P Q bP bQ dP dQ
   term-keeps (recvUnit o c P) z t = receive-keeps I i q here (ap isWaiting z) c
   term-keeps (recvChannel o c x P) z t = receive-keeps I i q here (ap isWaiting z) c
   term-keeps (recvLabel o c bs) z t = receive-keeps I i q here (ap isWaiting z) c
   term-keeps (fwd o x c) z (forwards A D hx hc e w) = forward-keeps I i q here (ap isWaiting z) x c A D hx hc e
   term-keeps (call o f b xs ys) z (calls s e fx fy d w) = call-keeps I i q here (ap isWaiting z) f xs ys s e fx fy d (B .names (f .name) s e) (B .typed (f .name) s e)
-  term-keeps (raise o P) z (raises e d) = raise-keeps I i q here (ap isWaiting z) P e d
-  term-keeps (try o P Q) z (tries e dP dQ) = try-keeps I i q here (ap isWaiting z) P Q e dP dQ
+  term-keeps (raise o P) z (raises e d) = raise-keeps I i q here (record { term = raise o P; runs = z }) P e d
+  term-keeps (try o P Q) z (tries e dP dQ) = try-keeps I i q here (record { term = try o P Q; runs = z }) P Q e dP dQ
 
   doing-keeps : (d : Doing) → q .doing ≡ d → Keeps p (stepDoing p C i q d)
   doing-keeps (running P) z = term-keeps P z (typed-at I i q here (running P) z)

@@ -1,7 +1,6 @@
 -- What is typed without a link is typed with one.
-use mathlib.Core.Path.{_≡_, refl, sym, _∙_, ap, subst}
-use mathlib.Core.Bool.{Bool, true, false, false≢true}
-use Prim.Native.Nat.{ℕ}
+use mathlib.Core.Path.{_≡_, refl, sym, _∙_}
+use mathlib.Core.Bool.{Bool, false, false≢true}
 use Rattle.notation.specs.Tree.{Name, Alternatives, Proc, Branches}
 use Rattle.calculus.specs.Program.{Context, Program}
 use Rattle.calculus.specs.Typing.{Typed, sends-unit, recvs-unit, sends-channel, recvs-channel, sends-label, recvs-label, forwards, calls, spawns, tries, raises, cancels, empties, TypedBranches, last-branch, one-branch}

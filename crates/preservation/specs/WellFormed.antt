@@ -1,53 +1,54 @@
--- The invariant is well-formedness, where the names that each process holds are distinct.
+-- The invariant is well-formedness.
 use mathlib.Core.Path.{_≡_, refl, sym, _∙_, ap, subst}
 use mathlib.Core.Logic.{_↔_, _≢_, _⊎_, inl, inr, ite}
-use mathlib.Core.List.{List, [], _∷_, _++_, map, List·Memᴰ·head, List·Memᴰ·tail, List·Memᴰ·not-nil, List·Memᴰ·cases-cons, List·Memᴰ·append-cases, List·Memᴰ·eq-of-singleton, Memᴰ·map, Memᴰ·of-map, Memᴰ·cast, Memᴰ·append-left, Memᴰ·append-right}
+use mathlib.Core.List.{List, [], _∷_, _++_, map, List·Memᴰ·head, List·Memᴰ·tail, List·Memᴰ·not-nil, List·Memᴰ·append-cases, List·Memᴰ·eq-of-singleton, Memᴰ·map, Memᴰ·of-map, Memᴰ·cast, Memᴰ·append-left, Memᴰ·append-right}
 use mathlib.Core.Option.{Option, some, none, Option·map, Option·none-ne-some, Option·some-injective, map-eq-some-iff}
-use mathlib.Core.Bool.{Bool, true, false, true≢false, false≢true}
-use Prim.Native.Nat.{ℕ, zero, suc, pred, _+_, _≤_, _<_}
+use mathlib.Core.Bool.{Bool, true, false≢true}
+use Prim.Native.Nat.{ℕ, zero, suc, pred, _+_, _<_}
 use native.Mathlib.Omega.{arith}
 use native.Mathlib.Decide.{ℕ-discrete}
 use lib.ListN.{length, getElem?}
 use Rattle.notation.specs.Limits.{channelPlaces}
 use Rattle.notation.specs.Tree.{Name, Ty}
-use Rattle.calculus.specs.Named.{names, distinct, isSome}
-use Rattle.calculus.specs.Types.{Side, provided, used, sameType}
+use Rattle.calculus.specs.Named.{names, isSome}
+use Rattle.calculus.specs.Types.{Side, provided, used}
 use Rattle.calculus.specs.Program.{Context, Program}
 use Rattle.calculus.specs.Configuration.{End, end, Doing, running, folding, waiting, Process, relinked, Outside, Config}
-use Rattle.calculus.specs.Forest.{Joint, Forest, joints}
+use Rattle.calculus.specs.Forest.{Forest, joints}
 use Rattle.calculus.specs.WellFormed.{In, NoneTwice, contextOf, processEnds, outsideEnds, ends, key, TypedAs, isWaiting, Stands, WellFormed}
 use Rattle.graphs.specs.Graph.{decIn}
 use Rattle.graphs.specs.Moves.{thin}
 use Rattle.derivations.specs.Equality.{sameType-iff}
-use Rattle.preservation.specs.Witness.{Key, Tip, key-discrete, side-clash, joint, Witness}
-use Rattle.preservation.specs.Lists.{distinct-iff, once-append, search}
-use Rattle.preservation.specs.Mates.{Profile, Mates}
-use Rattle.preservation.specs.Roster.{Roster, channelKey, linkKey, channel-key-one, link-key-one, channel-no-link, tipOf, linkTip, outsideTip, Tips, holds, links, waits, Has, outside, inside, TypedDoing, keyAt, Fine, Fair, profile, Good}
+use Rattle.holding.specs.Lists.{once-append, search, map-append, found-below, once-left, once-right, once-apart}
+use Rattle.holding.specs.Names.{distinct-iff}
+use Rattle.holding.specs.Contexts.{context-names}
+use Rattle.holding.specs.Ends.{side-clash, keyAt, process-end, end-process, keys-of-process, one-process, keys-once, outside-end, end-outside, outside-keys, keys-outside}
+use Rattle.preservation.specs.Witness.{Key, Tip, key-discrete, joint, Witness, tipNumber, tipKey, tipType, keyNumber, keySide}
+use Rattle.preservation.specs.Mates.{Mates, link-of}
+use Rattle.preservation.specs.Roster.{Roster, channelKey, linkKey, channel-key-one, link-key-one, channel-no-link, tipOf, linkTip, outsideTip, Tips, holds, links, waits, Has, outside, inside, TypedDoing, Fine, Fair, profile, Good, NamesOf}
 use Rattle.preservation.specs.Retyping.{above, owner, one-type, key-of-key}
-use Rattle.preservation.specs.Passing.{map-append}
-use Rattle.preservation.specs.Places.{Shows, found-below}
-use Rattle.preservation.specs.Contexts.{context-names}
+use Rattle.preservation.specs.Places.{Shows}
 use Rattle.preservation.specs.Invariant.{Inv, at-roster, fine-at, handler}
-use Rattle.preservation.specs.Joints.{both, forest-back, forest-along, numbers, joints-are, numbers-once, numbers-live, numbers-all}
-use Rattle.preservation.specs.Ends.{once-left, once-right, once-apart, process-end, end-process, keys-of-process, one-holder, keys-once, outside-end, end-outside, outside-keys, keys-outside}
-
--- the names that a process holds are distinct, also where it folds up
-pub record Named (C : Config) : Type 0 where
-  pub named : (i : ℕ) (q : Process) → Stands C i q → distinct (names (q .held)) ≡ true
+use Rattle.preservation.specs.Joints.{forest-back, forest-along, numbers, joints-are, numbers-once, numbers-live, numbers-all}
 
 is-some-map : {A B : Type 0} (f : A → B) (o : Option A) → isSome (Option·map f o) ≡ isSome o
 is-some-map f none = refl
 is-some-map f (some x) = refl
 
-typed-as : (p : Program) (G : Context) (b : Bool) (d : Doing) → distinct (names G) ≡ true → TypedDoing p G b d → TypedAs p G b d
-typed-as p G b (running P) n t = (n, t)
+typed-as : (p : Program) (G : Context) (b : Bool) (d : Doing) → NamesOf d (names G) → TypedDoing p G b d → TypedAs p G b d
+typed-as p G b (running P) n t = (distinct-iff (names G) .1 n, t)
 typed-as p G b folding n t = tt
-typed-as p G b (waiting P) n t = (n, t)
+typed-as p G b (waiting P) n t = (distinct-iff (names G) .1 n, t)
 
 as-typed : (p : Program) (G : Context) (b : Bool) (d : Doing) → TypedAs p G b d → TypedDoing p G b d
 as-typed p G b (running P) t = t .1
 as-typed p G b folding t = tt
 as-typed p G b (waiting P) t = t .1
+
+as-names : (p : Program) (G : Context) (b : Bool) (d : Doing) → TypedAs p G b d → NamesOf d (names G)
+as-names p G b (running P) t = distinct-iff (names G) .0 (t .0)
+as-names p G b folding t = tt
+as-names p G b (waiting P) t = distinct-iff (names G) .0 (t .0)
 
 -- ── from the invariant
 module _ {p : Program} {C : Config} (I : Inv p C) where
@@ -76,12 +77,15 @@ module _ {p : Program} {C : Config} (I : Inv p C) where
   none-held-twice : NoneTwice (map key (ends C))
   none-held-twice =
       subst NoneTwice (sym (map-append key (processEnds (C .processes)) (outsideEnds (C .outside))))
-      (once-append (map key (processEnds (C .processes))) (map key (outsideEnds (C .outside))) (keys-once (C .processes) (λ j q e. fine-at I j q e .keys) one) (keys-outside (C .outside) (G .fair .keys)) disjoint)
+      (once-append (map key (processEnds (C .processes))) (map key (outsideEnds (C .outside))) (keys-once (C .processes) (λ j q e. fine-at I j q e .keys) one)
+      (keys-outside (C .outside) (G .fair .keys)) disjoint)
     where
-      one : (i j : ℕ) (q r : Process) → getElem? (C .processes) i ≡ some q → getElem? (C .processes) j ≡ some r → (x y : Name × End) → In x (q .held) → In y (r .held) → keyAt x ≡ keyAt y → i ≡ j
+      one : (i j : ℕ) (q r : Process) → getElem? (C .processes) i ≡ some q → getElem? (C .processes) j ≡ some r → (x y : Name × End) → In x (q .held) → In y (r .held)
+          → keyAt x ≡ keyAt y → i ≡ j
       one i j q r e f x y m n z =
           I .shows .apart i j (found-below (C .processes) i e) (found-below (C .processes) j f)
-          (owner G (I .id i) (I .id j) _ _ (some (y .1 .type)) (held-at i q e x m) (subst (λ k. Has S (C .outside) (I .id j) (k, some (y .1 .type))) (sym (key-of-key (x .1) (y .1) z)) (held-at j r f y n)))
+          (owner G (I .id i) (I .id j) _ _ (some (y .1 .type)) (held-at i q e x m)
+          (subst (λ k. Has S (C .outside) (I .id j) (k, some (y .1 .type))) (sym (key-of-key (x .1) (y .1) z)) (held-at j r f y n)))
 
       disjoint : (k : ℕ × Side) → In k (map key (processEnds (C .processes))) → In k (map key (outsideEnds (C .outside))) → ⊥
       disjoint k a b =
@@ -107,23 +111,25 @@ module _ {p : Program} {C : Config} (I : Inv p C) where
       go v none z y = absurd (Option·none-ne-some _ (sym (ap profile z) ∙ y))
       go v (some r′) z y =
           let b = I .shows .back v r′ z in
-          let k : Option·map (I .id) (b .1 .link) ≡ some (I .id h) = ap (λ (x : Option ℕ × Bool). x .0) (Option·some-injective _ _ (sym (profile-of (b .0) (b .1) (b .2)) ∙ ap (λ v. profile (S v)) (b .3) ∙ y)) in
+          let k : Option·map (I .id) (b .1 .link) ≡ some (I .id h) = link-of (sym (profile-of (b .0) (b .1) (b .2)) ∙ ap (λ v. profile (S v)) (b .3) ∙ y) in
           let n = map-eq-some-iff {B = ℕ} (I .id) (b .1 .link) .0 k in
           (b .0, b .1, record { there = b .2 }, n .1 ∙ ap some (I .shows .apart (n .0) h (I .shows .within (b .0) (b .1) (b .2) (n .0) (n .1)) (found-below (C .processes) h e) (n .2)))
 
   pub inv-well-formed : WellFormed p C
   inv-well-formed = record {
     typed = λ i q s. let f = fine-at I i q (s .there) in
-        typed-as p (contextOf (q .held)) (isSome (q .link)) (q .doing) (ap distinct (context-names (q .held)) ∙ distinct-iff (names (q .held)) .1 (f .names))
+        typed-as p (contextOf (q .held)) (isSome (q .link)) (q .doing) (subst (NamesOf (q .doing)) (sym (context-names (q .held))) (f .names))
         (subst (λ b. TypedDoing p (contextOf (q .held)) b (q .doing)) (is-some-map (I .id) (q .link)) (f .typed));
     once = none-held-twice;
     oneType = λ e d m n z. let u = end-has e m in let v = end-has d n in sameType-iff (e .type) (d .type) .1 (one-type G (u .0) (v .0) e d z (u .1) (v .1));
     links = λ i q s h z. let r = handler I i q (s .there) h z in (r .0, record { there = r .1 }, r .2);
     linked = λ h r s w. linker h r (s .there) w;
     linkedOnce = λ i j q r s t h z y. I .shows .apart i j (found-below (C .processes) i (s .there)) (found-below (C .processes) j (t .there))
-        (G .mates .once (I .id i) (I .id j) (I .id h) _ _ (profile-of i q (s .there) ∙ ap (λ o. some (Option·map (I .id) o, isWaiting (q .doing))) z) (profile-of j r (t .there) ∙ ap (λ o. some (Option·map (I .id) o, isWaiting (r .doing))) y));
+        (G .mates .once (I .id i) (I .id j) (I .id h) _ _ (profile-of i q (s .there) ∙ ap (λ o. some (Option·map (I .id) o, isWaiting (q .doing))) z)
+        (profile-of j r (t .there) ∙ ap (λ o. some (Option·map (I .id) o, isWaiting (r .doing))) y));
     forest = forest-back (I .id) (joints C) (subst Forest (joints-are C (I .shows) (W .own) (W .sound) (λ i q e. handler I i q e))
-        (thin (joint (W .own)) (W .K) (numbers C (I .shows) (W .own) (W .sound) (λ i q e. handler I i q e)) (numbers-once C (I .shows) (W .own) (W .sound) (λ i q e. handler I i q e) (λ j q e. fine-at I j q e .keys))
+        (thin (joint (W .own)) (W .K) (numbers C (I .shows) (W .own) (W .sound) (λ i q e. handler I i q e))
+        (numbers-once C (I .shows) (W .own) (W .sound) (λ i q e. handler I i q e) (λ j q e. fine-at I j q e .keys))
         (numbers-live C (I .shows) (W .own) (W .sound) (λ i q e. handler I i q e) id-above (W .K) (W .live)) (W .forest)));
     outside = λ o m. (G .fair .outwards o m, G .fair .below o m);
     numbers = G .fair .rising;
@@ -139,9 +145,6 @@ module _ {p : Program} {C : Config} (I : Inv p C) where
           go : In e (processEnds (C .processes)) ⊎ In e (outsideEnds (C .outside)) → e .channel < channelPlaces
           go (inl k) = let x = end-process (C .processes) e k in subst (λ (e : End). e .channel < channelPlaces) (x .5) (fine-at I (x .0) (x .1) (x .2) .channels (x .3) (x .4))
           go (inr k) = let y = end-outside (C .outside) e k in subst (λ (e : End). e .channel < channelPlaces) (y .2) (G .fair .channels (y .0) (y .1))
-
-  pub inv-named : Named C
-  inv-named = record { named = λ i q s. distinct-iff (names (q .held)) .1 (fine-at I i q (s .there) .names) }
 
 -- ── to the invariant: the process at place i has the identity i + 1
 -- a list with each number once
@@ -256,7 +259,8 @@ module _ (C : Config) where
       (in-tips 1 (C .processes) i q e v (omega arith) t (Memᴰ·append-left (linkTips v (q .link) ++ waitTips v (q .doing)) (Memᴰ·cast (λ j. (v, k j)) (Memᴰ·map (heldTip v) m))))
   seat-in v t (of-link i q z e h l k) =
       Memᴰ·append-right (outTips (C .outside))
-      (in-tips 1 (C .processes) i q e v (omega arith) t (Memᴰ·append-right (heldTips v (q .held)) (Memᴰ·append-left (waitTips v (q .doing)) (subst (λ o. In (v, t) (linkTips v o)) (sym l) (List·Memᴰ·head (λ j. (v, k j)))))))
+      (in-tips 1 (C .processes) i q e v (omega arith) t (Memᴰ·append-right (heldTips v (q .held))
+      (Memᴰ·append-left (waitTips v (q .doing)) (subst (λ o. In (v, t) (linkTips v o)) (sym l) (List·Memᴰ·head (λ j. (v, k j)))))))
   seat-in v t (of-wait i q z e w k) =
       Memᴰ·append-right (outTips (C .outside))
       (in-tips 1 (C .processes) i q e v (omega arith) t
@@ -284,7 +288,8 @@ module _ (C : Config) where
           of-held i q (ap (λ (x : ℕ × Tip). x .0) (sym (x .2))) e (x .0) (x .1) (ap (λ (x : ℕ × Tip). x .1) (sym (x .2)))
       go (inr k) = rest (List·Memᴰ·append-cases (linkTips (suc i) (q .link)) k)
 
-  from-tips : (i : ℕ) (l : List Process) → ((j : ℕ) (q : Process) → getElem? l j ≡ some q → getElem? (C .processes) (i + j) ≡ some q) → (v : ℕ) (t : Tip) → In (v, t) (tipsFrom (suc i) l) → Seat C v t
+  from-tips : (i : ℕ) (l : List Process) → ((j : ℕ) (q : Process) → getElem? l j ≡ some q → getElem? (C .processes) (i + j) ≡ some q) → (v : ℕ) (t : Tip)
+      → In (v, t) (tipsFrom (suc i) l) → Seat C v t
   from-tips i [] f v t m = absurd (List·Memᴰ·not-nil m)
   from-tips i (q ∷ l) f v t m =
       go (from-tips (suc i) l (λ j r e. ap (getElem? (C .processes)) (omega arith) ∙ f (suc j) r e) v t) (List·Memᴰ·append-cases (processTips (suc i) q) m)
@@ -311,34 +316,37 @@ module _ {p : Program} {C : Config} (w : WellFormed p C) where
   process-keys = once-left (map key (processEnds (C .processes))) (map key (outsideEnds (C .outside))) keys-apart
 
   key-back : (e d : End) (k : Key) → k ≡ (tipOf e) .0 → k ≡ (tipOf d) .0 → key e ≡ key d
-  key-back e d k a b i = (channel-key-one (e .channel) (d .channel) (ap (λ (k : Key). k .0) (sym a ∙ b)) i, ap (λ (k : Key). k .1) (sym a ∙ b) i)
+  key-back e d k a b i = (channel-key-one (e .channel) (d .channel) (ap keyNumber (sym a ∙ b)) i, ap keySide (sym a ∙ b) i)
 
   not-both : (y : Outside) → In y (C .outside) → (i : ℕ) (q : Process) → getElem? (C .processes) i ≡ some q → (x : Name × End) → In x (q .held) → key (x .1) ≢ (y .channel, used)
-  not-both y m i q e x n = once-apart (map key (processEnds (C .processes))) (map key (outsideEnds (C .outside))) keys-apart (Memᴰ·map key (process-end (C .processes) i q e x n)) (Memᴰ·map key (outside-end (C .outside) y m))
+  not-both y m i q e x n = once-apart (map key (processEnds (C .processes))) (map key (outsideEnds (C .outside))) keys-apart
+      (Memᴰ·map key (process-end (C .processes) i q e x n)) (Memᴰ·map key (outside-end (C .outside) y m))
 
   mixed : (k : Key) (c v : ℕ) (s t : Side) → k ≡ (channelKey c, s) → k ≡ (linkKey v, t) → ⊥
-  mixed k c v s t a b = channel-no-link c v (ap (λ (k : Key). k .0) (sym a ∙ b))
+  mixed k c v s t a b = channel-no-link c v (ap keyNumber (sym a ∙ b))
 
   seat-one : (u v : ℕ) (e f : Tip) → Seat C u e → Seat C v f → (k : Key) → k ≡ e .0 → k ≡ f .0 → u ≡ v
   seat-one u v e f (of-outside z _ _ _) (of-outside y _ _ _) k a b = z ∙ sym y
-  seat-one u v e f (of-outside z o m g) (of-held j r y n x l h) k a b = absurd (not-both o m j r n x l (key-back (x .1) (end used (o .channel) (o .type)) k (b ∙ ap (λ (t : Tip). t .0) h) (a ∙ ap (λ (t : Tip). t .0) g)))
-  seat-one u v e f (of-outside z o m g) (of-link _ _ _ _ h _ l) k a b = absurd (mixed k _ _ _ _ (a ∙ ap (λ (t : Tip). t .0) g) (b ∙ ap (λ (t : Tip). t .0) l))
-  seat-one u v e f (of-outside z o m g) (of-wait _ _ _ _ _ l) k a b = absurd (mixed k _ _ _ _ (a ∙ ap (λ (t : Tip). t .0) g) (b ∙ ap (λ (t : Tip). t .0) l))
-  seat-one u v e f (of-held j r y n x l h) (of-outside z o m g) k a b = absurd (not-both o m j r n x l (key-back (x .1) (end used (o .channel) (o .type)) k (a ∙ ap (λ (t : Tip). t .0) h) (b ∙ ap (λ (t : Tip). t .0) g)))
+  seat-one u v e f (of-outside z o m g) (of-held j r y n x l h) k a b = absurd
+      (not-both o m j r n x l (key-back (x .1) (end used (o .channel) (o .type)) k (b ∙ ap tipKey h) (a ∙ ap tipKey g)))
+  seat-one u v e f (of-outside z o m g) (of-link _ _ _ _ h _ l) k a b = absurd (mixed k _ _ _ _ (a ∙ ap tipKey g) (b ∙ ap tipKey l))
+  seat-one u v e f (of-outside z o m g) (of-wait _ _ _ _ _ l) k a b = absurd (mixed k _ _ _ _ (a ∙ ap tipKey g) (b ∙ ap tipKey l))
+  seat-one u v e f (of-held j r y n x l h) (of-outside z o m g) k a b = absurd
+      (not-both o m j r n x l (key-back (x .1) (end used (o .channel) (o .type)) k (a ∙ ap tipKey h) (b ∙ ap tipKey g)))
   seat-one u v e f (of-held i q z m x l g) (of-held j r y n x′ l′ h) k a b =
-      z ∙ ap suc (one-holder (C .processes) process-keys i j q r m n x x′ l l′ (key-back (x .1) (x′ .1) k (a ∙ ap (λ (t : Tip). t .0) g) (b ∙ ap (λ (t : Tip). t .0) h))) ∙ sym y
-  seat-one u v e f (of-held _ _ _ _ x _ g) (of-link _ _ _ _ h _ l) k a b = absurd (mixed k _ _ _ _ (a ∙ ap (λ (t : Tip). t .0) g) (b ∙ ap (λ (t : Tip). t .0) l))
-  seat-one u v e f (of-held _ _ _ _ x _ g) (of-wait _ _ _ _ _ l) k a b = absurd (mixed k _ _ _ _ (a ∙ ap (λ (t : Tip). t .0) g) (b ∙ ap (λ (t : Tip). t .0) l))
-  seat-one u v e f (of-link _ _ _ _ h _ l) (of-outside z o m g) k a b = absurd (mixed k _ _ _ _ (b ∙ ap (λ (t : Tip). t .0) g) (a ∙ ap (λ (t : Tip). t .0) l))
-  seat-one u v e f (of-link _ _ _ _ h _ l) (of-held _ _ _ _ x _ g) k a b = absurd (mixed k _ _ _ _ (b ∙ ap (λ (t : Tip). t .0) g) (a ∙ ap (λ (t : Tip). t .0) l))
+      z ∙ ap suc (one-process (C .processes) process-keys i j q r m n x x′ l l′ (key-back (x .1) (x′ .1) k (a ∙ ap tipKey g) (b ∙ ap tipKey h))) ∙ sym y
+  seat-one u v e f (of-held _ _ _ _ x _ g) (of-link _ _ _ _ h _ l) k a b = absurd (mixed k _ _ _ _ (a ∙ ap tipKey g) (b ∙ ap tipKey l))
+  seat-one u v e f (of-held _ _ _ _ x _ g) (of-wait _ _ _ _ _ l) k a b = absurd (mixed k _ _ _ _ (a ∙ ap tipKey g) (b ∙ ap tipKey l))
+  seat-one u v e f (of-link _ _ _ _ h _ l) (of-outside z o m g) k a b = absurd (mixed k _ _ _ _ (b ∙ ap tipKey g) (a ∙ ap tipKey l))
+  seat-one u v e f (of-link _ _ _ _ h _ l) (of-held _ _ _ _ x _ g) k a b = absurd (mixed k _ _ _ _ (b ∙ ap tipKey g) (a ∙ ap tipKey l))
   seat-one u v e f (of-link i q z m h l g) (of-link j r y n h′ l′ g′) k a b =
-      let e = link-key-one (suc h) (suc h′) (ap (λ (k : Key). k .0) (sym (a ∙ ap (λ (t : Tip). t .0) g) ∙ b ∙ ap (λ (t : Tip). t .0) g′)) in
+      let e = link-key-one (suc h) (suc h′) (ap keyNumber (sym (a ∙ ap tipKey g) ∙ b ∙ ap tipKey g′)) in
       z ∙ ap suc (w .linkedOnce i j q r (record { there = m }) (record { there = n }) h l (l′ ∙ ap some (omega arith))) ∙ sym y
-  seat-one u v e f (of-link _ _ _ _ h _ l) (of-wait _ _ _ _ _ g) k a b = absurd (side-clash (ap (λ (k : Key). k .1) (sym (a ∙ ap (λ (t : Tip). t .0) l) ∙ b ∙ ap (λ (t : Tip). t .0) g)))
-  seat-one u v e f (of-wait _ _ _ _ _ l) (of-outside z o m g) k a b = absurd (mixed k _ _ _ _ (b ∙ ap (λ (t : Tip). t .0) g) (a ∙ ap (λ (t : Tip). t .0) l))
-  seat-one u v e f (of-wait _ _ _ _ _ l) (of-held _ _ _ _ x _ g) k a b = absurd (mixed k _ _ _ _ (b ∙ ap (λ (t : Tip). t .0) g) (a ∙ ap (λ (t : Tip). t .0) l))
-  seat-one u v e f (of-wait _ _ _ _ _ g) (of-link _ _ _ _ h _ l) k a b = absurd (side-clash (ap (λ (k : Key). k .1) (sym (b ∙ ap (λ (t : Tip). t .0) l) ∙ a ∙ ap (λ (t : Tip). t .0) g)))
-  seat-one u v e f (of-wait i _ z _ _ l) (of-wait j _ y _ _ g) k a b = z ∙ link-key-one (suc i) (suc j) (ap (λ (k : Key). k .0) (sym (a ∙ ap (λ (t : Tip). t .0) l) ∙ b ∙ ap (λ (t : Tip). t .0) g)) ∙ sym y
+  seat-one u v e f (of-link _ _ _ _ h _ l) (of-wait _ _ _ _ _ g) k a b = absurd (side-clash (ap keySide (sym (a ∙ ap tipKey l) ∙ b ∙ ap tipKey g)))
+  seat-one u v e f (of-wait _ _ _ _ _ l) (of-outside z o m g) k a b = absurd (mixed k _ _ _ _ (b ∙ ap tipKey g) (a ∙ ap tipKey l))
+  seat-one u v e f (of-wait _ _ _ _ _ l) (of-held _ _ _ _ x _ g) k a b = absurd (mixed k _ _ _ _ (b ∙ ap tipKey g) (a ∙ ap tipKey l))
+  seat-one u v e f (of-wait _ _ _ _ _ g) (of-link _ _ _ _ h _ l) k a b = absurd (side-clash (ap keySide (sym (b ∙ ap tipKey l) ∙ a ∙ ap tipKey g)))
+  seat-one u v e f (of-wait i _ z _ _ l) (of-wait j _ y _ _ g) k a b = z ∙ link-key-one (suc i) (suc j) (ap keyNumber (sym (a ∙ ap tipKey l) ∙ b ∙ ap tipKey g)) ∙ sym y
 
   -- an end is a channel's or a link's
   seat-kind : (v : ℕ) (t : Tip) → Seat C v t → ((e : End) × In e (ends C) × (t ≡ tipOf e)) ⊎ ((h : ℕ) × (s : Side) × (t ≡ linkTip h s))
@@ -350,13 +358,14 @@ module _ {p : Program} {C : Config} (w : WellFormed p C) where
   seat-type : (u v : ℕ) (e f : Tip) → Seat C u e → Seat C v f → e .0 .0 ≡ f .0 .0 → e .1 ≡ f .1
   seat-type u v e f s t z = go (seat-kind u e s) (seat-kind v f t)
     where
-      go : ((d : End) × In d (ends C) × (e ≡ tipOf d)) ⊎ ((h : ℕ) × (s : Side) × (e ≡ linkTip h s)) → ((d : End) × In d (ends C) × (f ≡ tipOf d)) ⊎ ((h : ℕ) × (s : Side) × (f ≡ linkTip h s)) → e .1 ≡ f .1
+      go : ((d : End) × In d (ends C) × (e ≡ tipOf d)) ⊎ ((h : ℕ) × (s : Side) × (e ≡ linkTip h s))
+          → ((d : End) × In d (ends C) × (f ≡ tipOf d)) ⊎ ((h : ℕ) × (s : Side) × (f ≡ linkTip h s)) → e .1 ≡ f .1
       go (inl x) (inl y) =
-          let c = channel-key-one (x .0 .channel) (y .0 .channel) (ap (λ (t : Tip). t .0 .0) (sym (x .2)) ∙ z ∙ ap (λ (t : Tip). t .0 .0) (y .2)) in
-          ap (λ (t : Tip). t .1) (x .2) ∙ ap some (sameType-iff (x .0 .type) (y .0 .type) .0 (w .oneType (x .0) (y .0) (x .1) (y .1) c)) ∙ ap (λ (t : Tip). t .1) (sym (y .2))
-      go (inl x) (inr y) = absurd (channel-no-link (x .0 .channel) (y .0) (ap (λ (t : Tip). t .0 .0) (sym (x .2)) ∙ z ∙ ap (λ (t : Tip). t .0 .0) (y .2)))
-      go (inr x) (inl y) = absurd (channel-no-link (y .0 .channel) (x .0) (ap (λ (t : Tip). t .0 .0) (sym (y .2)) ∙ sym z ∙ ap (λ (t : Tip). t .0 .0) (x .2)))
-      go (inr x) (inr y) = ap (λ (t : Tip). t .1) (x .2 ∙ (λ j. linkTip (x .0) (x .1))) ∙ ap (λ (t : Tip). t .1) (sym (y .2))
+          let c = channel-key-one (x .0 .channel) (y .0 .channel) (ap tipNumber (sym (x .2)) ∙ z ∙ ap tipNumber (y .2)) in
+          ap tipType (x .2) ∙ ap some (sameType-iff (x .0 .type) (y .0 .type) .0 (w .oneType (x .0) (y .0) (x .1) (y .1) c)) ∙ ap tipType (sym (y .2))
+      go (inl x) (inr y) = absurd (channel-no-link (x .0 .channel) (y .0) (ap tipNumber (sym (x .2)) ∙ z ∙ ap tipNumber (y .2)))
+      go (inr x) (inl y) = absurd (channel-no-link (y .0 .channel) (x .0) (ap tipNumber (sym (y .2)) ∙ sym z ∙ ap tipNumber (x .2)))
+      go (inr x) (inr y) = ap tipType (x .2 ∙ (λ j. linkTip (x .0) (x .1))) ∙ ap tipType (sym (y .2))
 
   -- ── the owner of a key and the type of a number, found in the list of all ends
   abbrev vertexIf : {Q : ℕ × Tip → Type 0} → Dec ((x : ℕ × Tip) × In x (allTips C) × Q x) → ℕ
@@ -425,7 +434,8 @@ module _ {p : Program} {C : Config} (w : WellFormed p C) where
     own = own₀;
     ty = λ n. typeIf (numbered n);
     once = nub-once (numbers C shown own₀ own-sound handlers);
-    forest = thin (joint own₀) (numbers C shown own₀ own-sound handlers) (nub (numbers C shown own₀ own-sound handlers)) (nub-once (numbers C shown own₀ own-sound handlers)) (nub-in (numbers C shown own₀ own-sound handlers))
+    forest = thin (joint own₀) (numbers C shown own₀ own-sound handlers) (nub (numbers C shown own₀ own-sound handlers))
+        (nub-once (numbers C shown own₀ own-sound handlers)) (nub-in (numbers C shown own₀ own-sound handlers))
         (subst Forest (sym (joints-are C shown own₀ own-sound handlers)) (forest-along suc pred (λ x. omega arith) (joints C) (w .forest)));
     sound = own-sound;
     typ = type-sound;
@@ -437,10 +447,12 @@ module _ {p : Program} {C : Config} (w : WellFormed p C) where
   profile-seated i q e = ap (λ o. profile (Option·map (relinked suc) o)) e
 
   -- what a profile says of the process at a place
-  seat-profile : (v : ℕ) (l : Option ℕ) (b : Bool) → profile (seated (C .processes) v) ≡ some (l, b) → (i : ℕ) × (q : Process) × (v ≡ suc i) × (getElem? (C .processes) i ≡ some q) × (Option·map suc (q .link) ≡ l) × (isWaiting (q .doing) ≡ b)
+  seat-profile : (v : ℕ) (l : Option ℕ) (b : Bool) → profile (seated (C .processes) v) ≡ some (l, b)
+      → (i : ℕ) × (q : Process) × (v ≡ suc i) × (getElem? (C .processes) i ≡ some q) × (Option·map suc (q .link) ≡ l) × (isWaiting (q .doing) ≡ b)
   seat-profile v l b e = go (seated (C .processes) v) refl
     where
-      go : (o : Option Process) → seated (C .processes) v ≡ o → (i : ℕ) × (q : Process) × (v ≡ suc i) × (getElem? (C .processes) i ≡ some q) × (Option·map suc (q .link) ≡ l) × (isWaiting (q .doing) ≡ b)
+      go : (o : Option Process) → seated (C .processes) v ≡ o
+          → (i : ℕ) × (q : Process) × (v ≡ suc i) × (getElem? (C .processes) i ≡ some q) × (Option·map suc (q .link) ≡ l) × (isWaiting (q .doing) ≡ b)
       go none z = absurd (Option·none-ne-some (l, b) (sym (ap profile z) ∙ e))
       go (some r) z =
           let x = seat-back C v r z in
@@ -458,14 +470,21 @@ module _ {p : Program} {C : Config} (w : WellFormed p C) where
       up′ v h b e =
           let x = seat-profile v (some h) b e in
           let k = link-place (x .1 .link) h (x .4) in
-          let r = handlers (x .0) (x .1) (x .3) (k .0) (k .1) in
-          (Option·map suc (r .0 .link), ap (λ v. profile (seated (C .processes) v)) (sym (k .2)) ∙ profile-seated (k .0) (r .0) (r .1) ∙ ap (λ b. some (Option·map suc (r .0 .link), b)) (r .2))
+          let r = handlers (x .0) (x .1) (x .3) (k .0) (k .1) in (
+            Option·map suc (r .0 .link),
+            ap (λ v. profile (seated (C .processes) v)) (sym (k .2)) ∙ profile-seated (k .0) (r .0) (r .1)
+                ∙ ap (λ b. some (Option·map suc (r .0 .link), b)) (r .2),
+          )
 
       down′ : (h : ℕ) (l : Option ℕ) → profile (seated (C .processes) h) ≡ some (l, true) → (v : ℕ) × (b : Bool) × (profile (seated (C .processes) v) ≡ some (some h, b))
       down′ h l e =
           let x = seat-profile h l true e in
-          let r = w .linked (x .0) (x .1) (record { there = x .3 }) (x .5) in
-          (suc (r .0), isWaiting (r .1 .doing), profile-seated (r .0) (r .1) (r .2 .there) ∙ (λ j. some (Option·map suc (r .3 j), isWaiting (r .1 .doing))) ∙ ap (λ h. some (some h, isWaiting (r .1 .doing))) (sym (x .2)))
+          let r = w .linked (x .0) (x .1) (record { there = x .3 }) (x .5) in (
+            suc (r .0),
+            isWaiting (r .1 .doing),
+            profile-seated (r .0) (r .1) (r .2 .there) ∙ (λ j. some (Option·map suc (r .3 j), isWaiting (r .1 .doing)))
+                ∙ ap (λ h. some (some h, isWaiting (r .1 .doing))) (sym (x .2)),
+          )
 
       once′ : (u v h : ℕ) (a b : Bool) → profile (seated (C .processes) u) ≡ some (some h, a) → profile (seated (C .processes) v) ≡ some (some h, b) → u ≡ v
       once′ u v h a b e f =
@@ -476,42 +495,42 @@ module _ {p : Program} {C : Config} (w : WellFormed p C) where
           let z : m .0 ≡ k .0 = (let k2 = k .2 in let m2 = m .2 in omega arith) in
           x .2 ∙ ap suc (w .linkedOnce (x .0) (y .0) (x .1) (y .1) (record { there = x .3 }) (record { there = y .3 }) (k .0) (k .1) (m .1 ∙ ap some z)) ∙ sym (y .2)
 
-  module _ (n : Named C) where
-    found-fine : (i : ℕ) (q : Process) → getElem? (C .processes) i ≡ some q → Fine p (relinked suc q)
-    found-fine i q e = record {
-      typed = subst (λ b. TypedDoing p (contextOf (q .held)) b (q .doing)) (sym (is-some-map suc (q .link))) (as-typed p (contextOf (q .held)) (isSome (q .link)) (q .doing) (w .typed i q (record { there = e })));
-      names = distinct-iff (names (q .held)) .0 (n .named i q (record { there = e }));
-      keys = keys-of-process (C .processes) process-keys i q e;
-      room = w .held i q (record { there = e });
-      channels = λ x m. w .channels (x .1) (Memᴰ·append-left (outsideEnds (C .outside)) (process-end (C .processes) i q e x m));
-    }
+  found-fine : (i : ℕ) (q : Process) → getElem? (C .processes) i ≡ some q → Fine p (relinked suc q)
+  found-fine i q e = record {
+    typed = subst (λ b. TypedDoing p (contextOf (q .held)) b (q .doing)) (sym (is-some-map suc (q .link)))
+        (as-typed p (contextOf (q .held)) (isSome (q .link)) (q .doing) (w .typed i q (record { there = e })));
+    names = subst (NamesOf (q .doing)) (context-names (q .held)) (as-names p (contextOf (q .held)) (isSome (q .link)) (q .doing) (w .typed i q (record { there = e })));
+    keys = keys-of-process (C .processes) process-keys i q e;
+    room = w .held i q (record { there = e });
+    channels = λ x m. w .channels (x .1) (Memᴰ·append-left (outsideEnds (C .outside)) (process-end (C .processes) i q e x m));
+  }
 
-    found-fair : Fair p (C .given) (C .outside)
-    found-fair = record {
-      outwards = λ y m. w .outside y m .0;
-      below = λ y m. w .outside y m .1;
-      rising = w .numbers;
-      keys = outside-keys (C .outside) (once-right (map key (processEnds (C .processes))) (map key (outsideEnds (C .outside))) keys-apart);
-      channels = λ y m. w .channels (end used (y .channel) (y .type)) (Memᴰ·append-right (processEnds (C .processes)) (outside-end (C .outside) y m));
-    }
+  found-fair : Fair p (C .given) (C .outside)
+  found-fair = record {
+    outwards = λ y m. w .outside y m .0;
+    below = λ y m. w .outside y m .1;
+    rising = w .numbers;
+    keys = outside-keys (C .outside) (once-right (map key (processEnds (C .processes))) (map key (outsideEnds (C .outside))) keys-apart);
+    channels = λ y m. w .channels (end used (y .channel) (y .type)) (Memᴰ·append-right (processEnds (C .processes)) (outside-end (C .outside) y m));
+  }
 
-    pub well-formed-inv : Inv p C
-    well-formed-inv = record {
-      id = suc;
-      roster = seated (C .processes);
-      next = suc (length (C .processes));
-      shows = shown;
-      good = record {
-        witness = found-witness;
-        fine = λ v r e. let x = seat-back C v r e in subst (Fine p) (x .4) (found-fine (x .0) (x .1) (x .3));
-        placed = λ v r e. let x = seat-back C v r e in let b = found-below (C .processes) (x .0) (x .3) in let z = x .2 in (omega arith, omega arith);
-        mates = found-mates;
-        fair = found-fair;
-      };
-      places = w .processes;
-      numbers = w .given;
-    }
+  pub well-formed-inv : Inv p C
+  well-formed-inv = record {
+    id = suc;
+    roster = seated (C .processes);
+    next = suc (length (C .processes));
+    shows = shown;
+    good = record {
+      witness = found-witness;
+      fine = λ v r e. let x = seat-back C v r e in subst (Fine p) (x .4) (found-fine (x .0) (x .1) (x .3));
+      placed = λ v r e. let x = seat-back C v r e in let b = found-below (C .processes) (x .0) (x .3) in let z = x .2 in (omega arith, omega arith);
+      mates = found-mates;
+      fair = found-fair;
+    };
+    places = w .processes;
+    numbers = w .given;
+  }
 
--- the invariant is well-formedness with distinct names
-pub inv-iff : (p : Program) (C : Config) → Inv p C ↔ (WellFormed p C × Named C)
-inv-iff p C = (λ I. (inv-well-formed I, inv-named I), λ h. well-formed-inv (h .0) (h .1))
+-- the invariant is well-formedness
+pub inv-iff : (p : Program) (C : Config) → Inv p C ↔ WellFormed p C
+inv-iff p C = (inv-well-formed, well-formed-inv)

@@ -4,7 +4,7 @@ use mathlib.Core.Path.{_≡_, refl, sym, _∙_, ap, subst}
 use mathlib.Core.Logic.{_≢_, _⊎_, inl, inr, ite, if-pos, if-neg}
 use mathlib.Core.List.{List, [], _∷_, map, List·Memᴰ·head, List·Memᴰ·tail, List·Memᴰ·not-nil, List·Memᴰ·eq-of-singleton}
 use mathlib.Core.Option.{Option}
-use Prim.Native.Nat.{ℕ, zero, suc, _≤_, _<_}
+use Prim.Native.Nat.{ℕ, suc, _≤_, _<_}
 use native.Mathlib.Omega.{arith}
 use native.Mathlib.Decide.{ℕ-discrete}
 use Rattle.notation.specs.Tree.{Name, Ty}
@@ -13,6 +13,7 @@ use Rattle.calculus.specs.Forest.{Joint, Forest}
 use Rattle.calculus.specs.WellFormed.{In, NoneTwice}
 use Rattle.graphs.specs.Graph.{decIn, glue, glueJ, glue-at, glue-off, glue-self}
 use Rattle.graphs.specs.Moves.{map-cong, share, grow, grow-turned, thin}
+use Rattle.holding.specs.Ends.{side-clash}
 
 -- the number of a joint and a side of it
 abbrev pub Key : Type 0
@@ -22,18 +23,29 @@ Key = ℕ × Side
 abbrev pub Tip : Type 0
 Tip = Key × Option (Ty Name)
 
+abbrev pub keyNumber : Key → ℕ
+keyNumber k = k .0
+
+abbrev pub keySide : Key → Side
+keySide k = k .1
+
+abbrev pub tipKey : Tip → Key
+tipKey t = t .0
+
+abbrev pub tipNumber : Tip → ℕ
+tipNumber t = t .0 .0
+
+abbrev pub tipSide : Tip → Side
+tipSide t = t .0 .1
+
+abbrev pub tipType : Tip → Option (Ty Name)
+tipType t = t .1
+
 -- which vertex has which ends; the vertex 0 is the outside
 abbrev pub Rel : Type 1
 Rel = ℕ → Tip → Type 0
 
 -- ── keys are told apart
-abbrev IsProvided : Side → Type 0
-IsProvided provided = Unit {0}
-IsProvided used = ⊥
-
-pub side-clash : provided ≢ used
-side-clash e = subst IsProvided e tt
-
 unfoldable pub side-discrete : (s t : Side) → Dec (s ≡ t)
 side-discrete provided provided = yes refl
 side-discrete provided used = no side-clash
@@ -216,9 +228,10 @@ outing {H} {n} W q u u0 f = record {
     from p m = ap (W .own) (List·Memᴰ·eq-of-singleton m) ∙ f
 
     same : (x : ℕ) (s : Side) → x ≢ q .0 → movedOwn (W .own) (q ∷ []) 0 (x, s) ≡ W .own (x, s)
-    same x s n = if-neg (decIn key-discrete (x, s) (q ∷ [])) (λ m. n (ap (λ (p : Key). p .0) (List·Memᴰ·eq-of-singleton m))) _ _
+    same x s n = if-neg (decIn key-discrete (x, s) (q ∷ [])) (λ m. n (ap keyNumber (List·Memᴰ·eq-of-singleton m))) _ _
 
-    live′ : (v x : ℕ) (e f : Tip) → Moved H (q ∷ []) u 0 v e → Moved H (q ∷ []) u 0 x f → v ≢ 0 → x ≢ 0 → e .0 .0 ≡ f .0 .0 → e .0 .1 ≡ provided → f .0 .1 ≡ used → In (e .0 .0) (apart (q .0) (W .K))
+    live′ : (v x : ℕ) (e f : Tip) → Moved H (q ∷ []) u 0 v e → Moved H (q ∷ []) u 0 x f → v ≢ 0 → x ≢ 0 → e .0 .0 ≡ f .0 .0 → e .0 .1 ≡ provided → f .0 .1 ≡ used
+        → In (e .0 .0) (apart (q .0) (W .K))
     live′ v x e f (inl h) (inl g) v0 x0 p a b = in-apart (q .0) (e .0 .0) (W .K) (W .live v x e f (h .1) (g .1) v0 x0 p a b) (λ z. off (q .1) refl z)
       where
         off : (s : Side) → q .1 ≡ s → e .0 .0 ≡ q .0 → ⊥

@@ -12,7 +12,7 @@ use Rattle.calculus.specs.Configuration.{Process, Config}
 use Rattle.calculus.specs.Steps.{Outcome, carried, notOpen, lacking, stepOf, step, isOpenBy, lacksBy, isOpen, lacks}
 use Rattle.calculus.specs.Runs.{isCarried, firstFrom, choosePlace}
 use Rattle.calculus.specs.declared.answers.Seen.{Seen}
-use Rattle.progress.specs.Lists.{past-the-end}
+use Rattle.holding.specs.Lists.{past-the-end}
 
 -- ── "Run-on takes the first open place that can be carried out"
 -- the step at a place is carried out

@@ -1,5 +1,5 @@
 -- A process that folds up folds up until it leaves: no step makes it run a term.
-use Prim.Native.Nat.{ℕ, suc, _-_, _≤_, _<_, suc-le-suc}
+use Prim.Native.Nat.{ℕ, suc, _-_, _≤_, suc-le-suc}
 use native.Mathlib.Omega.{arith}
 use native.Mathlib.Decide.{ℕ-discrete}
 use mathlib.Core.Path.{_≡_, refl, sym, _∙_, ap, subst, subst₂}
@@ -7,7 +7,7 @@ use mathlib.Core.Logic.{_≢_}
 use mathlib.Core.List.{List, [], _∷_, _++_, map}
 use mathlib.Core.Option.{Option, some, none, Option·map, Option·some-injective}
 use mathlib.Core.Bool.{Bool, true, false, cond, true≢false, false≢true}
-use lib.ListN.{length, length-set, length-map, take, drop, set, getElem?}
+use lib.ListN.{length, length-set, take, drop, set, getElem?}
 use lib.Dec.{ltb}
 use Rattle.notation.specs.Bytes.{same}
 use Rattle.notation.specs.Tree.{Name}
@@ -18,7 +18,7 @@ use Rattle.calculus.specs.Runs.{isCarried}
 use Rattle.calculus.specs.WellFormed.{Stands}
 use Rattle.calculus.specs.declared.answers.Seen.{Seen}
 use Rattle.derivations.specs.Booleans.{ltb-iff}
-use Rattle.progress.specs.Lists.{not-below, position-below, element-set, set-other, put-below, put-above, out-above, element-map, length-put, length-out}
+use Rattle.holding.specs.Lists.{not-below, found-below, set-at, set-off, in-low, in-high, out-low, out-high, found-map, length-inserted, length-removed}
 use Rattle.progress.specs.Shapes.{talks, Touched, itself, partner, Shape, not-carried, one, two, joined, handled, spawned-one, tried-one, left, config-by, step-shape}
 use Rattle.progress.specs.Waiting.{step-at}
 
@@ -33,13 +33,13 @@ same-process : {l m : List Process} {i j : ℕ} → getElem? m j ≡ getElem? l 
 same-process e f = record { process = f .process; there = e ∙ f .there; folds = f .folds }
 
 folds-set : {l : List Process} {i k : ℕ} (x : Process) → i ≢ k → FoldsAt l i → FoldsAt (set l k x) i
-folds-set {l} {i} {k} x n f = same-process (set-other l k i x n) f
+folds-set {l} {i} {k} x n f = same-process (set-off l k i x n) f
 
 -- a process with the same doings put in its place
 folds-map : {l : List Process} {i : ℕ} (g : Process → Process) → ((q : Process) → q .doing ≡ folding → g q .doing ≡ folding) → FoldsAt l i
     → FoldsAt (map g l) i
 folds-map {l} {i} g h f =
-    record { process = g (f .process); there = element-map g l i ∙ ap (Option·map g) (f .there); folds = h (f .process) (f .folds) }
+    record { process = g (f .process); there = found-map g l i ∙ ap (Option·map g) (f .there); folds = h (f .process) (f .folds) }
 
 folds-put : {l : List Process} {i : ℕ} (g : Process → Process) → ((q : Process) → q .doing ≡ folding → g q .doing ≡ folding)
     → (j : ℕ) (o : Option Process) → getElem? l j ≡ o → FoldsAt l i → FoldsAt (putAt l j (Option·map g o)) i
@@ -51,7 +51,7 @@ folds-put {l} {i} g h j (some q) e f = go (ℕ-discrete i j)
         let s : f .process ≡ q = Option·some-injective _ _ (sym (f .there) ∙ ap (getElem? l) z ∙ e) in
         record {
           process = g q;
-          there = ap (getElem? (set l j (g q))) z ∙ element-set l j e (g q);
+          there = ap (getElem? (set l j (g q))) z ∙ set-at l j (g q) (found-below l j e);
           folds = h q (ap (λ (q : Process). q .doing) (sym s) ∙ f .folds);
         }
     go (no n) = folds-set (g q) n f
@@ -89,9 +89,9 @@ folds-inserted {l} {i} k x f = go (ltb k i) refl (folds-map (relinked (movedUp k
     m = map (relinked (movedUp k)) l
 
     go : (b : Bool) → ltb k i ≡ b → FoldsAt m i → FoldsAt (take (suc k) m ++ (x ∷ drop (suc k) m)) (cond b (suc i) i)
-    go true e f = same-process (put-above m x (suc k) i (ltb-iff k i .0 e) (position-below m i (f .there))) f
+    go true e f = same-process (in-high (suc k) x m i (let h = ltb-iff k i .0 e in let b = found-below m i (f .there) in omega arith) (ltb-iff k i .0 e)) f
     go false e f =
-        same-process (put-below m (x ∷ drop (suc k) m) (suc k) i (suc-le-suc (not-below k i .0 e)) (position-below m i (f .there))) f
+        same-process (in-low (suc k) x m i (found-below m i (f .there)) (suc-le-suc (not-below k i .0 e))) f
 
 folds-removed : {l : List Process} {i : ℕ} (k : ℕ) → i ≢ k → FoldsAt l i → FoldsAt (removed k l) (movedDown k i)
 unfolding removed
@@ -104,10 +104,10 @@ folds-removed {l} {i} k n f = go (ltb k i) refl (folds-map (relinked (movedDown 
     go true e f =
         let h = ltb-iff k i .0 e in
         let back : suc (i - 1) ≡ i = omega arith in
-        same-process (out-above m k (i - 1) (omega arith) ∙ ap (getElem? m) back) f
+        same-process (out-high k m (i - 1) (omega arith) ∙ ap (getElem? m) back) f
     go false e f =
         let h = not-below k i .0 e in
-        same-process (put-below m (drop (suc k) m) k i (omega arith) (position-below m i (f .there))) f
+        same-process (out-low k m i (omega arith)) f
 
 -- ── how long the list is
 length-changed : (g : Process → Process) (o : Option ℕ) (l : List Process) → length (changedAt g o l) ≡ length l
@@ -117,16 +117,6 @@ length-changed g (some j) l = go (getElem? l j)
     go : (o : Option Process) → length (putAt l j (Option·map g o)) ≡ length l
     go none = refl
     go (some q) = length-set l j (g q)
-
-length-inserted : (k : ℕ) (x : Process) (l : List Process) → length (inserted k x l) ≡ suc (length l)
-unfolding inserted
-length-inserted k x l = length-put (map (relinked (movedUp k)) l) x (suc k) ∙ ap suc (length-map l (relinked (movedUp k)))
-
-length-removed : (k : ℕ) (l : List Process) → k < length l → suc (length (removed k l)) ≡ length l
-unfolding removed
-length-removed k l h =
-    let e = length-map l (relinked (movedDown k)) in
-    length-out (map (relinked (movedDown k)) l) k (omega arith) ∙ e
 
 -- a handler that folds up is not started
 started-folds : (q : Process) → q .doing ≡ folding → startedHandler q .doing ≡ folding
@@ -159,10 +149,10 @@ joined-folds {C} {k} {i} {h} {r} x y n f s e = go (ℕ-discrete i h)
     go : Dec (i ≡ h) → FoldsAt (set (set (C .processes) k x) h y) i
     go (yes z) =
         let same : f .process ≡ r = Option·some-injective _ _ (sym (f .there) ∙ ap (getElem? (C .processes)) z ∙ s .there) in
-        let there : getElem? (set (C .processes) k x) h ≡ some r = set-other (C .processes) k h x (λ w. n (z ∙ w)) ∙ s .there in
+        let there : getElem? (set (C .processes) k x) h ≡ some r = set-off (C .processes) k h x (λ w. n (z ∙ w)) ∙ s .there in
         record {
           process = y;
-          there = ap (getElem? (set (set (C .processes) k x) h y)) z ∙ element-set (set (C .processes) k x) h there y;
+          there = ap (getElem? (set (set (C .processes) k x) h y)) z ∙ set-at (set (C .processes) k x) h y (found-below (set (C .processes) k x) h there);
           folds = e ∙ ap (λ (q : Process). q .doing) (sym same) ∙ f .folds;
         }
     go (no d) = folds-set y d (folds-set x n f)
@@ -203,12 +193,12 @@ own-folds : (C D : Config) (i : ℕ) (q : Process) (seen : Seen) → Stands C i 
 unfolding foldingUp leaving parting
 own-folds C D i q seen s [] e h =
     let c = length-changed foldedHandler (q .link) (C .processes) in
-    let a = length-removed i (changedAt foldedHandler (q .link) (C .processes)) (let b = position-below (C .processes) i (s .there) in omega arith) in
+    let a = length-removed i (changedAt foldedHandler (q .link) (C .processes)) (let b = found-below (C .processes) i (s .there) in omega arith) in
     let d = ap (λ r. length (config-by C r .processes)) e in
     absurd (omega arith)
 own-folds C D i q seen s (x ∷ l) e h =
     subst (λ r. FoldsAt (config-by C r .processes) i) e
-    (record { process = process folding l (q .link); there = element-set (C .processes) i (s .there) _; folds = refl })
+    (record { process = process folding l (q .link); there = set-at (C .processes) i _ (found-below (C .processes) i (s .there)); folds = refl })
 
 -- ── a process followed through steps: that at place i of C is, after them, that at place j of D
 pub data Follows (p : Program) : Config → ℕ → Config → ℕ → Type 0 where

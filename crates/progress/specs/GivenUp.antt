@@ -8,7 +8,7 @@ use Rattle.calculus.specs.Program.{Program}
 use Rattle.calculus.specs.Configuration.{End, folding, Process, process, Config, at, givenUp, farEnd, replaced}
 use Rattle.calculus.specs.Steps.{carried, Wanted, receives, receive, step}
 use Rattle.calculus.specs.declared.answers.Seen.the-variants.{Nothing}
-use Rattle.progress.specs.Lists.{element-set}
+use Rattle.holding.specs.Lists.{set-at, found-below}
 use Rattle.progress.specs.Folding.{FoldsAt, Follows, folds-on}
 use Rattle.progress.specs.Waiting.{AtTurn, step-by-turn}
 
@@ -35,7 +35,7 @@ given-up-recv-folds p C i q c f = step-by-turn p (f .receives-on) ∙ dropped
 
 -- afterwards the process at that place folds up, and does so until it leaves: what the recv would have gone on with is never run
 pub folds-there : (C : Config) (i : ℕ) (q : Process) (c : Located) → Forsaken C i q c → at (replaced i (folded c q) C) i ≡ some (folded c q)
-folds-there C i q c f = element-set (C .processes) i (f .receives-on .stands .there) (folded c q)
+folds-there C i q c f = set-at (C .processes) i (folded c q) (found-below (C .processes) i (f .receives-on .stands .there))
 
 pub never-runs : (p : Program) (C : Config) (i : ℕ) (q : Process) (c : Located) → Forsaken C i q c → {D : Config} {j : ℕ}
     → Follows p (replaced i (folded c q) C) i D j

@@ -14,31 +14,32 @@ use Rattle.calculus.specs.Configuration.{End, Process, Config, Holder, Far, atP
 use Rattle.calculus.specs.Forest.{Joint, jointAt, channelJoints, linkJoint, jointsFrom, joints}
 use Rattle.calculus.specs.WellFormed.{In, Stands, WellFormed}
 use Rattle.graphs.specs.Graph.{EndsIn, forest-small}
-use Rattle.progress.specs.Lists.{places, length-places, in-places, position-below}
-use Rattle.progress.specs.FarEnds.{HeldFar, FarView, far-process, far-outside, far-given-up, far-view, far-back, far-found}
+use Rattle.holding.specs.Lists.{found-below}
+use Rattle.holding.specs.FarEnds.{stands-at, found-key, HeldFar, FarIs, at-process, at-outside, at-nobody, far-is, far-back, far-found}
+use Rattle.progress.specs.Places.{places, length-places, in-places}
 
 -- ── the ends of joints are places of processes
 abbrev Within : Config → Joint → Type 0
 Within C j = (j .0 < length (C .processes)) × (j .1 < length (C .processes))
 
 stands-below : {C : Config} {i : ℕ} {q : Process} → Stands C i q → i < length (C .processes)
-stands-below {C} {i} s = position-below (C .processes) i (s .there)
+stands-below {C} {i} s = found-below (C .processes) i (s .there)
 
-joint-within : {C : Config} {i : ℕ} {e : End} {f : Far} {j : Joint} → i < length (C .processes) → (s : Side) → FarView C e f → In j (jointAt i s f)
+joint-within : {C : Config} {i : ℕ} {e : End} {f : Far} {j : Joint} → i < length (C .processes) → (s : Side) → FarIs C e f → In j (jointAt i s f)
     → Within C j
-joint-within {C} h provided (far-process v) (List·Memᴰ·head e) = subst (Within C) (sym e) (h, stands-below (v .stands))
-joint-within h used (far-process v) m = absurd (List·Memᴰ·not-nil m)
-joint-within h provided (far-outside v) m = absurd (List·Memᴰ·not-nil m)
-joint-within h used (far-outside v) m = absurd (List·Memᴰ·not-nil m)
-joint-within h provided far-given-up m = absurd (List·Memᴰ·not-nil m)
-joint-within h used far-given-up m = absurd (List·Memᴰ·not-nil m)
+joint-within {C} h provided (at-process _ v) (List·Memᴰ·head e) = subst (Within C) (sym e) (h, stands-below (stands-at C v))
+joint-within h used (at-process _ v) m = absurd (List·Memᴰ·not-nil m)
+joint-within h provided (at-outside _ _ _ _ _) m = absurd (List·Memᴰ·not-nil m)
+joint-within h used (at-outside _ _ _ _ _) m = absurd (List·Memᴰ·not-nil m)
+joint-within h provided (at-nobody _ _) m = absurd (List·Memᴰ·not-nil m)
+joint-within h used (at-nobody _ _) m = absurd (List·Memᴰ·not-nil m)
 
 channel-within : (C : Config) {i : ℕ} (l : List (Name × End)) {j : Joint} → i < length (C .processes) → In j (channelJoints C i l) → Within C j
 channel-within C [] h m = absurd (List·Memᴰ·not-nil m)
 channel-within C {i} (e ∷ l) {j} h m = go (List·Memᴰ·append-cases (jointAt i (e .1 .side) (farEnd C (e .1))) m) (λ k. channel-within C l h k)
   where
     go : In j (jointAt i (e .1 .side) (farEnd C (e .1))) ⊎ In j (channelJoints C i l) → (In j (channelJoints C i l) → Within C j) → Within C j
-    go (inl k) r = joint-within h (e .1 .side) (far-view C (e .1)) k
+    go (inl k) r = joint-within h (e .1 .side) (far-is C (e .1)) k
     go (inr k) r = r k
 
 link-within : {p : Program} {C : Config} → WellFormed p C → {i : ℕ} {q : Process} → Stands C i q → (o : Option ℕ) → q .link ≡ o → {j : Joint}
@@ -165,7 +166,5 @@ channel-joint {C = C} w {i} {q} {n} {e} {h} s m f v = go (e .side) refl
     go : (s : Side) → e .side ≡ s → In (channel (e .channel)) (keysFrom C (C .processes))
     go provided z = own s m z f
     go used z =
-        let c : v .end .channel ≡ e .channel = ap (λ (k : ℕ × Side). k .0) (v .far) in
-        let t : v .end .side ≡ provided = ap (λ (k : ℕ × Side). k .1) (v .far) ∙ ap other z in
-        let g = far-found w (v .end) s m (far-back e (v .end) (v .far)) in
-        Memᴰ·cast (ap channel (sym c)) (own (v .stands) (v .entry) t g)
+        let g = far-found w (v .end) s m (far-back e (v .end) (found-key v)) in
+        Memᴰ·cast (ap channel (sym (v .channel))) (own (stands-at C v) (v .held) (v .side ∙ ap other z) g)

@@ -17,10 +17,11 @@ use Rattle.calculus.specs.Steps.{Outcome, notOpen, lacking, onHeld, Message, cl
 use Rattle.calculus.specs.WellFormed.{In, TypedAs, Stands, WellFormed}
 use Rattle.calculus.specs.Demands.{Spawns, Tries, PassesOut, Short}
 use Rattle.derivations.specs.Equality.{same-iff}
-use Rattle.progress.specs.Lists.{not-below}
-use Rattle.progress.specs.Held.{lookup-in, lookup-entry, names-context}
-use Rattle.progress.specs.FarEnds.{HeldFar, FarView, far-process, far-outside, far-given-up, far-view, far-back, far-found}
-use Rattle.progress.specs.Fresh.{none-fresh}
+use Rattle.holding.specs.Lists.{not-below}
+use Rattle.holding.specs.Names.{lookup-in, in-lookup, distinct-iff}
+use Rattle.holding.specs.Contexts.{context-names}
+use Rattle.holding.specs.FarEnds.{stands-at, found-key, HeldFar, FarIs, at-process, at-outside, at-nobody, far-is, far-back, far-found}
+use Rattle.holding.specs.Fresh.{none-fresh}
 use Rattle.progress.specs.Waiting.{step-at}
 
 -- an outcome that lacks, and one that does not
@@ -141,11 +142,11 @@ module _ {p : Program} {C : Config} (v : WellFormed p C) {i : ℕ} {q : Process}
       → turnOf (h .process .doing) ≡ sends c′ m P → c′ .name ≡ h .name → Served (send p C (h .place) (h .process) c′ m P)
   answer-served {c} {e} {h} k u {c′} {m} {P} t z l =
       let o = send-lacks p C (h .place) (h .process) c′ m P l in
-      let t′ = sender-distinct p _ _ (h .process .doing) (ap is-send t) (v .typed (h .place) (h .process) (u .stands)) in
-      let d : distinct (names (h .process .held)) ≡ true = rw (← names-context (h .process .held)) t′ in
-      let g = lookup-entry (h .process .held) d (u .entry) in
+      let t′ = sender-distinct p _ _ (h .process .doing) (ap is-send t) (v .typed (h .place) (h .process) (stands-at C u)) in
+      let d : distinct (names (h .process .held)) ≡ true = rw (← context-names (h .process .held)) t′ in
+      let g = in-lookup (h .process .held) (distinct-iff _ .0 d) (h .name, u .end) (u .held) in
       let a : o .held ≡ u .end = Option·some-injective _ _ (sym (o .holds) ∙ ap (λ n. lookup n (h .process .held)) z ∙ g) in
-      let f = far-found v (u .end) s k (far-back e (u .end) (u .far)) in
+      let f = far-found v (u .end) s k (far-back e (u .end) (found-key u)) in
       false≢true (ap is-outside (sym f ∙ ap (farEnd C) (sym a) ∙ o .far))
 
   receive-served : (c : Located) → Served (receive p C i q c)
@@ -162,14 +163,14 @@ module _ {p : Program} {C : Config} (v : WellFormed p C) {i : ℕ} {q : Process}
       answered k u (receives c′ w) t = served refl
       answered k u alone t = served refl
 
-      far-served : {e : End} → In (c .name, e) (q .held) → {f : Far} → FarView C e f → Served (receiving p C i q (c .name) f)
-      far-served k (far-process {h} u) = answered k u (turnOf (h .process .doing)) refl
-      far-served k (far-outside u) = served refl
-      far-served k far-given-up = served refl
+      far-served : {e : End} → In (c .name, e) (q .held) → {f : Far} → FarIs C e f → Served (receiving p C i q (c .name) f)
+      far-served k (at-process h u) = answered k u (turnOf (h .process .doing)) refl
+      far-served k (at-outside _ _ _ _ _) = served refl
+      far-served k (at-nobody _ _) = served refl
 
       go : (o : Option End) → lookup (c .name) (q .held) ≡ o → Served (onHeld o λ e. receiving p C i q (c .name) (farEnd C e))
       go none h = served refl
-      go (some e) h = far-served (lookup-in (c .name) (q .held) h) (far-view C e)
+      go (some e) h = far-served (lookup-in (c .name) (q .held) h) (far-is C e)
 
 -- ── the other rules
 joined-served : (C : Config) (i : ℕ) (q : Process) (e d : End) (f : Far) → Served (joinedTo C i q e d f)

@@ -1,13 +1,10 @@
 pub mod Chosen
 pub mod Endings
-pub mod FarEnds
 pub mod Folding
-pub mod Fresh
 pub mod GivenUp
-pub mod Held
 pub mod Joints
 pub mod Lacks
-pub mod Lists
+pub mod Places
 pub mod Outward
 pub mod Progress
 pub mod RunOn

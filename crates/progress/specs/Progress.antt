@@ -18,9 +18,11 @@ use Rattle.calculus.specs.WellFormed.{In, isWaiting, key, Stands, WellFormed}
 use Rattle.derivations.specs.Booleans.{bool-cases}
 use Rattle.derivations.specs.Equality.{same-refl, sameType-iff}
 use Rattle.graphs.specs.Graph.{pigeonhole, Twins}
-use Rattle.progress.specs.Lists.{places, length-places, places-below, places-once, element}
-use Rattle.progress.specs.Held.{lookup-in, entry-in-ends, one-holder}
-use Rattle.progress.specs.FarEnds.{far-found}
+use Rattle.holding.specs.Lists.{below-found}
+use Rattle.holding.specs.Names.{lookup-in}
+use Rattle.holding.specs.Ends.{entry-in-ends, one-holder}
+use Rattle.holding.specs.FarEnds.{far-found}
+use Rattle.progress.specs.Places.{places, length-places, places-below, places-once}
 use Rattle.progress.specs.Joints.{joints-fewer, JointKey, channel, handler, JointKey-discrete, jointKeys, keys-of-joints, link-joint, channel-joint}
 use Rattle.progress.specs.Turns.{Sending, Receiving, sending-side, sender-of, receiving-side, faces, takes}
 use Rattle.progress.specs.Waiting.{Open, opened, Meets, Waits, waits-handler, waits-send, waits-receive, step-turn, shut, step-at, Stuck, stuck}
@@ -125,7 +127,7 @@ module _ {p : Program} {C : Config} (v : WellFormed p C) where
       all-places = places (length (C .processes))
 
       one : (i : ℕ) → i < length (C .processes) → (q : Process) × Stuck p C i q
-      one i h = let e = element (C .processes) i h in (e .0, stuck v (record { there = e .1 }) (f i h))
+      one i h = let e = below-found (C .processes) i h in (e .0, stuck v (record { there = e .1 }) (f i h))
 
       key-at : {i : ℕ} {q : Process} (u : Stuck p C i q) → place-key i (at C i) ≡ u .key-of
       key-at {i} {q} u = ap (place-key i) (u .stands .there) ∙ waits-key i q (u .waits)

@@ -18,8 +18,8 @@ use Rattle.calculus.specs.Runs.{isCarried}
 use Rattle.calculus.specs.WellFormed.{Stands}
 use Rattle.calculus.specs.declared.answers.Seen.{Seen}
 use Rattle.calculus.specs.declared.answers.Seen.the-variants.{Nothing}
-use Rattle.progress.specs.Lists.{position-below}
-use Rattle.progress.specs.FarEnds.{FarView, far-process, far-outside, far-given-up, far-view}
+use Rattle.holding.specs.Lists.{found-below}
+use Rattle.holding.specs.FarEnds.{stands-at, FarIs, at-process, at-outside, at-nobody, far-is}
 
 abbrev pub talks : Turn → Bool
 talks (sends c m P) = true
@@ -83,16 +83,16 @@ module _ {C : Config} {k : ℕ} where
     unheard-shape (passes a) = held-shape (lookup (a .name) (q .held)) λ d. parting-shape q′ d t
     unheard-shape (chooses l) = one _ _ t
 
-    sending-shape : (m : Message) (e : End) {f : Far} → FarView C e f → Shape C k (sending p C j q q′ m e f)
-    sending-shape m e (far-process {h} v) = meeting-shape m e h (v .stands) (turnOf (h .process .doing)) refl
-    sending-shape m e (far-outside {n} v) = out-shape m e n
-    sending-shape m e far-given-up = unheard-shape m
+    sending-shape : (m : Message) (e : End) {f : Far} → FarIs C e f → Shape C k (sending p C j q q′ m e f)
+    sending-shape m e (at-process h v) = meeting-shape m e h (stands-at C v) (turnOf (h .process .doing)) refl
+    sending-shape m e (at-outside n _ _ _ _) = out-shape m e n
+    sending-shape m e (at-nobody _ _) = unheard-shape m
 
   send-shape : (p : Program) {j : ℕ} (t : Touched C k j) (q : Process) (c : Located) (m : Message) (P : Proc) → Shape C k (send p C j q c m P)
   unfolding send
   send-shape p t q c m P =
       held-shape (lookup (c .name) (q .held)) λ e.
-      sending-shape p t q (process (running P) (afterSend p (c .name) e m (q .held)) (q .link)) m e (far-view C e)
+      sending-shape p t q (process (running P) (afterSend p (c .name) e m (q .held)) (q .link)) m e (far-is C e)
 
 -- ── the rules at their own place
 module _ (p : Program) (C : Config) (k : ℕ) (q : Process) (s : Stands C k q) where
@@ -101,7 +101,7 @@ module _ (p : Program) (C : Config) (k : ℕ) (q : Process) (s : Stands C k q) w
 
   receive-shape : (c : Located) → Shape C k (receive p C k q c)
   unfolding receive
-  receive-shape c = held-shape (lookup (c .name) (q .held)) λ e. go (far-view C e)
+  receive-shape c = held-shape (lookup (c .name) (q .held)) λ e. go (far-is C e)
     where
       answer : (h : Holder) → Stands C (h .place) (h .process) → (u : Turn) → turnOf (h .process .doing) ≡ u → Shape C k (answering p C h u)
       answer h s (sends c′ m P) z =
@@ -109,27 +109,27 @@ module _ (p : Program) (C : Config) (k : ℕ) (q : Process) (s : Stands C k q) w
       answer h s (receives c′ w) z = not-carried refl
       answer h s alone z = not-carried refl
 
-      go : {e : End} {f : Far} → FarView C e f → Shape C k (receiving p C k q (c .name) f)
-      go (far-process {h} v) = answer h (v .stands) (turnOf (h .process .doing)) refl
-      go (far-outside v) = not-carried refl
-      go far-given-up = one _ _ own
+      go : {e : End} {f : Far} → FarIs C e f → Shape C k (receiving p C k q (c .name) f)
+      go (at-process h v) = answer h (stands-at C v) (turnOf (h .process .doing)) refl
+      go (at-outside _ _ _ _ _) = not-carried refl
+      go (at-nobody _ _) = one _ _ own
 
   joining-shape : (e d : End) (f : Far) → Shape C k (joining C k q e d f)
   joining-shape e d f = go f
     where
-      joins : {f : Far} → FarView C e f → Shape C k (joinedTo C k q e d f)
-      joins (far-process v) = joined _ _ _ (v .stands) refl
-      joins (far-outside v) = one _ _ own
-      joins far-given-up = one _ _ own
+      joins : {f : Far} → FarIs C e f → Shape C k (joinedTo C k q e d f)
+      joins (at-process _ v) = joined _ _ _ (stands-at C v) refl
+      joins (at-outside _ _ _ _ _) = one _ _ own
+      joins (at-nobody _ _) = one _ _ own
 
       go : (f : Far) → Shape C k (joining C k q e d f)
-      go (atProcess h) = joins (far-view C e)
-      go (atOutside n) = joins (far-view C e)
+      go (atProcess h) = joins (far-is C e)
+      go (atOutside n) = joins (far-is C e)
       go givenUp = parting-shape _ e own
 
   term-shape : (P : Proc) → Shape C k (stepTerm p C k q P)
   unfolding stepTerm leaving cancelling spawning trying calling raising forwarding
-  term-shape (empty o) = left (q .link) (position-below (C .processes) k (s .there))
+  term-shape (empty o) = left (q .link) (found-below (C .processes) k (s .there))
   term-shape (sendUnit o c P) = send-shape p own q c closing P
   term-shape (sendChannel o c a P) = send-shape p own q c (passes a) P
   term-shape (sendLabel o c l P) = send-shape p own q c (chooses l) P
@@ -153,7 +153,7 @@ module _ (p : Program) (C : Config) (k : ℕ) (q : Process) (s : Stands C k q) w
 
   fold-shape : (l : List (Name × End)) → Shape C k (foldingUp C k q l)
   unfolding foldingUp leaving
-  fold-shape [] = left (q .link) (position-below (C .processes) k (s .there))
+  fold-shape [] = left (q .link) (found-below (C .processes) k (s .there))
   fold-shape (e ∷ l) = parting-shape _ (e .1) own
 
   doing-shape : (d : Doing) → Shape C k (stepDoing p C k q d)

@@ -10,8 +10,8 @@ use Rattle.calculus.specs.Configuration.{End, Process, Config}
 use Rattle.calculus.specs.Steps.{Message, Wanted, sends, receives, turnOf, receive, send, step}
 use Rattle.calculus.specs.WellFormed.{key, WellFormed}
 use Rattle.derivations.specs.Equality.{same-refl}
-use Rattle.progress.specs.Held.{lookup-in}
-use Rattle.progress.specs.FarEnds.{far-found}
+use Rattle.holding.specs.Names.{lookup-in}
+use Rattle.holding.specs.FarEnds.{far-found}
 use Rattle.progress.specs.Waiting.{AtTurn, step-by-turn}
 
 -- the recv at place i and the send at place j, at the two ends of one channel

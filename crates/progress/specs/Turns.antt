@@ -5,7 +5,7 @@ use mathlib.Core.Path.{_≡_, refl, sym, _∙_, ap}
 use mathlib.Core.Logic.{Iff·rfl}
 use mathlib.Core.List.{List, _∷_, List·Memᴰ·head, List·Memᴰ·tail}
 use mathlib.Core.Option.{Option, some, none, Option·map, Option·some-injective, Option·none-ne-some}
-use mathlib.Core.Bool.{Bool, true, false, cond, true≢false}
+use mathlib.Core.Bool.{Bool, true, false, cond}
 use lib.ListN.{length}
 use lib.Dec.{eqb}
 use Rattle.notation.specs.Bytes.{same}
@@ -19,6 +19,7 @@ use Rattle.calculus.specs.Steps.{Message, closing, passes, chooses, Wanted, onC
 use Rattle.calculus.specs.WellFormed.{In}
 use Rattle.derivations.specs.Booleans.{and-iff, all-iff, eqb-iff}
 use Rattle.derivations.specs.Equality.{same-iff}
+use Rattle.holding.specs.Ends.{side-clash}
 use Rattle.progress.specs.Outward.{other-mark}
 
 -- the message that a typed send has for a channel of type T whose side s it holds
@@ -82,13 +83,6 @@ pub faces : {l : List (Name × End)} {m : Message} {w : Wanted} {s t : Side} {T 
 faces m w = receiving-side w ∙ ap other (sym (sending-side m))
 
 -- what is received where it is provided is @, -o or &
-abbrev is-provided : Side → Bool
-is-provided provided = true
-is-provided used = false
-
-side-clash : provided ≡ used → ⊥
-side-clash e = true≢false (ap is-provided e)
-
 sender-mark : (T : Ty Name) → provided ≡ other (sender-of T) → other-mark T ≡ true
 sender-mark unit e = absurd (side-clash e)
 sender-mark (named n) e = absurd (side-clash e)

@@ -13,13 +13,15 @@ use Rattle.calculus.specs.Named.{lookup, isSome}
 use Rattle.calculus.specs.Types.{Side, provided, standing, passing, choosing}
 use Rattle.calculus.specs.Program.{Program}
 use Rattle.calculus.specs.Typing.{Typed, sends-unit, recvs-unit, sends-channel, recvs-channel, sends-label, recvs-label, forwards, calls, spawns, tries, raises, cancels, empties}
-use Rattle.calculus.specs.Configuration.{End, Doing, running, folding, waiting, Process, process, Config, at, Holder, Far, atProcess, atOutside, givenUp, farEnd, freshChannel}
+use Rattle.calculus.specs.Configuration.{End, Doing, running, folding, waiting, Process, process, Outside, Config, at, Holder, Far, atProcess, atOutside, givenUp, farEnd, freshChannel}
 use Rattle.calculus.specs.Steps.{Outcome, lacking, Message, passes, Wanted, Turn, sends, receives, alone, turn, placeFor, spawned, joining, joinedTo, toOutside, passedOut, isGivenUp, unheard, afterMessage, afterSend, sending, send, receiving, receive, cancelling, spawning, trying, calling, raising, forwarding, parting, leaving, foldingUp, stepTerm, stepDoing, stepOf, step, isOpenBy, isOpen}
 use Rattle.calculus.specs.WellFormed.{In, contextOf, TypedAs, Stands, WellFormed}
 use Rattle.derivations.specs.Booleans.{isSome-iff}
 use Rattle.derivations.specs.Equality.{sameType-iff}
-use Rattle.progress.specs.Held.{lookup-in, acts, held-of, entry-in-ends, outside-in-ends}
-use Rattle.progress.specs.FarEnds.{HeldFar, OutsideFar, FarView, far-process, far-outside, far-given-up, far-view}
+use Rattle.holding.specs.Names.{lookup-in}
+use Rattle.holding.specs.Contexts.{acts, held-plain}
+use Rattle.holding.specs.Ends.{entry-in-ends, outside-in-ends}
+use Rattle.holding.specs.FarEnds.{HeldFar, FarIs, at-process, at-outside, at-nobody, far-is}
 use Rattle.progress.specs.Joints.{JointKey, channel, handler}
 use Rattle.progress.specs.Outward.{outward-stands, other-mark}
 use Rattle.progress.specs.Turns.{Sending, sends-close, sends-passing, sends-choice, Receiving, receives-close, receives-passing, receives-choice, received-provided, branch-for}
@@ -61,27 +63,27 @@ moves : {p : Program} (C : Config) (i : ℕ) (q : Process) {link : Bool} {P : Pr
 unfolding stepTerm cancelling parting spawning trying calling raising forwarding leaving
 moves {p} C i q (sends-unit {c = c} e d) =
     let a = acts p (c .name) (q .held) e in
-    inr (talks-send (a .held) (a .found) (sends-close (a .side) (a .type)))
+    inr (talks-send (a .end) (a .found) (sends-close (a .side) (a .type)))
 moves {p} C i q (recvs-unit {c = c} e d) =
     let a = acts p (c .name) (q .held) e in
-    inr (talks-receive (a .held) (a .found) (receives-close (a .side) (a .type)))
+    inr (talks-receive (a .end) (a .found) (receives-close (a .side) (a .type)))
 moves {p} C i q (sends-channel {c = c} {a = n} T A t z e h l g d) =
     let a = acts p (c .name) (q .held) h in
-    let b = held-of (n .name) (q .held) l in
-    inr (talks-send (a .held) (a .found) (sends-passing t (b .0) (ap passing (a .type) ∙ e) (a .side) (b .1)))
+    let b = held-plain (n .name) (q .held) _ _ l in
+    inr (talks-send (a .end) (a .found) (sends-passing t (b .end) (ap passing (a .type) ∙ e) (a .side) (b .found)))
 moves {p} C i q (recvs-channel {c = c} T t e h b d) =
     let a = acts p (c .name) (q .held) h in
-    inr (talks-receive (a .held) (a .found) (receives-passing t (ap passing (a .type) ∙ e) (a .side)))
+    inr (talks-receive (a .end) (a .found) (receives-passing t (ap passing (a .type) ∙ e) (a .side)))
 moves {p} C i q (sends-label {c = c} T A t e h l d) =
     let a = acts p (c .name) (q .held) h in
-    inr (talks-send (a .held) (a .found) (sends-choice t A (ap choosing (a .type) ∙ e) (a .side) l))
+    inr (talks-send (a .end) (a .found) (sends-choice t A (ap choosing (a .type) ∙ e) (a .side) l))
 moves {p} C i q (recvs-label {c = c} {B = B} T t e h f b) =
     let a = acts p (c .name) (q .held) h in
-    inr (talks-receive (a .held) (a .found) (receives-choice t (ap choosing (a .type) ∙ e) (a .side) (branch-for (t .labels) B f)))
+    inr (talks-receive (a .end) (a .found) (receives-choice t (ap choosing (a .type) ∙ e) (a .side) (branch-for (t .labels) B f)))
 moves C i q (forwards {x = x} {c = c} A B e f g h) =
-    let a = held-of (x .name) (q .held) e in
-    let b = held-of (c .name) (q .held) f in
-    inl (rw (a .1, b .1) (joining-open C i q (a .0) (b .0) (farEnd C (b .0))))
+    let a = held-plain (x .name) (q .held) _ _ e in
+    let b = held-plain (c .name) (q .held) _ _ f in
+    inl (rw (a .found, b .found) (joining-open C i q (a .end) (b .end) (farEnd C (b .end))))
 moves C i q (calls s e f g h k) = inl (rw e (opened refl))
 moves C i q (spawns {x = x} {A = A} {P = P} {Q = Q} n b b′ d d′) = inl (place-for C (go (freshChannel C)))
   where
@@ -92,8 +94,8 @@ moves C i q (tries e d d′) = inl (place-for C (opened refl))
 moves C i q (raises e d) = inl (opened refl)
 moves C i q (cancels {c = c} e d) =
     let s = isSome-iff (lookup (c .name) (contextOf (q .held))) .0 e in
-    let a = held-of (c .name) (q .held) (s .1) in
-    inl (rw (a .1) (opened refl))
+    let a = held-plain (c .name) (q .held) (s .0 .side) (s .0 .type) (s .1) in
+    inl (rw (a .found) (opened refl))
 moves C i q (empties e) = inl (opened refl)
 
 -- ── a step that is not open waits on a joint
@@ -131,35 +133,36 @@ send-moves : (p : Program) (C : Config) (i : ℕ) (q : Process) {c : Located} {m
     → {s : Side} {T : Ty Name} → Sending (q .held) m s T
     → Open (send p C i q c m P) ⊎ Meets C q c e
 unfolding send
-send-moves p C i q {c} {m} P e h {s} {T} g = rw h (go (far-view C e) refl)
+send-moves p C i q {c} {m} P e h {s} {T} g = rw h (go (far-is C e) refl)
   where
     q′ : Process
     q′ = process (running P) (afterSend p (c .name) e m (q .held)) (q .link)
 
-    go : {f : Far} → FarView C e f → farEnd C e ≡ f → Open (sending p C i q q′ m e f) ⊎ Meets C q c e
-    go (far-process v) t = inr (record { holds = h; holder = _; far = t; held-far = v })
-    go (far-outside {n} v) t = inl (out-open p C i q q′ e n g)
-    go far-given-up t = inl (unheard-open C i q q′ g)
+    go : {f : Far} → FarIs C e f → farEnd C e ≡ f → Open (sending p C i q q′ m e f) ⊎ Meets C q c e
+    go (at-process _ v) t = inr (record { holds = h; holder = _; far = t; held-far = v })
+    go (at-outside n _ _ _ _) t = inl (out-open p C i q q′ e n g)
+    go (at-nobody _ _) t = inl (unheard-open C i q q′ g)
 
 -- a recv whose far end is the outside's is not typed
-no-recv-outside : {p : Program} {C : Config} → WellFormed p C → {i : ℕ} {q : Process} {c : Name} {e : End} {n : ℕ} {w : Wanted} → Stands C i q
-    → In (c, e) (q .held) → Receiving w (e .side) (standing (p .types) (e .type)) → OutsideFar C e n → ⊥
-no-recv-outside {p} {C} v {e = e} {w = w} s m r o =
-    let z : o .outside .type ≡ e .type = sameType-iff _ _ .0 (v .oneType _ _ (outside-in-ends C (o .member)) (entry-in-ends s m) (o .channel)) in
-    let a = outward-stands p (o .outside .type) (v .outside (o .outside) (o .member) .0) in
-    let b : Receiving w provided (standing (p .types) (e .type)) = rw (o .side) at r in
+no-recv-outside : {p : Program} {C : Config} → WellFormed p C → {i : ℕ} {q : Process} {c : Name} {e : End} {w : Wanted} → Stands C i q
+    → In (c, e) (q .held) → Receiving w (e .side) (standing (p .types) (e .type)) → (o : Outside) → In o (C .outside) → o .channel ≡ e .channel
+    → e .side ≡ provided → ⊥
+no-recv-outside {p} {C} v {e = e} {w = w} s m r o i k t =
+    let z : o .type ≡ e .type = sameType-iff _ _ .0 (v .oneType _ _ (outside-in-ends C i) (entry-in-ends s m) k) in
+    let a = outward-stands p (o .type) (v .outside o i .0) in
+    let b : Receiving w provided (standing (p .types) (e .type)) = rw t at r in
     true≢false (sym (received-provided b) ∙ ap (λ A. other-mark (standing (p .types) A)) (sym z) ∙ a)
 
 receive-moves : {p : Program} {C : Config} → WellFormed p C → {i : ℕ} {q : Process} {c : Located} {w : Wanted} (e : End) → Stands C i q
     → lookup (c .name) (q .held) ≡ some e → Receiving w (e .side) (standing (p .types) (e .type))
     → Open (receive p C i q c) ⊎ Meets C q c e
 unfolding receive
-receive-moves {p} {C} v {i} {q} {c} {w} e s h g = rw h (go (far-view C e) refl)
+receive-moves {p} {C} v {i} {q} {c} {w} e s h g = rw h (go (far-is C e) refl)
   where
-    go : {f : Far} → FarView C e f → farEnd C e ≡ f → Open (receiving p C i q (c .name) f) ⊎ Meets C q c e
-    go (far-process u) t = inr (record { holds = h; holder = _; far = t; held-far = u })
-    go (far-outside u) t = absurd (no-recv-outside v s (lookup-in (c .name) (q .held) h) g u)
-    go far-given-up t = inl (opened refl)
+    go : {f : Far} → FarIs C e f → farEnd C e ≡ f → Open (receiving p C i q (c .name) f) ⊎ Meets C q c e
+    go (at-process _ u) t = inr (record { holds = h; holder = _; far = t; held-far = u })
+    go (at-outside _ o i k z) t = absurd (no-recv-outside v s (lookup-in (c .name) (q .held) h) g o i k z)
+    go (at-nobody _ _) t = inl (opened refl)
 
 -- the step of a term by its turn
 abbrev pub by-turn : Program → Config → ℕ → Process → Proc → Turn → Outcome

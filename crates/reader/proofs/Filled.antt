@@ -1,11 +1,11 @@
 -- How answers and words follow the definition's own combinators.
 use mathlib.Core.Path.{_≡_, refl, ap, sym, subst, _∙_}
-use mathlib.Core.List.{List}
+use mathlib.Core.List.{List, [], _∷_}
 use mathlib.Core.Bool.{Bool, true, false}
 use Prim.Native.Nat.{ℕ, zero, suc, _<_, _≤_}
 use native.Mathlib.Nat.{le-of-suc-le-suc, not-suc-le-zero}
 use native.Mathlib.Omega.{arith}
-use lib.ListN.{length}
+use lib.ListN.{length, drop, set, length-set}
 use Rattle.notation.specs.Reader.{Result, got, refused, take, part, lastly, choose}
 use Rattle.notation.specs.declared.reading.Cursor.{Cursor}
 use Rattle.notation.specs.declared.reading.Tally.{Tally}
@@ -13,7 +13,7 @@ use Rattle.notation.specs.declared.reading.Taken.{Taken}
 use Rattle.notation.specs.declared.reading.Taken.the-variants.{At, Refused}
 use Rattle.reader.specs.declared.steps.Out.{Out}
 use Rattle.reader.specs.declared.steps.Out.the-variants.{Got, Not}
-use Rattle.reader.specs.Filling.{Stepped, asOut, Form, Made, Meets}
+use Rattle.reader.specs.Filling.{Kept, Put, pastArea, Stepped, asOut, Form, Made, Meets}
 
 -- a refusal goes on nowhere
 pub never-got : {P : Type 0} {n i : ℕ} {d : Cursor} {l : Tally} → Not n i ≡ Got d l → P
@@ -25,6 +25,28 @@ took u e = sym (u .is) ∙ e
 
 pub refused-out : {q : Taken} {r : Out} {n i : ℕ} → q ≡ Refused n i → r ≡ asOut q → r ≡ Not n i
 refused-out g h = h ∙ ap asOut g
+
+-- ── words past the tables' area
+pub same : {w : List ℕ} → Kept w w
+same = record { long = refl; past = refl }
+
+infixr 30 _upon_
+pub _upon_ : {w v u : List ℕ} → Kept v u → Kept w v → Kept w u
+_upon_ a b = record { long = a .long ∙ b .long; past = a .past ∙ b .past }
+
+pub put-kept : {w x v : List ℕ} {k r : Tally} → Put w x k r v → Kept w x
+put-kept {w} p = subst (Kept w) (p .words) (p .kept)
+
+drop-set : (n : ℕ) (w : List ℕ) (i a : ℕ) → i < n → drop n (set w i a) ≡ drop n w
+drop-set zero w i a l = absurd (not-suc-le-zero l)
+drop-set (suc n) [] i a l = refl
+drop-set (suc n) (x ∷ w) zero a l = refl
+drop-set (suc n) (x ∷ w) (suc i) a l = drop-set n w i a (le-of-suc-le-suc l)
+
+-- a word of the tables is set
+pub kept-set : (w : List ℕ) (i a : ℕ) → i < 5640 → Kept w (set w i a)
+unfolding pastArea
+kept-set w i a l = record { long = length-set w i a; past = drop-set 5640 w i a l }
 
 -- ── what an answer says of the definition's answer
 module _ {A : Type 0} {F : Form A} {w v : List ℕ} {k : Tally} {r : Out} where
@@ -49,12 +71,12 @@ module _ {A : Type 0} {F : Form A} {w v : List ℕ} {k : Tally} {r : Out} where
 
 -- ── meeting the definition at every fuel above a bound
 module _ {A : Type 0} {F : Form A} (s w : List ℕ) (c : Cursor) (k : Tally) {b : ℕ} {f : ℕ → Result A} where
-  pub meets-no : {r : Out} {v : List ℕ} {n i : ℕ} → r ≡ Not n i → length v ≡ length w → ((m : ℕ) → b < m → f m ≡ refused n i) → Meets F s w c k b f r v
-  meets-no q g h = record { is = λ m l. made-no (h m l) q; long = g; on = λ d l e. never-got (sym q ∙ e) }
+  pub meets-no : {r : Out} {v : List ℕ} {n i : ℕ} → r ≡ Not n i → Kept w v → ((m : ℕ) → b < m → f m ≡ refused n i) → Meets F s w c k b f r v
+  meets-no q g h = record { is = λ m l. made-no (h m l) q; kept = g; on = λ d l e. never-got (sym q ∙ e) }
 
-  pub meets-got : {d : Cursor} {l : Tally} {v : List ℕ} → F .Ahead s c k d l → length v ≡ length w
+  pub meets-got : {d : Cursor} {l : Tally} {v : List ℕ} → F .Ahead s c k d l → Kept w v
       → ((m : ℕ) → b < m → Made F w k (f m) (Got d l) v) → Meets F s w c k b f (Got d l) v
-  meets-got {d} {l} o g h = record { is = h; long = g; on = onto }
+  meets-got {d} {l} o g h = record { is = h; kept = g; on = onto }
     where
       onto : (e : Cursor) (n : Tally) → Got d l ≡ Got e n → F .Ahead s c k e n
       onto e n q =
@@ -69,10 +91,10 @@ at-more P h (suc m) l = h m (le-of-suc-le-suc l)
 
 -- a result that a meeting gives at one more fuel
 module _ {A : Type 0} (F : Form A) (s w : List ℕ) (c : Cursor) (k : Tally) {b : ℕ} (f : ℕ → Result A) where
-  pub more-no : {r : Out} {v : List ℕ} {n i : ℕ} → r ≡ Not n i → length v ≡ length w → ((m : ℕ) → b ≤ m → f (suc m) ≡ refused n i) → Meets F s w c k b f r v
+  pub more-no : {r : Out} {v : List ℕ} {n i : ℕ} → r ≡ Not n i → Kept w v → ((m : ℕ) → b ≤ m → f (suc m) ≡ refused n i) → Meets F s w c k b f r v
   more-no {n = n} {i} q g h = meets-no s w c k q g (at-more (λ m. f m ≡ refused n i) h)
 
-  pub more-got : {d : Cursor} {l : Tally} {v : List ℕ} → F .Ahead s c k d l → length v ≡ length w → ((m : ℕ) → b ≤ m → Made F w k (f (suc m)) (Got d l) v) → Meets F s w c k b f (Got d l) v
+  pub more-got : {d : Cursor} {l : Tally} {v : List ℕ} → F .Ahead s c k d l → Kept w v → ((m : ℕ) → b ≤ m → Made F w k (f (suc m)) (Got d l) v) → Meets F s w c k b f (Got d l) v
   more-got {d} {l} {v} o g h = meets-got s w c k o g (at-more (λ m. Made F w k (f m) (Got d l) v) h)
 
 -- the words of an answer at every fuel above the bound

@@ -24,7 +24,7 @@ use Rattle.reader.specs.declared.steps.Out.the-variants.{Got, Not}
 use Rattle.reader.specs.Filling.{Stepped, asOut, Put, Room, unread}
 use Rattle.reader.specs.Processes.{AheadNames, NamesTaken, forgetNames, listEnd, namesOrNone, FineProcess, TermRead}
 use Rattle.reader.proofs.Taking.{never}
-use Rattle.reader.proofs.Filled.{took, refused-out, made-got, meets-no, meets-got}
+use Rattle.reader.proofs.Filled.{same, _upon_, put-kept, took, refused-out, made-got, meets-no, meets-got}
 
 -- a list that was read, and one that was refused
 module _ {P : Type 0} {r : Taken} (i : ℕ) (x : Result (List Located)) (is : r ≡ forgetNames i x) where
@@ -170,12 +170,12 @@ module _ (s : List ℕ) (c : Cursor) (opens closes n : ℕ) (wide : 1 ≤ n) {q 
 module _ (s w : List ℕ) (c : Cursor) (k : Tally) (room : Room s w c k) {q : Taken} (u : Stepped s c 1 0 1 (processTerm s kCall c) q) where
   pub call-no : {r : Out} {n i : ℕ} → q ≡ Refused n i → r ≡ asOut q → TermRead Call s w c k r w
   unfolding processBy
-  call-no g h = meets-no s w c k (refused-out g h) refl (λ m _. rw (took u g))
+  call-no g h = meets-no s w c k (refused-out g h) same (λ m _. rw (took u g))
 
   module _ {at : ℕ} {d : Cursor} (e : q ≡ At at d) {x : Taken} (y : Stepped s d 1 0 0 (expect s kName d) x) where
     pub call-name-no : {r : Out} {n i : ℕ} → x ≡ Refused n i → r ≡ asOut x → TermRead Call s w c k r w
     unfolding processBy
-    call-name-no g h = meets-no s w c k (refused-out g h) refl (λ m _. rw (took u e, took y g))
+    call-name-no g h = meets-no s w c k (refused-out g h) same (λ m _. rw (took u e, took y g))
 
     module _ {i : ℕ} {f : Cursor} (g : x ≡ At i f) {z : Taken} (a : NamesTaken s f (tokenAt s (f .at) .start) (λ m. nameList m s kRoundOpen kRoundClose f) z) where
       pub call-provided-no : {r : Out} {n j : ℕ} → z ≡ Refused n j → r ≡ asOut z → TermRead Call s w c k r w
@@ -183,7 +183,7 @@ module _ (s w : List ℕ) (c : Cursor) (k : Tally) (room : Room s w c k) {q : Ta
       call-provided-no h l =
           let o = u .on at d e in
           let o₂ = y .on i f g in
-          meets-no s w c k (refused-out h l) refl (λ m lo. rw (took u e, took y g, names-refused _ (nameList m s kRoundOpen kRoundClose f) (a .is m (omega arith)) h))
+          meets-no s w c k (refused-out h l) same (λ m lo. rw (took u e, took y g, names-refused _ (nameList m s kRoundOpen kRoundClose f) (a .is m (omega arith)) h))
 
       module _ {bracket : ℕ} {b : Cursor} (h : z ≡ At bracket b) {z₂ : Taken} (a₂ : NamesTaken s b (tokenAt s (b .at) .start) (λ m. nameList m s kSquareOpen kSquareClose b) z₂) where
         pub call-used-no : {r : Out} {n j : ℕ} → z₂ ≡ Refused n j → r ≡ asOut z₂ → TermRead Call s w c k r w
@@ -192,7 +192,7 @@ module _ (s w : List ℕ) (c : Cursor) (k : Tally) (room : Room s w c k) {q : Ta
             let o = u .on at d e in
             let o₂ = y .on i f g in
             let o₃ = a .on bracket b h in
-            meets-no s w c k (refused-out h₂ l) refl
+            meets-no s w c k (refused-out h₂ l) same
             (λ m lo. names-read _ (nameList m s kRoundOpen kRoundClose f) (a .is m (omega arith)) h λ xs p _.
             rw (took u e, took y g, p, names-refused _ (nameList m s kSquareOpen kSquareClose b) (a₂ .is m (omega arith)) h₂))
 
@@ -204,7 +204,7 @@ module _ (s w : List ℕ) (c : Cursor) (k : Tally) (room : Room s w c k) {q : Ta
             let o₃ = a .on bracket b h in
             let o₄ = a₂ .on j b₂ h₂ in
             rw (pt .is, pt .words)
-            (meets-got s w c k (omega arith) (sym (ap length (pt .words)) ∙ pt .long)
+            (meets-got s w c k (omega arith) (put-kept pt)
             (λ m lo. names-read _ (nameList m s kRoundOpen kRoundClose f) (a .is m (omega arith)) h λ xs p opened.
             names-read _ (nameList m s kSquareOpen kSquareClose b) (a₂ .is m (omega arith)) h₂ λ ys p₂ _.
             made-got (call at (nameIn s i) (tokenAt s (f .at) .start) xs ys) (rw (took u e, took y g, p, p₂)) refl

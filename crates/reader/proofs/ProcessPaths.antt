@@ -5,11 +5,11 @@ use mathlib.Core.Bool.{Bool, true, false, cond}
 use Prim.Native.Nat.{ℕ, zero, suc, _+_, _-_, _*_, _<_, _≤_}
 use native.Mathlib.Omega.{arith}
 use lib.ListN.{length}
-use lib.Dec.{eqb}
-use borrow.Author.Tests.{eq-eqb, ne-eqb}
+use lib.Dec.{eqb, ltb}
+use borrow.Author.Tests.{eq-eqb, ne-eqb, ltb-true}
 use Rattle.notation.specs.declared.token.Token.{Token}
 use Rattle.notation.specs.Limits.{textLimit}
-use Rattle.notation.specs.Token.{kindAt, tokenAt, width, kFwd, kName, kThen, kRoundOpen, kRoundClose, kCancel, kRaise, kSend, kRecv, kSemicolon, kBar, kTry, kCatch, kFrom, kColon, Onward}
+use Rattle.notation.specs.Token.{kindAt, tokenAt, width, kFwd, kName, kThen, kRoundOpen, kRoundClose, kCancel, kRaise, kSend, kRecv, kSemicolon, kBar, kTry, kCatch, kFrom, kColon, kLabel, Onward}
 use Rattle.notation.specs.Tree.{Located, Ty, Proc, empty, sendUnit, sendChannel, sendLabel, cancel, spawn, recvUnit, recvChannel, recvLabel, fwd, call, raise, try, Branches, branch}
 use Rattle.notation.specs.Reader.{Result, got, refused, take, part, lastly, choose, expect, misfit, opening, processTerm, closed, thenToken, nameIn, labelIn}
 use Rattle.notation.specs.Types.{readType, labelTerm}
@@ -28,8 +28,8 @@ use Rattle.reader.specs.Filling.{TypeRead, Stepped, asOut, misfitOut, Pu
 use Rattle.reader.specs.Processes.{payloadTaken, payloadThen, labelThen, nameColon, misfitTaken, sentOf, sentNode, recvdOf, recvdNode, FineProcess, FineBranches, SomeBranch, processForm, sentForm, handlerForm, branchesForm, moreBranchesForm, partsForm, termBy, handlerBy, TermRead, SentRead, HandlerRead, OneRead, LabelsRead, BracketedRead, PartsRead, ProcessRead, RestRead, BranchesRead, MoreBranchesRead}
 use Rattle.notation.specs.declared.token.Payload.{Payload}
 use Rattle.notation.specs.declared.token.Payload.the-variants.{Unit as UnitPayload, Channel, Label, Other}
-use Rattle.reader.proofs.TypePaths.{then-take}
-use Rattle.reader.proofs.Filled.{took, refused-out, made-no, made-got, gone-on, stopped, meets-no, meets-got, more-no, more-got, more-made}
+use Rattle.reader.proofs.TypePaths.{then-take, within-limit}
+use Rattle.reader.proofs.Filled.{same, _upon_, put-kept, took, refused-out, made-no, made-got, gone-on, stopped, meets-no, meets-got, more-no, more-got, more-made}
 
 -- the definition at one more fuel
 process-suc : (m : ℕ) (s : List ℕ) (c : Cursor) → readProcess (suc m) s c ≡ termBy (termHead (kindAt s (c .at))) s c m
@@ -49,7 +49,7 @@ module _ {A B : Type 0} {F : Form B} {G : Form A} (s w : List ℕ) (c d : Cursor
     (is : (m : ℕ) → b < m → (f m ≡ lastly over (sub m)) × (bs < m)) {p : Out} {v : List ℕ} (t : Meets G s w d k bs sub p v) where
   pub over-no : {n i : ℕ} → p ≡ Not n i → Meets F s w c k b f p v
   over-no {n} {i} g =
-      meets-no s w c k g (t .long) (λ m lo. is m lo .0 ∙ ap (lastly over) (stopped (sub m) (t .is m (is m lo .1)) g))
+      meets-no s w c k g (t .kept) (λ m lo. is m lo .0 ∙ ap (lastly over) (stopped (sub m) (t .is m (is m lo .1)) g))
 
   -- put : what is written over the part, from the tally and the words after it
   pub over-got : (put : Tally → List ℕ → List ℕ) (more : Tally → Tally)
@@ -57,7 +57,7 @@ module _ {A B : Type 0} {F : Form B} {G : Form A} (s w : List ℕ) (c d : Cursor
       → {e : Cursor} {l l₂ : Tally} {v₂ : List ℕ} → p ≡ Got e l → Put v (put l v) (more l) l₂ v₂ → F .Ahead s c k e (more l) → Meets F s w c k b f (Got e l₂) v₂
   over-got put more after write fine {e} {l} g pt o =
       rw (pt .is, pt .words)
-      (meets-got s w c k o (sym (ap length (pt .words)) ∙ pt .long ∙ t .long)
+      (meets-got s w c k o (put-kept pt upon t .kept)
       (λ m lo. gone-on (sub m) (t .is m (is m lo .1)) g λ a x al av fi.
       made-got (over a) (is m lo .0 ∙ ap (lastly over) x) ((λ i. Got e (more (al i))) ∙ ap (Got e) (sym (after a))) ((λ i. put (al i) (av i)) ∙ sym (write a)) (fine a fi)))
 
@@ -66,17 +66,17 @@ module _ (s w : List ℕ) (c : Cursor) (k : Tally) (room : Room s w c k) where
   module _ {q : Taken} (u : Stepped s c 1 0 1 (processTerm s kFwd c) q) where
     pub fwd-no : {r : Out} {n i : ℕ} → q ≡ Refused n i → r ≡ asOut q → TermRead Fwd s w c k r w
     unfolding processBy
-    fwd-no g h = meets-no s w c k (refused-out g h) refl (λ m _. rw (took u g))
+    fwd-no g h = meets-no s w c k (refused-out g h) same (λ m _. rw (took u g))
 
     module _ {at : ℕ} {d : Cursor} (e : q ≡ At at d) {x : Taken} (y : Stepped s d 1 0 0 (expect s kName d) x) where
       pub fwd-provided-no : {r : Out} {n i : ℕ} → x ≡ Refused n i → r ≡ asOut x → TermRead Fwd s w c k r w
       unfolding processBy
-      fwd-provided-no g h = meets-no s w c k (refused-out g h) refl (λ m _. rw (took u e, took y g))
+      fwd-provided-no g h = meets-no s w c k (refused-out g h) same (λ m _. rw (took u e, took y g))
 
       module _ {i : ℕ} {f : Cursor} (g : x ≡ At i f) {z : Taken} (o : Stepped s f 1 0 0 (expect s kName f) z) where
         pub fwd-used-no : {r : Out} {n j : ℕ} → z ≡ Refused n j → r ≡ asOut z → TermRead Fwd s w c k r w
         unfolding processBy
-        fwd-used-no h l = meets-no s w c k (refused-out h l) refl (λ m _. rw (took u e, took y g, took o h))
+        fwd-used-no h l = meets-no s w c k (refused-out h l) same (λ m _. rw (took u e, took y g, took o h))
 
         pub fwd-got : {j : ℕ} {b : Cursor} {l : Tally} {v : List ℕ} → z ≡ At j b → Put w (putTerm w (k .terms) (termNode 9 at i j 0)) (moreTerms k) l v → TermRead Fwd s w c k (Got b l) v
         unfolding processBy afterProcess writeProcess FineProcess
@@ -85,7 +85,7 @@ module _ (s w : List ℕ) (c : Cursor) (k : Tally) (room : Room s w c k) where
             let o₂ = y .on i f g in
             let o₃ = o .on j b h in
             rw (pt .is, pt .words)
-            (meets-got s w c k (omega arith) (sym (ap length (pt .words)) ∙ pt .long)
+            (meets-got s w c k (omega arith) (put-kept pt)
             (λ m _. made-got (fwd at (nameIn s i) (nameIn s j)) (rw (took u e, took y g, took o h)) refl refl (omega arith)))
 
 -- ── the definition's own words for what the code does in one step
@@ -149,7 +149,7 @@ as-process (refused n i) h = record { said = h .said }
 -- ── what is sent, and the rest
 module _ (s w : List ℕ) (c : Cursor) (k : Tally) (room : Room s w c k) (own : k .terms < c .terms) (at i : ℕ) (a : at < textLimit) (b : i < textLimit) (h : Payload) {q : Taken} (u : Stepped s c 1 0 0 (payloadTaken s c h) q) where
   pub sent-no : {r : Out} {n j : ℕ} → q ≡ Refused n j → r ≡ asOut q → SentRead at i h s w c k r w
-  sent-no g y = meets-no s w c k (refused-out g y) refl (λ m _. sent-is _ s at (nameIn s i) c h ∙ rw (took u g))
+  sent-no g y = meets-no s w c k (refused-out g y) same (λ m _. sent-is _ s at (nameIn s i) c h ∙ rw (took u g))
 
   module _ {j : ℕ} {d : Cursor} (e : q ≡ At j d) {p : Out} {v : List ℕ} (t : RestRead s w d k p v) where
     sent-part : (m : ℕ) → 3 * unread s c + 1 < m → (sendBy (λ d. readRest m s d) s at (nameIn s i) c h ≡ lastly (sentOf s h at (nameIn s i) j) (readRest m s d)) × (3 * unread s d + 1 < m)
@@ -168,7 +168,7 @@ module _ (s w : List ℕ) (c : Cursor) (k : Tally) (room : Room s w c k) (own : 
 -- ── () or a name, => and a process
 module _ (s w : List ℕ) (c : Cursor) (k : Tally) (room : Room s w c k) (own : k .terms < c .terms) (at i : ℕ) (a : at < textLimit) (b : i < textLimit) (h : Payload) {q : Taken} (u : Stepped s c 3 0 0 (payloadThen s c h) q) where
   pub one-no : {r : Out} {n j : ℕ} → q ≡ Refused n j → r ≡ asOut q → OneRead at i h s w c k r w
-  one-no g y = meets-no s w c k (refused-out g y) refl (λ m _. rw (took u g))
+  one-no g y = meets-no s w c k (refused-out g y) same (λ m _. rw (took u g))
 
   module _ {j : ℕ} {d : Cursor} (e : q ≡ At j d) {p : Out} {v : List ℕ} (t : ProcessRead s w d k p v) where
     one-part : (m : ℕ) → 3 * unread s c + 1 < m → (take (payloadThen s c h) (λ j d. lastly (recvdOf s h at (nameIn s i) j) (readProcess m s d)) ≡ lastly (recvdOf s h at (nameIn s i) j) (readProcess m s d)) × (3 * unread s d + 1 < m)
@@ -206,7 +206,7 @@ module _ (s w : List ℕ) (c : Cursor) (k : Tally) (at i kind : ℕ) (is : kind 
 
   handler-as : {h : Payload} → payload kind ≡ h → {f : ℕ → Result Proc} {r : Out} {v : List ℕ}
       → ((m : ℕ) → recvBy (λ d. readProcess m s d) (λ d. readBranches m s 0 d) s at (nameIn s i) c h ≡ f m) → Meets handlerForm s w c k (3 * unread s c + 1) f r v → HandlerRead at i s w c k r v
-  handler-as e {f} same t = record { is = λ m lo. rw (handler-by e m, same m) (t .is m (omega arith)); long = t .long; on = t .on }
+  handler-as e {f} same t = record { is = λ m lo. rw (handler-by e m, same m) (t .is m (omega arith)); kept = t .kept; on = t .on }
 
   pub handler-unit : {r : Out} {v : List ℕ} → payload kind ≡ UnitPayload → OneRead at i UnitPayload s w c k r v → HandlerRead at i s w c k r v
   unfolding recvBy payloadThen payloadTaken recvdOf
@@ -222,27 +222,27 @@ module _ (s w : List ℕ) (c : Cursor) (k : Tally) (at i kind : ℕ) (is : kind 
 
   pub handler-other : {r : Out} → payload kind ≡ Other → r ≡ misfitOut s c → HandlerRead at i s w c k r w
   unfolding recvBy misfit
-  handler-other e h = meets-no s w c k h refl (λ m _. handler-by e m)
+  handler-other e h = meets-no s w c k h same (λ m _. handler-by e m)
 
 -- ── a process in round brackets
 module _ (s w : List ℕ) (c : Cursor) (k : Tally) (room : Room s w c k) {q : Taken} (u : Stepped s c 1 0 0 (opening s kRoundOpen c) q) where
   pub bracketed-no : {r : Out} {n i : ℕ} → q ≡ Refused n i → r ≡ asOut q → BracketedRead s w c k r w
   unfolding bracketedBy
-  bracketed-no g h = meets-no s w c k (refused-out g h) refl (λ m _. rw (took u g))
+  bracketed-no g h = meets-no s w c k (refused-out g h) same (λ m _. rw (took u g))
 
   module _ {i : ℕ} {d : Cursor} (e : q ≡ At i d) {p : Out} {v : List ℕ} (t : ProcessRead s w d k p v) where
     pub bracketed-inner-no : {n j : ℕ} → p ≡ Not n j → BracketedRead s w c k p v
     unfolding bracketedBy
     bracketed-inner-no g =
         let o = u .on i d e in
-        meets-no s w c k g (t .long) (λ m lo. rw (took u e, stopped (readProcess m s d) (t .is m (omega arith)) g))
+        meets-no s w c k g (t .kept) (λ m lo. rw (took u e, stopped (readProcess m s d) (t .is m (omega arith)) g))
 
     module _ {f : Cursor} {l : Tally} (g : p ≡ Got f l) {x : Taken} (y : Stepped s f 1 0 0 (expect s kRoundClose f) x) where
       pub bracketed-close-no : {r : Out} {n j : ℕ} → x ≡ Refused n j → r ≡ asOut x → BracketedRead s w c k r v
       unfolding bracketedBy
       bracketed-close-no z h =
           let o = u .on i d e in
-          meets-no s w c k (refused-out z h) (t .long)
+          meets-no s w c k (refused-out z h) (t .kept)
           (λ m lo. gone-on (readProcess m s d) (t .is m (omega arith)) g λ P a _ _ _. rw (took u e, a, took y z))
 
       pub bracketed-got : {j : ℕ} {b : Cursor} → x ≡ At j b → BracketedRead s w c k (Got (closed c b) l) v
@@ -251,7 +251,7 @@ module _ (s w : List ℕ) (c : Cursor) (k : Tally) (room : Room s w c k) {q : Ta
           let o = u .on i d e in
           let o₂ = t .on f l g in
           let o₃ = y .on j b z in
-          meets-got s w c k (omega arith) (t .long)
+          meets-got s w c k (omega arith) (t .kept)
           (λ m lo. gone-on (readProcess m s d) (t .is m (omega arith)) g λ P a al av fi.
           made-got P (rw (took u e, a, took y z)) (ap (Got (closed c b)) al) av fi)
 
@@ -259,12 +259,12 @@ module _ (s w : List ℕ) (c : Cursor) (k : Tally) (room : Room s w c k) {q : Ta
 module _ (s w : List ℕ) (c : Cursor) (k : Tally) (room : Room s w c k) {q : Taken} (u : Stepped s c 1 0 1 (processTerm s kCancel c) q) where
   pub cancel-no : {r : Out} {n i : ℕ} → q ≡ Refused n i → r ≡ asOut q → TermRead Cancel s w c k r w
   unfolding processBy
-  cancel-no g h = meets-no s w c k (refused-out g h) refl (λ m _. rw (took u g))
+  cancel-no g h = meets-no s w c k (refused-out g h) same (λ m _. rw (took u g))
 
   module _ {at : ℕ} {d : Cursor} (e : q ≡ At at d) {x : Taken} (y : Stepped s d 1 0 0 (expect s kName d) x) where
     pub cancel-name-no : {r : Out} {n i : ℕ} → x ≡ Refused n i → r ≡ asOut x → TermRead Cancel s w c k r w
     unfolding processBy
-    cancel-name-no g h = meets-no s w c k (refused-out g h) refl (λ m _. rw (took u e, took y g))
+    cancel-name-no g h = meets-no s w c k (refused-out g h) same (λ m _. rw (took u e, took y g))
 
     module _ {i : ℕ} {f : Cursor} (g : x ≡ At i f) {p : Out} {v : List ℕ} (t : RestRead s w f k p v) where
       cancel-part : (m : ℕ) → 3 * unread s c < m → (termBy Cancel s c m ≡ lastly (cancel at (nameIn s i)) (readRest m s f)) × (3 * unread s f + 1 < m)
@@ -287,7 +287,7 @@ module _ (s w : List ℕ) (c : Cursor) (k : Tally) (room : Room s w c k) {q : Ta
 module _ (s w : List ℕ) (c : Cursor) (k : Tally) (room : Room s w c k) {q : Taken} (u : Stepped s c 1 0 1 (processTerm s kRaise c) q) where
   pub raise-no : {r : Out} {n i : ℕ} → q ≡ Refused n i → r ≡ asOut q → TermRead Raise s w c k r w
   unfolding processBy
-  raise-no g h = meets-no s w c k (refused-out g h) refl (λ m _. rw (took u g))
+  raise-no g h = meets-no s w c k (refused-out g h) same (λ m _. rw (took u g))
 
   module _ {at : ℕ} {d : Cursor} (e : q ≡ At at d) {p : Out} {v : List ℕ} (t : ProcessRead s w d k p v) where
     raise-part : (m : ℕ) → 3 * unread s c < m → (termBy Raise s c m ≡ lastly (raise at) (readProcess m s d)) × (3 * unread s d + 1 < m)
@@ -309,35 +309,35 @@ module _ (s w : List ℕ) (c : Cursor) (k : Tally) (room : Room s w c k) {q : Ta
 module _ (s w : List ℕ) (c : Cursor) (k : Tally) (room : Room s w c k) {q : Taken} (u : Stepped s c 1 0 1 (processTerm s kSend c) q) where
   pub send-no : {r : Out} {n i : ℕ} → q ≡ Refused n i → r ≡ asOut q → TermRead Send s w c k r w
   unfolding processBy
-  send-no g h = meets-no s w c k (refused-out g h) refl (λ m _. rw (took u g))
+  send-no g h = meets-no s w c k (refused-out g h) same (λ m _. rw (took u g))
 
   module _ {at : ℕ} {d : Cursor} (e : q ≡ At at d) {x : Taken} (y : Stepped s d 1 0 0 (expect s kName d) x) where
     pub send-name-no : {r : Out} {n i : ℕ} → x ≡ Refused n i → r ≡ asOut x → TermRead Send s w c k r w
     unfolding processBy
-    send-name-no g h = meets-no s w c k (refused-out g h) refl (λ m _. rw (took u e, took y g))
+    send-name-no g h = meets-no s w c k (refused-out g h) same (λ m _. rw (took u e, took y g))
 
     pub send-got : {i : ℕ} {f : Cursor} → x ≡ At i f → {r : Out} {v : List ℕ} → SentRead at i (payload (kindAt s (f .at))) s w f k r v → TermRead Send s w c k r v
     unfolding processBy
     send-got {i} {f} g t =
         let o = u .on at d e in
         let o₂ = y .on i f g in
-        record { is = λ m lo. rw (took u e, took y g) (as-process _ (t .is m (omega arith))); long = t .long; on = λ b l z. let o₃ = t .on b l z in omega arith }
+        record { is = λ m lo. rw (took u e, took y g) (as-process _ (t .is m (omega arith))); kept = t .kept; on = λ b l z. let o₃ = t .on b l z in omega arith }
 
 -- ── recv
 module _ (s w : List ℕ) (c : Cursor) (k : Tally) (room : Room s w c k) {q : Taken} (u : Stepped s c 1 0 1 (processTerm s kRecv c) q) where
   pub recv-no : {r : Out} {n i : ℕ} → q ≡ Refused n i → r ≡ asOut q → TermRead Recv s w c k r w
   unfolding processBy
-  recv-no g h = meets-no s w c k (refused-out g h) refl (λ m _. rw (took u g))
+  recv-no g h = meets-no s w c k (refused-out g h) same (λ m _. rw (took u g))
 
   module _ {at : ℕ} {d : Cursor} (e : q ≡ At at d) {x : Taken} (y : Stepped s d 1 0 0 (expect s kName d) x) where
     pub recv-name-no : {r : Out} {n i : ℕ} → x ≡ Refused n i → r ≡ asOut x → TermRead Recv s w c k r w
     unfolding processBy
-    recv-name-no g h = meets-no s w c k (refused-out g h) refl (λ m _. rw (took u e, took y g))
+    recv-name-no g h = meets-no s w c k (refused-out g h) same (λ m _. rw (took u e, took y g))
 
     module _ {i : ℕ} {f : Cursor} (g : x ≡ At i f) {z : Taken} (a : Stepped s f 1 0 0 (opening s kRoundOpen f) z) where
       pub recv-open-no : {r : Out} {n j : ℕ} → z ≡ Refused n j → r ≡ asOut z → TermRead Recv s w c k r w
       unfolding processBy
-      recv-open-no h l = meets-no s w c k (refused-out h l) refl (λ m _. rw (took u e, took y g, took a h))
+      recv-open-no h l = meets-no s w c k (refused-out h l) same (λ m _. rw (took u e, took y g, took a h))
 
       module _ {j : ℕ} {b : Cursor} (h : z ≡ At j b) {p : Out} {v : List ℕ} (t : HandlerRead at i s w b k p v) where
         pub recv-handler-no : {n o : ℕ} → p ≡ Not n o → TermRead Recv s w c k p v
@@ -346,7 +346,7 @@ module _ (s w : List ℕ) (c : Cursor) (k : Tally) (room : Room s w c k) {q : Ta
             let o₁ = u .on at d e in
             let o₂ = y .on i f g in
             let o₃ = a .on j b h in
-            meets-no s w c k l (t .long) (λ m lo. rw (took u e, took y g, took a h, stopped (handlerBy at i s b m) (t .is m (omega arith)) l))
+            meets-no s w c k l (t .kept) (λ m lo. rw (took u e, took y g, took a h, stopped (handlerBy at i s b m) (t .is m (omega arith)) l))
 
         module _ {b₂ : Cursor} {l : Tally} (n : p ≡ Got b₂ l) {z₂ : Taken} (a₂ : Stepped s b₂ 1 0 0 (expect s kRoundClose b₂) z₂) where
           pub recv-close-no : {r : Out} {n₂ o : ℕ} → z₂ ≡ Refused n₂ o → r ≡ asOut z₂ → TermRead Recv s w c k r v
@@ -355,7 +355,7 @@ module _ (s w : List ℕ) (c : Cursor) (k : Tally) (room : Room s w c k) {q : Ta
               let o₁ = u .on at d e in
               let o₂ = y .on i f g in
               let o₃ = a .on j b h in
-              meets-no s w c k (refused-out x₂ y₂) (t .long)
+              meets-no s w c k (refused-out x₂ y₂) (t .kept)
               (λ m lo. gone-on (handlerBy at i s b m) (t .is m (omega arith)) n λ P is _ _ _. rw (took u e, took y g, took a h, is, took a₂ x₂))
 
           pub recv-got : {o : ℕ} {b₃ : Cursor} → z₂ ≡ At o b₃ → TermRead Recv s w c k (Got (closed f b₃) l) v
@@ -366,7 +366,7 @@ module _ (s w : List ℕ) (c : Cursor) (k : Tally) (room : Room s w c k) {q : Ta
               let o₃ = a .on j b h in
               let o₄ = t .on b₂ l n in
               let o₅ = a₂ .on o b₃ x₂ in
-              meets-got s w c k (omega arith) (t .long)
+              meets-got s w c k (omega arith) (t .kept)
               (λ m lo. gone-on (handlerBy at i s b m) (t .is m (omega arith)) n λ P is al av fi.
               made-got P (rw (took u e, took y g, took a h, is, took a₂ x₂)) (ap (Got (closed f b₃)) al) av fi)
 
@@ -381,19 +381,19 @@ module _ (s w : List ℕ) (c : Cursor) (k : Tally) (room : Room s w c k) (t : To
   pub process-empty : termHead (t .kind) ≡ Empty → ProcessRead s w c k (Got c (lasting (emptyPointer (t .start)) k)) w
   unfolding processBy afterProcess writeProcess FineProcess
   process-empty e =
-      more-got processForm s w c k (λ m. readProcess m s c) (omega (arith, o .starts)) refl
+      more-got processForm s w c k (λ m. readProcess m s c) (omega (arith, o .starts)) same
       (λ m _. made-got (empty (t .start)) (process-suc m s c ∙ rw (ap termHead kind-is ∙ e) (ap (λ x. got x c) empty-is)) refl refl (omega (arith, o .starts)))
 
   -- a term that its first token decides
   pub process-as : (h : TermHead) → termHead (t .kind) ≡ h → {r : Out} {v : List ℕ} → TermRead h s w c k r v → ProcessRead s w c k r v
   process-as h e {r} {v} y =
       let head : termHead (kindAt s (c .at)) ≡ h = ap termHead kind-is ∙ e in
-      record { is = more-made processForm w k (λ m. readProcess m s c) (λ m lo. rw (process-suc m s c, head) (y .is m (omega arith))); long = y .long; on = y .on }
+      record { is = more-made processForm w k (λ m. readProcess m s c) (λ m lo. rw (process-suc m s c, head) (y .is m (omega arith))); kept = y .kept; on = y .on }
 
   pub rest-none : ((t .kind ≡ kSemicolon) → ⊥) → RestRead s w c k (Got c (lasting (emptyPointer (t .start)) k)) w
   unfolding restBy afterProcess writeProcess FineProcess
   rest-none d =
-      more-got processForm s w c k (λ m. readRest m s c) (omega (arith, o .starts)) refl
+      more-got processForm s w c k (λ m. readRest m s c) (omega (arith, o .starts)) same
       (λ m _. made-got (empty (t .start)) (rest-suc m s c ∙ rw (ne-eqb _ _ (λ e. d (sym kind-is ∙ e))) (ap (λ x. got x c) empty-is)) refl refl (omega (arith, o .starts)))
 
   module _ (e : t .kind ≡ kSemicolon) {q : Taken} (u : Stepped s c 1 0 0 (expect s kSemicolon c) q) where
@@ -403,7 +403,7 @@ module _ (s w : List ℕ) (c : Cursor) (k : Tally) (room : Room s w c k) (t : To
     pub rest-mark-no : {r : Out} {n i : ℕ} → q ≡ Refused n i → r ≡ asOut q → RestRead s w c k r w
     unfolding restBy
     rest-mark-no g h =
-        more-no processForm s w c k (λ m. readRest m s c) (refused-out g h) refl (λ m _. rest-suc m s c ∙ rw (semicolon, took u g))
+        more-no processForm s w c k (λ m. readRest m s c) (refused-out g h) same (λ m _. rest-suc m s c ∙ rw (semicolon, took u g))
 
     pub rest-process : {i : ℕ} {d : Cursor} → q ≡ At i d → {r : Out} {v : List ℕ} → ProcessRead s w d k r v → RestRead s w c k r v
     unfolding restBy
@@ -411,7 +411,7 @@ module _ (s w : List ℕ) (c : Cursor) (k : Tally) (room : Room s w c k) (t : To
         let z = u .on i d g in
         record {
           is = more-made processForm w k (λ m. readRest m s c) (λ m lo. rw (rest-suc m s c, semicolon, took u g) (y .is m (omega arith)));
-          long = y .long;
+          kept = y .kept;
           on = λ b l x. let o₂ = y .on b l x in omega arith;
         }
 
@@ -420,11 +420,11 @@ module _ (s w : List ℕ) (c : Cursor) (k : Tally) (room : Room s w c k) where
   module _ (n : ℕ) (few : n ≤ 16) where
     pub more-branches-none : eqb (kindAt s (c .at)) kBar ≡ false → MoreBranchesRead n s w c k (Got c (lasting 0 k)) w
     unfolding afterBranches writeBranches FineBranches
-    more-branches-none f = meets-got s w c k (omega arith) refl (λ m _. made-got Branches.none (rw f) refl refl (omega arith))
+    more-branches-none f = meets-got s w c k (omega arith) same (λ m _. made-got Branches.none (rw f) refl refl (omega arith))
 
     module _ (f : eqb (kindAt s (c .at)) kBar ≡ true) {q : Taken} (u : Stepped s c 1 0 0 (expect s kBar c) q) where
       pub more-branches-no : {r : Out} {j i : ℕ} → q ≡ Refused j i → r ≡ asOut q → MoreBranchesRead n s w c k r w
-      more-branches-no g h = meets-no s w c k (refused-out g h) refl (λ m _. rw (f, took u g))
+      more-branches-no g h = meets-no s w c k (refused-out g h) same (λ m _. rw (f, took u g))
 
       pub more-branches-list : {i : ℕ} {d : Cursor} → q ≡ At i d → {p : Out} {v : List ℕ} → BranchesRead n s w d k p v → MoreBranchesRead n s w c k p v
       more-branches-list {i} {d} e {p} {v} t = go p refl
@@ -432,12 +432,12 @@ module _ (s w : List ℕ) (c : Cursor) (k : Tally) (room : Room s w c k) where
           go : (p′ : Out) → p ≡ p′ → MoreBranchesRead n s w c k p v
           go (Not m j) y =
               let o = u .on i d e in
-              meets-no s w c k y (t .long) (λ m lo. rw (f, took u e, stopped (readBranches m s n d) (t .is m (omega arith)) y))
+              meets-no s w c k y (t .kept) (λ m lo. rw (f, took u e, stopped (readBranches m s n d) (t .is m (omega arith)) y))
           go (Got b l) y =
               let o = u .on i d e in
               let o₂ = t .on b l y in
               rw y
-              (meets-got s w c k (omega arith) (t .long)
+              (meets-got s w c k (omega arith) (t .kept)
               (λ m lo. gone-on (readBranches m s n d) (t .is m (omega arith)) y λ B a al av fi.
               made-got B (rw (f, took u e, a)) (ap (Got b) al) av (fi .0)))
 
@@ -449,13 +449,13 @@ module _ (s w : List ℕ) (c : Cursor) (k : Tally) (room : Room s w c k) where
 
     pub branches-no : {r : Out} {j i : ℕ} → q ≡ Refused j i → r ≡ asOut q → BranchesRead n s w c k r w
     branches-no {j = j} {i} g h =
-        more-no (branchesForm n) s w c k (λ m. readBranches m s n c) (refused-out g h) refl (λ m _. branches-is m ∙ rw (took u g))
+        more-no (branchesForm n) s w c k (λ m. readBranches m s n c) (refused-out g h) same (λ m _. branches-is m ∙ rw (took u g))
 
     module _ {i : ℕ} {d : Cursor} (e : q ≡ At i d) {p : Out} {v : List ℕ} (t : ProcessRead s w d k p v) where
       pub branches-inner-no : {j h : ℕ} → p ≡ Not j h → BranchesRead n s w c k p v
       branches-inner-no {j} {h} g =
           let o = u .on i d e in
-          more-no (branchesForm n) s w c k (λ m. readBranches m s n c) g (t .long)
+          more-no (branchesForm n) s w c k (λ m. readBranches m s n c) g (t .kept)
           (λ m lo. branches-is m ∙ rw (took u e, stopped (readProcess m s d) (t .is m (omega arith)) g))
 
       module _ {f : Cursor} {l : Tally} (g : p ≡ Got f l) {x : Out} {v₂ : List ℕ} (y : MoreBranchesRead (n + 1) s v f l x v₂) where
@@ -463,7 +463,7 @@ module _ (s w : List ℕ) (c : Cursor) (k : Tally) (room : Room s w c k) where
         branches-more-no {j} {h} z =
             let o = u .on i d e in
             let o₂ = t .on f l g in
-            more-no (branchesForm n) s w c k (λ m. readBranches m s n c) z (y .long ∙ t .long)
+            more-no (branchesForm n) s w c k (λ m. readBranches m s n c) z (y .kept upon t .kept)
             (λ m lo. gone-on (readProcess m s d) (t .is m (omega arith)) g λ P a _ _ _.
             branches-is m ∙ rw (took u e, a, stopped (moreBranchesBy (λ d. readBranches m s (n + 1) d) s f) (y .is m (omega arith)) z))
 
@@ -474,7 +474,7 @@ module _ (s w : List ℕ) (c : Cursor) (k : Tally) (room : Room s w c k) where
             let o₂ = t .on f l g in
             let o₃ = y .on b l₂ z in
             rw (pt .is, pt .words)
-            (more-got (branchesForm n) s w c k (λ m. readBranches m s n c) (omega arith) (sym (ap length (pt .words)) ∙ pt .long ∙ y .long ∙ t .long)
+            (more-got (branchesForm n) s w c k (λ m. readBranches m s n c) (omega arith) (put-kept pt upon y .kept upon t .kept)
             (λ m lo. gone-on (readProcess m s d) (t .is m (omega arith)) g λ P a al av fi.
             gone-on (moreBranchesBy (λ d. readBranches m s (n + 1) d) s f) (y .is m (omega arith)) z λ B a₂ bl bv fi₂.
             let tally : l₂ ≡ afterBranches B (afterProcess P k) = bl ∙ ap (afterBranches B) al in
@@ -488,21 +488,21 @@ module _ (s w : List ℕ) (c : Cursor) (k : Tally) (room : Room s w c k) where
 module _ (s w : List ℕ) (c : Cursor) (k : Tally) (room : Room s w c k) {q : Taken} (u : Stepped s c 1 0 1 (processTerm s kTry c) q) where
   pub try-no : {r : Out} {n i : ℕ} → q ≡ Refused n i → r ≡ asOut q → TermRead Try s w c k r w
   unfolding processBy
-  try-no g h = meets-no s w c k (refused-out g h) refl (λ m _. rw (took u g))
+  try-no g h = meets-no s w c k (refused-out g h) same (λ m _. rw (took u g))
 
   module _ {at : ℕ} {d : Cursor} (e : q ≡ At at d) {p : Out} {v : List ℕ} (t : BracketedRead s w d k p v) where
     pub try-main-no : {n i : ℕ} → p ≡ Not n i → TermRead Try s w c k p v
     unfolding processBy
     try-main-no g =
         let o = u .on at d e in
-        meets-no s w c k g (t .long) (λ m lo. rw (took u e, stopped (bracketedBy (λ d. readProcess m s d) s d) (t .is m (omega arith)) g))
+        meets-no s w c k g (t .kept) (λ m lo. rw (took u e, stopped (bracketedBy (λ d. readProcess m s d) s d) (t .is m (omega arith)) g))
 
     module _ {f : Cursor} {l : Tally} (g : p ≡ Got f l) {x : Taken} (y : Stepped s f 1 0 0 (expect s kCatch f) x) where
       pub try-catch-no : {r : Out} {n i : ℕ} → x ≡ Refused n i → r ≡ asOut x → TermRead Try s w c k r v
       unfolding processBy
       try-catch-no z h =
           let o = u .on at d e in
-          meets-no s w c k (refused-out z h) (t .long)
+          meets-no s w c k (refused-out z h) (t .kept)
           (λ m lo. gone-on (bracketedBy (λ d. readProcess m s d) s d) (t .is m (omega arith)) g λ P a _ _ _. rw (took u e, a, took y z))
 
       module _ {i : ℕ} {b : Cursor} (z : x ≡ At i b) {p₂ : Out} {v₂ : List ℕ} (t₂ : BracketedRead s v b l p₂ v₂) where
@@ -512,7 +512,7 @@ module _ (s w : List ℕ) (c : Cursor) (k : Tally) (room : Room s w c k) {q : Ta
             let o = u .on at d e in
             let o₂ = t .on f l g in
             let o₃ = y .on i b z in
-            meets-no s w c k h (t₂ .long ∙ t .long)
+            meets-no s w c k h (t₂ .kept upon t .kept)
             (λ m lo. gone-on (bracketedBy (λ d. readProcess m s d) s d) (t .is m (omega arith)) g λ P a _ _ _.
             rw (took u e, a, took y z, stopped (bracketedBy (λ d. readProcess m s d) s b) (t₂ .is m (omega arith)) h))
 
@@ -524,7 +524,7 @@ module _ (s w : List ℕ) (c : Cursor) (k : Tally) (room : Room s w c k) {q : Ta
             let o₃ = y .on i b z in
             let o₄ = t₂ .on b₂ l₂ h in
             rw (pt .is, pt .words)
-            (meets-got s w c k (omega arith) (sym (ap length (pt .words)) ∙ pt .long ∙ t₂ .long ∙ t .long)
+            (meets-got s w c k (omega arith) (put-kept pt upon t₂ .kept upon t .kept)
             (λ m lo. gone-on (bracketedBy (λ d. readProcess m s d) s d) (t .is m (omega arith)) g λ P a al av fi.
             gone-on (bracketedBy (λ d. readProcess m s d) s b) (t₂ .is m (omega arith)) h λ Q a₂ bl bv fi₂.
             let tally : l₂ ≡ afterProcess Q (afterProcess P k) = bl ∙ ap (afterProcess Q) al in
@@ -537,13 +537,13 @@ module _ (s w : List ℕ) (c : Cursor) (k : Tally) (room : Room s w c k) {q : Ta
 -- ── the two halves of a spawn
 module _ (s w : List ℕ) (c : Cursor) (k : Tally) (room : Room s w c k) (own : k .terms < c .terms) (i : ℕ) {p : Out} {v : List ℕ} (t : BracketedRead s w c k p v) where
   pub parts-no : {n j : ℕ} → p ≡ Not n j → PartsRead i s w c k p v
-  parts-no g = meets-no s w c k g (t .long) (λ m lo. rw (stopped (bracketedBy (λ d. readProcess m s d) s c) (t .is m (omega arith)) g))
+  parts-no g = meets-no s w c k g (t .kept) (λ m lo. rw (stopped (bracketedBy (λ d. readProcess m s d) s c) (t .is m (omega arith)) g))
 
   module _ {d : Cursor} {l : Tally} (g : p ≡ Got d l) {p₂ : Out} {v₂ : List ℕ} (t₂ : RestRead s v d l p₂ v₂) where
     pub parts-rest-no : {n j : ℕ} → p₂ ≡ Not n j → PartsRead i s w c k p₂ v₂
     parts-rest-no h =
         let o = t .on d l g in
-        meets-no s w c k h (t₂ .long ∙ t .long)
+        meets-no s w c k h (t₂ .kept upon t .kept)
         (λ m lo. gone-on (bracketedBy (λ d. readProcess m s d) s c) (t .is m (omega arith)) g λ P a _ _ _.
         rw (a, stopped (readRest m s d) (t₂ .is m (omega arith)) h))
 
@@ -552,7 +552,7 @@ module _ (s w : List ℕ) (c : Cursor) (k : Tally) (room : Room s w c k) (own : 
         let o = t .on d l g in
         let o₂ = t₂ .on b l₂ h in
         rw (pt .is, pt .words)
-        (meets-got s w c k (omega arith) (sym (ap length (pt .words)) ∙ pt .long ∙ t₂ .long ∙ t .long)
+        (meets-got s w c k (omega arith) (put-kept pt upon t₂ .kept upon t .kept)
         (λ m lo. gone-on (bracketedBy (λ d. readProcess m s d) s c) (t .is m (omega arith)) g λ P a al av fi.
         gone-on (readRest m s d) (t₂ .is m (omega arith)) h λ Q a₂ bl bv fi₂.
         let tally : l₂ ≡ afterProcess Q (afterProcess P k) = bl ∙ ap (afterProcess Q) al in
@@ -582,19 +582,19 @@ module _ (s w : List ℕ) (c : Cursor) (k : Tally) (room : Room s w c k) {q : Ta
   spawn-is m = sym (then-take (processTerm s kName c) (expect s kColon) _)
 
   pub spawn-no : {r : Out} {n i : ℕ} → q ≡ Refused n i → r ≡ asOut q → TermRead Spawn s w c k r w
-  spawn-no g h = meets-no s w c k (refused-out g h) refl (λ m _. spawn-is m ∙ rw (took u g))
+  spawn-no g h = meets-no s w c k (refused-out g h) same (λ m _. spawn-is m ∙ rw (took u g))
 
   module _ {i : ℕ} {d : Cursor} (e : q ≡ At i d) {p : Out} {v : List ℕ} (t : TypeRead s w d k p v) where
     pub spawn-type-no : {n j : ℕ} → p ≡ Not n j → TermRead Spawn s w c k p v
     spawn-type-no g =
         let o = u .on i d e in
-        meets-no s w c k g (t .long) (λ m lo. spawn-is m ∙ rw (took u e, stopped (readType m s d) (t .is m (omega arith)) g))
+        meets-no s w c k g (t .kept) (λ m lo. spawn-is m ∙ rw (took u e, stopped (readType m s d) (t .is m (omega arith)) g))
 
     module _ {f : Cursor} {l : Tally} (g : p ≡ Got f l) {x : Taken} (y : Stepped s f 1 0 0 (expect s kFrom f) x) where
       pub spawn-arrow-no : {r : Out} {n j : ℕ} → x ≡ Refused n j → r ≡ asOut x → TermRead Spawn s w c k r v
       spawn-arrow-no z h =
           let o = u .on i d e in
-          meets-no s w c k (refused-out z h) (t .long)
+          meets-no s w c k (refused-out z h) (t .kept)
           (λ m lo. gone-on (readType m s d) (t .is m (omega arith)) g λ A a _ _ _. spawn-is m ∙ rw (took u e, a, took y z))
 
       pub spawn-got : {j : ℕ} {b : Cursor} → x ≡ At j b → {p₂ : Out} {v₂ : List ℕ} → PartsRead i s v b l p₂ v₂ → TermRead Spawn s w c k p₂ v₂
@@ -609,7 +609,7 @@ module _ (s w : List ℕ) (c : Cursor) (k : Tally) (room : Room s w c k) {q : Ta
               let o = u .on i d e in
               let o₂ = t .on f l g in
               let o₃ = y .on j b z in
-              meets-no s w c k r (t₂ .long ∙ t .long)
+              meets-no s w c k r (t₂ .kept upon t .kept)
               (λ m lo. gone-on (readType m s d) (t .is m (omega arith)) g λ A a _ _ _.
               spawn-is m ∙ rw (took u e, a, took y z) (spawn-parts (nameIn s i) A (bracketedBy (λ d. readProcess m s d) s b) (λ d. readRest m s d) ∙ ap (lastly (spawned (nameIn s i) A)) (stopped (parts m) (t₂ .is m (omega arith)) r)))
           go (Got b₂ l₂) r =
@@ -618,7 +618,7 @@ module _ (s w : List ℕ) (c : Cursor) (k : Tally) (room : Room s w c k) {q : Ta
               let o₃ = y .on j b z in
               let o₄ = t₂ .on b₂ l₂ r in
               rw r
-              (meets-got s w c k (omega arith) (t₂ .long ∙ t .long)
+              (meets-got s w c k (omega arith) (t₂ .kept upon t .kept)
               (λ m lo. gone-on (readType m s d) (t .is m (omega arith)) g λ A a al av fi.
               gone-on (parts m) (t₂ .is m (omega arith)) r λ B a₂ bl bv fi₂.
               made-got (spawned (nameIn s i) A B)
@@ -626,3 +626,8 @@ module _ (s w : List ℕ) (c : Cursor) (k : Tally) (room : Room s w c k) {q : Ta
               (ap (Got b₂) bl ∙ (λ j. Got b₂ ((partsForm i) .after B (al j))))
               (bv ∙ (λ j. (partsForm i) .write B (al j) (av j)))
               (omega arith, fi, fi₂ .0, fi₂ .1)))
+
+-- a branch that is read comes within its list's limit
+pub branch-few : (s : List ℕ) (n : ℕ) (c : Cursor) {q : Taken} {i : ℕ} {d : Cursor} → Stepped s c 4 0 0 (labelThen s n c) q → q ≡ At i d → n < 16
+unfolding labelThen labelTerm
+branch-few s n c {i = i} {d} u e = ltb-true n 16 (within-limit (ltb n 16) (expect s kLabel c) (expect s kThen) i d (took u e))

@@ -24,7 +24,7 @@ use Rattle.reader.specs.declared.steps.Out.{Out}
 use Rattle.reader.specs.declared.steps.Out.the-variants.{Got, Not}
 use Rattle.reader.specs.Filling.{Stepped, labelColon, choiceOpening, asOut, misfitOut, Put, Room, Form, Made, Meets, FineType, FineAlternatives, Some, typeForm, alternativesForm, moreForm, rightForm, infixKind, choiceOf, unread, TypeRead, AtomRead, RightRead, AlternativesRead, MoreRead, OneRead, NameRead, RoundRead, ChoiceRead}
 use Rattle.reader.proofs.Taking.{never}
-use Rattle.reader.proofs.Filled.{took, refused-out, made-no, made-got, gone-on, stopped, meets-no, meets-got, more-no, more-got, more-made}
+use Rattle.reader.proofs.Filled.{same, _upon_, put-kept, took, refused-out, made-no, made-got, gone-on, stopped, meets-no, meets-got, more-no, more-got, more-made}
 
 -- the definition at one more fuel
 type-suc : (m : ℕ) (s : List ℕ) (c : Cursor) → readType (suc m) s c ≡ typeBy (λ d. readAtom m s d) (λ d. readType m s d) s c
@@ -73,44 +73,44 @@ module _ (s w : List ℕ) (c : Cursor) (k : Tally) (room : Room s w c k) where
   -- ── 1, and a name
   module _ {q : Taken} (u : Stepped s c 1 1 0 (typeTerm s kOne c) q) where
     pub one-no : {r : Out} {n i : ℕ} → q ≡ Refused n i → r ≡ asOut q → OneRead s w c k r w
-    one-no g h = meets-no s w c k (refused-out g h) refl (λ m _. rw (took u g))
+    one-no g h = meets-no s w c k (refused-out g h) same (λ m _. rw (took u g))
 
     pub one-got : {i : ℕ} {d : Cursor} {l : Tally} {v : List ℕ} → q ≡ At i d → Put w (putNode w (k .nodes) (typeNode 0 0 0)) (moreNodes k) l v → OneRead s w c k (Got d l) v
     unfolding afterType writeType FineType
     one-got {i} {d} e pt =
         let o = u .on i d e in
         rw (pt .is, pt .words)
-        (meets-got s w c k (omega arith) (sym (ap length (pt .words)) ∙ pt .long)
+        (meets-got s w c k (omega arith) (put-kept pt)
         (λ m _. made-got unit (rw (took u e)) refl refl (omega arith)))
 
   module _ {q : Taken} (u : Stepped s c 1 1 0 (typeTerm s kName c) q) where
     pub name-no : {r : Out} {n i : ℕ} → q ≡ Refused n i → r ≡ asOut q → NameRead s w c k r w
-    name-no g h = meets-no s w c k (refused-out g h) refl (λ m _. rw (took u g))
+    name-no g h = meets-no s w c k (refused-out g h) same (λ m _. rw (took u g))
 
     pub name-got : {i : ℕ} {d : Cursor} {l : Tally} {v : List ℕ} → q ≡ At i d → Put w (putNode w (k .nodes) (typeNode 1 0 i)) (moreNodes k) l v → NameRead s w c k (Got d l) v
     unfolding afterType writeType FineType
     name-got {i} {d} e pt =
         let o = u .on i d e in
         rw (pt .is, pt .words)
-        (meets-got s w c k (omega arith) (sym (ap length (pt .words)) ∙ pt .long)
+        (meets-got s w c k (omega arith) (put-kept pt)
         (λ m _. made-got (named (nameIn s i)) (rw (took u e)) refl refl (omega arith)))
 
   -- ── a type in round brackets
   module _ {q : Taken} (u : Stepped s c 1 0 0 (opening s kRoundOpen c) q) where
     pub round-no : {r : Out} {n i : ℕ} → q ≡ Refused n i → r ≡ asOut q → RoundRead s w c k r w
-    round-no g h = meets-no s w c k (refused-out g h) refl (λ m _. rw (took u g))
+    round-no g h = meets-no s w c k (refused-out g h) same (λ m _. rw (took u g))
 
     module _ {i : ℕ} {d : Cursor} (e : q ≡ At i d) {p : Out} {v : List ℕ} (t : TypeRead s w d k p v) where
       pub round-inner-no : {n j : ℕ} → p ≡ Not n j → RoundRead s w c k p v
       round-inner-no g =
           let o = u .on i d e in
-          meets-no s w c k g (t .long) (λ m lo. rw (took u e, stopped (readType m s d) (t .is m (omega arith)) g))
+          meets-no s w c k g (t .kept) (λ m lo. rw (took u e, stopped (readType m s d) (t .is m (omega arith)) g))
 
       module _ {f : Cursor} {l : Tally} (g : p ≡ Got f l) {x : Taken} (y : Stepped s f 1 0 0 (expect s kRoundClose f) x) where
         pub round-close-no : {r : Out} {n j : ℕ} → x ≡ Refused n j → r ≡ asOut x → RoundRead s w c k r v
         round-close-no z h =
             let o = u .on i d e in
-            meets-no s w c k (refused-out z h) (t .long)
+            meets-no s w c k (refused-out z h) (t .kept)
             (λ m lo. gone-on (readType m s d) (t .is m (omega arith)) g λ A a _ _ _. rw (took u e, a, took y z))
 
         pub round-got : {j : ℕ} {b : Cursor} → x ≡ At j b → RoundRead s w c k (Got (closed c b) l) v
@@ -118,27 +118,27 @@ module _ (s w : List ℕ) (c : Cursor) (k : Tally) (room : Room s w c k) where
             let o = u .on i d e in
             let o₂ = t .on f l g in
             let o₃ = y .on j b z in
-            meets-got s w c k (omega arith) (t .long)
+            meets-got s w c k (omega arith) (t .kept)
             (λ m lo. gone-on (readType m s d) (t .is m (omega arith)) g λ A a al av fi.
             made-got A (rw (took u e, a, took y z)) (ap (Got (closed c b)) al) av fi)
 
   -- ── an infix mark and what stands to its right
   module _ (kind : ℕ) {q : Taken} {n′ : ℕ} (u : Stepped s c n′ 1 0 (typeTerm s kind c) q) (pos : 1 ≤ n′) where
     pub right-no : {r : Out} {n i : ℕ} → q ≡ Refused n i → r ≡ asOut q → RightRead kind s w c k r w
-    right-no g h = meets-no s w c k (refused-out g h) refl (λ m _. rw (took u g))
+    right-no g h = meets-no s w c k (refused-out g h) same (λ m _. rw (took u g))
 
     module _ {i : ℕ} {d : Cursor} (e : q ≡ At i d) {p : Out} {v : List ℕ} (t : TypeRead s w d k p v) where
       pub right-type-no : {n j : ℕ} → p ≡ Not n j → RightRead kind s w c k p v
       right-type-no g =
           let o = u .on i d e in
-          meets-no s w c k g (t .long) (λ m lo. rw (took u e, stopped (readType m s d) (t .is m (omega arith)) g))
+          meets-no s w c k g (t .kept) (λ m lo. rw (took u e, stopped (readType m s d) (t .is m (omega arith)) g))
 
       pub right-got : {f : Cursor} {l l₂ : Tally} {v₂ : List ℕ} → p ≡ Got f l → Put v (putNode v (l .nodes) (typeNode (infixKind kind) (k .last) (l .last))) (moreNodes l) l₂ v₂ → RightRead kind s w c k (Got f l₂) v₂
       right-got {f} {l} g pt =
           let o = u .on i d e in
           let o₂ = t .on f l g in
           rw (pt .is, pt .words)
-          (meets-got s w c k (omega arith) (sym (ap length (pt .words)) ∙ pt .long ∙ t .long)
+          (meets-got s w c k (omega arith) (put-kept pt upon t .kept)
           (λ m lo. gone-on (readType m s d) (t .is m (omega arith)) g λ B b bl bv fi.
           made-got B (rw (took u e, b)) (λ i. Got f (moreNodes (bl i))) (λ i. putInfix (infixKind kind) k (bl i) (bv i)) fi))
 
@@ -146,13 +146,13 @@ module _ (s w : List ℕ) (c : Cursor) (k : Tally) (room : Room s w c k) where
   module _ {q : Out} {v : List ℕ} (a : AtomRead s w c k q v) where
     pub type-no : {n i : ℕ} → q ≡ Not n i → TypeRead s w c k q v
     unfolding typeBy
-    type-no g = more-no typeForm s w c k (λ m. readType m s c) g (a .long) (λ m lo. rw (type-suc, stopped (readAtom m s c) (a .is m (omega arith)) g))
+    type-no g = more-no typeForm s w c k (λ m. readType m s c) g (a .kept) (λ m lo. rw (type-suc, stopped (readAtom m s c) (a .is m (omega arith)) g))
 
     module _ {d : Cursor} {l : Tally} (e : q ≡ Got d l) where
       pub type-atom : isInfix (kindAt s (d .at)) ≡ false → TypeRead s w c k (Got d l) v
       unfolding typeBy
       type-atom f =
-          more-got typeForm s w c k (λ m. readType m s c) (a .on d l e) (a .long)
+          more-got typeForm s w c k (λ m. readType m s c) (a .on d l e) (a .kept)
           (λ m lo. gone-on (readAtom m s c) (a .is m (omega arith)) e λ A x al av fi. made-got A (rw (type-suc, x, f)) (ap (Got d) al) av fi)
 
       module _ (f : isInfix (kindAt s (d .at)) ≡ true) {p : Out} {v₂ : List ℕ} (t : RightRead (kindAt s (d .at)) s v d l p v₂) where
@@ -166,14 +166,14 @@ module _ (s w : List ℕ) (c : Cursor) (k : Tally) (room : Room s w c k) where
             go : (p′ : Out) → p ≡ p′ → TypeRead s w c k p v₂
             go (Not n i) y =
                 let o = a .on d l e in
-                more-no typeForm s w c k (λ m. readType m s c) y (t .long ∙ a .long)
+                more-no typeForm s w c k (λ m. readType m s c) y (t .kept upon a .kept)
                 (λ m lo. gone-on (readAtom m s c) (a .is m (omega arith)) e λ A x _ _ _.
                 rw (type-suc, x, f, stopped (rightBy (λ d. readType m s d) s (kindAt s (d .at)) d) (t .is m (omega arith)) y))
             go (Got b n) y =
                 let o = a .on d l e in
                 let o₂ = t .on b n y in
                 rw y
-                (more-got typeForm s w c k (λ m. readType m s c) (omega arith) (t .long ∙ a .long)
+                (more-got typeForm s w c k (λ m. readType m s c) (omega arith) (t .kept upon a .kept)
                 (λ m lo. gone-on (readAtom m s c) (a .is m (omega arith)) e λ A x al av fi.
                 gone-on (rightBy (λ d. readType m s d) s (kindAt s (d .at)) d) (t .is m (omega arith)) y λ B x₂ bl bv fi₂.
                 made-got (infixOf (kindAt s (d .at)) A B) (rw (type-suc, x, f, x₂))
@@ -225,19 +225,19 @@ module _ (s w : List ℕ) (c : Cursor) (k : Tally) (room : Room s w c k) where
     choice-is m = sym (then-take (typeTerm s kind c) (opening s kBraceOpen) _)
 
     pub choice-no : {r : Out} {n i : ℕ} → q ≡ Refused n i → r ≡ asOut q → ChoiceRead kind s w c k r w
-    choice-no g h = meets-no s w c k (refused-out g h) refl (λ m _. choice-is m ∙ rw (took u g))
+    choice-no g h = meets-no s w c k (refused-out g h) same (λ m _. choice-is m ∙ rw (took u g))
 
     module _ {i : ℕ} {d : Cursor} (e : q ≡ At i d) {p : Out} {v : List ℕ} (t : AlternativesRead 0 s w d k p v) where
       pub choice-list-no : {n j : ℕ} → p ≡ Not n j → ChoiceRead kind s w c k p v
       choice-list-no g =
           let o = u .on i d e in
-          meets-no s w c k g (t .long) (λ m lo. choice-is m ∙ rw (took u e, stopped (readAlternatives m s 0 d) (t .is m (omega arith)) g))
+          meets-no s w c k g (t .kept) (λ m lo. choice-is m ∙ rw (took u e, stopped (readAlternatives m s 0 d) (t .is m (omega arith)) g))
 
       module _ {f : Cursor} {l : Tally} (g : p ≡ Got f l) {x : Taken} (y : Stepped s f 1 0 0 (expect s kBraceClose f) x) where
         pub choice-close-no : {r : Out} {n j : ℕ} → x ≡ Refused n j → r ≡ asOut x → ChoiceRead kind s w c k r v
         choice-close-no z h =
             let o = u .on i d e in
-            meets-no s w c k (refused-out z h) (t .long)
+            meets-no s w c k (refused-out z h) (t .kept)
             (λ m lo. gone-on (readAlternatives m s 0 d) (t .is m (omega arith)) g λ r a _ _ _. choice-is m ∙ rw (took u e, a, took y z))
 
         pub choice-got : {j : ℕ} {b : Cursor} {l₂ : Tally} {v₂ : List ℕ} → x ≡ At j b → Put v (putNode v (l .nodes) (typeNode (kind - 23) (l .alternatives) (l .last))) (moreNodes l) l₂ v₂ → ChoiceRead kind s w c k (Got (closed c b) l₂) v₂
@@ -246,7 +246,7 @@ module _ (s w : List ℕ) (c : Cursor) (k : Tally) (room : Room s w c k) where
             let o₂ = t .on f l g in
             let o₃ = y .on j b z in
             rw (pt .is, pt .words)
-            (meets-got s w c k (omega arith) (sym (ap length (pt .words)) ∙ pt .long ∙ t .long)
+            (meets-got s w c k (omega arith) (put-kept pt upon t .kept)
             (λ m lo. gone-on (readAlternatives m s 0 d) (t .is m (omega arith)) g λ r a al av fi.
             made-got (choiceOf kind r) (choice-is m ∙ rw (took u e, a, took y z))
             ((λ i. Got (closed c b) (moreNodes (al i))) ∙ ap (Got (closed c b)) (sym (choice-after kind r k)))
@@ -257,11 +257,11 @@ module _ (s w : List ℕ) (c : Cursor) (k : Tally) (room : Room s w c k) where
   module _ (n : ℕ) (few : n ≤ 16) where
     pub more-none : eqb (kindAt s (c .at)) kComma ≡ false → MoreRead n s w c k (Got c (lasting 0 k)) w
     unfolding afterAlternatives writeAlternatives FineAlternatives
-    more-none f = meets-got s w c k (omega arith) refl (λ m _. made-got Alternatives.none (rw f) refl refl (omega arith))
+    more-none f = meets-got s w c k (omega arith) same (λ m _. made-got Alternatives.none (rw f) refl refl (omega arith))
 
     module _ (f : eqb (kindAt s (c .at)) kComma ≡ true) {q : Taken} (u : Stepped s c 1 0 0 (expect s kComma c) q) where
       pub more-comma-no : {r : Out} {j i : ℕ} → q ≡ Refused j i → r ≡ asOut q → MoreRead n s w c k r w
-      more-comma-no g h = meets-no s w c k (refused-out g h) refl (λ m _. rw (f, took u g))
+      more-comma-no g h = meets-no s w c k (refused-out g h) same (λ m _. rw (f, took u g))
 
       pub more-list : {i : ℕ} {d : Cursor} → q ≡ At i d → {p : Out} {v : List ℕ} → AlternativesRead n s w d k p v → MoreRead n s w c k p v
       more-list {i} {d} e {p} {v} t = go p refl
@@ -269,12 +269,12 @@ module _ (s w : List ℕ) (c : Cursor) (k : Tally) (room : Room s w c k) where
           go : (p′ : Out) → p ≡ p′ → MoreRead n s w c k p v
           go (Not m j) y =
               let o = u .on i d e in
-              meets-no s w c k y (t .long) (λ m lo. rw (f, took u e, stopped (readAlternatives m s n d) (t .is m (omega arith)) y))
+              meets-no s w c k y (t .kept) (λ m lo. rw (f, took u e, stopped (readAlternatives m s n d) (t .is m (omega arith)) y))
           go (Got b l) y =
               let o = u .on i d e in
               let o₂ = t .on b l y in
               rw y
-              (meets-got s w c k (omega arith) (t .long)
+              (meets-got s w c k (omega arith) (t .kept)
               (λ m lo. gone-on (readAlternatives m s n d) (t .is m (omega arith)) y λ r a al av fi.
               made-got r (rw (f, took u e, a)) (ap (Got b) al) av (fi .0)))
 
@@ -286,13 +286,13 @@ module _ (s w : List ℕ) (c : Cursor) (k : Tally) (room : Room s w c k) where
     alternatives-is m = alternatives-suc m s n c ∙ sym (then-take (labelTerm s n c) (expect s kColon) _)
 
     pub alternatives-no : {r : Out} {j i : ℕ} → q ≡ Refused j i → r ≡ asOut q → AlternativesRead n s w c k r w
-    alternatives-no g h = more-no (alternativesForm n) s w c k (λ m. readAlternatives m s n c) (refused-out g h) refl (λ m _. alternatives-is m ∙ rw (took u g))
+    alternatives-no g h = more-no (alternativesForm n) s w c k (λ m. readAlternatives m s n c) (refused-out g h) same (λ m _. alternatives-is m ∙ rw (took u g))
 
     module _ {i : ℕ} {d : Cursor} (e : q ≡ At i d) {p : Out} {v : List ℕ} (t : TypeRead s w d k p v) where
       pub alternatives-type-no : {j h : ℕ} → p ≡ Not j h → AlternativesRead n s w c k p v
       alternatives-type-no g =
           let o = u .on i d e in
-          more-no (alternativesForm n) s w c k (λ m. readAlternatives m s n c) g (t .long)
+          more-no (alternativesForm n) s w c k (λ m. readAlternatives m s n c) g (t .kept)
           (λ m lo. alternatives-is m ∙ rw (took u e, stopped (readType m s d) (t .is m (omega arith)) g))
 
       module _ {f : Cursor} {l : Tally} (g : p ≡ Got f l) {x : Out} {v₂ : List ℕ} (y : MoreRead (n + 1) s v f l x v₂) where
@@ -300,7 +300,7 @@ module _ (s w : List ℕ) (c : Cursor) (k : Tally) (room : Room s w c k) where
         alternatives-more-no z =
             let o = u .on i d e in
             let o₂ = t .on f l g in
-            more-no (alternativesForm n) s w c k (λ m. readAlternatives m s n c) z (y .long ∙ t .long)
+            more-no (alternativesForm n) s w c k (λ m. readAlternatives m s n c) z (y .kept upon t .kept)
             (λ m lo. gone-on (readType m s d) (t .is m (omega arith)) g λ A a _ _ _.
             alternatives-is m ∙ rw (took u e, a, stopped (moreBy (λ d. readAlternatives m s (n + 1) d) s f) (y .is m (omega arith)) z))
 
@@ -311,7 +311,7 @@ module _ (s w : List ℕ) (c : Cursor) (k : Tally) (room : Room s w c k) where
             let o₂ = t .on f l g in
             let o₃ = y .on b l₂ z in
             rw (pt .is, pt .words)
-            (more-got (alternativesForm n) s w c k (λ m. readAlternatives m s n c) (omega arith) (sym (ap length (pt .words)) ∙ pt .long ∙ y .long ∙ t .long)
+            (more-got (alternativesForm n) s w c k (λ m. readAlternatives m s n c) (omega arith) (put-kept pt upon y .kept upon t .kept)
             (λ m lo. gone-on (readType m s d) (t .is m (omega arith)) g λ A a al av fi.
             gone-on (moreBy (λ d. readAlternatives m s (n + 1) d) s f) (y .is m (omega arith)) z λ r a₂ bl bv fi₂.
             let tally : l₂ ≡ afterAlternatives r (afterType A k) = bl ∙ ap (afterAlternatives r) al in
@@ -332,7 +332,7 @@ module _ (s w : List ℕ) (c : Cursor) (k : Tally) (room : Room s w c k) where
     atom-as e l {f} {r} {v} t same =
         record {
           is = more-made typeForm w k (λ m. readAtom m s c) (λ m lo. rw (atom-by e m, same m) (t .is m (omega arith)));
-          long = t .long;
+          kept = t .kept;
           on = t .on;
         }
 
@@ -358,7 +358,7 @@ module _ (s w : List ℕ) (c : Cursor) (k : Tally) (room : Room s w c k) where
 
     pub atom-other : {r : Out} → typeHead kind ≡ Other → r ≡ misfitOut s c → AtomRead s w c k r w
     unfolding atomBy misfit
-    atom-other e h = more-no typeForm s w c k (λ m. readAtom m s c) h refl (λ m _. atom-by e m)
+    atom-other e h = more-no typeForm s w c k (λ m. readAtom m s c) h same (λ m _. atom-by e m)
 
 -- an infix mark is a token
 pub infix-most : (k : ℕ) → isInfix k ≡ true → k ≤ 31
@@ -371,7 +371,7 @@ infix-most k e = go (eqb k kStar) refl (eqb k kAt) refl e
     go false x false y e = omega (arith, eqb-true k kLolli e)
 
 -- a label that was taken is within its list's limit
-within-limit : (b : Bool) (x : Taken) (g : Cursor → Taken) (i : ℕ) (d : Cursor) → thenToken (limited x (λ _. b) (λ e. e)) g ≡ At i d → b ≡ true
+pub within-limit : (b : Bool) (x : Taken) (g : Cursor → Taken) (i : ℕ) (d : Cursor) → thenToken (limited x (λ _. b) (λ e. e)) g ≡ At i d → b ≡ true
 within-limit true x g i d z = refl
 within-limit false (At j c) g i d z = never z
 within-limit false (Refused m j) g i d z = never z

@@ -3,7 +3,7 @@ use mathlib.Core.Path.{_≡_}
 use Prim.Native.Nat.{ℕ, _+_, _-_, _*_, _<_, _≤_}
 use mathlib.Core.List.{List}
 use mathlib.Core.Bool.{cond}
-use lib.ListN.{length}
+use lib.ListN.{length, drop}
 use lib.Dec.{eqb}
 use Rattle.notation.specs.Limits.{textLimit, typeTermLimit, processTermLimit}
 use Rattle.notation.specs.Token.{tokenAt, kColon, kBraceOpen, kStar, kAt, kOne, kName, kPlus}
@@ -53,11 +53,20 @@ unfoldable pub choiceOpening : List ℕ → ℕ → Cursor → Taken
 choiceOpening s k c = thenToken (typeTerm s k c) (opening s kBraceOpen)
 
 -- ── the tables
+-- what is past the tables' area
+unfoldable pub pastArea : List ℕ → List ℕ
+pastArea w = drop 5640 w
+
+-- v has as many words as w, and past the tables' area the same ones
+pub record Kept (w v : List ℕ) : Type 0 where
+  pub long : length v ≡ length w
+  pub past : pastArea v ≡ pastArea w
+
 -- words are put: the tally r and the words v
 pub record Put (w x : List ℕ) (k r : Tally) (v : List ℕ) : Type 0 where
   pub is : r ≡ k
   pub words : v ≡ x
-  pub long : length v ≡ length w
+  pub kept : Kept w v
 
 -- what fits a type node's word
 abbrev pub Fits : TypeNode → Type 0
@@ -101,10 +110,10 @@ MadeOf F w k (refused n i) r v = r ≡ Not n i
 pub record Made {A : Type 0} (F : Form A) (w : List ℕ) (k : Tally) (x : Result A) (r : Out) (v : List ℕ) : Type 0 where
   pub said : MadeOf F w k x r v
 
--- r and v are what f says at each fuel above `bound`; a refusal says nothing of the words
+-- r and v are what f says at each fuel above `bound`; a refusal says nothing of the words in the tables' area
 pub record Meets {A : Type 0} (F : Form A) (s w : List ℕ) (c : Cursor) (k : Tally) (bound : ℕ) (f : ℕ → Result A) (r : Out) (v : List ℕ) : Type 0 where
   pub is : (m : ℕ) → bound < m → Made F w k (f m) r v
-  pub long : length v ≡ length w
+  pub kept : Kept w v
   pub on : (d : Cursor) (l : Tally) → r ≡ Got d l → F .Ahead s c k d l
 
 -- ── types
@@ -127,9 +136,13 @@ unfoldable mutual
   FineAlternatives Alternatives.none = 0 ≤ 0
   FineAlternatives (alternative l A r) = (l .at < textLimit) × FineType A × FineAlternatives r
 
+-- no declaration was appended
+abbrev pub SameDeclared : Tally → Tally → Type 0
+SameDeclared k l = (l .types ≡ k .types) × (l .processes ≡ k .processes) × (l .execs ≡ k .execs)
+
 -- the other tables, and the process terms, are as they were
 abbrev pub OthersSame : Cursor → Tally → Cursor → Tally → Type 0
-OthersSame c k d l = (d .terms ≡ c .terms) × (l .entries ≡ k .entries) × (l .terms ≡ k .terms) × (l .branches ≡ k .branches)
+OthersSame c k d l = (d .terms ≡ c .terms) × (l .entries ≡ k .entries) × (l .terms ≡ k .terms) × (l .branches ≡ k .branches) × SameDeclared k l
 
 -- past a type: `own` is 1 for a list of alternatives, of which each has a type term more than alternatives
 abbrev pub AheadType : ℕ → List ℕ → Cursor → Tally → Cursor → Tally → Type 0

@@ -1,2 +1,4 @@
 pub mod Filling
 pub mod Processes
+pub mod Scripts
+pub mod Reading

@@ -22,7 +22,7 @@ use Rattle.notation.specs.declared.token.TermHead.the-variants.{Send, Recv, Fwd
 use Rattle.notation.specs.declared.token.Payload.{Payload}
 use Rattle.notation.specs.declared.token.Payload.the-variants.{Unit as UnitPayload, Channel, Label, Other}
 use Rattle.reader.specs.declared.steps.Out.{Out}
-use Rattle.reader.specs.Filling.{Form, Meets, FineType, unread}
+use Rattle.reader.specs.Filling.{SameDeclared, Form, Meets, FineType, unread}
 
 -- ── tokens
 abbrev pub misfitTaken : List ℕ → Cursor → Taken
@@ -82,6 +82,7 @@ AheadProcess own spare s c k d l =
     × (l .terms + c .terms ≤ d .terms + k .terms + own)
     × (5 * l .branches + c .at ≤ d .at + 5 * k .branches + spare)
     × (l .entries ≡ k .entries)
+    × SameDeclared k l
 
 -- a process: its pointer is a node's or an empty process's
 abbrev pub processForm : Form Proc

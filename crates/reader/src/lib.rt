@@ -1,5 +1,8 @@
 // The reader: from a text to the tables.
 pub mod processes;
+pub mod reading;
+pub mod scripts;
+pub mod signatures;
 pub mod steps;
 pub mod store;
 pub mod types;

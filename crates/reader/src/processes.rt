@@ -3,6 +3,7 @@ use crate::steps::Out;
 use crate::steps::expect;
 use crate::steps::kind_at;
 use crate::steps::label_term;
+use crate::steps::misfit;
 use crate::steps::opening;
 use crate::steps::payload_head;
 use crate::steps::process_term;
@@ -330,4 +331,406 @@ fn read_fwd(text: &[u8], scratch: &mut [u32], c: Cursor, k: Tally) -> Out
         },
     );
     Out::Got(f, q)
+}
+
+// A process, by what begins it.
+pub(crate) fn read_process(text: &[u8], scratch: &mut [u32], c: Cursor, k: Tally) -> Out
+    requires { ⌜ Room (now text) (now scratch) c k ⌝ }
+    ensures { λ r. ⌜ ProcessRead (now (text .entry)) (now (scratch .entry)) c k r (now (scratch .exit)) ⌝ }
+{
+    let at = c.at;
+    let t = next_token(text, at);
+    let head = term_head(t.kind);
+    match head {
+        TermHead::Send => read_send(text, scratch, c, k),
+        TermHead::Recv => read_recv(text, scratch, c, k),
+        TermHead::Fwd => read_fwd(text, scratch, c, k),
+        TermHead::Call => read_call(text, scratch, c, k),
+        TermHead::Cancel => read_cancel(text, scratch, c, k),
+        TermHead::Raise => read_raise(text, scratch, c, k),
+        TermHead::Try => read_try(text, scratch, c, k),
+        TermHead::Spawn => read_spawn(text, scratch, c, k),
+        TermHead::Empty => Out::Got(c, lasting(k, 1024 + t.start)),
+    }
+}
+
+// After a term with a rest: a semicolon and a process, or nothing.
+fn read_rest(text: &[u8], scratch: &mut [u32], c: Cursor, k: Tally) -> Out
+    requires { ⌜ Room (now text) (now scratch) c k ⌝ }
+    ensures { λ r. ⌜ RestRead (now (text .entry)) (now (scratch .entry)) c k r (now (scratch .exit)) ⌝ }
+{
+    let at = c.at;
+    let t = next_token(text, at);
+    if t.kind == Token::SEMICOLON {
+        let mark = expect(text, c, Token::SEMICOLON);
+        let Taken::At(_, d) = mark else {
+            return refusal(mark);
+        };
+        return read_process(text, scratch, d, k);
+    }
+    Out::Got(c, lasting(k, 1024 + t.start))
+}
+
+// send c (), send c a, send c 'l
+fn read_send(text: &[u8], scratch: &mut [u32], c: Cursor, k: Tally) -> Out
+    requires { ⌜ Room (now text) (now scratch) c k ⌝ }
+    ensures { λ r. ⌜ TermRead Send (now (text .entry)) (now (scratch .entry)) c k r (now (scratch .exit)) ⌝ }
+{
+    let term = process_term(text, c, Token::SEND);
+    let Taken::At(at, d) = term else {
+        return refusal(term);
+    };
+    let named = expect(text, d, Token::NAME);
+    let Taken::At(i, e) = named else {
+        return refusal(named);
+    };
+    let next = e.at;
+    let head = payload_head(kind_at(text, next));
+    read_sent(text, scratch, e, k, at, i, head)
+}
+
+// What follows the channel of a send: what is sent, and the rest.
+fn read_sent(
+    text: &[u8],
+    scratch: &mut [u32],
+    c: Cursor,
+    k: Tally,
+    at: usize,
+    i: usize,
+    head: Payload,
+) -> Out
+    requires { ⌜ Room (now text) (now scratch) c k × (k .terms < c .terms) ⌝ }
+    requires { ⌜ (at < 8192) × (i < 8192) ⌝ }
+    ensures { λ r. ⌜ SentRead at i head (now (text .entry)) (now (scratch .entry)) c k r (now (scratch .exit)) ⌝ }
+{
+    let sent = payload_token(text, c, head);
+    let Taken::At(j, d) = sent else {
+        return refusal(sent);
+    };
+    let rest = read_rest(text, scratch, d, k);
+    let Out::Got(e, l) = rest else {
+        return rest;
+    };
+    let n = sent_node(l, at, i, j, head);
+    let q = put_term(scratch, l, n);
+    Out::Got(e, q)
+}
+
+// cancel c
+fn read_cancel(text: &[u8], scratch: &mut [u32], c: Cursor, k: Tally) -> Out
+    requires { ⌜ Room (now text) (now scratch) c k ⌝ }
+    ensures { λ r. ⌜ TermRead Cancel (now (text .entry)) (now (scratch .entry)) c k r (now (scratch .exit)) ⌝ }
+{
+    let term = process_term(text, c, Token::CANCEL);
+    let Taken::At(at, d) = term else {
+        return refusal(term);
+    };
+    let named = expect(text, d, Token::NAME);
+    let Taken::At(i, e) = named else {
+        return refusal(named);
+    };
+    let rest = read_rest(text, scratch, e, k);
+    let Out::Got(f, l) = rest else {
+        return rest;
+    };
+    let third = l.last;
+    let q = put_term(
+        scratch,
+        l,
+        TermNode {
+            kind: 4,
+            at,
+            first: i,
+            second: 0,
+            third,
+        },
+    );
+    Out::Got(f, q)
+}
+
+// raise P
+fn read_raise(text: &[u8], scratch: &mut [u32], c: Cursor, k: Tally) -> Out
+    requires { ⌜ Room (now text) (now scratch) c k ⌝ }
+    ensures { λ r. ⌜ TermRead Raise (now (text .entry)) (now (scratch .entry)) c k r (now (scratch .exit)) ⌝ }
+{
+    let term = process_term(text, c, Token::RAISE);
+    let Taken::At(at, d) = term else {
+        return refusal(term);
+    };
+    let inner = read_process(text, scratch, d, k);
+    let Out::Got(e, l) = inner else {
+        return inner;
+    };
+    let third = l.last;
+    let q = put_term(
+        scratch,
+        l,
+        TermNode {
+            kind: 11,
+            at,
+            first: 0,
+            second: 0,
+            third,
+        },
+    );
+    Out::Got(e, q)
+}
+
+// recv c (..)
+fn read_recv(text: &[u8], scratch: &mut [u32], c: Cursor, k: Tally) -> Out
+    requires { ⌜ Room (now text) (now scratch) c k ⌝ }
+    ensures { λ r. ⌜ TermRead Recv (now (text .entry)) (now (scratch .entry)) c k r (now (scratch .exit)) ⌝ }
+{
+    let term = process_term(text, c, Token::RECV);
+    let Taken::At(at, d) = term else {
+        return refusal(term);
+    };
+    let named = expect(text, d, Token::NAME);
+    let Taken::At(i, e) = named else {
+        return refusal(named);
+    };
+    let opened = opening(text, e, Token::ROUND_OPEN);
+    let Taken::At(_, f) = opened else {
+        return refusal(opened);
+    };
+    let inner = read_handler(text, scratch, f, k, at, i);
+    let Out::Got(g, l) = inner else {
+        return inner;
+    };
+    let closed = expect(text, g, Token::ROUND_CLOSE);
+    let Taken::At(_, h) = closed else {
+        return refusal(closed);
+    };
+    Out::Got(
+        Cursor {
+            at: h.at,
+            types: h.types,
+            terms: h.terms,
+            depth: e.depth,
+        },
+        l,
+    )
+}
+
+// What stands in a recv's bracket, by what it takes.
+fn read_handler(text: &[u8], scratch: &mut [u32], c: Cursor, k: Tally, at: usize, i: usize) -> Out
+    requires { ⌜ Room (now text) (now scratch) c k × (k .terms < c .terms) ⌝ }
+    requires { ⌜ (at < 8192) × (i < 8192) ⌝ }
+    ensures { λ r. ⌜ HandlerRead at i (now (text .entry)) (now (scratch .entry)) c k r (now (scratch .exit)) ⌝ }
+{
+    let next = c.at;
+    let kind = kind_at(text, next);
+    let head = payload_head(kind);
+    match head {
+        Payload::Unit => receive_one(text, scratch, c, k, at, i, head),
+        Payload::Channel => receive_one(text, scratch, c, k, at, i, head),
+        Payload::Label => receive_label(text, scratch, c, k, at, i),
+        Payload::Other => misfit(text, c),
+    }
+}
+
+// () or a name, => and a process.
+fn receive_one(
+    text: &[u8],
+    scratch: &mut [u32],
+    c: Cursor,
+    k: Tally,
+    at: usize,
+    i: usize,
+    head: Payload,
+) -> Out
+    requires { ⌜ Room (now text) (now scratch) c k × (k .terms < c .terms) ⌝ }
+    requires { ⌜ (at < 8192) × (i < 8192) ⌝ }
+    ensures { λ r. ⌜ OneRead at i head (now (text .entry)) (now (scratch .entry)) c k r (now (scratch .exit)) ⌝ }
+{
+    let taken = payload_then(text, c, head);
+    let Taken::At(j, d) = taken else {
+        return refusal(taken);
+    };
+    let inner = read_process(text, scratch, d, k);
+    let Out::Got(e, l) = inner else {
+        return inner;
+    };
+    let n = received_node(l, at, i, j, head);
+    let q = put_term(scratch, l, n);
+    Out::Got(e, q)
+}
+
+// A branch for each label.
+fn receive_label(text: &[u8], scratch: &mut [u32], c: Cursor, k: Tally, at: usize, i: usize) -> Out
+    requires { ⌜ Room (now text) (now scratch) c k × (k .terms < c .terms) ⌝ }
+    requires { ⌜ (at < 8192) × (i < 8192) ⌝ }
+    ensures { λ r. ⌜ LabelsRead at i (now (text .entry)) (now (scratch .entry)) c k r (now (scratch .exit)) ⌝ }
+{
+    let inner = read_branches(text, scratch, c, k, 0);
+    let Out::Got(d, l) = inner else {
+        return inner;
+    };
+    let second = l.branches;
+    let third = l.last;
+    let q = put_term(
+        scratch,
+        l,
+        TermNode {
+            kind: 8,
+            at,
+            first: i,
+            second,
+            third,
+        },
+    );
+    Out::Got(d, q)
+}
+
+// Branches of which n came before; each is appended after those that follow it.
+fn read_branches(text: &[u8], scratch: &mut [u32], c: Cursor, k: Tally, n: usize) -> Out
+    requires { ⌜ Room (now text) (now scratch) c k ⌝ }
+    ensures { λ r. ⌜ BranchesRead n (now (text .entry)) (now (scratch .entry)) c k r (now (scratch .exit)) ⌝ }
+{
+    let labelled = label_then(text, c, n);
+    let Taken::At(i, d) = labelled else {
+        return refusal(labelled);
+    };
+    let inner = read_process(text, scratch, d, k);
+    let Out::Got(e, l) = inner else {
+        return inner;
+    };
+    let rest = more_branches(text, scratch, e, l, n + 1);
+    let Out::Got(f, m) = rest else {
+        return rest;
+    };
+    let q = put_branch(scratch, m, i, l.last);
+    Out::Got(f, q)
+}
+
+// After a branch: a bar and more, or none.
+fn more_branches(text: &[u8], scratch: &mut [u32], c: Cursor, k: Tally, n: usize) -> Out
+    requires { ⌜ Room (now text) (now scratch) c k × (n ≤ 16) ⌝ }
+    ensures { λ r. ⌜ MoreBranchesRead n (now (text .entry)) (now (scratch .entry)) c k r (now (scratch .exit)) ⌝ }
+{
+    let at = c.at;
+    if kind_at(text, at) == Token::BAR {
+        let bar = expect(text, c, Token::BAR);
+        let Taken::At(_, d) = bar else {
+            return refusal(bar);
+        };
+        return read_branches(text, scratch, d, k, n);
+    }
+    Out::Got(c, lasting(k, 0))
+}
+
+// A process in round brackets.
+fn read_bracketed(text: &[u8], scratch: &mut [u32], c: Cursor, k: Tally) -> Out
+    requires { ⌜ Room (now text) (now scratch) c k ⌝ }
+    ensures { λ r. ⌜ BracketedRead (now (text .entry)) (now (scratch .entry)) c k r (now (scratch .exit)) ⌝ }
+{
+    let opened = opening(text, c, Token::ROUND_OPEN);
+    let Taken::At(_, d) = opened else {
+        return refusal(opened);
+    };
+    let inner = read_process(text, scratch, d, k);
+    let Out::Got(e, l) = inner else {
+        return inner;
+    };
+    let closed = expect(text, e, Token::ROUND_CLOSE);
+    let Taken::At(_, f) = closed else {
+        return refusal(closed);
+    };
+    Out::Got(
+        Cursor {
+            at: f.at,
+            types: f.types,
+            terms: f.terms,
+            depth: c.depth,
+        },
+        l,
+    )
+}
+
+// try (P) catch (Q)
+fn read_try(text: &[u8], scratch: &mut [u32], c: Cursor, k: Tally) -> Out
+    requires { ⌜ Room (now text) (now scratch) c k ⌝ }
+    ensures { λ r. ⌜ TermRead Try (now (text .entry)) (now (scratch .entry)) c k r (now (scratch .exit)) ⌝ }
+{
+    let term = process_term(text, c, Token::TRY);
+    let Taken::At(at, d) = term else {
+        return refusal(term);
+    };
+    let main = read_bracketed(text, scratch, d, k);
+    let Out::Got(e, l) = main else {
+        return main;
+    };
+    let word = expect(text, e, Token::CATCH);
+    let Taken::At(_, f) = word else {
+        return refusal(word);
+    };
+    let handler = read_bracketed(text, scratch, f, l);
+    let Out::Got(g, m) = handler else {
+        return handler;
+    };
+    let second = l.last;
+    let third = m.last;
+    let q = put_term(
+        scratch,
+        m,
+        TermNode {
+            kind: 12,
+            at,
+            first: 0,
+            second,
+            third,
+        },
+    );
+    Out::Got(g, q)
+}
+
+// x : A <- (P); Q
+fn read_spawn(text: &[u8], scratch: &mut [u32], c: Cursor, k: Tally) -> Out
+    requires { ⌜ Room (now text) (now scratch) c k ⌝ }
+    ensures { λ r. ⌜ TermRead Spawn (now (text .entry)) (now (scratch .entry)) c k r (now (scratch .exit)) ⌝ }
+{
+    let named = name_colon(text, c);
+    let Taken::At(i, d) = named else {
+        return refusal(named);
+    };
+    let typed = read_type(text, scratch, d, k);
+    let Out::Got(e, l) = typed else {
+        return typed;
+    };
+    let arrow = expect(text, e, Token::FROM);
+    let Taken::At(_, f) = arrow else {
+        return refusal(arrow);
+    };
+    read_parts(text, scratch, f, l, i)
+}
+
+// The two halves of a spawn whose name stands at i and whose type's node was read last.
+fn read_parts(text: &[u8], scratch: &mut [u32], c: Cursor, k: Tally, i: usize) -> Out
+    requires { ⌜ Room (now text) (now scratch) c k × (k .terms < c .terms) ⌝ }
+    requires { ⌜ (k .last < 512) × (i < 8192) ⌝ }
+    ensures { λ r. ⌜ PartsRead i (now (text .entry)) (now (scratch .entry)) c k r (now (scratch .exit)) ⌝ }
+{
+    let new = read_bracketed(text, scratch, c, k);
+    let Out::Got(d, l) = new else {
+        return new;
+    };
+    let rest = read_rest(text, scratch, d, l);
+    let Out::Got(e, m) = rest else {
+        return rest;
+    };
+    let first = k.last;
+    let second = l.last;
+    let third = m.last;
+    let q = put_term(
+        scratch,
+        m,
+        TermNode {
+            kind: 5,
+            at: i,
+            first,
+            second,
+            third,
+        },
+    );
+    Out::Got(e, q)
 }

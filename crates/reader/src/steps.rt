@@ -17,13 +17,13 @@ ghost use Rattle.notation.specs.Processes.{termHead, payload};
 ghost use Rattle.reader.specs.Filling.{Stepped, asOut, misfitOut};
 
 // Where a reading went on to, with the fill of the tables; or the refusal's number and offset.
-pub enum Out {
+pub(crate) enum Out {
     Got(Cursor, Tally),
     Not(u32, usize),
 }
 
 // The kind of the next token.
-pub fn kind_at(text: &[u8], at: usize) -> usize
+pub(crate) fn kind_at(text: &[u8], at: usize) -> usize
     ensures { λ r. ⌜ r ≡ kindAt (now (text .entry)) at ⌝ }
 {
     let t = next_token(text, at);
@@ -31,7 +31,7 @@ pub fn kind_at(text: &[u8], at: usize) -> usize
 }
 
 // The token of this kind, or the refusal where another stands.
-pub fn expect(text: &[u8], c: Cursor, kind: usize) -> Taken
+pub(crate) fn expect(text: &[u8], c: Cursor, kind: usize) -> Taken
     requires { ⌜ kind ≤ 31 ⌝ }
     ensures { λ r. ⌜ Stepped (now (text .entry)) c (width kind) 0 0 (expect (now (text .entry)) kind c) r ⌝ }
 {
@@ -55,7 +55,7 @@ pub fn expect(text: &[u8], c: Cursor, kind: usize) -> Taken
 }
 
 // A bracket that opens.
-pub fn opening(text: &[u8], c: Cursor, kind: usize) -> Taken
+pub(crate) fn opening(text: &[u8], c: Cursor, kind: usize) -> Taken
     requires { ⌜ kind ≤ 31 ⌝ }
     ensures { λ r. ⌜ Stepped (now (text .entry)) c (width kind) 0 0 (opening (now (text .entry)) kind c) r ⌝ }
 {
@@ -78,7 +78,7 @@ pub fn opening(text: &[u8], c: Cursor, kind: usize) -> Taken
 }
 
 // A token that is a type term.
-pub fn type_term(text: &[u8], c: Cursor, kind: usize) -> Taken
+pub(crate) fn type_term(text: &[u8], c: Cursor, kind: usize) -> Taken
     requires { ⌜ kind ≤ 31 ⌝ }
     ensures { λ r. ⌜ Stepped (now (text .entry)) c (width kind) 1 0 (typeTerm (now (text .entry)) kind c) r ⌝ }
 {
@@ -101,7 +101,7 @@ pub fn type_term(text: &[u8], c: Cursor, kind: usize) -> Taken
 }
 
 // A token that begins a process term.
-pub fn process_term(text: &[u8], c: Cursor, kind: usize) -> Taken
+pub(crate) fn process_term(text: &[u8], c: Cursor, kind: usize) -> Taken
     requires { ⌜ kind ≤ 31 ⌝ }
     ensures { λ r. ⌜ Stepped (now (text .entry)) c (width kind) 0 1 (processTerm (now (text .entry)) kind c) r ⌝ }
 {
@@ -124,7 +124,7 @@ pub fn process_term(text: &[u8], c: Cursor, kind: usize) -> Taken
 }
 
 // A label of a list in which n came before.
-pub fn label_term(text: &[u8], c: Cursor, n: usize) -> Taken
+pub(crate) fn label_term(text: &[u8], c: Cursor, n: usize) -> Taken
     ensures { λ r. ⌜ Stepped (now (text .entry)) c 2 0 0 (labelTerm (now (text .entry)) n c) r ⌝ }
 {
     let taken = expect(text, c, Token::LABEL);
@@ -138,7 +138,7 @@ pub fn label_term(text: &[u8], c: Cursor, n: usize) -> Taken
 }
 
 // A refusal of a step; a step that was taken is never handed here.
-pub fn refusal(t: Taken) -> Out
+pub(crate) fn refusal(t: Taken) -> Out
     ensures { λ r. ⌜ r ≡ asOut t ⌝ }
 {
     match t {
@@ -148,7 +148,7 @@ pub fn refusal(t: Taken) -> Out
 }
 
 // No token fits here.
-pub fn misfit(text: &[u8], c: Cursor) -> Out
+pub(crate) fn misfit(text: &[u8], c: Cursor) -> Out
     ensures { λ r. ⌜ r ≡ misfitOut (now (text .entry)) c ⌝ }
 {
     let at = c.at;
@@ -160,7 +160,7 @@ pub fn misfit(text: &[u8], c: Cursor) -> Out
 }
 
 // What a token of this kind begins in a type.
-pub fn type_head(kind: usize) -> TypeHead
+pub(crate) fn type_head(kind: usize) -> TypeHead
     ensures { λ r. ⌜ r ≡ typeHead kind ⌝ }
 {
     if kind == Token::ONE {
@@ -181,7 +181,7 @@ pub fn type_head(kind: usize) -> TypeHead
     TypeHead::Other
 }
 
-pub fn is_infix(kind: usize) -> bool
+pub(crate) fn is_infix(kind: usize) -> bool
     ensures { λ r. ⌜ r ≡ isInfix kind ⌝ }
 {
     if kind == Token::STAR {
@@ -194,7 +194,7 @@ pub fn is_infix(kind: usize) -> bool
 }
 
 // What a token of this kind begins where a process may stand.
-pub fn term_head(kind: usize) -> TermHead
+pub(crate) fn term_head(kind: usize) -> TermHead
     ensures { λ r. ⌜ r ≡ termHead kind ⌝ }
 {
     if kind == Token::SEND {
@@ -225,7 +225,7 @@ pub fn term_head(kind: usize) -> TermHead
 }
 
 // What follows the channel of a send, or the bracket of a recv.
-pub fn payload_head(kind: usize) -> Payload
+pub(crate) fn payload_head(kind: usize) -> Payload
     ensures { λ r. ⌜ r ≡ payload kind ⌝ }
 {
     if kind == Token::ROUND_OPEN {

@@ -5,11 +5,12 @@ use notation::reading::TypeNode;
 ghost use mathlib.Core.Path.{_≡_};
 ghost use Prim.Native.Nat.{_<_, _≤_};
 ghost use lib.ListN.{length};
-ghost use Rattle.notation.specs.Tables.{moreNodes, moreAlternatives, moreTerms, moreBranches, putNode, putAlternative, putTerm, putBranch, lasting};
+ghost use Rattle.notation.specs.Tables.{moreNodes, moreAlternatives, moreTerms, moreBranches, putNode, putAlternative, putTerm, putBranch, putEntry, putType, putExec, moreEntries, moreTypes, moreProcesses, moreExecs, lasting};
 ghost use Rattle.reader.specs.Filling.{Put, Fits, FitsTerm, Area};
+ghost use Rattle.reader.specs.Scripts.{FitsSigned, putSigned};
 
 // Appends a type node.
-pub fn put_node(scratch: &mut [u32], k: Tally, n: TypeNode) -> Tally
+pub(crate) fn put_node(scratch: &mut [u32], k: Tally, n: TypeNode) -> Tally
     requires { ⌜ Area (now scratch) × (k .nodes < 512) ⌝ }
     requires { ⌜ Fits n ⌝ }
     ensures { λ r. ⌜ Put (now (scratch .entry)) (putNode (now (scratch .entry)) (k .nodes) n) (moreNodes k) r (now (scratch .exit)) ⌝ }
@@ -31,7 +32,7 @@ pub fn put_node(scratch: &mut [u32], k: Tally, n: TypeNode) -> Tally
 }
 
 // Appends an alternative: the label at `at` with a type's node.
-pub fn put_alternative(scratch: &mut [u32], k: Tally, at: usize, node: usize) -> Tally
+pub(crate) fn put_alternative(scratch: &mut [u32], k: Tally, at: usize, node: usize) -> Tally
     requires { ⌜ Area (now scratch) × (k .alternatives < 512) × (k .last < 16) × (at < 8192) × (node < 512) ⌝ }
     ensures { λ r. ⌜ Put (now (scratch .entry)) (putAlternative (now (scratch .entry)) (k .alternatives) at node) (moreAlternatives k) r (now (scratch .exit)) ⌝ }
 {
@@ -51,7 +52,7 @@ pub fn put_alternative(scratch: &mut [u32], k: Tally, at: usize, node: usize) ->
 }
 
 // Appends a process node.
-pub fn put_term(scratch: &mut [u32], k: Tally, n: TermNode) -> Tally
+pub(crate) fn put_term(scratch: &mut [u32], k: Tally, n: TermNode) -> Tally
     requires { ⌜ Area (now scratch) × (k .terms < 1024) ⌝ }
     requires { ⌜ FitsTerm n ⌝ }
     ensures { λ r. ⌜ Put (now (scratch .entry)) (putTerm (now (scratch .entry)) (k .terms) n) (moreTerms k) r (now (scratch .exit)) ⌝ }
@@ -75,7 +76,7 @@ pub fn put_term(scratch: &mut [u32], k: Tally, n: TermNode) -> Tally
 }
 
 // Appends a branch: the label at `at` with a process's pointer.
-pub fn put_branch(scratch: &mut [u32], k: Tally, at: usize, pointer: usize) -> Tally
+pub(crate) fn put_branch(scratch: &mut [u32], k: Tally, at: usize, pointer: usize) -> Tally
     requires { ⌜ Area (now scratch) × (k .branches < 1640) × (k .last < 16) × (at < 8192) × (pointer < 16384) ⌝ }
     ensures { λ r. ⌜ Put (now (scratch .entry)) (putBranch (now (scratch .entry)) (k .branches) at pointer) (moreBranches k) r (now (scratch .exit)) ⌝ }
 {
@@ -94,8 +95,102 @@ pub fn put_branch(scratch: &mut [u32], k: Tally, at: usize, pointer: usize) -> T
     }
 }
 
+// Appends a signature entry: the name at `at` with its type's node.
+pub(crate) fn put_entry(scratch: &mut [u32], k: Tally, at: usize, node: usize) -> Tally
+    requires { ⌜ Area (now scratch) × (k .entries < 512) × (at < 8192) × (node < 512) ⌝ }
+    ensures { λ r. ⌜ Put (now (scratch .entry)) (putEntry (now (scratch .entry)) (k .entries) at node) (moreEntries k) r (now (scratch .exit)) ⌝ }
+{
+    let i = k.entries;
+    scratch[416 + i] = (at + 8192 * node) as u32;
+    Tally {
+        types: k.types,
+        processes: k.processes,
+        execs: k.execs,
+        entries: i + 1,
+        nodes: k.nodes,
+        alternatives: k.alternatives,
+        terms: k.terms,
+        branches: k.branches,
+        last: k.last,
+    }
+}
+
+// Appends a type: its name at `at` with its definition's node.
+pub(crate) fn put_type(scratch: &mut [u32], k: Tally, at: usize, node: usize) -> Tally
+    requires { ⌜ Area (now scratch) × (k .types < 64) × (at < 8192) × (node < 512) ⌝ }
+    ensures { λ r. ⌜ Put (now (scratch .entry)) (putType (now (scratch .entry)) (k .types) at node) (moreTypes k) r (now (scratch .exit)) ⌝ }
+{
+    let i = k.types;
+    scratch[16 + 2 * i] = at as u32;
+    scratch[16 + 2 * i + 1] = node as u32;
+    Tally {
+        types: i + 1,
+        processes: k.processes,
+        execs: k.execs,
+        entries: k.entries,
+        nodes: k.nodes,
+        alternatives: k.alternatives,
+        terms: k.terms,
+        branches: k.branches,
+        last: k.last,
+    }
+}
+
+// What the process table has of a process: its name, its first signature entry, how many channels it provides and uses, its body.
+pub(crate) struct Signed {
+    pub at: usize,
+    pub first: usize,
+    pub provided: usize,
+    pub used: usize,
+    pub body: usize,
+}
+
+// Appends a process.
+pub(crate) fn put_process(scratch: &mut [u32], k: Tally, p: Signed) -> Tally
+    requires { ⌜ Area (now scratch) × (k .processes < 64) ⌝ }
+    requires { ⌜ FitsSigned p ⌝ }
+    ensures { λ r. ⌜ Put (now (scratch .entry)) (putSigned (now (scratch .entry)) (k .processes) p) (moreProcesses k) r (now (scratch .exit)) ⌝ }
+{
+    let i = k.processes;
+    scratch[144 + 4 * i] = p.at as u32;
+    scratch[144 + 4 * i + 1] = p.first as u32;
+    scratch[144 + 4 * i + 2] = (p.provided + 1024 * p.used) as u32;
+    scratch[144 + 4 * i + 3] = p.body as u32;
+    Tally {
+        types: k.types,
+        processes: i + 1,
+        execs: k.execs,
+        entries: k.entries,
+        nodes: k.nodes,
+        alternatives: k.alternatives,
+        terms: k.terms,
+        branches: k.branches,
+        last: k.last,
+    }
+}
+
+// Appends an exec: its process's name at `at`.
+pub(crate) fn put_exec(scratch: &mut [u32], k: Tally, at: usize) -> Tally
+    requires { ⌜ Area (now scratch) × (k .execs < 16) × (at < 8192) ⌝ }
+    ensures { λ r. ⌜ Put (now (scratch .entry)) (putExec (now (scratch .entry)) (k .execs) at) (moreExecs k) r (now (scratch .exit)) ⌝ }
+{
+    let i = k.execs;
+    scratch[400 + i] = at as u32;
+    Tally {
+        types: k.types,
+        processes: k.processes,
+        execs: i + 1,
+        entries: k.entries,
+        nodes: k.nodes,
+        alternatives: k.alternatives,
+        terms: k.terms,
+        branches: k.branches,
+        last: k.last,
+    }
+}
+
 // What was read last is n.
-pub fn lasting(k: Tally, n: usize) -> Tally
+pub(crate) fn lasting(k: Tally, n: usize) -> Tally
     ensures { λ r. ⌜ r ≡ lasting n k ⌝ }
 {
     Tally {

@@ -243,7 +243,7 @@ fn more_alternatives(text: &[u8], scratch: &mut [u32], c: Cursor, k: Tally, n: u
 }
 
 // A type.
-pub fn read_type(text: &[u8], scratch: &mut [u32], c: Cursor, k: Tally) -> Out
+pub(crate) fn read_type(text: &[u8], scratch: &mut [u32], c: Cursor, k: Tally) -> Out
     requires { ⌜ Room (now text) (now scratch) c k ⌝ }
     ensures { λ r. ⌜ TypeRead (now (text .entry)) (now (scratch .entry)) c k r (now (scratch .exit)) ⌝ }
 {

@@ -1,1 +1,10 @@
 // Runs: the records of the run slice.
+pub mod bounded;
+pub mod channels;
+pub mod far;
+pub mod held;
+pub mod outside;
+pub mod places;
+pub mod processes;
+pub mod records;
+mod words;

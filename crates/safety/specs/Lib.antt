@@ -1,4 +1,3 @@
-pub mod Demand
 pub mod Replies
 pub mod Safety
-pub mod Scripts
+pub mod Eighteen

@@ -13,7 +13,7 @@ use Rattle.notation.specs.Tree.{Located, Declaration}
 use Rattle.calculus.specs.Program.{Signature, Program, programOf}
 use Rattle.calculus.specs.Accepted.{accepted, faulty, checked}
 use Rattle.calculus.specs.Configuration.{Process, Config, at}
-use Rattle.calculus.specs.Steps.{Outcome, carried, notOpen, lacking, step, stepOf, isOpenBy, isOpen, lacksBy, lacks}
+use Rattle.calculus.specs.Steps.{Outcome, carried, notOpen, lacking, step, isOpenBy, isOpen, lacksBy, lacks}
 use Rattle.calculus.specs.Runs.{startConfig, lineSignature, execOf, runOn, report}
 use Rattle.calculus.specs.WellFormed.{WellFormed}
 use Rattle.calculus.specs.Machine.{Call, callStart, callStep, callRunOn, callReport, callExecName, started, stepped, ranOn, reported, named, Reply, reply, textChecked, onProgram, onRun, onLine, onPlace, onStep, refusal, respond}
@@ -25,10 +25,11 @@ use Rattle.calculus.specs.declared.answers.Stepped.the-variants as Steps
 use Rattle.calculus.specs.declared.answers.RanOn.the-variants as Runs
 use Rattle.calculus.specs.declared.answers.Reported.the-variants as Reports
 use Rattle.derivations.specs.Booleans.{leb-iff}
-use Rattle.progress.specs.Lists.{element-in, none-past, position-below}
+use Rattle.derivations.specs.Demand.{placed}
+use Rattle.holding.specs.Lists.{found-in, none-past, found-below}
 use Rattle.progress.specs.RunOn.{Ended, run-on-ends}
 use Rattle.progress.specs.Lacks.{lacks-exactly}
-use Rattle.safety.specs.Scripts.{exec-defined}
+use Rattle.preservation.specs.Accepted.{exec-defined}
 
 -- a test that passes where the claim holds, and one that fails where it does not
 holds-iff : {b : Bool} {A : Type 0} → b ≡ true → A → (b ≡ true) ↔ A
@@ -38,7 +39,7 @@ fails-iff : {b : Bool} {A : Type 0} → b ≡ false → ¬ A → (b ≡ true) �
 fails-iff e n = (λ t. absurd (true≢false (sym t ∙ e)), λ a. absurd (n a))
 
 not-past : {A : Type 0} (l : List A) (i : ℕ) {x : A} → getElem? l i ≡ some x → ¬ (length l ≤ i)
-not-past l i e h = let b = position-below l i e in omega arith
+not-past l i e h = let b = found-below l i e in omega arith
 
 -- ── the replies to a call, by the refusal list
 pub data Replied (p : Program) (C : Config) : Call → Reply → Type 0 where
@@ -102,11 +103,7 @@ unchanged-by (names n) e = refl
 -- where a step is open, a process is
 open-place : (p : Program) (C : Config) (i : ℕ) → isOpen p C i ≡ true → (q : Process) × (at C i ≡ some q)
 unfolding isOpen step
-open-place p C i o = go (at C i) refl o
-  where
-    go : (r : Option Process) → at C i ≡ r → isOpenBy (stepOf p C i r) ≡ true → (q : Process) × (at C i ≡ some q)
-    go none e o = absurd (false≢true o)
-    go (some q) e o = (q, e)
+open-place p C i o = placed p C i (at C i) o
 
 module _ (text : List ℕ) (ds : List Declaration) (ok : checked text ≡ accepted ds) where
   abbrev pub P : Program
@@ -144,7 +141,7 @@ module _ (text : List ℕ) (ds : List Declaration) (ok : checked text ≡ accept
       go : (o : Option Located) → getElem? (P .execs) line ≡ o
           → (isRefused (onLine (lineSignature P o) (refusal C (callStart scratch run line)) (λ g. reply (started Starts.Begun) (startConfig g)) .answer) ≡ true) ↔ (length (P .execs) ≤ line)
       go none e = holds-iff refl (none-past (P .execs) line e)
-      go (some n) e = rw (exec-defined text ds ok (element-in (P .execs) line e) .1) (fails-iff refl (not-past (P .execs) line e))
+      go (some n) e = rw (exec-defined text ds ok n (found-in (P .execs) line e) .1) (fails-iff refl (not-past (P .execs) line e))
 
   refused-name : (C : Config) (scratch line : ℕ) → Enough scratch runWords
       → RefusedWhere P C (callExecName scratch line) (respond text C (callExecName scratch line) .answer)

@@ -10,22 +10,14 @@ use Rattle.notation.specs.Tables.{putEntry, putType, putProcess, putExec, moreE
 use Rattle.notation.specs.declared.reading.Tally.{Tally}
 use Rattle.reader.specs.Filling.{Area, FineType}
 use Rattle.reader.specs.Processes.{FineProcess}
+use Rattle.reader.specs.Scripts.{FineEntries, FineDeclaration}
 use Rattle.tables.specs.Packing.{entry-put, type-put, process-put, exec-put}
 use Rattle.tables.specs.Growth.{Upto, Within, Grown, grown-then, grown-lasting, grown-entry, grown-type, grown-process, grown-exec, entry-kept, type-entry-kept, process-entry-kept, exec-kept}
 use Rattle.tables.specs.Stands.{TypeAt, ProcessAt, EntriesAt, DeclarationAt, ScriptAt}
 use Rattle.tables.specs.Types.{type-grown, type-last, type-kept, type-written}
 use Rattle.tables.specs.Processes.{process-grown, process-kept, process-written}
 
--- ── what a read declaration has that its words need
-unfoldable pub FineEntries : List Entry → Type 0
-FineEntries [] = 0 ≤ 0
-FineEntries (e ∷ es) = (e .channel .at < textLimit) × FineType (e .type) × FineEntries es
-
-unfoldable pub FineDeclaration : Declaration → Type 0
-FineDeclaration (declareType n A) = (n .at < textLimit) × FineType A
-FineDeclaration (declareProc n xs ys P) = (n .at < textLimit) × FineEntries xs × FineEntries ys × FineProcess P
-FineDeclaration (declareExec n) = n .at < textLimit
-
+-- what a read script has that its words need
 unfoldable pub FineScript : List Declaration → Type 0
 FineScript [] = 0 ≤ 0
 FineScript (a ∷ r) = FineDeclaration a × FineScript r

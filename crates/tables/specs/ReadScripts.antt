@@ -18,7 +18,8 @@ use Rattle.notation.specs.declared.reading.Cursor.{Cursor}
 use Rattle.notation.specs.declared.token.DeclarationHead.{DeclarationHead}
 use Rattle.notation.specs.declared.token.DeclarationHead.the-variants.{TypeWord, ProcWord, ExecWord, End, Other}
 use Rattle.tables.specs.Stands.{EntriesFrom, DeclarationFrom, ScriptFrom}
-use Rattle.tables.specs.Declarations.{FineEntries, FineDeclaration, FineScript}
+use Rattle.reader.specs.Scripts.{FineEntries, FineDeclaration}
+use Rattle.tables.specs.Declarations.{FineScript}
 use Rattle.tables.specs.Read.{cond-both, Reads, reads-got, reads-refused, reads-take, reads-part, reads-lastly, reads-choose, reads-misfit, takes-any, takes-expect}
 use Rattle.tables.specs.ReadTypes.{type-read-from}
 use Rattle.tables.specs.ReadProcesses.{process-read-from}

@@ -1,5 +1,6 @@
+use native.Mathlib.Omega.{arith}
+use Rattle.reader.proofs.Filled.{kept-set}
 use mathlib.Core.Path.{refl}
-use lib.ListN.{length-set}
 use Rattle.notation.specs.Tables.{putAlternative, pairWord}
 use borrow.Author.Needs.{needs}
 use Rattle.reader.proofs.store.put_alternative.Statement.{statement}
@@ -46,7 +47,7 @@ same-length c = search needs
 -- src/store.rt:32:1
 returns : tie.Need-returns
 unfolding putAlternative pairWord
-returns c = record { is = refl; words = refl; long = simp length-set }
+returns c = record { is = refl; words = refl; kept = kept-set _ _ _ (omega (arith, c .before .pre)) }
 
 pub put-alternative-spec : {M : Type 1} → statement M
 put-alternative-spec =

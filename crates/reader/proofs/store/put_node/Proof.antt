@@ -1,5 +1,6 @@
+use native.Mathlib.Omega.{arith}
+use Rattle.reader.proofs.Filled.{kept-set}
 use mathlib.Core.Path.{refl}
-use lib.ListN.{length-set}
 use Rattle.notation.specs.Tables.{putNode, typeWord}
 use borrow.Author.Needs.{needs}
 use Rattle.reader.proofs.store.put_node.Statement.{statement}
@@ -50,7 +51,7 @@ same-length c = search needs
 -- src/store.rt:10:1
 returns : tie.Need-returns
 unfolding putNode typeWord
-returns c = record { is = refl; words = refl; long = simp length-set }
+returns c = record { is = refl; words = refl; kept = kept-set _ _ _ (omega (arith, c .before .before .before .pre)) }
 
 pub put-node-spec : {M : Type 1} → statement M
 put-node-spec =

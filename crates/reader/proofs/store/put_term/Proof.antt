@@ -1,8 +1,10 @@
+use lib.ListN.{length-set}
+use native.Mathlib.Omega.{arith}
+use Rattle.reader.proofs.Filled.{kept-set, _upon_}
 use mathlib.Core.Path.{refl}
 use native.Mathlib.Omega.{arith}
 use Prim.Native.Nat.{_+_, _*_}
 use denote.Ref.{now}
-use lib.ListN.{length-set}
 use Rattle.notation.specs.Tables.{putTerm, termWord, termWord′}
 use borrow.Author.Needs.{needs}
 use Rattle.reader.proofs.store.put_term.Statement.{statement}
@@ -91,7 +93,7 @@ same-length c = search needs
 -- src/store.rt:54:1
 returns : tie.Need-returns
 unfolding putTerm termWord termWord′
-returns c = record { is = refl; words = refl; long = simp length-set }
+returns c = record { is = refl; words = refl; kept = kept-set _ _ _ (omega (arith, c .before .before .before .before .before .pre)) upon kept-set _ _ _ (omega (arith, c .before .before .before .before .before .pre)) }
 
 pub put-term-spec : {M : Type 1} → statement M
 put-term-spec =

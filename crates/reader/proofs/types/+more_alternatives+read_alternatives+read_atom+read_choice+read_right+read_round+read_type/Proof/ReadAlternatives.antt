@@ -39,7 +39,7 @@ read-alternatives-met t =
     -- add-more-alternatives
     (λ c. omega (arith, label-few _ _ _ (c .before .before .before .before .before .before .before .before .before .before .before .label-colon .ensures) (c .before .before .before .before .before .before .before .before .before .labelled .given .1)))
     -- more-alternatives-requires
-    (λ c κs. (omega (arith, c .before .before .before .before .before .before .before .before .before .before .before .before .before .before .pre, c .before .before .before .before .before .before .before .before .before .before .before .label-colon .ensures .on _ _ (c .before .before .before .before .before .before .before .before .before .labelled .given .1), c .before .before .before .before .before .before .read-type .ensures .on _ _ (c .before .before .typed .given .1), c .before .before .before .before .before .before .read-type .ensures .long, label-few _ _ _ (c .before .before .before .before .before .before .before .before .before .before .before .label-colon .ensures) (c .before .before .before .before .before .before .before .before .before .labelled .given .1)), omega (arith, c .before .before .before .before .before .before .before .before .before .before .before .before .before .before .pre, c .before .before .before .before .before .before .before .before .before .before .before .label-colon .ensures .on _ _ (c .before .before .before .before .before .before .before .before .before .labelled .given .1), c .before .before .before .before .before .before .read-type .ensures .on _ _ (c .before .before .typed .given .1), c .before .before .before .before .before .before .read-type .ensures .long, label-few _ _ _ (c .before .before .before .before .before .before .before .before .before .before .before .label-colon .ensures) (c .before .before .before .before .before .before .before .before .before .labelled .given .1))))
+    (λ c κs. (omega (arith, c .before .before .before .before .before .before .before .before .before .before .before .before .before .before .pre, c .before .before .before .before .before .before .before .before .before .before .before .label-colon .ensures .on _ _ (c .before .before .before .before .before .before .before .before .before .labelled .given .1), c .before .before .before .before .before .before .read-type .ensures .on _ _ (c .before .before .typed .given .1), c .before .before .before .before .before .before .read-type .ensures .kept .long, label-few _ _ _ (c .before .before .before .before .before .before .before .before .before .before .before .label-colon .ensures) (c .before .before .before .before .before .before .before .before .before .labelled .given .1)), omega (arith, c .before .before .before .before .before .before .before .before .before .before .before .before .before .before .pre, c .before .before .before .before .before .before .before .before .before .before .before .label-colon .ensures .on _ _ (c .before .before .before .before .before .before .before .before .before .labelled .given .1), c .before .before .before .before .before .before .read-type .ensures .on _ _ (c .before .before .typed .given .1), c .before .before .before .before .before .before .read-type .ensures .kept .long, label-few _ _ _ (c .before .before .before .before .before .before .before .before .before .before .before .label-colon .ensures) (c .before .before .before .before .before .before .before .before .before .labelled .given .1))))
     -- enum-known-rest
     (λ c. search needs)
     -- enum-told-3
@@ -49,8 +49,8 @@ read-alternatives-met t =
     -- returns-3
     (λ c. alternatives-more-no _ _ _ _ (c .before .before .before .before .before .before .before .before .before .before .before .before .before .before .before .before .before .before .before .pre .1) _ (c .before .before .before .before .before .before .before .before .before .before .before .before .before .before .before .before .label-colon .ensures) (c .before .before .before .before .before .before .before .before .before .before .before .before .before .before .labelled .given .1) (c .before .before .before .before .before .before .before .before .before .before .before .read-type .ensures) (c .before .before .before .before .before .before .before .typed .given .1) (c .before .before .before .before .more-alternatives .ensures) (c .enum-told3 .given .1))
     -- put-alternative-requires
-    (λ c κs. omega (arith, c .before .before .before .before .before .before .before .before .before .before .before .before .before .before .before .before .before .before .before .before .before .pre, c .before .before .before .before .before .before .before .before .before .before .before .before .before .before .before .before .before .before .label-colon .ensures .on _ _ (c .before .before .before .before .before .before .before .before .before .before .before .before .before .before .before .before .labelled .given .1), c .before .before .before .before .before .before .before .before .before .before .before .before .before .read-type .ensures .on _ _ (c .before .before .before .before .before .before .before .before .before .typed .given .1), c .before .before .before .before .before .before .before .before .before .before .before .before .before .read-type .ensures .long, c .before .before .before .before .before .before .more-alternatives .ensures .on _ _ (c .before .before .rest .given .1), c .before .before .before .before .before .before .more-alternatives .ensures .long))
+    (λ c κs. omega (arith, c .before .before .before .before .before .before .before .before .before .before .before .before .before .before .before .before .before .before .before .before .before .pre, c .before .before .before .before .before .before .before .before .before .before .before .before .before .before .before .before .before .before .label-colon .ensures .on _ _ (c .before .before .before .before .before .before .before .before .before .before .before .before .before .before .before .before .labelled .given .1), c .before .before .before .before .before .before .before .before .before .before .before .before .before .read-type .ensures .on _ _ (c .before .before .before .before .before .before .before .before .before .typed .given .1), c .before .before .before .before .before .before .before .before .before .before .before .before .before .read-type .ensures .kept .long, c .before .before .before .before .before .before .more-alternatives .ensures .on _ _ (c .before .before .rest .given .1), c .before .before .before .before .before .before .more-alternatives .ensures .kept .long))
     -- same-length-3
-    (λ c. c .before .before .put-alternative .ensures .long ∙ c .before .before .before .before .before .before .before .before .before .more-alternatives .ensures .long ∙ c .before .before .before .before .before .before .before .before .before .before .before .before .before .before .before .before .read-type .ensures .long)
+    (λ c. c .before .before .put-alternative .ensures .kept .long ∙ c .before .before .before .before .before .before .before .before .before .more-alternatives .ensures .kept .long ∙ c .before .before .before .before .before .before .before .before .before .before .before .before .before .before .before .before .read-type .ensures .kept .long)
     -- returns-4
     (λ c. alternatives-got _ _ _ _ (c .before .before .before .before .before .before .before .before .before .before .before .before .before .before .before .before .before .before .before .before .before .before .before .before .pre .1) _ (c .before .before .before .before .before .before .before .before .before .before .before .before .before .before .before .before .before .before .before .before .before .label-colon .ensures) (c .before .before .before .before .before .before .before .before .before .before .before .before .before .before .before .before .before .before .before .labelled .given .1) (c .before .before .before .before .before .before .before .before .before .before .before .before .before .before .before .before .read-type .ensures) (c .before .before .before .before .before .before .before .before .before .before .before .before .typed .given .1) (c .before .before .before .before .before .before .before .before .before .more-alternatives .ensures) (c .before .before .before .before .before .rest .given .1) (c .before .before .put-alternative .ensures))

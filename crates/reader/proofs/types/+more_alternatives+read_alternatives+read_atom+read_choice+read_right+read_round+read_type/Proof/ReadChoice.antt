@@ -51,7 +51,7 @@ read-choice-met t =
     -- sub-t18
     (λ c. omega (arith, c .before .before .before .before .before .before .before .before .before .before .before .before .before .before .before .before .before .before .pre))
     -- put-node-requires
-    (λ c κs. (omega (arith, c .before .before .before .before .before .before .before .before .before .before .before .before .before .before .before .before .before .before .pre, c .before .before .before .before .before .before .before .before .before .before .before .before .before .before .before .choice-opening .ensures .on _ _ (c .before .before .before .before .before .before .before .before .before .before .before .before .before .opened .given .1), c .before .before .before .before .before .before .before .before .before .before .read-alternatives .ensures .on _ _ (c .before .before .before .before .before .before .inner .given .1), c .before .before .before .before .before .before .before .before .before .before .read-alternatives .ensures .long, c .before .before .before .before .expect .ensures .on _ _ (c .before .before .closed .given .1)), omega (arith, c .before .before .before .before .before .before .before .before .before .before .before .before .before .before .before .before .before .before .pre, c .before .before .before .before .before .before .before .before .before .before .before .before .before .before .before .choice-opening .ensures .on _ _ (c .before .before .before .before .before .before .before .before .before .before .before .before .before .opened .given .1), c .before .before .before .before .before .before .before .before .before .before .read-alternatives .ensures .on _ _ (c .before .before .before .before .before .before .inner .given .1), c .before .before .before .before .before .before .before .before .before .before .read-alternatives .ensures .long, c .before .before .before .before .expect .ensures .on _ _ (c .before .before .closed .given .1))))
+    (λ c κs. (omega (arith, c .before .before .before .before .before .before .before .before .before .before .before .before .before .before .before .before .before .before .pre, c .before .before .before .before .before .before .before .before .before .before .before .before .before .before .before .choice-opening .ensures .on _ _ (c .before .before .before .before .before .before .before .before .before .before .before .before .before .opened .given .1), c .before .before .before .before .before .before .before .before .before .before .read-alternatives .ensures .on _ _ (c .before .before .before .before .before .before .inner .given .1), c .before .before .before .before .before .before .before .before .before .before .read-alternatives .ensures .kept .long, c .before .before .before .before .expect .ensures .on _ _ (c .before .before .closed .given .1)), omega (arith, c .before .before .before .before .before .before .before .before .before .before .before .before .before .before .before .before .before .before .pre, c .before .before .before .before .before .before .before .before .before .before .before .before .before .before .before .choice-opening .ensures .on _ _ (c .before .before .before .before .before .before .before .before .before .before .before .before .before .opened .given .1), c .before .before .before .before .before .before .before .before .before .before .read-alternatives .ensures .on _ _ (c .before .before .before .before .before .before .inner .given .1), c .before .before .before .before .before .before .before .before .before .before .read-alternatives .ensures .kept .long, c .before .before .before .before .expect .ensures .on _ _ (c .before .before .closed .given .1))))
     -- same-length-3
     (λ c. search needs)
     -- returns-4

@@ -40,7 +40,7 @@ read-right-met t =
     -- infix-kind-requires
     (λ c κs. search needs)
     -- put-node-requires
-    (λ c κs. (omega (arith, c .before .before .before .before .before .before .before .before .before .before .before .before .before .before .before .pre, c .before .before .before .before .before .before .before .before .before .before .before .before .type-term .ensures .on _ _ (c .before .before .before .before .before .before .before .before .before .before .mark .given .1), c .before .before .before .before .before .before .before .read-type .ensures .on _ _ (c .before .before .before .second .given .1), c .before .before .before .before .before .before .before .read-type .ensures .long, c .infix-kind .ensures .1), omega (arith, c .before .before .before .before .before .before .before .before .before .before .before .before .before .before .before .pre, c .before .before .before .before .before .before .before .before .before .before .before .before .type-term .ensures .on _ _ (c .before .before .before .before .before .before .before .before .before .before .mark .given .1), c .before .before .before .before .before .before .before .read-type .ensures .on _ _ (c .before .before .before .second .given .1), c .before .before .before .before .before .before .before .read-type .ensures .long, c .infix-kind .ensures .1)))
+    (λ c κs. (omega (arith, c .before .before .before .before .before .before .before .before .before .before .before .before .before .before .before .pre, c .before .before .before .before .before .before .before .before .before .before .before .before .type-term .ensures .on _ _ (c .before .before .before .before .before .before .before .before .before .before .mark .given .1), c .before .before .before .before .before .before .before .read-type .ensures .on _ _ (c .before .before .before .second .given .1), c .before .before .before .before .before .before .before .read-type .ensures .kept .long, c .infix-kind .ensures .1), omega (arith, c .before .before .before .before .before .before .before .before .before .before .before .before .before .before .before .pre, c .before .before .before .before .before .before .before .before .before .before .before .before .type-term .ensures .on _ _ (c .before .before .before .before .before .before .before .before .before .before .mark .given .1), c .before .before .before .before .before .before .before .read-type .ensures .on _ _ (c .before .before .before .second .given .1), c .before .before .before .before .before .before .before .read-type .ensures .kept .long, c .infix-kind .ensures .1)))
     -- same-length-2
     (λ c. search needs)
     -- returns-3

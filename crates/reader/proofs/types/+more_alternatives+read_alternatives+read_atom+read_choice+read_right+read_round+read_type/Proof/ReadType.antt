@@ -31,7 +31,7 @@ read-type-met t =
     -- is-infix-requires
     (λ c κs. search needs)
     -- read-right-requires
-    (λ c κs. (omega (arith, c .before .before .before .before .before .before .before .before .before .before .before .before .before .pre, c .before .before .before .before .before .before .before .before .before .read-atom .ensures .on _ _ (c .before .before .before .before .before .first .given .1), c .before .before .before .before .before .before .before .before .before .read-atom .ensures .long, infix-most _ (sym (c .before .before .is-infix .ensures) ∙ c .before .if1 .taken)), omega (arith, c .before .before .before .before .before .before .before .before .before .before .before .before .before .pre, c .before .before .before .before .before .before .before .before .before .read-atom .ensures .on _ _ (c .before .before .before .before .before .first .given .1), c .before .before .before .before .before .before .before .before .before .read-atom .ensures .long, infix-most _ (sym (c .before .before .is-infix .ensures) ∙ c .before .if1 .taken))))
+    (λ c κs. (omega (arith, c .before .before .before .before .before .before .before .before .before .before .before .before .before .pre, c .before .before .before .before .before .before .before .before .before .read-atom .ensures .on _ _ (c .before .before .before .before .before .first .given .1), c .before .before .before .before .before .before .before .before .before .read-atom .ensures .kept .long, infix-most _ (sym (c .before .before .is-infix .ensures) ∙ c .before .if1 .taken)), omega (arith, c .before .before .before .before .before .before .before .before .before .before .before .before .before .pre, c .before .before .before .before .before .before .before .before .before .read-atom .ensures .on _ _ (c .before .before .before .before .before .first .given .1), c .before .before .before .before .before .before .before .before .before .read-atom .ensures .kept .long, infix-most _ (sym (c .before .before .is-infix .ensures) ∙ c .before .if1 .taken))))
     -- same-length-2
     (λ c. search needs)
     -- returns-2

@@ -1,0 +1,26 @@
+-- Cases in which a reading that leads astray would print something else, computed from the rules.
+use Prim.Native.Nat.{ℕ}
+use mathlib.Core.Path.{_≡_, refl}
+use mathlib.Core.List.{List, [], _∷_, map}
+use Rattle.notation.specs.Bytes.{bytes}
+use Rattle.calculus.specs.Printed.{printed}
+use Rattle.calculus.specs.Starred.{around, Case}
+
+-- The link is not left with the spawned half: the handler starts when the other half raises, and does not fold up when the spawned half leaves.
+-- A passed channel is gone from its sender: the send on it meets the receiver's recv, though the sender stands before the receiver.
+-- (A cancelled recv is no close: the fifth starred case.)
+abbrev pub astray : List Case
+astray =
+    record {
+      text = around (bytes "try (c : 1 <- (send c ()); recv c (() => raise)) catch (send x ())");
+      output = bytes "Executing process m:\n#0 -> ()\ndone after 8 steps\n";
+    }
+    ∷ record {
+      text = around (bytes "a : 1 <- (send a ()); c : 1 -o 1 <- (recv c (y => recv y (() => send c ()))); send c a; recv c (() => send x ())");
+      output = bytes "Executing process m:\n#0 -> ()\ndone after 9 steps\n";
+    }
+    ∷ []
+
+pub astray-cases : map (λ (c : Case). printed (c .text)) astray ≡ map (λ (c : Case). c .output) astray
+unfolding printed
+astray-cases = refl

@@ -1,0 +1,7 @@
+pub mod Lists
+pub mod Names
+pub mod Contexts
+pub mod Ends
+pub mod FarEnds
+pub mod Fresh
+pub mod Outward

@@ -1,0 +1,175 @@
+// The reading of declarations and of the script.
+use crate::processes::read_process;
+use crate::signatures::entry_list;
+use crate::steps::Out;
+use crate::steps::expect;
+use crate::steps::kind_at;
+use crate::steps::misfit;
+use crate::steps::refusal;
+use crate::store::Signed;
+use crate::store::put_exec;
+use crate::store::put_process;
+use crate::store::put_type;
+use crate::types::read_type;
+use notation::reading::Cursor;
+use notation::reading::Taken;
+use notation::reading::Tally;
+use notation::script::Script;
+use notation::token::DeclarationHead;
+use notation::token::Token;
+ghost use mathlib.Core.Path.{_≡_};
+ghost use Prim.Native.Nat.{_<_, _≤_};
+ghost use Rattle.notation.specs.Token.{width};
+ghost use Rattle.notation.specs.Scripts.{keyword, declarationHead, typeDeclaration, procDeclaration, execDeclaration};
+ghost use Rattle.reader.specs.Filling.{Stepped, Room};
+ghost use Rattle.reader.specs.Scripts.{DeclarationRead, ScriptRead, Counted};
+
+// The keyword of a declaration of whose kind `before` came before.
+fn keyword(text: &[u8], c: Cursor, kind: usize, before: usize, limit: usize) -> Taken
+    requires { ⌜ kind ≤ 31 ⌝ }
+    ensures { λ r. ⌜ Stepped (now (text .entry)) c (width kind) 0 0 (keyword (now (text .entry)) kind before limit c) r ⌝ }
+{
+    let taken = expect(text, c, kind);
+    let Taken::At(i, d) = taken else {
+        return taken;
+    };
+    if before < limit {
+        return Taken::At(i, d);
+    }
+    Taken::Refused(5, i)
+}
+
+// type t = A
+fn declare_type(text: &[u8], scratch: &mut [u32], c: Cursor, k: Tally) -> Out
+    requires { ⌜ Room (now text) (now scratch) c k ⌝ }
+    ensures { λ r. ⌜ DeclarationRead 1 0 0 (λ m. typeDeclaration m (now (text .entry)) (k .types) c) (now (text .entry)) (now (scratch .entry)) c k r (now (scratch .exit)) ⌝ }
+{
+    let word = keyword(text, c, Token::TYPE, k.types, Script::TYPES);
+    let Taken::At(_, d) = word else {
+        return refusal(word);
+    };
+    let named = expect(text, d, Token::NAME);
+    let Taken::At(i, e) = named else {
+        return refusal(named);
+    };
+    let equals = expect(text, e, Token::EQUALS);
+    let Taken::At(_, f) = equals else {
+        return refusal(equals);
+    };
+    let typed = read_type(text, scratch, f, k);
+    let Out::Got(g, l) = typed else {
+        return typed;
+    };
+    let q = put_type(scratch, l, i, l.last);
+    Out::Got(g, q)
+}
+
+// proc p (x : A, ..) [y : B, ..] = P
+fn declare_proc(text: &[u8], scratch: &mut [u32], c: Cursor, k: Tally) -> Out
+    requires { ⌜ Room (now text) (now scratch) c k ⌝ }
+    ensures { λ r. ⌜ DeclarationRead 0 1 0 (λ m. procDeclaration m (now (text .entry)) (k .processes) c) (now (text .entry)) (now (scratch .entry)) c k r (now (scratch .exit)) ⌝ }
+{
+    let word = keyword(text, c, Token::PROC, k.processes, Script::PROCESSES);
+    let Taken::At(_, d) = word else {
+        return refusal(word);
+    };
+    let named = expect(text, d, Token::NAME);
+    let Taken::At(i, e) = named else {
+        return refusal(named);
+    };
+    let provides = entry_list(text, scratch, e, k, Token::ROUND_OPEN, Token::ROUND_CLOSE);
+    let Out::Got(f, l) = provides else {
+        return provides;
+    };
+    let uses = entry_list(text, scratch, f, l, Token::SQUARE_OPEN, Token::SQUARE_CLOSE);
+    let Out::Got(g, m) = uses else {
+        return uses;
+    };
+    let equals = expect(text, g, Token::EQUALS);
+    let Taken::At(_, h) = equals else {
+        return refusal(equals);
+    };
+    let body = read_process(text, scratch, h, m);
+    let Out::Got(z, n) = body else {
+        return body;
+    };
+    let p = Signed {
+        at: i,
+        first: k.entries,
+        provided: l.entries - k.entries,
+        used: m.entries - l.entries,
+        body: n.last,
+    };
+    let q = put_process(scratch, n, p);
+    Out::Got(z, q)
+}
+
+// exec p
+fn declare_exec(text: &[u8], scratch: &mut [u32], c: Cursor, k: Tally) -> Out
+    requires { ⌜ Room (now text) (now scratch) c k ⌝ }
+    ensures { λ r. ⌜ DeclarationRead 0 0 1 (λ m. execDeclaration (now (text .entry)) (k .execs) c) (now (text .entry)) (now (scratch .entry)) c k r (now (scratch .exit)) ⌝ }
+{
+    let word = keyword(text, c, Token::EXEC, k.execs, Script::EXECS);
+    let Taken::At(_, d) = word else {
+        return refusal(word);
+    };
+    let named = expect(text, d, Token::NAME);
+    let Taken::At(i, e) = named else {
+        return refusal(named);
+    };
+    let q = put_exec(scratch, k, i);
+    Out::Got(e, q)
+}
+
+// What a token of this kind begins where a declaration may stand.
+fn declaration_head(kind: usize) -> DeclarationHead
+    ensures { λ r. ⌜ r ≡ declarationHead kind ⌝ }
+{
+    if kind == Token::TYPE {
+        return DeclarationHead::TypeWord;
+    }
+    if kind == Token::PROC {
+        return DeclarationHead::ProcWord;
+    }
+    if kind == Token::EXEC {
+        return DeclarationHead::ExecWord;
+    }
+    if kind == Token::END {
+        return DeclarationHead::End;
+    }
+    DeclarationHead::Other
+}
+
+// Declarations, none or more, up to the end of the text.
+pub(crate) fn read_script(text: &[u8], scratch: &mut [u32], c: Cursor, k: Tally) -> Out
+    requires { ⌜ Room (now text) (now scratch) c k × Counted k ⌝ }
+    ensures { λ r. ⌜ ScriptRead (now (text .entry)) (now (scratch .entry)) c k r (now (scratch .exit)) ⌝ }
+{
+    let at = c.at;
+    let head = declaration_head(kind_at(text, at));
+    match head {
+        DeclarationHead::TypeWord => {
+            let one = declare_type(text, scratch, c, k);
+            let Out::Got(d, l) = one else {
+                return one;
+            };
+            read_script(text, scratch, d, l)
+        }
+        DeclarationHead::ProcWord => {
+            let one = declare_proc(text, scratch, c, k);
+            let Out::Got(d, l) = one else {
+                return one;
+            };
+            read_script(text, scratch, d, l)
+        }
+        DeclarationHead::ExecWord => {
+            let one = declare_exec(text, scratch, c, k);
+            let Out::Got(d, l) = one else {
+                return one;
+            };
+            read_script(text, scratch, d, l)
+        }
+        DeclarationHead::End => Out::Got(c, k),
+        DeclarationHead::Other => misfit(text, c),
+    }
+}

@@ -1,0 +1,85 @@
+-- Laws of searches in lists.
+use Prim.Native.Nat.{ℕ, zero, suc, _+_, _-_, _≤_, _<_}
+use native.Mathlib.Omega.{arith}
+use mathlib.Core.List.{List}
+use mathlib.Core.Path.{_≡_, refl, sym, ap, ap₂, _∙_}
+use mathlib.Core.Option.{some}
+use mathlib.Core.Bool.{Bool, true, false, cond, _&&_}
+use borrow.Author.Tests.{eq-eqb, ne-eqb}
+use lib.Dec.{eqb}
+use lib.ListN.{length, getElem?, drop}
+use Rattle.calculus.specs.Types.{Side, provided, used, other}
+use Rattle.runs.specs.Lists.{scan}
+use Rattle.runs.specs.ListLaws.{scan-step, scan-end}
+use Rattle.runs.specs.Raw.{RawProcess, RawConfig, sideOf}
+use Rattle.runs.specs.Values.{endIn}
+use Rattle.runs.specs.Operations.{firstStep, isEnd, heldAt, holderHere, holderStep, holderOf, outsideAt, orOutside, farFrom, farEnd}
+use Rattle.runs.specs.declared.records.End.{End}
+use Rattle.runs.specs.declared.records.Found.{Found}
+use Rattle.runs.specs.declared.records.Found.the-variants as found
+use Rattle.runs.specs.declared.records.Holder.{Holder}
+use Rattle.runs.specs.declared.records.Holder.the-variants as holder
+use Rattle.runs.specs.declared.records.Far.{Far}
+use Rattle.runs.specs.declared.records.Far.the-variants as far
+use Rattle.runs.proofs.Ends.{same-sides}
+
+-- a search from a position on
+abbrev pub firstFrom : {A : Type 0} → (A → Bool) → List A → ℕ → Found
+firstFrom p l i = scan (firstStep p) found.Nothing i (drop i l)
+
+module _ {A : Type 0} (p : A → Bool) (l : List A) (i : ℕ) {x : A} (e : getElem? l i ≡ some x) where
+  pub stops-here : p x ≡ true → firstFrom p l i ≡ found.At i
+  stops-here t = scan-step (firstStep p) found.Nothing l i e ∙ ap (λ b. cond b (found.At i) (firstFrom p l (i + 1))) t
+
+  pub goes-on : p x ≡ false → firstFrom p l i ≡ firstFrom p l (i + 1)
+  goes-on t = scan-step (firstStep p) found.Nothing l i e ∙ ap (λ b. cond b (found.At i) (firstFrom p l (i + 1))) t
+
+-- the test of an end
+module _ (channel side : ℕ) (e : End) (s : side < 2) (t : e .side < 2) where
+  end-test : isEnd channel (sideOf side) (endIn e) ≡ eqb channel (e .channel) && eqb side (e .side)
+  end-test = ap (λ b. eqb channel (e .channel) && b) (same-sides side (e .side) s t)
+
+  pub end-found : channel ≡ e .channel → side ≡ e .side → isEnd channel (sideOf side) (endIn e) ≡ true
+  end-found p q = rw (end-test, eq-eqb _ _ p, eq-eqb _ _ q)
+
+  pub end-other-side : channel ≡ e .channel → (side ≡ e .side → ⊥) → isEnd channel (sideOf side) (endIn e) ≡ false
+  end-other-side p q = rw (end-test, eq-eqb _ _ p, ne-eqb _ _ q)
+
+  pub end-elsewhere : (channel ≡ e .channel → ⊥) → isEnd channel (sideOf side) (endIn e) ≡ false
+  end-elsewhere p = rw (end-test, ne-eqb _ _ p)
+
+-- the search for a holder from a place on
+abbrev pub holderFrom : ℕ → Side → List RawProcess → ℕ → Holder
+holderFrom k s l i = scan (holderStep k s) holder.Nobody i (drop i l)
+
+pub holder-turn : (k : ℕ) (s : Side) (l : List RawProcess) (i : ℕ) {p : RawProcess} (f : Found) → getElem? l i ≡ some p → heldAt k s (p .held) ≡ f → holderFrom k s l i ≡ holderHere i f (holderFrom k s l (i + 1))
+holder-turn k s l i f e q = scan-step (holderStep k s) holder.Nobody l i e ∙ ap (λ x. holderHere i x (holderFrom k s l (i + 1))) q
+
+pub holder-end : (k : ℕ) (s : Side) (l : List RawProcess) (i : ℕ) → length l ≤ i → holderFrom k s l i ≡ holder.Nobody
+holder-end k s l i h = scan-end (holderStep k s) holder.Nobody l i h
+
+-- the far end, case by case
+other-side : (s : ℕ) → s < 2 → sideOf (1 - s) ≡ other (sideOf s)
+other-side zero h = refl
+other-side (suc s) h = let e : 1 - suc s ≡ 0 = omega arith in ap sideOf e
+
+used-outside : (f : Found) → orOutside used f ≡ far.GivenUp
+used-outside (found.At j) = refl
+used-outside found.Nothing = refl
+
+module _ (C : RawConfig) (k s : ℕ) (h : s < 2) (x : Holder) (e : holderOf k (sideOf (1 - s)) (C .processes) ≡ x) where
+  far-from : farEnd C k (sideOf s) ≡ farFrom x (orOutside (sideOf s) (outsideAt k (C .outside)))
+  unfolding farEnd
+  far-from = ap (λ y. farFrom y (orOutside (sideOf s) (outsideAt k (C .outside)))) (ap (λ o. holderOf k o (C .processes)) (sym (other-side s h)) ∙ e)
+
+  pub far-held : (i j : ℕ) → x ≡ holder.At i j → farEnd C k (sideOf s) ≡ far.Process i j
+  far-held i j p = far-from ∙ ap (λ y. farFrom y (orOutside (sideOf s) (outsideAt k (C .outside)))) p
+
+  pub far-used : x ≡ holder.Nobody → s ≡ 1 → farEnd C k (sideOf s) ≡ far.GivenUp
+  far-used p q =
+      far-from ∙ ap₂ {C = Far} (λ y o. farFrom y (orOutside (sideOf o) (outsideAt k (C .outside)))) p q ∙ used-outside (outsideAt k (C .outside))
+
+  pub far-provided : x ≡ holder.Nobody → (s ≡ 1 → ⊥) → (f : Found) → outsideAt k (C .outside) ≡ f → farEnd C k (sideOf s) ≡ orOutside provided f
+  far-provided p q f g =
+      let z : s ≡ 0 = omega arith in
+      far-from ∙ ap₂ {C = Far} (λ y o. farFrom y (orOutside (sideOf o) (outsideAt k (C .outside)))) p z ∙ ap (orOutside provided) g

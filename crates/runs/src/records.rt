@@ -1,0 +1,49 @@
+// The parts of a run, by value.
+
+// An end that a process holds: the offset of its name, its side (0 provided, 1 used), the node of its type, its channel.
+pub struct End {
+    pub name: u32,
+    pub side: u32,
+    pub node: u32,
+    pub channel: u32,
+}
+
+// What a process holds, oldest first, as two words for each end.
+pub struct Held {
+    pub count: usize,
+    pub words: [u32; 32],
+}
+
+// A process: 0 it runs, 1 it folds up, 2 it waits as a handler; its term; its link, which is 0 for none and else 1 + place; what it holds.
+pub struct Process {
+    pub kind: u32,
+    pub pointer: u32,
+    pub link: u32,
+    pub held: Held,
+}
+
+// A channel that the outside uses.
+pub struct Outside {
+    pub number: u32,
+    pub node: u32,
+    pub channel: u32,
+}
+
+// A position in a list.
+pub enum Found {
+    At(usize),
+    Nothing,
+}
+
+// Who holds an end: the process at a place, at a position of what it holds.
+pub enum Holder {
+    At(usize, usize),
+    Nobody,
+}
+
+// A far end: held by the process at a place, at a position of what it holds; the outside's, at a position of its channels; given up.
+pub enum Far {
+    Process(usize, usize),
+    Outside(usize),
+    GivenUp,
+}
