@@ -1,0 +1,17 @@
+pub mod Decode
+pub mod Examples
+pub mod Packing
+pub mod Growth
+pub mod Stands
+pub mod Types
+pub mod Processes
+pub mod Declarations
+pub mod Scripts
+pub mod Roots
+pub mod Read
+pub mod Arguments
+pub mod ReadTypes
+pub mod ReadProcesses
+pub mod ReadScripts
+pub mod Whole
+pub mod Access
