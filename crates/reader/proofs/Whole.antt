@@ -1,5 +1,5 @@
 -- A whole text.
-use mathlib.Core.Path.{_≡_, refl, ap, sym, _∙_}
+use mathlib.Core.Path.{_≡_, refl, ap, sym, subst, _∙_}
 use mathlib.Core.List.{List, [], _∷_, _++_}
 use mathlib.Core.Bool.{Bool, true, false, cond}
 use Prim.Native.Nat.{ℕ, zero, suc, _+_, _-_, _*_, _<_, _≤_}
@@ -21,7 +21,7 @@ use Rattle.reader.specs.declared.steps.Out.the-variants.{Got, Not}
 use Rattle.reader.specs.declared.reading.Reading.{Reading}
 use Rattle.reader.specs.declared.reading.Reading.the-variants.{Read, Refused}
 use Rattle.reader.specs.Scripts.{ScriptRead}
-use Rattle.reader.specs.Reading.{answerOf, Filled, TextRead}
+use Rattle.reader.specs.Reading.{Within, answerOf, Filled, TextRead}
 use Rattle.reader.proofs.Filled.{gone-on, stopped}
 
 pub all-zero : (p : List ℕ) → length p ≡ 8192 → ((j : ℕ) → j < 8192 → getD p j 0 ≡ 0) → p ≡ zeros
@@ -37,13 +37,21 @@ zero-more p k l h j m = at (ℕ-discrete j k)
     at (yes e) = ap (λ i. getD (set p k 0) i 0) e ∙ getD-set-same p k 0 0 l
     at (no q) = getD-set-other p k j 0 0 q ∙ h j (omega arith)
 
+-- what is refused is not read
+not-read : {P : Type 0} {n i : ℕ} {ds : List Declaration} {d : Cursor} → refused n i ≡ got ds d → P
+not-read e = absurd (let z : _≡_ {A = ℕ} 0 1 = cc in omega arith)
+
 filled-no : (s v : List ℕ) (n i : ℕ) → readText s ≡ refused n i → v ≡ zeros → Filled s (Refused n i) v
 unfolding tables
-filled-no s v n i x z = record { is = rw x; words = rw x z }
+filled-no s v n i x z = record { is = rw x; words = rw x z; room = λ ds d e. not-read (sym x ∙ e) }
 
 pub fill-long : (s v : List ℕ) → textLimit < length s → v ≡ zeros → Filled s (Refused 2 textLimit) v
 unfolding readText
 fill-long s v h z = filled-no s v 2 textLimit (rw (lt-leb _ _ h)) z
+
+-- what is read is read once
+same-room : (ds ds₂ : List Declaration) (d d₂ : Cursor) → got ds d ≡ got ds₂ d₂ → Within (afterScript ds nothing) → Within (afterScript ds₂ nothing)
+same-room ds ds₂ d d₂ e h = let both : ds ≡ ds₂ = cc in subst (λ x. Within (afterScript x nothing)) both h
 
 -- a text that is not too long
 read-is : (s : List ℕ) → length s ≤ textLimit → readText s ≡ readScript (fuel s) s (record { types = 0; processes = 0; execs = 0 }) start
@@ -60,13 +68,15 @@ module _ (s w v : List ℕ) {r : Out} (h : length s ≤ textLimit) (t : ScriptRe
   fill-got {d} {l} {v₂} z q x =
       gone-on (readScript (fuel s) s _ start) (t .is (fuel s) (omega arith)) q λ ds a al av _.
       let same : readText s ≡ got ds d = read-is s h ∙ a in
+      let o = t .on d l q in
       record {
         is = rw same (λ j. Read (record { types = al j .types; processes = al j .processes; execs = al j .execs }));
         words = rw same (x ∙ (λ j. writeCounts (al j) (av j)) ∙ ap (λ w. writeCounts (afterScript ds nothing) (writeScript ds nothing w)) z);
+        room = λ ds₂ d₂ e. same-room ds ds₂ d d₂ (sym same ∙ e) (subst Within al (omega arith));
       }
 
 pub text-short : (s w : List ℕ) → length w < scratchWords → TextRead s w (Refused 1 0) w
 text-short s w h = record { short = λ _. (refl, refl); enough = λ l. absurd (omega arith) }
 
 pub text-full : (s w ys : List ℕ) (r : Reading) → scratchWords ≤ length w → Filled s r ys → TextRead s w r (ys ++ drop 8192 w)
-text-full s w ys r h f = record { short = λ m. absurd (omega arith); enough = λ _. (f .is, ap (λ x. x ++ drop 8192 w) (f .words)) }
+text-full s w ys r h f = record { short = λ m. absurd (omega arith); enough = λ _. (f .is, ap (λ x. x ++ drop 8192 w) (f .words), f .room) }

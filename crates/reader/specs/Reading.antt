@@ -8,22 +8,27 @@ use Rattle.notation.specs.Tree.{Declaration}
 use Rattle.notation.specs.Reader.{Result, got, refused}
 use Rattle.notation.specs.Scripts.{readText}
 use Rattle.notation.specs.Tables.{afterScript, nothing, tables}
+use Rattle.notation.specs.declared.reading.Cursor.{Cursor}
 use Rattle.notation.specs.declared.reading.Tally.{Tally}
 use Rattle.notation.specs.declared.script.Script.{Script}
 use Rattle.reader.specs.declared.reading.Reading.{Reading}
 use Rattle.reader.specs.declared.reading.Reading.the-variants.{Read, Refused}
 
--- the fills of the tables are numbers of a word
-abbrev pub FitCounts : Tally → Type 0
-FitCounts k =
-    (k .types ≤ 8192)
-    × (k .processes ≤ 8192)
-    × (k .execs ≤ 8192)
-    × (k .entries ≤ 8192)
-    × (k .nodes ≤ 8192)
-    × (k .alternatives ≤ 8192)
-    × (k .terms ≤ 8192)
-    × (k .branches ≤ 8192)
+-- each table is within its own words
+abbrev pub Within : Tally → Type 0
+Within k =
+    (k .types ≤ 64)
+    × (k .processes ≤ 64)
+    × (k .execs ≤ 16)
+    × (k .entries ≤ 512)
+    × (k .nodes ≤ 512)
+    × (k .alternatives ≤ 512)
+    × (k .terms ≤ 1024)
+    × (k .branches ≤ 1640)
+
+-- the tables have room for what is read
+abbrev pub Roomy : List ℕ → Type 0
+Roomy s = (ds : List Declaration) (d : Cursor) → readText s ≡ got ds d → Within (afterScript ds nothing)
 
 -- how many declarations of each kind a script has
 abbrev pub scriptOf : List Declaration → Script
@@ -38,8 +43,9 @@ answerOf (refused n i) = Refused n i
 pub record Filled (s : List ℕ) (r : Reading) (v : List ℕ) : Type 0 where
   pub is : r ≡ answerOf (readText s)
   pub words : v ≡ tables s
+  pub room : Roomy s
 
 -- for texts and slices of any length: refusal 1 touches nothing, and past the first 8,192 words nothing changes
 pub record TextRead (s w : List ℕ) (r : Reading) (v : List ℕ) : Type 0 where
   pub short : length w < scratchWords → (r ≡ Refused 1 0) × (v ≡ w)
-  pub enough : scratchWords ≤ length w → (r ≡ answerOf (readText s)) × (v ≡ tables s ++ drop scratchWords w)
+  pub enough : scratchWords ≤ length w → (r ≡ answerOf (readText s)) × (v ≡ tables s ++ drop scratchWords w) × Roomy s

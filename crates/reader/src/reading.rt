@@ -9,7 +9,7 @@ ghost use Prim.Native.Nat.{_<_, _≤_};
 ghost use lib.ListN.{length, set};
 ghost use Rattle.notation.specs.Limits.{scratchWords};
 ghost use Rattle.notation.specs.Tables.{writeCounts, zeros};
-ghost use Rattle.reader.specs.Reading.{FitCounts, Filled, TextRead};
+ghost use Rattle.reader.specs.Reading.{Within, Filled, TextRead};
 
 // A text that was read, or its refusal's number and offset.
 pub enum Reading {
@@ -42,7 +42,7 @@ fn put_count(part: &mut [u32], i: usize, n: usize)
 // The first eight words: how many entries each table has.
 fn write_counts(part: &mut [u32], k: Tally)
     requires { ⌜ length (now part) ≡ scratchWords ⌝ }
-    requires { ⌜ FitCounts k ⌝ }
+    requires { ⌜ Within k ⌝ }
     ensures { λ r. ⌜ now (part .exit) ≡ writeCounts k (now (part .entry)) ⌝ }
 {
     put_count(part, 0, k.types);

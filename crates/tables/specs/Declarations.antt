@@ -1,4 +1,5 @@
 -- Declarations in the tables: what is written stands there, stays, and is read back.
+use Rattle.reader.specs.Reading.{Within}
 use Prim.Native.Nat.{ℕ, zero, suc, _+_, _-_, _<_, _≤_}
 use mathlib.Core.Path.{_≡_, refl, sym, _∙_, ap, subst}
 use mathlib.Core.List.{List, [], _∷_, _++_}
@@ -12,7 +13,7 @@ use Rattle.reader.specs.Filling.{Area, FineType}
 use Rattle.reader.specs.Processes.{FineProcess}
 use Rattle.reader.specs.Scripts.{FineEntries, FineDeclaration}
 use Rattle.tables.specs.Packing.{entry-put, type-put, process-put, exec-put}
-use Rattle.tables.specs.Growth.{Upto, Within, Grown, grown-then, grown-lasting, grown-entry, grown-type, grown-process, grown-exec, entry-kept, type-entry-kept, process-entry-kept, exec-kept}
+use Rattle.tables.specs.Growth.{Upto, Grown, grown-then, grown-lasting, grown-entry, grown-type, grown-process, grown-exec, entry-kept, type-entry-kept, process-entry-kept, exec-kept}
 use Rattle.tables.specs.Stands.{TypeAt, ProcessAt, EntriesAt, DeclarationAt, ScriptAt}
 use Rattle.tables.specs.Types.{type-grown, type-last, type-kept, type-written}
 use Rattle.tables.specs.Processes.{process-grown, process-kept, process-written}

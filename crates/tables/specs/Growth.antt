@@ -1,4 +1,5 @@
 -- What is written leaves alone what stood before: the frame law of the tables, once for all of them.
+use Rattle.reader.specs.Reading.{Within}
 use Prim.Native.Nat.{ℕ, _+_, _*_, _<_, _≤_}
 use mathlib.Core.Path.{_≡_, refl, _∙_, ap}
 use mathlib.Core.List.{List}
@@ -22,18 +23,6 @@ Upto k l =
     × (k .alternatives ≤ l .alternatives)
     × (k .terms ≤ l .terms)
     × (k .branches ≤ l .branches)
-
--- each table is within its own words
-abbrev pub Within : Tally → Type 0
-Within k =
-    (k .types ≤ 64)
-    × (k .processes ≤ 64)
-    × (k .execs ≤ 16)
-    × (k .entries ≤ 512)
-    × (k .nodes ≤ 512)
-    × (k .alternatives ≤ 512)
-    × (k .terms ≤ 1024)
-    × (k .branches ≤ 1640)
 
 abbrev Apart : ℕ → ℕ → ℕ → Type 0
 Apart lo hi j = lo ≤ j → j < hi → ⊥

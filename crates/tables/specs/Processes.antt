@@ -1,4 +1,5 @@
 -- Processes in the tables: what is written stands there, stays, and is read back.
+use Rattle.reader.specs.Reading.{Within}
 use Prim.Native.Nat.{ℕ, zero, suc, _+_, _-_, _<_, _≤_}
 use mathlib.Core.Path.{_≡_, refl, sym, _∙_, ap}
 use mathlib.Core.List.{List}
@@ -17,7 +18,7 @@ use Rattle.reader.specs.Filling.{Area, FineType}
 use Rattle.reader.specs.Processes.{FineProcess, FineBranches}
 use Rattle.tables.specs.Decode.{termAt, branchAt, argumentsAt, branchesBy, termBy, processOf, processIn, typeIn}
 use Rattle.tables.specs.Packing.{term-put, branch-put}
-use Rattle.tables.specs.Growth.{Upto, Within, Grown, grown-then, grown-lasting, grown-term, grown-branch, term-kept, branch-kept}
+use Rattle.tables.specs.Growth.{Upto, Grown, grown-then, grown-lasting, grown-term, grown-branch, term-kept, branch-kept}
 use Rattle.tables.specs.Stands.{countBranches, Smaller, LeafAt, OverAt, LabelsAt, TypeAt, ProcessAt, BranchesAt, TypeFrom, ProcessFrom, BranchesFrom}
 use Rattle.tables.specs.Types.{type-grown, type-last, type-kept, type-written, type-read}
 

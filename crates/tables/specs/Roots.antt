@@ -1,4 +1,5 @@
 -- What the node at a number says of the tree that stands there, by its kind: what code that walks over numbers goes by. Its parts stand at smaller numbers.
+use Rattle.reader.specs.Reading.{Within}
 use Prim.Native.Nat.{ℕ, zero, suc, _+_, _-_, _<_, _≤_}
 use mathlib.Core.Path.{_≡_, refl, sym, _∙_, ap, subst}
 use mathlib.Core.List.{List}
@@ -11,7 +12,6 @@ use Rattle.notation.specs.declared.reading.Tally.{Tally}
 use Rattle.notation.specs.declared.reading.TypeNode.{TypeNode}
 use Rattle.notation.specs.declared.reading.TermNode.{TermNode}
 use Rattle.tables.specs.Decode.{nodeAt, alternativeAt, termAt, branchAt, argumentsAt, alternativesBy, typeOf, typeIn, branchesBy, processOf, processIn}
-use Rattle.tables.specs.Growth.{Within}
 use Rattle.tables.specs.Stands.{count, countBranches, Smaller, TypeAt, AlternativesAt, ProcessAt, BranchesAt, TypeFrom, AlternativesFrom, ProcessFrom, BranchesFrom}
 use Rattle.tables.specs.Types.{type-read, alternatives-read}
 use Rattle.tables.specs.Processes.{process-read, branches-read}

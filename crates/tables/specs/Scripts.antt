@@ -1,4 +1,5 @@
 -- A script in the tables is read back: each kind of declaration in the order of the text.
+use Rattle.reader.specs.Reading.{Within}
 use Prim.Native.Nat.{ℕ, zero, suc, _+_, _<_, _≤_}
 use mathlib.Core.Path.{_≡_, refl, sym, _∙_, ap}
 use mathlib.Core.List.{List, [], _∷_, _++_}
@@ -12,7 +13,7 @@ use Rattle.notation.specs.Tables.{afterType, afterEntries, afterProcess, afterD
 use Rattle.notation.specs.declared.reading.Tally.{Tally}
 use Rattle.reader.specs.Filling.{Area}
 use Rattle.tables.specs.Decode.{entryAt, typeAt, execAt, processAt, ProcessEntry, typeIn, processIn, entriesIn, typeDeclaration, procBy, procDeclaration, execDeclaration, numbered, scriptIn}
-use Rattle.tables.specs.Growth.{Within, Grown, grown-counts}
+use Rattle.tables.specs.Growth.{Grown, grown-counts}
 use Rattle.tables.specs.Stands.{EntriesAt, DeclarationAt, ScriptAt, EntriesFrom, DeclarationFrom, ScriptFrom}
 use Rattle.tables.specs.Types.{type-read}
 use Rattle.tables.specs.Processes.{process-read}

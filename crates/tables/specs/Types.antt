@@ -1,4 +1,5 @@
 -- Types in the tables: what is written stands there, stays, and is read back.
+use Rattle.reader.specs.Reading.{Within}
 use Prim.Native.Nat.{ℕ, zero, suc, _+_, _-_, _<_, _≤_}
 use mathlib.Core.Path.{_≡_, refl, sym, _∙_, ap}
 use mathlib.Core.List.{List}
@@ -13,7 +14,7 @@ use Rattle.notation.specs.declared.reading.TypeNode.{TypeNode}
 use Rattle.reader.specs.Filling.{Area, FineType, FineAlternatives}
 use Rattle.tables.specs.Decode.{nodeAt, alternativeAt, alternativesBy, typeBy, typeOf, typeIn}
 use Rattle.tables.specs.Packing.{node-put, alternative-put}
-use Rattle.tables.specs.Growth.{Upto, Within, Grown, grown-then, grown-lasting, grown-node, grown-alternative, node-kept, alternative-kept}
+use Rattle.tables.specs.Growth.{Upto, Grown, grown-then, grown-lasting, grown-node, grown-alternative, node-kept, alternative-kept}
 use Rattle.tables.specs.Stands.{count, InfixAt, ChoiceAt, TypeAt, AlternativesAt, TypeFrom, AlternativesFrom}
 
 -- ── a type is appended

@@ -1,4 +1,6 @@
 -- The tables as a whole: at each number of the tables of declarations stand trees and signatures, so that code may begin its walk there.
+use Rattle.reader.specs.declared.reading.Reading.{Reading}
+use Rattle.reader.specs.Reading.{Within, TextRead}
 use Prim.Native.Nat.{ℕ, zero, suc, _+_, _-_, _<_, _≤_}
 use mathlib.Core.Path.{_≡_, refl, sym, _∙_, ap, subst}
 use mathlib.Core.Logic.{_⊎_, inl, inr}
@@ -15,7 +17,7 @@ use Rattle.notation.specs.declared.reading.Cursor.{Cursor}
 use Rattle.notation.specs.declared.reading.Tally.{Tally}
 use Rattle.reader.specs.Filling.{Area}
 use Rattle.tables.specs.Decode.{entryAt, typeAt, processAt, ProcessEntry, processEntry, entriesIn, typeIn, scriptIn}
-use Rattle.tables.specs.Growth.{Within, grown-counts}
+use Rattle.tables.specs.Growth.{grown-counts}
 use Rattle.tables.specs.Stands.{EntriesAt, DeclarationAt, ScriptAt, EntriesFrom, DeclarationFrom, ScriptFrom}
 use Rattle.tables.specs.Declarations.{FineScript, script-kept, script-written}
 use Rattle.tables.specs.Scripts.{sorted, grows-by, script-decoded}
@@ -112,7 +114,7 @@ tables-in ds s t f h =
     let e : ScriptAt v k nothing ds = script-kept (grown-counts k w) h ds nothing (script-written ds nothing zeros f area h) in
     record { within = h; types = λ i l. each-type s v k ds nothing t e i (omega arith) l; processes = λ i l. each-process s v k ds nothing t e i (omega arith) l }
 
--- whatever text is read: its tables give back its script, where they have room for it
+-- whatever text is read: its tables give back its script, where they have room for it, as a text that `read` did not refuse has (`Roomy`)
 pub text-decoded : (s : List ℕ) (ds : List Declaration) (d : Cursor) → readText s ≡ got ds d → Within (afterScript ds nothing)
     → (scriptIn s (tables s) ≡ sorted ds) × TablesIn s (tables s) (afterScript ds nothing)
 unfolding tables
@@ -120,3 +122,8 @@ text-decoded s ds d e h =
     let r : Reads (ReadScript s) (got ds d) = subst (Reads (ReadScript s)) e (text-read-from s) in
     let (t, f) = r .holds in
     rw e (script-decoded ds s t f h, tables-in ds s t f h)
+
+-- what `read` left of a text that it did not refuse
+pub read-decoded : (s w v : List ℕ) (r : Reading) (ds : List Declaration) (d : Cursor) → TextRead s w r v → scratchWords ≤ length w → readText s ≡ got ds d
+    → (scriptIn s (tables s) ≡ sorted ds) × TablesIn s (tables s) (afterScript ds nothing)
+read-decoded s w v r ds d t h e = text-decoded s ds d e (t .enough h .2 ds d e)
