@@ -85,7 +85,7 @@ module _ {A : Type 0} {F : Form A} (s w : List ℕ) (c : Cursor) (k : Tally) {b 
           subst (λ x. F .Ahead s c k x n) p (subst (λ x. F .Ahead s c k d x) t o)
 
 -- at every fuel above the bound: at one more than every fuel from the bound on
-at-more : (P : ℕ → Type 0) {b : ℕ} → ((m : ℕ) → b ≤ m → P (suc m)) → (m : ℕ) → b < m → P m
+pub at-more : (P : ℕ → Type 0) {b : ℕ} → ((m : ℕ) → b ≤ m → P (suc m)) → (m : ℕ) → b < m → P m
 at-more P h zero l = absurd (not-suc-le-zero l)
 at-more P h (suc m) l = h m (le-of-suc-le-suc l)
 

@@ -4,7 +4,6 @@ use mathlib.Core.List.{List, [], _∷_}
 use mathlib.Core.Bool.{Bool, true, false, cond}
 use Prim.Native.Nat.{ℕ, zero, suc, _+_, _-_, _<_, _≤_}
 use native.Mathlib.Omega.{arith}
-use native.Mathlib.Nat.{le-of-suc-le-suc, not-suc-le-zero}
 use lib.ListN.{length}
 use lib.Dec.{eqb}
 use Rattle.notation.specs.declared.token.Token.{Token}
@@ -24,7 +23,7 @@ use Rattle.reader.specs.declared.steps.Out.the-variants.{Got, Not}
 use Rattle.reader.specs.Filling.{Stepped, asOut, Put, Room, unread}
 use Rattle.reader.specs.Processes.{AheadNames, NamesTaken, forgetNames, listEnd, namesOrNone, FineProcess, TermRead}
 use Rattle.reader.proofs.Taking.{never}
-use Rattle.reader.proofs.Filled.{same, _upon_, put-kept, took, refused-out, made-got, meets-no, meets-got}
+use Rattle.reader.proofs.Filled.{at-more, same, _upon_, put-kept, took, refused-out, made-got, meets-no, meets-got}
 
 -- a list that was read, and one that was refused
 module _ {P : Type 0} {r : Taken} (i : ℕ) (x : Result (List Located)) (is : r ≡ forgetNames i x) where
@@ -55,11 +54,6 @@ module _ {s : List ℕ} {c : Cursor} {i : ℕ} {f : ℕ → Result (List Located
           let p : d ≡ b = cc in
           let t : i ≡ j = cc in
           subst (λ x. AheadNames s c j x) p (subst (λ x. AheadNames s c x d) t o)
-
--- at every fuel above a bound: at one more than every fuel from the bound on
-at-more : (P : ℕ → Type 0) {b : ℕ} → ((m : ℕ) → b ≤ m → P (suc m)) → (m : ℕ) → b < m → P m
-at-more P h zero l = absurd (not-suc-le-zero l)
-at-more P h (suc m) l = h m (le-of-suc-le-suc l)
 
 -- which names were read is forgotten
 forget-last : (i : ℕ) (x : Located) (r : Result (List Located)) → forgetNames i (lastly (_∷_ x) r) ≡ forgetNames i r
