@@ -7,6 +7,7 @@ pub mod Types
 pub mod Processes
 pub mod Declarations
 pub mod Scripts
+pub mod Program
 pub mod Roots
 pub mod Read
 pub mod Arguments

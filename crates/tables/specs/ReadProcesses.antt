@@ -48,7 +48,7 @@ reads-both (refused n i) u f h g = reads-refused n i
 module _ (s : List ℕ) (short : length s ≤ textLimit) where
   empty-from : (c : Cursor) → Reads (ReadProcess s) (got (empty (tokenAt s (c .at) .start)) c)
   unfolding ProcessFrom FineProcess
-  empty-from c = reads-got _ c (omega arith, omega (arith, start-most s (c .at)))
+  empty-from c = let b : tokenAt s (c .at) .start ≤ textLimit = omega (arith, start-most s (c .at)) in reads-got _ c (b, b)
 
   send-from : (rest : Cursor → Result Proc) → ((c : Cursor) → Reads (ReadProcess s) (rest c)) → (at i : ℕ) → at < textLimit → i < textLimit
       → (c : Cursor) (h : Payload) → Reads (ReadProcess s) (sendBy rest s at (nameIn s i) c h)
@@ -91,7 +91,7 @@ module _ (s : List ℕ) (short : length s ≤ textLimit) where
           reads-take _ (takes-any (expect s kThen d)) λ _ e _. reads-lastly _ (p e) λ P (f, g). ((refl, f), (a, b, g))
       recv-from branches q c Channel =
           reads-take _ (takes-expect s kName c (omega arith)) λ j d l.
-          reads-take _ (takes-any (expect s kThen d)) λ _ e _. reads-lastly _ (p e) λ P (f, g). ((refl, refl, f), (a, b, omega arith, g))
+          reads-take _ (takes-any (expect s kThen d)) λ _ e _. reads-lastly _ (p e) λ P (f, g). ((refl, refl, omega arith, f), (a, b, omega arith, g))
       recv-from branches q c Label = reads-lastly _ (q c) λ B ((f, g), o). ((refl, f), (a, b, g, o))
       recv-from branches q c Other = reads-misfit s c
 
