@@ -15,4 +15,5 @@ pub mod ReadTypes
 pub mod ReadProcesses
 pub mod ReadScripts
 pub mod Whole
+pub mod Search
 pub mod Access
