@@ -5,7 +5,6 @@ use Prim.Native.Nat.{ℕ, suc, _+_, _-_, _%_, _<_, _≤_}
 use native.Mathlib.Omega.{arith}
 use Rattle.notation.specs.Limits.{textLimit, typeTermLimit, processTermLimit}
 use Rattle.notation.specs.Token.{nameAt}
-use Rattle.notation.specs.Tree.{plain}
 use Rattle.notation.specs.Reader.{nameIn}
 use Rattle.notation.specs.declared.reading.TypeNode.{TypeNode}
 use Rattle.notation.specs.declared.reading.TermNode.{TermNode}
@@ -13,7 +12,7 @@ use Rattle.reader.specs.Filling.{Area}
 use Rattle.tables.specs.declared.access.Labelled.{Labelled}
 use Rattle.tables.specs.declared.access.Declared.{Declared}
 use Rattle.tables.specs.Decode.{tallyIn, pairOf, nodeAt, termAt, alternativeAt, branchAt, entryAt, typeAt, ProcessEntry, processEntry, processAt, execAt, typeIn, processIn}
-use Rattle.tables.specs.Program.{signatureOf, namedType, namedProcess, execIn}
+use Rattle.tables.specs.Program.{plainIn, signatureOf, namedType, namedProcess, execIn}
 use Rattle.tables.specs.Roots.{TypeIn, TypeRoot, type-root, AlternativesIn, FirstAlternative, first-alternative, ProcessIn, ProcessRoot, process-root, BranchesIn, FirstBranch, first-branch}
 use Rattle.tables.specs.Whole.{EntriesIn, FirstEntry, first-entry, SignatureIn, Tables}
 
@@ -49,7 +48,7 @@ pub record EntryOf (w : List ℕ) (i : ℕ) (r : Labelled) : Type 0 where
 
 -- r is the type i of the program
 pub record TypeOf (w : List ℕ) (i : ℕ) (r : Labelled) : Type 0 where
-  pub is : (s : List ℕ) → namedType s w i ≡ (nameAt s (r .at), plain (typeIn s w (r .number)))
+  pub is : (s : List ℕ) → namedType s w i ≡ (nameAt s (r .at), plainIn s w (r .number))
   pub stands : (s : List ℕ) → Tables s w → i < tallyIn w .types → TypeIn s w (r .number)
 
 -- r is the process i of the program
@@ -90,7 +89,7 @@ module _ (w : List ℕ) where
 
   pub type-of : (i : ℕ) (r : Labelled) → Holds r (typeAt w i) → TypeOf w i r
   unfolding namedType
-  type-of i r h = record { is = λ s j. (nameAt s (sym (h .at) j), plain (typeIn s w (sym (h .number) j))); stands = λ s t b. back (h .number) (TypeIn s w) (t .types i b) }
+  type-of i r h = record { is = λ s j. (nameAt s (sym (h .at) j), plainIn s w (sym (h .number) j)); stands = λ s t b. back (h .number) (TypeIn s w) (t .types i b) }
 
   pub signature-of : (i : ℕ) (r : Declared) → asEntry r ≡ processAt w i → SignatureOf w i r
   unfolding namedProcess

@@ -13,11 +13,15 @@ unfoldable pub programIn : List ℕ → List ℕ → Program
 programIn s w = programOf (scriptIn s w)
 
 -- ── its parts, by number
+-- a type as it is compared and held
+abbrev pub plainIn : List ℕ → List ℕ → ℕ → Ty Name
+plainIn s w i = plain (typeIn s w i)
+
 unfoldable pub signatureOf : List ℕ → List ℕ → ProcessEntry → Signature
 signatureOf s w e = record { provides = entries (entriesIn s w (e .first) (e .provided)); uses = entries (entriesIn s w (e .first + e .provided) (e .used)); body = processIn s w (e .body) }
 
 unfoldable pub namedType : List ℕ → List ℕ → ℕ → Name × Ty Name
-namedType s w i = (nameAt s (typeAt w i .0), plain (typeIn s w (typeAt w i .1)))
+namedType s w i = (nameAt s (typeAt w i .0), plainIn s w (typeAt w i .1))
 
 unfoldable pub namedProcess : List ℕ → List ℕ → ℕ → Name × Signature
 namedProcess s w i = (nameAt s (processAt w i .at), signatureOf s w (processAt w i))
