@@ -1,3 +1,4 @@
 pub mod Held
 pub mod Named
 pub mod Found
+pub mod Walks
