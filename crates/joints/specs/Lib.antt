@@ -1,0 +1,4 @@
+pub mod Answers
+pub mod Tests
+pub mod Links
+pub mod Numbers
