@@ -2,3 +2,4 @@ pub mod Answers
 pub mod Tests
 pub mod Links
 pub mod Numbers
+pub mod Circles
