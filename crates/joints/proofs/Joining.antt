@@ -25,19 +25,19 @@ use Rattle.joints.specs.Circles.{jointOf, endJoint, heldJoints, processJ
 pub joined-none : (ws : List ℕ) → Joined ws ws [] true
 joined-none ws = record { is = λ label l. (label, l, λ K. refl) }
 
-pub joined-then : {a b c : List ℕ} {J K : List Joint} {r : Bool} → Joined a b J true → Joined b c K r → Joined a c (J ++ K) r
-joined-then {J = J} {K} p q = record {
+pub joined-then : {a b c : List ℕ} {J K : List Joint} {t r : Bool} → t ≡ true → Joined a b J t → Joined b c K r → Joined a c (J ++ K) r
+joined-then {J = J} {K} e p q = record {
   is = λ label l.
       let x = p .is label l in
       let y = q .is (x .0) (x .1) in
-      (y .0, y .1, λ L. ap (joins label) (append-assoc J K L) ∙ x .2 (K ++ L) ∙ y .2 L);
+      (y .0, y .1, λ L. ap (joins label) (append-assoc J K L) ∙ x .2 (K ++ L) ∙ ap (λ u. cond u (joins (x .0) (K ++ L)) false) e ∙ y .2 L);
 }
 
-pub joined-stop : {a b : List ℕ} {J : List Joint} (K : List Joint) → Joined a b J false → Joined a b (J ++ K) false
-joined-stop {J = J} K p = record {
+pub joined-stop : {a b : List ℕ} {J : List Joint} {t : Bool} (K : List Joint) → t ≡ false → Joined a b J t → Joined a b (J ++ K) false
+joined-stop {J = J} K e p = record {
   is = λ label l.
       let x = p .is label l in
-      (x .0, x .1, λ L. ap (joins label) (append-assoc J K L) ∙ x .2 (K ++ L));
+      (x .0, x .1, λ L. ap (joins label) (append-assoc J K L) ∙ x .2 (K ++ L) ∙ ap (λ u. cond u (joins (x .0) (K ++ L)) false) e);
 }
 
 pub joined-all : {old new : List ℕ} {J : List Joint} {r : Bool} → Labelled old (λ x. x) → Joined old new J r → forest? J ≡ r
@@ -78,17 +78,17 @@ pub joined-as : {old new : List ℕ} {J K : List Joint} {r : Bool} → K ≡ J �
 joined-as {old} {new} {r = r} e p = subst (λ L. Joined old new L r) (sym e) p
 
 -- ── the joint of an end that is held at place i
-module _ (C : RawConfig) (i : ℕ) (e : End) where
-  pub used-end : e .side ≡ 1 → endJoint C i (endIn e) ≡ []
-  used-end p = ap (λ (s : ℕ). jointOf i (sideOf s) (farEnd C (e .channel) (sideOf s))) p
+module _ (C : RawConfig) (i : ℕ) (e : End) {old : List ℕ} where
+  pub joined-used : e .side ≡ 1 → Joined old old (endJoint C i (endIn e)) true
+  joined-used p = joined-as (ap (λ (s : ℕ). jointOf i (sideOf s) (farEnd C (e .channel) (sideOf s))) p) (joined-none old)
 
-  pub provided-end : (f : Far) → e .side < 2 → (e .side ≡ 1 → ⊥) → f ≡ farEnd C (e .channel) provided → endJoint C i (endIn e) ≡ jointOf i provided f
-  provided-end f h n q =
+  pub joined-provided : {new : List ℕ} {f : Far} {r : Bool} → e .side < 2 → (e .side ≡ 1 → ⊥) → farEnd C (e .channel) provided ≡ f → Joined old new (jointOf i provided f) r → Joined old new (endJoint C i (endIn e)) r
+  joined-provided h n q =
       let z : e .side ≡ 0 = omega arith in
-      ap (λ (s : ℕ). jointOf i (sideOf s) (farEnd C (e .channel) (sideOf s))) z ∙ ap (jointOf i provided) (sym q)
+      joined-as (ap (λ (s : ℕ). jointOf i (sideOf s) (farEnd C (e .channel) (sideOf s))) z ∙ ap (jointOf i provided) q)
 
-pub far-place : (C : RawConfig) (k j m : ℕ) → Bounded C → far.Process j m ≡ farEnd C k provided → j < 128
-far-place C k j m b e = omega (arith, holder-place k used (C .processes) j m (far-process C k provided j m (sym e)), b .places)
+pub far-place : (C : RawConfig) (k j m : ℕ) → Bounded C → farEnd C k provided ≡ far.Process j m → j < 128
+far-place C k j m b e = omega (arith, holder-place k used (C .processes) j m (far-process C k provided j m e), b .places)
 
 -- ── a loop over joints J has joined some, and K are left
 pub record Left (old now : List ℕ) (J K : List Joint) : Type 0 where
@@ -98,11 +98,11 @@ pub left-start : (ws : List ℕ) (J : List Joint) → Left ws ws J J
 left-start ws J = record { rest = λ new r p. p }
 
 module _ {old now : List ℕ} {J K : List Joint} (l : Left old now J K) where
-  pub left-next : {next : List ℕ} (L M : List Joint) → K ≡ L ++ M → Joined now next L true → Left old next J M
-  left-next L M e p = record { rest = λ new r q. l .rest new r (joined-as e (joined-then p q)) }
+  pub left-next : {next : List ℕ} {t : Bool} (L M : List Joint) → K ≡ L ++ M → t ≡ true → Joined now next L t → Left old next J M
+  left-next L M e h p = record { rest = λ new r q. l .rest new r (joined-as e (joined-then h p q)) }
 
-  pub left-stop : {next : List ℕ} (L M : List Joint) → K ≡ L ++ M → Joined now next L false → Joined old next J false
-  left-stop {next} L M e p = l .rest next false (joined-as e (joined-stop M p))
+  pub left-stop : {next : List ℕ} {t : Bool} (L M : List Joint) → K ≡ L ++ M → t ≡ false → Joined now next L t → Joined old next J false
+  left-stop {next} L M e h p = l .rest next false (joined-as e (joined-stop M h p))
 
   pub left-end : K ≡ [] → Joined old now J true
   left-end e = l .rest now true (joined-as e (joined-none now))

@@ -3,3 +3,4 @@ pub mod Tests
 pub mod Links
 pub mod Numbers
 pub mod Circles
+pub mod WellJoined
