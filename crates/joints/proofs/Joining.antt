@@ -1,7 +1,7 @@
 -- Laws of joining joints one after another.
-use Prim.Native.Nat.{ℕ, suc, _+_, _≤_, _<_}
+use Prim.Native.Nat.{ℕ, _+_, _<_}
 use mathlib.Core.List.{List, [], _∷_, _++_, append-nil, append-assoc}
-use mathlib.Core.Path.{_≡_, refl, sym, ap, ap₂, subst, _∙_}
+use mathlib.Core.Path.{_≡_, refl, sym, ap, subst, _∙_}
 use mathlib.Core.Bool.{Bool, true, false, cond}
 use mathlib.Core.Option.{some}
 use native.Mathlib.Omega.{arith}
@@ -25,19 +25,22 @@ use Rattle.joints.specs.Circles.{jointOf, endJoint, heldJoints, processJ
 pub joined-none : (ws : List ℕ) → Joined ws ws [] true
 joined-none ws = record { is = λ label l. (label, l, λ K. refl) }
 
+pub joined-as : {old new : List ℕ} {J K : List Joint} {r : Bool} → K ≡ J → Joined old new J r → Joined old new K r
+joined-as {old} {new} {r = r} e p = subst (λ L. Joined old new L r) (sym e) p
+
 pub joined-then : {a b c : List ℕ} {J K : List Joint} {t r : Bool} → t ≡ true → Joined a b J t → Joined b c K r → Joined a c (J ++ K) r
-joined-then {J = J} {K} e p q = record {
+joined-then {a} {b} {J = J} {K} e p q = record {
   is = λ label l.
-      let x = p .is label l in
+      let x = subst (Joined a b J) e p .is label l in
       let y = q .is (x .0) (x .1) in
-      (y .0, y .1, λ L. ap (joins label) (append-assoc J K L) ∙ x .2 (K ++ L) ∙ ap (λ u. cond u (joins (x .0) (K ++ L)) false) e ∙ y .2 L);
+      (y .0, y .1, λ L. ap (joins label) (append-assoc J K L) ∙ x .2 (K ++ L) ∙ y .2 L);
 }
 
 pub joined-stop : {a b : List ℕ} {J : List Joint} {t : Bool} (K : List Joint) → t ≡ false → Joined a b J t → Joined a b (J ++ K) false
-joined-stop {J = J} K e p = record {
+joined-stop {a} {b} {J} K e p = record {
   is = λ label l.
-      let x = p .is label l in
-      (x .0, x .1, λ L. ap (joins label) (append-assoc J K L) ∙ x .2 (K ++ L) ∙ ap (λ u. cond u (joins (x .0) (K ++ L)) false) e);
+      let x = subst (Joined a b J) e p .is label l in
+      (x .0, x .1, λ L. ap (joins label) (append-assoc J K L) ∙ x .2 (K ++ L));
 }
 
 pub joined-all : {old new : List ℕ} {J : List Joint} {r : Bool} → Labelled old (λ x. x) → Joined old new J r → forest? J ≡ r
@@ -55,27 +58,27 @@ joins-first : (label : ℕ → ℕ) (i j : ℕ) (K : List Joint) {t : Bool} → 
 unfolding joins
 joins-first label i j K e = ap (λ t. cond t false (joins (relabelled (label i) (label j) label) K)) e
 
+-- the words once the labels of the joint's places have become one
+abbrev OneLabel : List ℕ → List ℕ → ℕ → ℕ → Type 0
+OneLabel ws new i j = Moved ws new 0 128 (relabelled (getD ws i 0) (getD ws j 0) (λ x. getD ws x 0))
+
 module _ (ws : List ℕ) (i j : ℕ) (a : i < 128) (b : j < 128) where
   pub circle : getD ws i 0 ≡ getD ws j 0 → Joined ws ws ((i, j) ∷ []) false
   circle e = record {
     is = λ label l. (label, l, λ K. joins-first label i j K (eq-eqb (label i) (label j) (sym (l .each i a) ∙ e ∙ l .each j b)));
   }
 
-  -- the labels that it joins become one
-  joins-one : (new : List ℕ) (label : ℕ → ℕ) → Labelled ws label → Moved ws new 0 128 (relabelled (getD ws i 0) (getD ws j 0) (λ x. getD ws x 0)) → Labelled new (relabelled (label i) (label j) label)
+  joins-one : (new : List ℕ) (label : ℕ → ℕ) → Labelled ws label → OneLabel ws new i j → Labelled new (relabelled (label i) (label j) label)
   unfolding relabelled
   joins-one new label l m = record {
     long = m .long ∙ l .long;
     each = λ x h. m .inside x (omega arith) h ∙ (λ k. cond (eqb (l .each x h k) (l .each j b k)) (l .each i a k) (l .each x h k));
   }
 
-  pub apart : (new : List ℕ) → (getD ws i 0 ≡ getD ws j 0 → ⊥) → (length ws ≡ 128 → Moved ws new 0 128 (relabelled (getD ws i 0) (getD ws j 0) (λ x. getD ws x 0))) → Joined ws new ((i, j) ∷ []) true
+  pub apart : (new : List ℕ) → (getD ws i 0 ≡ getD ws j 0 → ⊥) → (length ws ≡ 128 → OneLabel ws new i j) → Joined ws new ((i, j) ∷ []) true
   apart new n m = record {
     is = λ label l. (relabelled (label i) (label j) label, joins-one new label l (m (l .long)), λ K. joins-first label i j K (ne-eqb (label i) (label j) (λ e. n (l .each i a ∙ e ∙ sym (l .each j b)))));
   }
-
-pub joined-as : {old new : List ℕ} {J K : List Joint} {r : Bool} → K ≡ J → Joined old new J r → Joined old new K r
-joined-as {old} {new} {r = r} e p = subst (λ L. Joined old new L r) (sym e) p
 
 -- ── the joint of an end that is held at place i
 module _ (C : RawConfig) (i : ℕ) (e : End) {old : List ℕ} where

@@ -1,6 +1,6 @@
 // Whether joints close a circle: places that are joined get one label, so a joint of places with one label closes a circle.
 ghost use mathlib.Core.Path.{_≡_};
-ghost use Prim.Native.Nat.{ℕ, _≤_, _<_};
+ghost use Prim.Native.Nat.{_≤_, _<_};
 ghost use mathlib.Core.List.{[], _∷_};
 ghost use mathlib.Core.Bool.{cond};
 ghost use lib.Dec.{eqb};
@@ -8,7 +8,7 @@ ghost use lib.ListN.{length, getD};
 ghost use Rattle.notation.specs.Limits.{runWords};
 ghost use Rattle.calculus.specs.Forest.{linkJoint};
 ghost use Rattle.decision.specs.Circles.{relabelled};
-ghost use Rattle.runs.specs.Raw.{rawIn, linkOf, Bounded, BoundedProcess};
+ghost use Rattle.runs.specs.Raw.{rawIn, linkOf, Bounded};
 ghost use Rattle.runs.specs.Values.{Moved, endIn, heldIn, processIn};
 ghost use Rattle.joints.specs.Answers.{Answers};
 ghost use Rattle.joints.specs.Circles.{endJoint, heldJoints, processJoints, jointsFrom, circleFree, Labelled, Joined};
@@ -116,7 +116,7 @@ fn join_link(labels: &mut [u32; 128], i: usize, link: u32) -> bool
     join(labels, i, wide(link) - 1)
 }
 
-// Joins a place by all that its process has.
+// Joins a place by what its process holds, then by its link.
 fn join_process(labels: &mut [u32; 128], run: &[u32], i: usize, p: Process) -> bool
     requires { ⌜ runWords ≤ length (now run) ⌝ }
     requires { ⌜ Bounded (rawIn (now run)) ⌝ }
@@ -130,7 +130,7 @@ fn join_process(labels: &mut [u32; 128], run: &[u32], i: usize, p: Process) -> b
     join_link(labels, i, p.link)
 }
 
-// Joins all places.
+// Joins the places, each by its process.
 fn join_all(labels: &mut [u32; 128], run: &[u32]) -> bool
     requires { ⌜ runWords ≤ length (now run) ⌝ }
     requires { ⌜ Bounded (rawIn (now run)) ⌝ }

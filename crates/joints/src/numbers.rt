@@ -1,5 +1,4 @@
 // The outside's numbers: they rise, and all of them are given.
-ghost use mathlib.Core.Path.{_≡_};
 ghost use Prim.Native.Nat.{_≤_, _<_};
 ghost use lib.ListN.{length};
 ghost use Rattle.notation.specs.Limits.{runWords};

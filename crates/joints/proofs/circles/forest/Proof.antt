@@ -1,5 +1,4 @@
 use borrow.Author.Needs.{needs}
-use native.Mathlib.Omega.{arith}
 use Rattle.joints.specs.Circles.{answers-free}
 use Rattle.joints.proofs.Joining.{joined-all}
 use Rattle.joints.proofs.circles.forest.Statement.{statement}

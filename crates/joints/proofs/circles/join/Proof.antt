@@ -1,5 +1,4 @@
 use borrow.Author.Needs.{needs}
-use native.Mathlib.Omega.{arith}
 use Rattle.joints.proofs.Joining.{circle, apart}
 use Rattle.joints.proofs.circles.join.Statement.{statement}
 use Rattle.joints.proofs.circles.join.Tie as tie

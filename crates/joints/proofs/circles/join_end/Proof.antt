@@ -1,5 +1,4 @@
 use borrow.Author.Needs.{needs}
-use native.Mathlib.Omega.{arith}
 use mathlib.Core.Path.{sym, _∙_}
 use Rattle.runs.specs.Raw.{rawIn}
 use Rattle.joints.proofs.Joining.{joined-none, joined-used, joined-provided, far-place}

@@ -1,13 +1,13 @@
 use borrow.Author.Needs.{needs}
 use native.Mathlib.Omega.{arith}
-use Prim.Native.Nat.{_-_, _≤_, _+_}
+use Prim.Native.Nat.{_-_}
 use borrow.Author.Tests.{not-true, not-false}
-use mathlib.Core.Path.{_≡_, refl, sym, ap, subst, _∙_}
-use lib.ListN.{length, drop}
+use mathlib.Core.Path.{_≡_, refl, sym, ap}
+use lib.ListN.{drop}
 use Rattle.runs.specs.Raw.{rawIn}
 use Rattle.runs.specs.Values.{heldIn, held-length}
 use Rattle.joints.specs.Tests.{nothing-left}
-use Rattle.joints.specs.Circles.{heldJoints, Joined}
+use Rattle.joints.specs.Circles.{heldJoints}
 use Rattle.joints.proofs.Joining.{Left, left-start, left-next, left-stop, left-end, held-turn}
 use Rattle.joints.proofs.circles.join_held.Statement.{statement}
 use Rattle.joints.proofs.circles.join_held.Tie as tie

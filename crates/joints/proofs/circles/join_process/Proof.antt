@@ -1,5 +1,4 @@
 use borrow.Author.Needs.{needs}
-use native.Mathlib.Omega.{arith}
 use borrow.Author.Tests.{not-true, not-false}
 use Rattle.joints.proofs.Joining.{joined-then, joined-stop}
 use Rattle.joints.proofs.circles.join_process.Statement.{statement}

@@ -1,8 +1,7 @@
 use borrow.Author.Needs.{needs}
 use native.Mathlib.Omega.{arith}
 use Prim.Native.Nat.{_-_, _≤_}
-use mathlib.Core.Path.{refl, _∙_}
-use lib.ListN.{length-replicate}
+use mathlib.Core.Path.{refl}
 use Rattle.runs.specs.Values.{Moved}
 use Rattle.runs.proofs.Rows.{moved-none, moved-up}
 use Rattle.joints.proofs.circles.own_labels.Statement.{statement}

@@ -1,5 +1,3 @@
-use borrow.Author.Needs.{needs}
-use native.Mathlib.Omega.{arith}
 use borrow.Author.Tests.{eq-eqb, ne-eqb}
 use Rattle.joints.proofs.circles.renamed.Statement.{statement}
 use Rattle.joints.proofs.circles.renamed.Tie as tie
