@@ -40,3 +40,9 @@ pub struct TermNode {
     pub second: usize,
     pub third: usize,
 }
+
+// What a search found: a position or a number.
+pub enum Found {
+    At(usize),
+    Nothing,
+}
