@@ -2,3 +2,5 @@ pub mod Held
 pub mod Named
 pub mod Found
 pub mod Walks
+pub mod Falling
+pub mod Mentioned
