@@ -1,0 +1,3 @@
+pub mod Shapes
+pub mod Acting
+pub mod Labels
