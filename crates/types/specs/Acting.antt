@@ -85,7 +85,7 @@ standing-by-shape types (lolli A B) = refl
 standing-by-shape types (plus r) = refl
 standing-by-shape types (with r) = refl
 
--- the side of a bit that is 0 at the kind m alone
+-- a side in bits: provided at the kind m alone
 abbrev bit : ℕ → ℕ → ℕ
 bit m k = cond (eqb m k) 0 1
 
@@ -133,19 +133,19 @@ module _ {s w : List ℕ} {i : ℕ} {n : TypeNode} {k : ℕ} where
   not-word : (types : List (Name × Ty Name)) (A : Ty Name) {t : Shape} → ShapeIn s w i n k t → (k ≡ 1 → ⊥) → standingBy types A t ≡ A
   not-word types A (is-leaf e) z = refl
   not-word types A (is-word e) z = absurd (z e)
-  not-word types A (is-pair l h a b c d) z = refl
+  not-word types A (is-pair l h a b) z = refl
   not-word types A (is-choice l h a) z = refl
 
   not-pair : {t : Shape} → ShapeIn s w i n k t → (k ≡ 2 → ⊥) → (k ≡ 3 → ⊥) → (k ≡ 4 → ⊥) → passingBy t ≡ none
   not-pair (is-leaf e) x y z = refl
   not-pair (is-word e) x y z = refl
-  not-pair (is-pair l h a b c d) x y z = absurd (omega arith)
+  not-pair (is-pair l h a b) x y z = absurd (omega arith)
   not-pair (is-choice l h a) x y z = refl
 
   not-choice : {t : Shape} → ShapeIn s w i n k t → (k ≡ 5 → ⊥) → (k ≡ 6 → ⊥) → choosingBy t ≡ none
   not-choice (is-leaf e) x y = refl
   not-choice (is-word e) x y = refl
-  not-choice (is-pair l h a b c d) x y = refl
+  not-choice (is-pair l h a b) x y = refl
   not-choice (is-choice l h a) x y = absurd (omega arith)
 
 module _ (w : List ℕ) (i : ℕ) (n : TypeNode) (o : NodeOf w i n) where

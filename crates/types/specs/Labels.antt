@@ -1,5 +1,5 @@
 -- A label found in a list of alternatives.
-use Prim.Native.Nat.{ℕ, zero, suc, _+_, _-_, _<_, _≤_}
+use Prim.Native.Nat.{ℕ, zero, suc, _+_, _-_, _≤_}
 use mathlib.Core.Path.{_≡_, refl, sym, _∙_, ap, subst}
 use mathlib.Core.List.{List, [], _∷_}
 use mathlib.Core.Bool.{Bool, true, false, cond}
@@ -9,24 +9,25 @@ use lib.ListN.{length, drop}
 use lib.Seq.{take-nil}
 use Rattle.notation.specs.Bytes.{same}
 use Rattle.notation.specs.Token.{nameAt, nameEnd}
-use Rattle.notation.specs.Tree.{Name, Located, Ty, Alternatives, plains}
+use Rattle.notation.specs.Tree.{Name, Ty, plains}
 use Rattle.notation.specs.declared.reading.Found.{Found}
 use Rattle.notation.specs.declared.reading.Found.the-variants.{At, Nothing}
 use Rattle.calculus.specs.Types.{labelled}
 use Rattle.reader.specs.Filling.{Area}
 use Rattle.tables.specs.declared.access.Labelled.{Labelled}
-use Rattle.tables.specs.Access.{AlternativeOf, alternative-there}
+use Rattle.tables.specs.Access.{AlternativeOf}
 use Rattle.tables.specs.Program.{plainIn}
-use Rattle.tables.specs.Roots.{TypeIn, AlternativesIn, alternativesIn, FirstAlternative}
+use Rattle.tables.specs.Roots.{TypeIn, AlternativesIn, alternativesIn}
 use Rattle.tables.specs.Search.{placeOf}
 use Rattle.tables.specs.Whole.{Tables}
+use Rattle.types.specs.Alternatives.{Begins, first-there, first-in}
 
 -- the label at `at`, among the n alternatives before the place e, leads to r
 pub record LeadsTo (s w : List ℕ) (at e n : ℕ) (r : Found) : Type 0 where
   pub is : labelled (nameAt s (at + 1)) (plains (alternativesIn s w e n)) ≡ Option·map (plainIn s w) (placeOf r)
   pub type : (j : ℕ) → r ≡ At j → TypeIn s w j
 
--- a type stands where r says
+-- where r leads, a type stands
 abbrev typed : List ℕ → List ℕ → Found → Type 0
 typed s w (At j) = TypeIn s w j
 typed s w Nothing = Unit
@@ -58,38 +59,26 @@ module _ (s w : List ℕ) (at e₀ n₀ : ℕ) where
   pub look-start : (i : ℕ) → AlternativesIn s w i e₀ n₀ → Looking e₀ n₀
   look-start i a = record { owner = i; there = a; rest = refl }
 
-  module _ (e n : ℕ) (l : Looking e n) (h : 0 < n) where
-    more : n ≡ suc (n - 1)
-    more = omega arith
-
-    some-left : AlternativesIn s w (l .owner) e (suc (n - 1))
-    some-left = subst (AlternativesIn s w (l .owner) e) more (l .there)
-
+  module _ (e n : ℕ) (l : Looking e n) (h : n ≡ 0 → ⊥) where
     pub look-there : Tables s w → Area w × (1 ≤ e) × (e ≤ 512)
-    look-there t = let (a, b) = alternative-there s w t (l .owner) e (n - 1) some-left in (t .area, a, b)
+    look-there = first-there s w (l .owner) e n (l .there) h
 
-    -- the first of those that are left
-    module _ (a : Labelled) (o : AlternativeOf w e a) where
-      first : FirstAlternative s w (l .owner) e (n - 1) (a .at) (a .number)
-      first = o .says s (l .owner) (n - 1) some-left
+    -- a test of the first label that is left
+    module _ (a : Labelled) (o : AlternativeOf w e a) {b : Bool} (t : b ≡ same (nameAt s (at + 1)) (nameAt s (a .at + 1))) where
+      first : Begins s w (l .owner) e n a
+      first = first-in s w (l .owner) e n (l .there) h a o
 
-      module _ {b : Bool} (t : b ≡ same (nameAt s (at + 1)) (nameAt s (a .at + 1))) where
-        tested : (q : Bool) → b ≡ q → found e₀ n₀ ≡ cond q (some (plainIn s w (a .number))) (found (e - 1) (n - 1))
-        unfolding labelled plains
-        tested q y =
-            l .rest
-            ∙ ap (found e) more
-            ∙ ap (λ (r : Alternatives Located). labelled (nameAt s (at + 1)) (plains r)) (first .is)
-            ∙ ap (λ p. cond p (some (plainIn s w (a .number))) (found (e - 1) (n - 1))) (sym t ∙ y)
+      tested : (q : Bool) → b ≡ q → found e₀ n₀ ≡ cond q (some (plainIn s w (a .number))) (found (e - 1) (n - 1))
+      unfolding labelled
+      tested q y =
+          l .rest ∙ ap (labelled (nameAt s (at + 1))) (first .is) ∙ ap (λ p. cond p (some (plainIn s w (a .number))) (found (e - 1) (n - 1))) (sym t ∙ y)
 
-        pub look-found : b ≡ true → LeadsTo s w at e₀ n₀ (At (a .number))
-        look-found y = record { is = tested true y; type = λ j q. subst (typed s w) q (first .type) }
+      pub look-found : b ≡ true → LeadsTo s w at e₀ n₀ (At (a .number))
+      look-found y = record { is = tested true y; type = λ j q. subst (typed s w) q (first .type) }
 
-        pub look-on : b ≡ false → Looking (e - 1) (n - 1)
-        look-on y = record { owner = l .owner; there = first .rest; rest = tested false y }
+      pub look-on : b ≡ false → Looking (e - 1) (n - 1)
+      look-on y = record { owner = l .owner; there = first .rest; rest = tested false y }
 
-  pub look-end : (e n : ℕ) → Looking e n → n ≤ 0 → LeadsTo s w at e₀ n₀ Nothing
+  pub look-end : (e n : ℕ) → Looking e n → n ≡ 0 → LeadsTo s w at e₀ n₀ Nothing
   unfolding labelled plains
-  look-end e n l h =
-      let z : n ≡ 0 = omega arith in
-      record { is = l .rest ∙ ap (found e) z; type = λ j q. subst (typed s w) q tt }
+  look-end e n l z = record { is = l .rest ∙ ap (found e) z; type = λ j q. subst (typed s w) q tt }

@@ -1,5 +1,5 @@
 -- The shape of the type at a node, by the node's kind: what code that goes by kinds knows of the type.
-use Prim.Native.Nat.{ℕ, zero, suc, _<_, _≤_}
+use Prim.Native.Nat.{ℕ, zero, suc, _≤_}
 use mathlib.Core.Path.{_≡_, refl}
 use mathlib.Core.List.{List}
 use native.Mathlib.Omega.{arith}
@@ -13,11 +13,11 @@ use Rattle.tables.specs.Program.{plainIn}
 use Rattle.tables.specs.Roots.{atKind, typeCases, TypeIn, AlternativesIn, alternativesIn}
 use Rattle.tables.specs.Whole.{Tables}
 
--- a node n at i, of kind k, and the shape of the type there; parts have smaller numbers
+-- a node n at i, of kind k, and the shape of the type there
 pub data ShapeIn (s w : List ℕ) (i : ℕ) (n : TypeNode) (k : ℕ) : Shape → Type 0 where
   is-leaf : k ≡ 0 → ShapeIn s w i n k leaf
   is-word : k ≡ 1 → ShapeIn s w i n k (word (nameAt s (n .second)))
-  is-pair : 2 ≤ k → k ≤ 4 → n .first < i → n .second < i → TypeIn s w (n .first) → TypeIn s w (n .second) → ShapeIn s w i n k (pair k (plainIn s w (n .first)) (plainIn s w (n .second)))
+  is-pair : 2 ≤ k → k ≤ 4 → TypeIn s w (n .first) → TypeIn s w (n .second) → ShapeIn s w i n k (pair k (plainIn s w (n .first)) (plainIn s w (n .second)))
   is-choice : 5 ≤ k → k ≤ 6 → AlternativesIn s w i (n .first) (n .second) → ShapeIn s w i n k (choice k (plains (alternativesIn s w (n .first) (n .second))))
 
 module _ (s w : List ℕ) (i : ℕ) (n : TypeNode) where
@@ -28,9 +28,9 @@ module _ (s w : List ℕ) (i : ℕ) (n : TypeNode) where
   unfolding plain
   shaped A zero x = rw x (is-leaf refl)
   shaped A (suc zero) x = rw x (is-word refl)
-  shaped A (suc (suc zero)) (a, b, c, d, x) = rw x (is-pair (omega arith) (omega arith) a b c d)
-  shaped A (suc (suc (suc zero))) (a, b, c, d, x) = rw x (is-pair (omega arith) (omega arith) a b c d)
-  shaped A (suc (suc (suc (suc zero)))) (a, b, c, d, x) = rw x (is-pair (omega arith) (omega arith) a b c d)
+  shaped A (suc (suc zero)) (a, b, c, d, x) = rw x (is-pair (omega arith) (omega arith) c d)
+  shaped A (suc (suc (suc zero))) (a, b, c, d, x) = rw x (is-pair (omega arith) (omega arith) c d)
+  shaped A (suc (suc (suc (suc zero)))) (a, b, c, d, x) = rw x (is-pair (omega arith) (omega arith) c d)
   shaped A (suc (suc (suc (suc (suc zero))))) (a, x) = rw x (is-choice (omega arith) (omega arith) a)
   shaped A (suc (suc (suc (suc (suc (suc zero)))))) (a, x) = rw x (is-choice (omega arith) (omega arith) a)
   shaped A (suc (suc (suc (suc (suc (suc (suc k))))))) x = absurd x
@@ -40,8 +40,6 @@ module _ (s w : List ℕ) (i : ℕ) (n : TypeNode) where
 
 -- ── the view at a known kind
 pub record PairIn (s w : List ℕ) (i : ℕ) (n : TypeNode) (k : ℕ) (t : Shape) : Type 0 where
-  pub first-less : n .first < i
-  pub second-less : n .second < i
   pub first : TypeIn s w (n .first)
   pub second : TypeIn s w (n .second)
   pub is : t ≡ pair k (plainIn s w (n .first)) (plainIn s w (n .second))
@@ -54,23 +52,23 @@ module _ {s w : List ℕ} {i : ℕ} {n : TypeNode} {k : ℕ} where
   pub leaf-in : {t : Shape} → ShapeIn s w i n k t → k ≡ 0 → t ≡ leaf
   leaf-in (is-leaf e) z = refl
   leaf-in (is-word e) z = absurd (omega arith)
-  leaf-in (is-pair l h a b c d) z = absurd (omega arith)
+  leaf-in (is-pair l h a b) z = absurd (omega arith)
   leaf-in (is-choice l h a) z = absurd (omega arith)
 
   pub word-in : {t : Shape} → ShapeIn s w i n k t → k ≡ 1 → t ≡ word (nameAt s (n .second))
   word-in (is-leaf e) z = absurd (omega arith)
   word-in (is-word e) z = refl
-  word-in (is-pair l h a b c d) z = absurd (omega arith)
+  word-in (is-pair l h a b) z = absurd (omega arith)
   word-in (is-choice l h a) z = absurd (omega arith)
 
   pub pair-in : {t : Shape} → ShapeIn s w i n k t → 2 ≤ k → k ≤ 4 → PairIn s w i n k t
   pair-in (is-leaf e) z y = absurd (omega arith)
   pair-in (is-word e) z y = absurd (omega arith)
-  pair-in (is-pair l h a b c d) z y = record { first-less = a; second-less = b; first = c; second = d; is = refl }
+  pair-in (is-pair l h a b) z y = record { first = a; second = b; is = refl }
   pair-in (is-choice l h a) z y = absurd (omega arith)
 
   pub choice-in : {t : Shape} → ShapeIn s w i n k t → 5 ≤ k → ChoiceIn s w i n k t
   choice-in (is-leaf e) z = absurd (omega arith)
   choice-in (is-word e) z = absurd (omega arith)
-  choice-in (is-pair l h a b c d) z = absurd (omega arith)
+  choice-in (is-pair l h a b) z = absurd (omega arith)
   choice-in (is-choice l h a) z = record { labels = a; is = refl }

@@ -89,7 +89,7 @@ pub fn labelled(text: &[u8], scratch: &[u32], at: usize, e: usize, n: usize) -> 
 {
     let mut place = e;
     let mut left = n;
-    while 0 < left {
+    while left != 0 {
         let a = alternative(scratch, place);
         let there = a.at;
         if labels_equal(text, at, there) {
