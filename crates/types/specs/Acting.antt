@@ -7,7 +7,7 @@ use mathlib.Core.Option.{Option, some, none, Option·map, Option·getD}
 use native.Mathlib.Omega.{arith}
 use lib.Dec.{eqb}
 use Rattle.notation.specs.Token.{nameAt}
-use Rattle.notation.specs.Tree.{Name, Ty, unit, named, tensor, par, lolli, plus, with, plains}
+use Rattle.notation.specs.Tree.{Name, Ty, plains}
 use Rattle.notation.specs.declared.reading.TypeNode.{TypeNode}
 use Rattle.notation.specs.declared.reading.Found.{Found}
 use Rattle.notation.specs.declared.reading.Found.the-variants.{At, Nothing}
@@ -28,7 +28,7 @@ use Rattle.types.specs.declared.messages.Passing.the-variants as NoPassi
 use Rattle.types.specs.declared.messages.Choosing.{Choosing}
 use Rattle.types.specs.declared.messages.Choosing.the-variants.{Chooses}
 use Rattle.types.specs.declared.messages.Choosing.the-variants as NoChoosing
-use Rattle.types.specs.Shapes.{ShapeIn, is-leaf, is-word, is-pair, is-choice, shape-in, word-in, pair-in, choice-in}
+use Rattle.types.specs.Shapes.{by-marks, ShapeIn, is-leaf, is-word, is-pair, is-choice, shape-in, word-in, pair-in, choice-in}
 
 -- ── what the code promises
 -- the type i stands for the type r
@@ -77,13 +77,7 @@ standingBy types A (pair k B C) = A
 standingBy types A (choice k r) = A
 
 standing-by-shape : (types : List (Name × Ty Name)) (A : Ty Name) → standing types A ≡ standingBy types A (shape A)
-standing-by-shape types unit = refl
-standing-by-shape types (named n) = refl
-standing-by-shape types (tensor A B) = refl
-standing-by-shape types (par A B) = refl
-standing-by-shape types (lolli A B) = refl
-standing-by-shape types (plus r) = refl
-standing-by-shape types (with r) = refl
+standing-by-shape types = by-marks (λ A. standing types A ≡ standingBy types A (shape A)) refl (λ n. refl) (λ A B. (refl, refl, refl)) (λ r. (refl, refl))
 
 -- a side in bits: provided at the kind m alone
 abbrev bit : ℕ → ℕ → ℕ
@@ -97,13 +91,7 @@ passingBy (choice k r) = none
 
 passing-by-shape : (A : Ty Name) → passing A ≡ passingBy (shape A)
 unfolding passing
-passing-by-shape unit = refl
-passing-by-shape (named n) = refl
-passing-by-shape (tensor A B) = refl
-passing-by-shape (par A B) = refl
-passing-by-shape (lolli A B) = refl
-passing-by-shape (plus r) = refl
-passing-by-shape (with r) = refl
+passing-by-shape = by-marks (λ A. passing A ≡ passingBy (shape A)) refl (λ n. refl) (λ A B. (refl, refl, refl)) (λ r. (refl, refl))
 
 abbrev choosingBy : Shape → Option calculus.Choosing
 choosingBy leaf = none
@@ -113,13 +101,7 @@ choosingBy (choice k r) = some (record { sender = sideOf (bit 5 k); labels = r }
 
 choosing-by-shape : (A : Ty Name) → choosing A ≡ choosingBy (shape A)
 unfolding choosing
-choosing-by-shape unit = refl
-choosing-by-shape (named n) = refl
-choosing-by-shape (tensor A B) = refl
-choosing-by-shape (par A B) = refl
-choosing-by-shape (lolli A B) = refl
-choosing-by-shape (plus r) = refl
-choosing-by-shape (with r) = refl
+choosing-by-shape = by-marks (λ A. choosing A ≡ choosingBy (shape A)) refl (λ n. refl) (λ A B. (refl, refl, refl)) (λ r. (refl, refl))
 
 bit-small : (m k : ℕ) → bit m k < 2
 bit-small m k = go (eqb m k)

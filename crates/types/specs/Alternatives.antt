@@ -25,6 +25,7 @@ module _ (s w : List ℕ) (i e n : ℕ) (a : AlternativesIn s w i e n) (h : n �
   there : AlternativesIn s w i e (suc (n - 1))
   there = subst (AlternativesIn s w i e) more a
 
+  -- its entry can be taken
   pub first-there : Tables s w → Area w × (1 ≤ e) × (e ≤ 512)
   first-there t = let (l, k) = alternative-there s w t i e (n - 1) there in (t .area, l, k)
 

@@ -16,7 +16,7 @@ use Rattle.tables.specs.Access.{NodeOf}
 use Rattle.tables.specs.Program.{plainIn}
 use Rattle.tables.specs.Roots.{TypeIn, AlternativesIn, alternativesIn}
 use Rattle.tables.specs.Whole.{Tables}
-use Rattle.types.specs.Shapes.{ShapeIn, is-leaf, is-word, is-pair, is-choice, shape-in, leaf-in, word-in, pair-in, choice-in}
+use Rattle.types.specs.Shapes.{by-marks, ShapeIn, is-leaf, is-word, is-pair, is-choice, shape-in, leaf-in, word-in, pair-in, choice-in}
 use Rattle.types.specs.Alternatives.{Begins}
 
 -- ── a type is compared by its shape alone
@@ -28,13 +28,7 @@ sameShape (choice k r) u = atChoice k (λ q. sameAlternatives r q) u
 
 pub same-by-shape : (A B : Ty Name) → sameType A B ≡ sameShape (shape A) (shape B)
 unfolding sameType
-same-by-shape unit B = refl
-same-by-shape (named n) B = refl
-same-by-shape (tensor A C) B = refl
-same-by-shape (par A C) B = refl
-same-by-shape (lolli A C) B = refl
-same-by-shape (plus r) B = refl
-same-by-shape (with r) B = refl
+same-by-shape A B = by-marks (λ C. sameType C B ≡ sameShape (shape C) (shape B)) refl (λ n. refl) (λ A B. (refl, refl, refl)) (λ r. (refl, refl)) A
 
 abbrev kindOf : Shape → ℕ
 kindOf leaf = 0
@@ -90,13 +84,7 @@ sizeBy (choice k r) = suc (sizes r)
 
 size-by-shape : (A : Ty Name) → size A ≡ sizeBy (shape A)
 unfolding size
-size-by-shape unit = refl
-size-by-shape (named n) = refl
-size-by-shape (tensor A B) = refl
-size-by-shape (par A B) = refl
-size-by-shape (lolli A B) = refl
-size-by-shape (plus r) = refl
-size-by-shape (with r) = refl
+size-by-shape = by-marks (λ A. size A ≡ sizeBy (shape A)) refl (λ n. refl) (λ A B. (refl, refl, refl)) (λ r. (refl, refl))
 
 -- ── the nodes x at a and y at b
 module _ (s w : List ℕ) (a b : ℕ) (x y : TypeNode) where

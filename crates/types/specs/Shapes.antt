@@ -4,7 +4,7 @@ use mathlib.Core.Path.{_≡_, refl}
 use mathlib.Core.List.{List}
 use native.Mathlib.Omega.{arith}
 use Rattle.notation.specs.Token.{nameAt}
-use Rattle.notation.specs.Tree.{Located, Ty, plain, plains}
+use Rattle.notation.specs.Tree.{Name, Located, Ty, unit, named, tensor, par, lolli, plus, with, Alternatives, plain, plains}
 use Rattle.notation.specs.declared.reading.TypeNode.{TypeNode}
 use Rattle.calculus.specs.Types.{Shape, leaf, word, pair, choice, shape}
 use Rattle.tables.specs.Access.{NodeOf}
@@ -12,6 +12,16 @@ use Rattle.tables.specs.Decode.{typeIn}
 use Rattle.tables.specs.Program.{plainIn}
 use Rattle.tables.specs.Roots.{atKind, typeCases, TypeIn, AlternativesIn, alternativesIn}
 use Rattle.tables.specs.Whole.{Tables}
+
+-- a property of types, mark by mark
+pub by-marks : (P : Ty Name → Type 0) → P unit → ((n : Name) → P (named n)) → ((A B : Ty Name) → P (tensor A B) × P (par A B) × P (lolli A B)) → ((r : Alternatives Name) → P (plus r) × P (with r)) → (A : Ty Name) → P A
+by-marks P u n p c unit = u
+by-marks P u n p c (named m) = n m
+by-marks P u n p c (tensor A B) = p A B .0
+by-marks P u n p c (par A B) = p A B .1
+by-marks P u n p c (lolli A B) = p A B .2
+by-marks P u n p c (plus r) = c r .0
+by-marks P u n p c (with r) = c r .1
 
 -- a node n at i, of kind k, and the shape of the type there
 pub data ShapeIn (s w : List ℕ) (i : ℕ) (n : TypeNode) (k : ℕ) : Shape → Type 0 where
@@ -39,7 +49,7 @@ module _ (s w : List ℕ) (i : ℕ) (n : TypeNode) where
   shape-in o t a = shaped (typeIn s w i) (n .kind) (o .says s t a .says)
 
 -- ── the view at a known kind
-pub record PairIn (s w : List ℕ) (i : ℕ) (n : TypeNode) (k : ℕ) (t : Shape) : Type 0 where
+pub record PairIn (s w : List ℕ) (n : TypeNode) (k : ℕ) (t : Shape) : Type 0 where
   pub first : TypeIn s w (n .first)
   pub second : TypeIn s w (n .second)
   pub is : t ≡ pair k (plainIn s w (n .first)) (plainIn s w (n .second))
@@ -61,7 +71,7 @@ module _ {s w : List ℕ} {i : ℕ} {n : TypeNode} {k : ℕ} where
   word-in (is-pair l h a b) z = absurd (omega arith)
   word-in (is-choice l h a) z = absurd (omega arith)
 
-  pub pair-in : {t : Shape} → ShapeIn s w i n k t → 2 ≤ k → k ≤ 4 → PairIn s w i n k t
+  pub pair-in : {t : Shape} → ShapeIn s w i n k t → 2 ≤ k → k ≤ 4 → PairIn s w n k t
   pair-in (is-leaf e) z y = absurd (omega arith)
   pair-in (is-word e) z y = absurd (omega arith)
   pair-in (is-pair l h a b) z y = record { first = a; second = b; is = refl }
