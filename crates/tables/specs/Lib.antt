@@ -1,3 +1,4 @@
+pub mod Names
 pub mod Decode
 pub mod Examples
 pub mod Packing

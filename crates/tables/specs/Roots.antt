@@ -11,6 +11,7 @@ use Rattle.notation.specs.Tables.{typeNode, termNode, emptyPointer}
 use Rattle.notation.specs.declared.reading.Tally.{Tally}
 use Rattle.notation.specs.declared.reading.TypeNode.{TypeNode}
 use Rattle.notation.specs.declared.reading.TermNode.{TermNode}
+use Rattle.tables.specs.Names.{CallAt}
 use Rattle.tables.specs.Decode.{tallyIn, nodeAt, alternativeAt, termAt, branchAt, argumentsAt, alternativesBy, typeOf, typeIn, branchesBy, processOf, processIn}
 use Rattle.tables.specs.Stands.{count, countBranches, Smaller, TypeAt, AlternativesAt, ProcessAt, BranchesAt, TypeFrom, AlternativesFrom, ProcessFrom, BranchesFrom}
 use Rattle.tables.specs.Types.{type-read, alternatives-read}
@@ -167,7 +168,7 @@ processCases s w p n A =
     or ((n .second < textLimit) × Over s w p n A (λ P. recvChannel (n .at) (nameIn s (n .first)) (nameIn s (n .second)) P))
     or (BranchesIn s w p (n .second) (n .third) × (A ≡ recvLabel (n .at) (nameIn s (n .first)) (branchesIn s w (n .second) (n .third))))
     or (A ≡ fwd (n .at) (nameIn s (n .first)) (nameIn s (n .second)))
-    or (A ≡ call (n .at) (nameIn s (n .first)) (n .second) (argumentsAt s (n .second) .0) (argumentsAt s (n .second) .1))
+    or (CallAt s (n .second) (argumentsAt s (n .second) .0) (argumentsAt s (n .second) .1) × (A ≡ call (n .at) (nameIn s (n .first)) (n .second) (argumentsAt s (n .second) .0) (argumentsAt s (n .second) .1)))
     or Over s w p n A (λ P. raise (n .at) P)
     or (Part s w p (n .second) × Over s w p n A (λ Q. try (n .at) (processIn s w (n .second)) Q))
     or Cases.none
@@ -235,8 +236,9 @@ module _ (s w : List ℕ) (h : Within (tallyIn w)) where
       let r = branches-tree p a (countBranches B) f in
       rw e (noded p (termNode 8 at (c .at) a (countBranches B)) (recvLabel at c B) b (f, λ j. recvLabel at (sym t j) (sym r j)))
   process-root-of (fwd at x c) p (t, t′) (b, e) = rw e (noded p (termNode 9 at (x .at) (c .at) 0) (fwd at x c) b λ j. fwd at (sym t j) (sym t′ j))
-  process-root-of (call at o bracket xs ys) p (t, t′) (b, e) =
-      rw e (noded p (termNode 10 at (o .at) bracket 0) (call at o bracket xs ys) b λ j. call at (sym t j) bracket (sym t′ j .0) (sym t′ j .1))
+  process-root-of (call at o bracket xs ys) p (t, t′, u) (b, e) =
+      let f = subst (λ (a : List Located × List Located). CallAt s bracket (a .0) (a .1)) (sym t′) u in
+      rw e (noded p (termNode 10 at (o .at) bracket 0) (call at o bracket xs ys) b (f, λ j. call at (sym t j) bracket (sym t′ j .0) (sym t′ j .1)))
   process-root-of (try at P Q) p (u, u′) (x, l, q, (y, (b, e), l′, q′)) =
       let g : ProcessIn s w x = record { tree = P; from = u; is = q } in
       let i : ProcessIn s w y = record { tree = Q; from = u′; is = q′ } in

@@ -8,6 +8,7 @@ use Rattle.notation.specs.Reader.{nameIn, labelIn}
 use Rattle.notation.specs.Limits.{textLimit, processTermLimit}
 use Rattle.notation.specs.Tables.{typeNode, termNode, emptyPointer, afterDeclaration}
 use Rattle.notation.specs.declared.reading.Tally.{Tally}
+use Rattle.tables.specs.Names.{CallAt}
 use Rattle.tables.specs.Decode.{nodeAt, alternativeAt, termAt, branchAt, entryAt, typeAt, execAt, processEntry, processAt, argumentsAt}
 
 abbrev pub count : Alternatives Located → ℕ
@@ -138,7 +139,7 @@ unfoldable mutual
   ProcessFrom s (recvChannel at c a P) = NameFrom s c × NameFrom s a × (a .at < textLimit) × ProcessFrom s P
   ProcessFrom s (recvLabel at c B) = NameFrom s c × BranchesFrom s B
   ProcessFrom s (fwd at x c) = NameFrom s x × NameFrom s c
-  ProcessFrom s (call at n bracket xs ys) = NameFrom s n × (argumentsAt s bracket ≡ (xs, ys))
+  ProcessFrom s (call at n bracket xs ys) = NameFrom s n × (argumentsAt s bracket ≡ (xs, ys)) × CallAt s bracket xs ys
   ProcessFrom s (raise at P) = ProcessFrom s P
   ProcessFrom s (try at P Q) = ProcessFrom s P × ProcessFrom s Q
 

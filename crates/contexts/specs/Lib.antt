@@ -1,0 +1,4 @@
+pub mod Held
+pub mod Named
+pub mod Found
+pub mod Walks
