@@ -2,3 +2,4 @@ pub mod Next
 pub mod Rules
 pub mod Acting
 pub mod Sends
+pub mod Endings

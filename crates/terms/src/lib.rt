@@ -1,4 +1,5 @@
 // Terms: what the typing rules ask of one term, and what is held after it.
 pub mod acting;
+pub mod forwards;
 pub mod next;
 pub mod sends;
