@@ -64,19 +64,20 @@ at-end s i p [] rest e h = (refl, ap pastOf (sym e ∙ h))
 at-end s i p (y ∷ ys) rest e (q, f, g, h) = absurd (subst isEnd (sym e ∙ f) tt)
 
 module _ {s : List ℕ} {from i : ℕ} {R : List Located → List Located → Type 0} (t : Walking s from i R) where
-  pub walk-on : (a p : ℕ) (Q : List Located → List Located → Type 0) → argumentFrom s i ≡ arguments.Name a p → ((xs ys : List Located) → R xs (nameIn s a ∷ ys) → Q xs ys) → Walking s from p Q
+  pub walk-on : (a p : ℕ) (Q : List Located → List Located → Type 0) → argumentFrom s i ≡ arguments.Name a p
+      → ((xs ys : List Located) (rest : ℕ) → NamesFrom s p ys rest → R xs (nameIn s a ∷ ys) → Q xs ys) → Walking s from p Q
   walk-on a p Q e f = record {
     on = λ xs rest n.
         let (ys, m, r) = t .on xs rest n in
         let (zs, q, o) = at-name s i a p ys rest e m in
-        (zs, o, f xs zs (subst (R xs) q r));
+        (zs, o, f xs zs rest o (subst (R xs) q r));
   }
 
-  pub walk-here : (a p : ℕ) → argumentFrom s i ≡ arguments.Name a p → (xs : List Located) (rest : ℕ) → NamesFrom s from xs rest → (zs : List Located) × R xs (nameIn s a ∷ zs)
+  pub walk-here : (a p : ℕ) → argumentFrom s i ≡ arguments.Name a p → (xs : List Located) (rest : ℕ) → NamesFrom s from xs rest → (zs : List Located) × NamesFrom s p zs rest × R xs (nameIn s a ∷ zs)
   walk-here a p e xs rest n =
       let (ys, m, r) = t .on xs rest n in
       let (zs, q, o) = at-name s i a p ys rest e m in
-      (zs, subst (R xs) q r)
+      (zs, o, subst (R xs) q r)
 
   pub walk-end : (p : ℕ) → argumentFrom s i ≡ arguments.End p → (xs : List Located) (rest : ℕ) → NamesFrom s from xs rest → (p ≡ rest) × R xs []
   walk-end p e xs rest n =
@@ -90,10 +91,10 @@ Unmet n xs ys = isOneOf n xs ≡ isOneOf n ys
 
 module _ {s : List ℕ} {from i : ℕ} {n : Name} (t : Walking s from i (Unmet n)) where
   pub unmet-on : (a p : ℕ) → argumentFrom s i ≡ arguments.Name a p → same n (nameAt s a) ≡ false → Walking s from p (Unmet n)
-  unmet-on a p e f = walk-on t a p (Unmet n) e (λ xs ys r. r ∙ ap (λ b. b || isOneOf n ys) f)
+  unmet-on a p e f = walk-on t a p (Unmet n) e (λ xs ys rest o r. r ∙ ap (λ b. b || isOneOf n ys) f)
 
   pub unmet-met : (a p : ℕ) → argumentFrom s i ≡ arguments.Name a p → same n (nameAt s a) ≡ true → Among s from n true
-  unmet-met a p e f = record { is = λ xs rest h. let (zs, r) = walk-here t a p e xs rest h in sym (r ∙ ap (λ b. b || isOneOf n zs) f) }
+  unmet-met a p e f = record { is = λ xs rest h. let (zs, o, r) = walk-here t a p e xs rest h in sym (r ∙ ap (λ b. b || isOneOf n zs) f) }
 
   pub unmet-end : (p : ℕ) → argumentFrom s i ≡ arguments.End p → Among s from n false
   unmet-end p e = record { is = λ xs rest h. sym (walk-end t p e xs rest h .1) }

@@ -3,3 +3,4 @@ pub mod Rules
 pub mod Acting
 pub mod Sends
 pub mod Endings
+pub mod Lists

@@ -34,7 +34,7 @@ loop-less c = omega (arith, forward-name _ _ _ _ _ (c .before .before .before .n
 
 -- src/names.rt:37:5
 loop-again : tie.Need-loop-again Inv-loop μ-loop
-loop-again c = walk-on (c .before .before .before .before .loop .inv) _ _ Whatever (sym (c .before .before .before .next-argument .ensures .0) ∙ c .before .a .given .1) (λ xs ys r. tt)
+loop-again c = walk-on (c .before .before .before .before .loop .inv) _ _ Whatever (sym (c .before .before .before .next-argument .ensures .0) ∙ c .before .a .given .1) (λ xs ys rest o r. tt)
 
 -- src/names.rt:43:27
 enum-known-a-2 : tie.Need-enum-known-a-2 Inv-loop μ-loop
