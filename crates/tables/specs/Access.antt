@@ -55,6 +55,8 @@ pub record TypeOf (w : List ℕ) (i : ℕ) (r : Labelled) : Type 0 where
 pub record SignatureOf (w : List ℕ) (i : ℕ) (r : Declared) : Type 0 where
   pub is : (s : List ℕ) → namedProcess s w i ≡ (nameAt s (r .at), signatureOf s w (asEntry r))
   pub stands : (s : List ℕ) → Tables s w → i < tallyIn w .processes → SignatureIn s w (asEntry r)
+  -- its entries have places that can be counted
+  pub small : r .first + r .provided < 8589934592
 
 -- r is where the name of the exec i stands
 pub record ExecOf (w : List ℕ) (i : ℕ) (r : ℕ) : Type 0 where
@@ -91,10 +93,10 @@ module _ (w : List ℕ) where
   unfolding namedType
   type-of i r h = record { is = λ s j. (nameAt s (sym (h .at) j), plainIn s w (sym (h .number) j)); stands = λ s t b. back (h .number) (TypeIn s w) (t .types i b) }
 
-  pub signature-of : (i : ℕ) (r : Declared) → asEntry r ≡ processAt w i → SignatureOf w i r
+  pub signature-of : (i : ℕ) (r : Declared) → asEntry r ≡ processAt w i → r .first + r .provided < 8589934592 → SignatureOf w i r
   unfolding namedProcess
-  signature-of i r h =
-      record { is = λ s j. (nameAt s (sym h j .at), signatureOf s w (sym h j)); stands = λ s t b. back h (SignatureIn s w) (t .processes i b) }
+  signature-of i r h b =
+      record { is = λ s j. (nameAt s (sym h j .at), signatureOf s w (sym h j)); stands = λ s t c. back h (SignatureIn s w) (t .processes i c); small = b }
 
   pub exec-of : (i r : ℕ) → r ≡ execAt w i → ExecOf w i r
   unfolding execIn

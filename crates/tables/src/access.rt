@@ -11,12 +11,14 @@ ghost use Rattle.tables.specs.Decode.{tallyIn, pairOf};
 fn word(scratch: &[u32], i: usize) -> usize
     requires { ⌜ i < length (now scratch) ⌝ }
     ensures { λ r. ⌜ r ≡ getD (now (scratch .entry)) i 0 ⌝ }
+    ensures { λ r. ⌜ r < 4294967296 ⌝ }
 {
     wide(scratch[i])
 }
 
 fn wide(x: u32) -> usize
     ensures { λ r. ⌜ r ≡ x ⌝ }
+    ensures { λ r. ⌜ r < 4294967296 ⌝ }
 {
     x as usize
 }
