@@ -14,7 +14,7 @@ use Rattle.notation.specs.Reader.{Result, got, refused, take, part, lastly, exp
 use Rattle.notation.specs.Types.{readType}
 use Rattle.notation.specs.Processes.{readProcess}
 use Rattle.notation.specs.Scripts.{Count, moreTypes as countTypes, moreProcesses as countProcesses, moreExecs as countExecs, keyword, entryList, declarationHead, typeDeclaration, procDeclaration, execDeclaration, scriptBy, readScript}
-use Rattle.notation.specs.Tables.{moreEntries, moreTypes, moreProcesses, moreExecs, putType, putProcess, putExec, afterType, afterAlternatives, writeType, afterEntries, writeEntries, afterProcess, writeProcess, afterDeclaration, writeDeclaration, afterScript, writeScript}
+use Rattle.notation.specs.Tables.{moreEntries, moreTypes, moreProcesses, moreExecs, putType, putProcess, processEntry, putExec, afterType, afterAlternatives, writeType, afterEntries, writeEntries, afterProcess, writeProcess, afterDeclaration, writeDeclaration, afterScript, writeScript}
 use Rattle.notation.specs.declared.reading.Cursor.{Cursor}
 use Rattle.notation.specs.declared.reading.Tally.{Tally}
 use Rattle.notation.specs.declared.reading.Taken.{Taken}
@@ -23,10 +23,9 @@ use Rattle.notation.specs.declared.token.DeclarationHead.{DeclarationHead}
 use Rattle.notation.specs.declared.token.DeclarationHead.the-variants.{TypeWord, ProcWord, ExecWord, End, Other}
 use Rattle.reader.specs.declared.steps.Out.{Out}
 use Rattle.reader.specs.declared.steps.Out.the-variants.{Got, Not}
-use Rattle.reader.specs.declared.store.Signed.{Signed}
 use Rattle.reader.specs.Filling.{TypeRead, Stepped, asOut, misfitOut, Put, Room, unread}
 use Rattle.reader.specs.Processes.{ProcessRead}
-use Rattle.reader.specs.Scripts.{putSigned, EntriesRead, FineDeclaration, DeclarationRead, countOf, Counted, scriptForm, ScriptRead}
+use Rattle.reader.specs.Scripts.{EntriesRead, FineDeclaration, DeclarationRead, countOf, Counted, scriptForm, ScriptRead}
 use Rattle.reader.proofs.Taking.{never}
 use Rattle.reader.proofs.Filled.{same, _upon_, put-kept, took, refused-out, made-got, gone-on, stopped, meets-no, meets-got, more-no, more-got}
 
@@ -198,8 +197,8 @@ module _ (s w : List ℕ) (c : Cursor) (k : Tally) (room : Room s w c k) {q : Ta
                 rw (took u e, took y g, x₁, x₂, took a n, stopped (readProcess m s b₃) (t₃ .is m (omega arith)) r))
 
             pub proc-got : {b₄ : Cursor} {l₃ l₄ : Tally} {v₄ : List ℕ} → p₃ ≡ Got b₄ l₃
-                → Put v₃ (putSigned v₃ (l₃ .processes) (record { at = i; first = k .entries; provided = l .entries - k .entries; used = l₂ .entries - l .entries; body = l₃ .last })) (moreProcesses l₃) l₄ v₄ → Procs (Got b₄ l₄) v₄
-            unfolding procDeclaration afterDeclaration writeDeclaration FineDeclaration putSigned
+                → Put v₃ (putProcess v₃ (l₃ .processes) (processEntry i (k .entries) (l .entries - k .entries) (l₂ .entries - l .entries) (l₃ .last))) (moreProcesses l₃) l₄ v₄ → Procs (Got b₄ l₄) v₄
+            unfolding procDeclaration afterDeclaration writeDeclaration FineDeclaration
             proc-got {b₄} {l₃} r pt =
                 let o₁ = u .on at d e in
                 let o₂ = y .on i f g in
@@ -221,7 +220,7 @@ module _ (s w : List ℕ) (c : Cursor) (k : Tally) (room : Room s w c k) {q : Ta
                 let first : l .entries - k .entries ≡ length xs = entries-read xs k l al in
                 let second : l₂ .entries - l .entries ≡ length ys = entries-read ys l l₂ bl in
                 made-got (declareProc (nameIn s i) xs ys P) (rw (took u e, took y g, x₁, x₂, took a n, x₃)) (λ j. Got b₄ (moreProcesses (last j)))
-                (λ j. putProcess (all j) (number j) i (k .entries) (first j) (second j) (last j .last)) (omega arith, fi, fi₂, fi₃)))
+                (λ j. putProcess (all j) (number j) (processEntry i (k .entries) (first j) (second j) (last j .last))) (omega arith, fi, fi₂, fi₃)))
 
 -- ── the script
 module _ (s w : List ℕ) (c : Cursor) (k : Tally) (room : Room s w c k) (counted : Counted k) where

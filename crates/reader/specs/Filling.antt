@@ -14,6 +14,7 @@ use Rattle.notation.specs.Tables.{afterType, afterAlternatives, writeType, writ
 use Rattle.notation.specs.declared.reading.Tally.{Tally}
 use Rattle.notation.specs.declared.reading.TypeNode.{TypeNode}
 use Rattle.notation.specs.declared.reading.TermNode.{TermNode}
+use Rattle.notation.specs.declared.reading.ProcessEntry.{ProcessEntry}
 use Rattle.notation.specs.declared.reading.Cursor.{Cursor}
 use Rattle.notation.specs.declared.reading.Taken.{Taken}
 use Rattle.notation.specs.declared.reading.Taken.the-variants.{At, Refused}
@@ -75,6 +76,10 @@ Fits n = (n .kind < 8) × (n .first < 1024) × (n .second < 524288)
 -- what fits a process node's two words
 abbrev pub FitsTerm : TermNode → Type 0
 FitsTerm n = (n .kind < 16) × (n .at < 8192) × (n .first < 32768) × (n .second < 16384) × (n .third < 262144)
+
+-- what fits a process's four words
+abbrev pub FitsEntry : ProcessEntry → Type 0
+FitsEntry p = (p .at < 8192) × (p .first ≤ 512) × (p .provided ≤ 512) × (p .used ≤ 512) × (p .body ≤ 9216)
 
 -- the words of the tables' area are there
 abbrev pub Area : List ℕ → Type 0

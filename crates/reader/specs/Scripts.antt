@@ -9,21 +9,13 @@ use Rattle.notation.specs.Token.{kindAt, kName, kColon, kComma}
 use Rattle.notation.specs.Tree.{Located, Entry, Declaration, declareType, declareProc, declareExec}
 use Rattle.notation.specs.Reader.{Result, got, refused, take, part, lastly, choose, expect, thenToken, nameIn}
 use Rattle.notation.specs.Scripts.{Count, readEntries, entryList, readScript}
-use Rattle.notation.specs.Tables.{afterEntries, writeEntries, afterDeclaration, writeDeclaration, afterScript, writeScript, putProcess}
+use Rattle.notation.specs.Tables.{afterEntries, writeEntries, afterDeclaration, writeDeclaration, afterScript, writeScript}
 use Rattle.notation.specs.declared.reading.Cursor.{Cursor}
 use Rattle.notation.specs.declared.reading.Tally.{Tally}
 use Rattle.notation.specs.declared.reading.Taken.{Taken}
 use Rattle.reader.specs.declared.steps.Out.{Out}
-use Rattle.reader.specs.declared.store.Signed.{Signed}
 use Rattle.reader.specs.Processes.{FineProcess}
 use Rattle.reader.specs.Filling.{SameDeclared, Form, Meets, FineType, unread}
-
--- ── the process table's words
-abbrev pub FitsSigned : Signed → Type 0
-FitsSigned p = (p .at < 8192) × (p .first ≤ 512) × (p .provided ≤ 512) × (p .used ≤ 512) × (p .body ≤ 9216)
-
-unfoldable pub putSigned : List ℕ → ℕ → Signed → List ℕ
-putSigned w i p = putProcess w i (p .at) (p .first) (p .provided) (p .used) (p .body)
 
 -- ── signatures
 unfoldable pub entryName : List ℕ → Cursor → Taken

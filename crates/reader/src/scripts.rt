@@ -6,12 +6,12 @@ use crate::steps::expect;
 use crate::steps::kind_at;
 use crate::steps::misfit;
 use crate::steps::refusal;
-use crate::store::Signed;
 use crate::store::put_exec;
 use crate::store::put_process;
 use crate::store::put_type;
 use crate::types::read_type;
 use notation::reading::Cursor;
+use notation::reading::ProcessEntry;
 use notation::reading::Taken;
 use notation::reading::Tally;
 use notation::script::Script;
@@ -93,7 +93,7 @@ fn declare_proc(text: &[u8], scratch: &mut [u32], c: Cursor, k: Tally) -> Out
     let Out::Got(z, n) = body else {
         return body;
     };
-    let p = Signed {
+    let p = ProcessEntry {
         at: i,
         first: k.entries,
         provided: l.entries - k.entries,

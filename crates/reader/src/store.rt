@@ -1,13 +1,13 @@
 // The words of the tables, entry by entry: each appends one and counts it.
+use notation::reading::ProcessEntry;
 use notation::reading::Tally;
 use notation::reading::TermNode;
 use notation::reading::TypeNode;
 ghost use mathlib.Core.Path.{_≡_};
 ghost use Prim.Native.Nat.{_<_, _≤_};
 ghost use lib.ListN.{length};
-ghost use Rattle.notation.specs.Tables.{moreNodes, moreAlternatives, moreTerms, moreBranches, putNode, putAlternative, putTerm, putBranch, putEntry, putType, putExec, moreEntries, moreTypes, moreProcesses, moreExecs, lasting};
-ghost use Rattle.reader.specs.Filling.{Put, Fits, FitsTerm, Area};
-ghost use Rattle.reader.specs.Scripts.{FitsSigned, putSigned};
+ghost use Rattle.notation.specs.Tables.{moreNodes, moreAlternatives, moreTerms, moreBranches, putNode, putAlternative, putTerm, putBranch, putEntry, putType, putProcess, putExec, moreEntries, moreTypes, moreProcesses, moreExecs, lasting};
+ghost use Rattle.reader.specs.Filling.{Put, Fits, FitsTerm, FitsEntry, Area};
 
 // Appends a type node.
 pub(crate) fn put_node(scratch: &mut [u32], k: Tally, n: TypeNode) -> Tally
@@ -136,20 +136,11 @@ pub(crate) fn put_type(scratch: &mut [u32], k: Tally, at: usize, node: usize) ->
     }
 }
 
-// What the process table has of a process: its name, its first signature entry, how many channels it provides and uses, its body.
-pub(crate) struct Signed {
-    pub at: usize,
-    pub first: usize,
-    pub provided: usize,
-    pub used: usize,
-    pub body: usize,
-}
-
 // Appends a process.
-pub(crate) fn put_process(scratch: &mut [u32], k: Tally, p: Signed) -> Tally
+pub(crate) fn put_process(scratch: &mut [u32], k: Tally, p: ProcessEntry) -> Tally
     requires { ⌜ Area (now scratch) × (k .processes < 64) ⌝ }
-    requires { ⌜ FitsSigned p ⌝ }
-    ensures { λ r. ⌜ Put (now (scratch .entry)) (putSigned (now (scratch .entry)) (k .processes) p) (moreProcesses k) r (now (scratch .exit)) ⌝ }
+    requires { ⌜ FitsEntry p ⌝ }
+    ensures { λ r. ⌜ Put (now (scratch .entry)) (putProcess (now (scratch .entry)) (k .processes) p) (moreProcesses k) r (now (scratch .exit)) ⌝ }
 {
     let i = k.processes;
     scratch[144 + 4 * i] = p.at as u32;

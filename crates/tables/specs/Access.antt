@@ -3,7 +3,8 @@ use mathlib.Core.Path.{_≡_}
 use Prim.Native.Nat.{ℕ}
 use Rattle.tables.specs.declared.access.Labelled.{Labelled}
 use Rattle.tables.specs.declared.access.Declared.{Declared}
-use Rattle.tables.specs.Decode.{ProcessEntry, processEntry}
+use Rattle.notation.specs.Tables.{processEntry}
+use Rattle.notation.specs.declared.reading.ProcessEntry.{ProcessEntry}
 
 -- an entry by value is the pair that the words hold
 pub record Holds (r : Labelled) (p : ℕ × ℕ) : Type 0 where

@@ -12,11 +12,12 @@ use Rattle.notation.specs.Limits.{scratchWords}
 use Rattle.notation.specs.Tree.{Located, Entry, Declaration, declareType, declareProc, declareExec}
 use Rattle.notation.specs.Reader.{got, nameIn}
 use Rattle.notation.specs.Scripts.{readText}
-use Rattle.notation.specs.Tables.{afterDeclaration, afterScript, writeScript, writeCounts, nothing, zeros, tablesOf, tables}
+use Rattle.notation.specs.Tables.{afterDeclaration, afterScript, writeScript, writeCounts, nothing, zeros, tablesOf, tables, processEntry}
 use Rattle.notation.specs.declared.reading.Cursor.{Cursor}
 use Rattle.notation.specs.declared.reading.Tally.{Tally}
+use Rattle.notation.specs.declared.reading.ProcessEntry.{ProcessEntry}
 use Rattle.reader.specs.Filling.{Area}
-use Rattle.tables.specs.Decode.{entryAt, typeAt, processAt, ProcessEntry, processEntry, entriesIn, typeIn, scriptIn}
+use Rattle.tables.specs.Decode.{entryAt, typeAt, processAt, entriesIn, typeIn, scriptIn}
 use Rattle.tables.specs.Growth.{grown-counts}
 use Rattle.tables.specs.Stands.{EntriesAt, DeclarationAt, ScriptAt, EntriesFrom, DeclarationFrom, ScriptFrom}
 use Rattle.tables.specs.Declarations.{FineScript, script-kept, script-written}

@@ -5,7 +5,6 @@ use Rattle.reader.proofs.Filled.{kept-set, _upon_}
 use lib.ListN.{set, length-set}
 use denote.Ref.{now}
 use Rattle.notation.specs.Tables.{putProcess}
-use Rattle.reader.specs.Scripts.{putSigned}
 use borrow.Author.Needs.{needs}
 use Rattle.reader.proofs.store.put_process.Statement.{statement}
 use Rattle.reader.proofs.store.put_process.Tie as tie
@@ -122,7 +121,7 @@ same-length c = search needs
 
 -- src/store.rt:149:1
 returns : tie.Need-returns
-unfolding putProcess putSigned
+unfolding putProcess
 returns c = record { is = refl; words = refl; kept = kept-set _ _ _ (omega (arith, c .before .before .before .before .before .pre)) upon kept-set _ _ _ (omega (arith, c .before .before .before .before .before .pre)) upon kept-set _ _ _ (omega (arith, c .before .before .before .before .before .pre)) upon kept-set _ _ _ (omega (arith, c .before .before .before .before .before .pre)) }
 
 pub put-process-spec : {M : Type 1} → statement M
