@@ -13,7 +13,7 @@ use Rattle.notation.specs.declared.reading.Taken.{Taken}
 use Rattle.notation.specs.declared.reading.Taken.the-variants.{At, Refused}
 use Rattle.reader.specs.declared.steps.Out.{Out}
 use Rattle.reader.specs.declared.steps.Out.the-variants.{Got, Not}
-use Rattle.reader.specs.Filling.{Kept, Put, pastArea, Stepped, asOut, Form, Made, Meets}
+use Rattle.reader.specs.Filling.{Kept, WordPut, Put, pastArea, Stepped, asOut, Form, Made, Meets}
 
 -- a refusal goes on nowhere
 pub never-got : {P : Type 0} {n i : ℕ} {d : Cursor} {l : Tally} → Not n i ≡ Got d l → P
@@ -47,6 +47,18 @@ drop-set (suc n) (x ∷ w) (suc i) a l = drop-set n w i a (le-of-suc-le-suc l)
 pub kept-set : (w : List ℕ) (i a : ℕ) → i < 5640 → Kept w (set w i a)
 unfolding pastArea
 kept-set w i a l = record { long = length-set w i a; past = drop-set 5640 w i a l }
+
+-- the words that puts leave, one after another
+infixl 30 _set-more_
+pub _set-more_ : {v x u : List ℕ} {i n : ℕ} → v ≡ x → WordPut v i n u → u ≡ set x i n
+_set-more_ {i = i} {n} e p = p .words ∙ ap (λ w. set w i n) e
+
+pub put-one : {w v : List ℕ} {i n : ℕ} {k : Tally} → WordPut w i n v → Put w (set w i n) k k v
+put-one p = record { is = refl; words = p .words; kept = p .kept }
+
+infixl 30 _put-more_
+pub _put-more_ : {w x v u : List ℕ} {i n : ℕ} {k r : Tally} → Put w x k r v → WordPut v i n u → Put w (set x i n) k r u
+_put-more_ q p = record { is = q .is; words = q .words set-more p; kept = p .kept upon q .kept }
 
 -- ── what an answer says of the definition's answer
 module _ {A : Type 0} {F : Form A} {w v : List ℕ} {k : Tally} {r : Out} where

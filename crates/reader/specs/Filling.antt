@@ -3,7 +3,7 @@ use mathlib.Core.Path.{_≡_}
 use Prim.Native.Nat.{ℕ, _+_, _-_, _*_, _<_, _≤_}
 use mathlib.Core.List.{List}
 use mathlib.Core.Bool.{cond}
-use lib.ListN.{length, drop}
+use lib.ListN.{length, drop, set}
 use lib.Dec.{eqb}
 use Rattle.notation.specs.Limits.{textLimit, typeTermLimit, processTermLimit}
 use Rattle.notation.specs.Token.{tokenAt, kColon, kBraceOpen, kStar, kAt, kOne, kName, kPlus}
@@ -62,6 +62,11 @@ pastArea w = drop 5640 w
 pub record Kept (w v : List ℕ) : Type 0 where
   pub long : length v ≡ length w
   pub past : pastArea v ≡ pastArea w
+
+-- the word i of the tables is n
+pub record WordPut (w : List ℕ) (i n : ℕ) (v : List ℕ) : Type 0 where
+  pub words : v ≡ set w i n
+  pub kept : Kept w v
 
 -- words are put: the tally r and the words v
 pub record Put (w x : List ℕ) (k r : Tally) (v : List ℕ) : Type 0 where

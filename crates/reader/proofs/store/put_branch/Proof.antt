@@ -1,65 +1,37 @@
-use native.Mathlib.Omega.{arith}
-use Rattle.reader.proofs.Filled.{kept-set}
-use mathlib.Core.Path.{refl}
-use Rattle.notation.specs.Tables.{putBranch, pairWord}
+use Rattle.notation.specs.Tables.{putBranch}
+use Rattle.reader.proofs.Filled.{put-one}
 use borrow.Author.Needs.{needs}
 use Rattle.reader.proofs.store.put_branch.Statement.{statement}
 use Rattle.reader.proofs.store.put_branch.Tie as tie
 use Rattle.reader.proofs.store.put_branch.Reads as reads
 use Rattle.reader.proofs.store.put_branch.Lts as lts
+use Rattle.reader.proofs.store.put_pair.Reads as put-pair-reads
 
--- src/store.rt:83:31
-mul-scratch : tie.Need-mul-scratch
-mul-scratch c = search needs
+-- src/store.rt:73:23
+add-put-pair : tie.Need-add-put-pair
+add-put-pair c = search needs
 
--- src/store.rt:83:26
-add-scratch : tie.Need-add-scratch
-add-scratch c = search needs
+-- src/store.rt:73:5
+put-pair-requires : tie.Need-put-pair-requires
+put-pair-requires c κs = search needs
 
--- src/store.rt:83:25
-cast-scratch : tie.Need-cast-scratch
-cast-scratch c = search needs
+-- src/store.rt:75:18
+add-l : tie.Need-add-l
+add-l c = search needs
 
--- src/store.rt:83:13
-add-scratch-2 : tie.Need-add-scratch-2
-add-scratch-2 c = search needs
+-- src/store.rt:76:14
+add-l-2 : tie.Need-add-l-2
+add-l-2 c = search needs
 
--- src/store.rt:83:5
-mul-scratch-2 : tie.Need-mul-scratch-2
-mul-scratch-2 c = search needs
-
--- src/store.rt:83:5
-slice-write-scratch : tie.Need-slice-write-scratch
-slice-write-scratch c = search needs
-
--- src/store.rt:92:19
-add-t6 : tie.Need-add-t6
-add-t6 c = search needs
-
--- src/store.rt:93:15
-add-t10 : tie.Need-add-t10
-add-t10 c = search needs
-
--- src/store.rt:78:1
+-- src/store.rt:69:1
 same-length : tie.Need-same-length
 same-length c = search needs
 
--- src/store.rt:78:1
+-- src/store.rt:69:1
 returns : tie.Need-returns
-unfolding putBranch pairWord
-returns c = record { is = refl; words = refl; kept = kept-set _ _ _ (omega (arith, c .before .pre)) }
+unfolding putBranch
+returns c = put-one (c .before .before .before .before .put-pair .ensures)
 
 pub put-branch-spec : {M : Type 1} → statement M
 put-branch-spec =
-    tie.close
-    (tie.spec
-    mul-scratch
-    add-scratch
-    cast-scratch
-    add-scratch-2
-    mul-scratch-2
-    slice-write-scratch
-    add-t6
-    add-t10
-    same-length
-    returns)
+    tie.close (tie.spec add-put-pair put-pair-requires add-l add-l-2 same-length returns)

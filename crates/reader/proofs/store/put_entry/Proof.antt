@@ -1,60 +1,32 @@
-use native.Mathlib.Omega.{arith}
-use mathlib.Core.Path.{refl}
-use Rattle.reader.proofs.Filled.{kept-set}
-use Rattle.notation.specs.Tables.{putEntry, pairWord}
+use Rattle.notation.specs.Tables.{putEntry}
+use Rattle.reader.proofs.Filled.{put-one}
 use borrow.Author.Needs.{needs}
 use Rattle.reader.proofs.store.put_entry.Statement.{statement}
 use Rattle.reader.proofs.store.put_entry.Tie as tie
 use Rattle.reader.proofs.store.put_entry.Reads as reads
 use Rattle.reader.proofs.store.put_entry.Lts as lts
+use Rattle.reader.proofs.store.put_pair.Reads as put-pair-reads
 
--- src/store.rt:104:30
-mul-scratch : tie.Need-mul-scratch
-mul-scratch c = search needs
+-- src/store.rt:85:23
+add-put-pair : tie.Need-add-put-pair
+add-put-pair c = search needs
 
--- src/store.rt:104:25
-add-scratch : tie.Need-add-scratch
-add-scratch c = search needs
+-- src/store.rt:85:5
+put-pair-requires : tie.Need-put-pair-requires
+put-pair-requires c κs = search needs
 
--- src/store.rt:104:24
-cast-scratch : tie.Need-cast-scratch
-cast-scratch c = search needs
+-- src/store.rt:87:17
+add-l : tie.Need-add-l
+add-l c = search needs
 
--- src/store.rt:104:13
-add-scratch-2 : tie.Need-add-scratch-2
-add-scratch-2 c = search needs
-
--- src/store.rt:104:5
-mul-scratch-2 : tie.Need-mul-scratch-2
-mul-scratch-2 c = search needs
-
--- src/store.rt:104:5
-slice-write-scratch : tie.Need-slice-write-scratch
-slice-write-scratch c = search needs
-
--- src/store.rt:109:18
-add-t6 : tie.Need-add-t6
-add-t6 c = search needs
-
--- src/store.rt:99:1
+-- src/store.rt:81:1
 same-length : tie.Need-same-length
 same-length c = search needs
 
--- src/store.rt:99:1
+-- src/store.rt:81:1
 returns : tie.Need-returns
-unfolding putEntry pairWord
-returns c = record { is = refl; words = refl; kept = kept-set _ _ _ (omega (arith, c .pre)) }
+unfolding putEntry
+returns c = put-one (c .before .before .before .put-pair .ensures)
 
 pub put-entry-spec : {M : Type 1} → statement M
-put-entry-spec =
-    tie.close
-    (tie.spec
-    mul-scratch
-    add-scratch
-    cast-scratch
-    add-scratch-2
-    mul-scratch-2
-    slice-write-scratch
-    add-t6
-    same-length
-    returns)
+put-entry-spec = tie.close (tie.spec add-put-pair put-pair-requires add-l same-length returns)
