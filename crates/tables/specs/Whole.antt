@@ -115,7 +115,7 @@ tables-in ds s t f h =
     let e : ScriptAt v k nothing ds = script-kept (grown-counts k w) h ds nothing (script-written ds nothing zeros f area h) in
     record { within = h; types = λ i l. each-type s v k ds nothing t e i (omega arith) l; processes = λ i l. each-process s v k ds nothing t e i (omega arith) l }
 
--- whatever text is read: its tables give back its script, where they have room for it, as a text that `read` did not refuse has (`Roomy`)
+-- whatever text is read: its tables give back its script, where they have room for it, as a text that `read` did not refuse has (`FitsTables`)
 pub text-decoded : (s : List ℕ) (ds : List Declaration) (d : Cursor) → readText s ≡ got ds d → Within (afterScript ds nothing)
     → (scriptIn s (tables s) ≡ sorted ds) × TablesIn s (tables s) (afterScript ds nothing)
 unfolding tables
