@@ -18,12 +18,12 @@ use Rattle.notation.specs.declared.reading.Tally.{Tally}
 use Rattle.notation.specs.declared.reading.Taken.{Taken}
 use Rattle.notation.specs.declared.reading.Taken.the-variants.{At, Refused}
 use Rattle.notation.specs.declared.token.TermHead.the-variants.{Call}
-use Rattle.reader.specs.declared.steps.Out.{Out}
-use Rattle.reader.specs.declared.steps.Out.the-variants.{Got, Not}
-use Rattle.reader.specs.Filling.{Stepped, asOut, Put, Room, unread}
+use Rattle.typereader.specs.declared.steps.Out.{Out}
+use Rattle.typereader.specs.declared.steps.Out.the-variants.{Got, Not}
+use Rattle.typereader.specs.Filling.{Stepped, asOut, Put, Room, unread}
 use Rattle.reader.specs.Processes.{AheadNames, NamesTaken, forgetNames, listEnd, namesOrNone, FineProcess, TermRead}
-use Rattle.reader.proofs.Taking.{never}
-use Rattle.reader.proofs.Filled.{at-more, same, _upon_, put-kept, took, refused-out, made-got, meets-no, meets-got}
+use Rattle.typereader.proofs.Taking.{never}
+use Rattle.typereader.proofs.Filled.{at-more, same, _upon_, put-kept, took, refused-out, made-got, meets-no, meets-got}
 
 -- a list that was read, and one that was refused
 module _ {P : Type 0} {r : Taken} (i : ℕ) (x : Result (List Located)) (is : r ≡ forgetNames i x) where

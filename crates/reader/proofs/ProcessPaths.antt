@@ -22,14 +22,14 @@ use Rattle.notation.specs.declared.reading.Taken.{Taken}
 use Rattle.notation.specs.declared.reading.Taken.the-variants.{At, Refused}
 use Rattle.notation.specs.declared.token.TermHead.{TermHead}
 use Rattle.notation.specs.declared.token.TermHead.the-variants.{Send, Recv, Fwd, Call, Cancel, Raise, Try, Spawn, Empty}
-use Rattle.reader.specs.declared.steps.Out.{Out}
-use Rattle.reader.specs.declared.steps.Out.the-variants.{Got, Not}
-use Rattle.reader.specs.Filling.{TypeRead, Stepped, asOut, misfitOut, Put, Room, Form, Made, Meets, unread}
-use Rattle.reader.specs.Processes.{payloadTaken, payloadThen, labelThen, nameColon, misfitTaken, sentOf, sentNode, recvdOf, recvdNode, FineProcess, FineBranches, SomeBranch, processForm, branchesForm, moreBranchesForm, partsForm, termBy, handlerBy, TermRead, SentRead, HandlerRead, OneRead, LabelsRead, BracketedRead, PartsRead, ProcessRead, RestRead, BranchesRead, MoreBranchesRead}
+use Rattle.typereader.specs.declared.steps.Out.{Out}
+use Rattle.typereader.specs.declared.steps.Out.the-variants.{Got, Not}
+use Rattle.typereader.specs.Filling.{TypeRead, Stepped, asOut, misfitOut, Put, Room, Form, Made, Meets, unread, misfitTaken}
+use Rattle.reader.specs.Processes.{payloadTaken, payloadThen, labelThen, nameColon, sentOf, sentNode, recvdOf, recvdNode, FineProcess, FineBranches, SomeBranch, processForm, branchesForm, moreBranchesForm, partsForm, termBy, handlerBy, TermRead, SentRead, HandlerRead, OneRead, LabelsRead, BracketedRead, PartsRead, ProcessRead, RestRead, BranchesRead, MoreBranchesRead}
 use Rattle.notation.specs.declared.token.Payload.{Payload}
 use Rattle.notation.specs.declared.token.Payload.the-variants.{Unit as UnitPayload, Channel, Label, Other}
-use Rattle.reader.proofs.TypePaths.{then-take, within-limit}
-use Rattle.reader.proofs.Filled.{same, _upon_, put-kept, took, refused-out, made-no, made-got, gone-on, stopped, meets-no, meets-got, more-no, more-got, more-made}
+use Rattle.typereader.proofs.TypePaths.{then-take, within-limit}
+use Rattle.typereader.proofs.Filled.{same, _upon_, put-kept, took, refused-out, made-no, made-got, gone-on, stopped, meets-no, meets-got, more-no, more-got, more-made}
 
 -- the definition at one more fuel
 process-suc : (m : ℕ) (s : List ℕ) (c : Cursor) → readProcess (suc m) s c ≡ termBy (termHead (kindAt s (c .at))) s c m

@@ -21,13 +21,13 @@ use Rattle.notation.specs.declared.reading.Taken.{Taken}
 use Rattle.notation.specs.declared.reading.Taken.the-variants.{At, Refused}
 use Rattle.notation.specs.declared.token.DeclarationHead.{DeclarationHead}
 use Rattle.notation.specs.declared.token.DeclarationHead.the-variants.{TypeWord, ProcWord, ExecWord, End, Other}
-use Rattle.reader.specs.declared.steps.Out.{Out}
-use Rattle.reader.specs.declared.steps.Out.the-variants.{Got, Not}
-use Rattle.reader.specs.Filling.{TypeRead, Stepped, asOut, misfitOut, Put, Room, unread}
+use Rattle.typereader.specs.declared.steps.Out.{Out}
+use Rattle.typereader.specs.declared.steps.Out.the-variants.{Got, Not}
+use Rattle.typereader.specs.Filling.{TypeRead, Stepped, asOut, misfitOut, Put, Room, unread}
 use Rattle.reader.specs.Processes.{ProcessRead}
 use Rattle.reader.specs.Scripts.{EntriesRead, FineDeclaration, DeclarationRead, countOf, Counted, scriptForm, ScriptRead}
-use Rattle.reader.proofs.Taking.{never}
-use Rattle.reader.proofs.Filled.{same, _upon_, put-kept, took, refused-out, made-got, gone-on, stopped, meets-no, meets-got, more-no, more-got}
+use Rattle.typereader.proofs.Taking.{never}
+use Rattle.typereader.proofs.Filled.{same, _upon_, put-kept, took, refused-out, made-got, gone-on, stopped, meets-no, meets-got, more-no, more-got}
 
 -- a keyword that was taken is within its limit
 pub keyword-held : {s : List ℕ} {c : Cursor} {n i : ℕ} {d : Cursor} {q : Taken} (kind before limit : ℕ) → Stepped s c n 0 0 (keyword s kind before limit c) q → q ≡ At i d → before < limit

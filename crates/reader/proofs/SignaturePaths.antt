@@ -17,12 +17,12 @@ use Rattle.notation.specs.declared.reading.Cursor.{Cursor}
 use Rattle.notation.specs.declared.reading.Tally.{Tally}
 use Rattle.notation.specs.declared.reading.Taken.{Taken}
 use Rattle.notation.specs.declared.reading.Taken.the-variants.{At, Refused}
-use Rattle.reader.specs.declared.steps.Out.{Out}
-use Rattle.reader.specs.declared.steps.Out.the-variants.{Got, Not}
-use Rattle.reader.specs.Filling.{SameDeclared, TypeRead, Stepped, asOut, Put, Room, unread}
+use Rattle.typereader.specs.declared.steps.Out.{Out}
+use Rattle.typereader.specs.declared.steps.Out.the-variants.{Got, Not}
+use Rattle.typereader.specs.Filling.{SameDeclared, TypeRead, Stepped, asOut, Put, Room, unread}
 use Rattle.reader.specs.Scripts.{entryName, FineEntries, entriesForm, closeBy, moreEntriesBy, entriesOrNone, EntriesRead}
-use Rattle.reader.proofs.TypePaths.{then-take}
-use Rattle.reader.proofs.Filled.{same, _upon_, put-kept, took, refused-out, made-got, gone-on, stopped, meets-no, meets-got, more-no, more-got}
+use Rattle.typereader.proofs.TypePaths.{then-take}
+use Rattle.typereader.proofs.Filled.{same, _upon_, put-kept, took, refused-out, made-got, gone-on, stopped, meets-no, meets-got, more-no, more-got}
 
 abbrev entry : List ℕ → ℕ → Ty Located → Entry
 entry s i A = record { channel = nameIn s i; type = A }

@@ -16,13 +16,13 @@ use Rattle.notation.specs.Scripts.{readText, readScript, start, fuel}
 use Rattle.notation.specs.Tables.{afterScript, writeScript, writeCounts, nothing, zeros, tables, tablesOf}
 use Rattle.notation.specs.declared.reading.Cursor.{Cursor}
 use Rattle.notation.specs.declared.reading.Tally.{Tally}
-use Rattle.reader.specs.declared.steps.Out.{Out}
-use Rattle.reader.specs.declared.steps.Out.the-variants.{Got, Not}
+use Rattle.typereader.specs.declared.steps.Out.{Out}
+use Rattle.typereader.specs.declared.steps.Out.the-variants.{Got, Not}
 use Rattle.reader.specs.declared.reading.Reading.{Reading}
 use Rattle.reader.specs.declared.reading.Reading.the-variants.{Read, Refused}
 use Rattle.reader.specs.Scripts.{ScriptRead}
 use Rattle.reader.specs.Reading.{Within, answerOf, Filled, TextRead}
-use Rattle.reader.proofs.Filled.{gone-on, stopped}
+use Rattle.typereader.proofs.Filled.{gone-on, stopped}
 
 pub all-zero : (p : List ℕ) → length p ≡ 8192 → ((j : ℕ) → j < 8192 → getD p j 0 ≡ 0) → p ≡ zeros
 all-zero p l h = ext-getD 0 p (replicate 8192 0) (l ∙ sym (length-replicate {A = ℕ} 8192 0)) (λ i m. h i (omega arith) ∙ sym (getD-replicate {A = ℕ} 8192 i 0 0 (omega arith)))

@@ -21,13 +21,10 @@ use Rattle.notation.specs.declared.token.TermHead.{TermHead}
 use Rattle.notation.specs.declared.token.TermHead.the-variants.{Send, Recv, Fwd, Call, Cancel, Raise, Try, Spawn}
 use Rattle.notation.specs.declared.token.Payload.{Payload}
 use Rattle.notation.specs.declared.token.Payload.the-variants.{Unit as UnitPayload, Channel, Label, Other}
-use Rattle.reader.specs.declared.steps.Out.{Out}
-use Rattle.reader.specs.Filling.{SameDeclared, Form, Meets, FineType, unread}
+use Rattle.typereader.specs.declared.steps.Out.{Out}
+use Rattle.typereader.specs.Filling.{misfitTaken, SameDeclared, Form, Meets, FineType, unread}
 
 -- ── tokens
-abbrev pub misfitTaken : List ℕ → Cursor → Taken
-misfitTaken s c = Refused (fault (tokenAt s (c .at))) (tokenAt s (c .at) .start)
-
 -- what a send sends or a recv takes, as one step
 unfoldable pub payloadTaken : List ℕ → Cursor → Payload → Taken
 payloadTaken s c UnitPayload = unitTaken s c

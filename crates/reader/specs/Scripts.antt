@@ -13,9 +13,9 @@ use Rattle.notation.specs.Tables.{afterEntries, writeEntries, afterDeclaration,
 use Rattle.notation.specs.declared.reading.Cursor.{Cursor}
 use Rattle.notation.specs.declared.reading.Tally.{Tally}
 use Rattle.notation.specs.declared.reading.Taken.{Taken}
-use Rattle.reader.specs.declared.steps.Out.{Out}
+use Rattle.typereader.specs.declared.steps.Out.{Out}
 use Rattle.reader.specs.Processes.{FineProcess}
-use Rattle.reader.specs.Filling.{SameDeclared, Form, Meets, FineType, unread}
+use Rattle.typereader.specs.Filling.{SameDeclared, Form, Meets, FineType, unread}
 
 -- ── signatures
 unfoldable pub entryName : List ℕ → Cursor → Taken

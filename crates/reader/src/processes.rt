@@ -1,18 +1,4 @@
 // The reading of processes: "A process holds branches and a branch holds a process".
-use crate::steps::Out;
-use crate::steps::expect;
-use crate::steps::kind_at;
-use crate::steps::label_term;
-use crate::steps::misfit;
-use crate::steps::opening;
-use crate::steps::payload_head;
-use crate::steps::process_term;
-use crate::steps::refusal;
-use crate::steps::term_head;
-use crate::store::lasting;
-use crate::store::put_branch;
-use crate::store::put_term;
-use crate::types::read_type;
 use notation::reading::Cursor;
 use notation::reading::Taken;
 use notation::reading::Tally;
@@ -21,13 +7,27 @@ use notation::token::Payload;
 use notation::token::TermHead;
 use notation::token::Token;
 use notation::token::next_token;
+use typereader::steps::Out;
+use typereader::steps::expect;
+use typereader::steps::kind_at;
+use typereader::steps::label_term;
+use typereader::steps::misfit;
+use typereader::steps::opening;
+use typereader::steps::payload_head;
+use typereader::steps::process_term;
+use typereader::steps::refusal;
+use typereader::steps::term_head;
+use typereader::store::lasting;
+use typereader::store::put_branch;
+use typereader::store::put_term;
+use typereader::types::read_type;
 ghost use mathlib.Core.Path.{_≡_};
 ghost use Prim.Native.Nat.{_<_, _≤_};
 ghost use Rattle.notation.specs.Token.{tokenAt};
 ghost use Rattle.notation.specs.Processes.{unitTaken, readNames, nameList};
 ghost use Rattle.notation.specs.declared.token.TermHead.the-variants.{Send, Recv, Fwd, Call, Cancel, Raise, Try, Spawn};
-ghost use Rattle.reader.specs.Filling.{Stepped, Room, FitsTerm};
-ghost use Rattle.reader.specs.Processes.{NamesTaken, listEnd, namesOrNone, misfitTaken, payloadTaken, payloadThen, labelThen, nameColon, sentNode, recvdNode, TermRead, SentRead, HandlerRead, OneRead, LabelsRead, BracketedRead, PartsRead, ProcessRead, RestRead, BranchesRead, MoreBranchesRead};
+ghost use Rattle.typereader.specs.Filling.{Stepped, Room, FitsTerm, misfitTaken};
+ghost use Rattle.reader.specs.Processes.{NamesTaken, listEnd, namesOrNone, payloadTaken, payloadThen, labelThen, nameColon, sentNode, recvdNode, TermRead, SentRead, HandlerRead, OneRead, LabelsRead, BracketedRead, PartsRead, ProcessRead, RestRead, BranchesRead, MoreBranchesRead};
 
 // The mark ().
 fn unit_mark(text: &[u8], c: Cursor) -> Taken

@@ -1,10 +1,10 @@
 // The reading of a whole text into the lent words.
 use crate::scripts::read_script;
-use crate::steps::Out;
-use crate::store::put_word;
 use notation::reading::Cursor;
 use notation::reading::Tally;
 use notation::script::Script;
+use typereader::steps::Out;
+use typereader::store::put_word;
 ghost use mathlib.Core.Path.{_≡_};
 ghost use Prim.Native.Nat.{_<_, _≤_};
 ghost use lib.ListN.{length};

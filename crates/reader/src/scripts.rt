@@ -1,15 +1,6 @@
 // The reading of declarations and of the script.
 use crate::processes::read_process;
 use crate::signatures::entry_list;
-use crate::steps::Out;
-use crate::steps::expect;
-use crate::steps::kind_at;
-use crate::steps::misfit;
-use crate::steps::refusal;
-use crate::store::put_exec;
-use crate::store::put_process;
-use crate::store::put_type;
-use crate::types::read_type;
 use notation::reading::Cursor;
 use notation::reading::ProcessEntry;
 use notation::reading::Taken;
@@ -17,11 +8,20 @@ use notation::reading::Tally;
 use notation::script::Script;
 use notation::token::DeclarationHead;
 use notation::token::Token;
+use typereader::steps::Out;
+use typereader::steps::expect;
+use typereader::steps::kind_at;
+use typereader::steps::misfit;
+use typereader::steps::refusal;
+use typereader::store::put_exec;
+use typereader::store::put_process;
+use typereader::store::put_type;
+use typereader::types::read_type;
 ghost use mathlib.Core.Path.{_≡_};
 ghost use Prim.Native.Nat.{_<_, _≤_};
 ghost use Rattle.notation.specs.Token.{width};
 ghost use Rattle.notation.specs.Scripts.{keyword, declarationHead, typeDeclaration, procDeclaration, execDeclaration};
-ghost use Rattle.reader.specs.Filling.{Stepped, Room};
+ghost use Rattle.typereader.specs.Filling.{Stepped, Room};
 ghost use Rattle.reader.specs.Scripts.{DeclarationRead, ScriptRead, Counted};
 
 // The keyword of a declaration of whose kind `before` came before.

@@ -1,19 +1,19 @@
 // The reading of signatures: lists of channels with their types.
-use crate::steps::Out;
-use crate::steps::expect;
-use crate::steps::kind_at;
-use crate::steps::opening;
-use crate::steps::refusal;
-use crate::store::put_entry;
-use crate::types::read_type;
 use notation::reading::Cursor;
 use notation::reading::Taken;
 use notation::reading::Tally;
 use notation::token::Token;
+use typereader::steps::Out;
+use typereader::steps::expect;
+use typereader::steps::kind_at;
+use typereader::steps::opening;
+use typereader::steps::refusal;
+use typereader::store::put_entry;
+use typereader::types::read_type;
 ghost use mathlib.Core.Path.{_≡_};
 ghost use Prim.Native.Nat.{_<_, _≤_};
 ghost use Rattle.notation.specs.Scripts.{readEntries, entryList};
-ghost use Rattle.reader.specs.Filling.{Stepped, Room};
+ghost use Rattle.typereader.specs.Filling.{Stepped, Room};
 ghost use Rattle.reader.specs.Scripts.{entryName, closeBy, moreEntriesBy, entriesOrNone, EntriesRead};
 
 // The name of an entry, and its colon.

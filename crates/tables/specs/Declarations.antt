@@ -9,7 +9,7 @@ use Rattle.notation.specs.Limits.{textLimit, typeTermLimit, processTermLimit}
 use Rattle.notation.specs.Tree.{Located, Ty, unit, named, tensor, par, lolli, plus, with, Alternatives, alternative, Proc, empty, sendUnit, sendChannel, sendLabel, cancel, spawn, recvUnit, recvChannel, recvLabel, fwd, call, raise, try, Branches, branch, Entry, Declaration, declareType, declareProc, declareExec}
 use Rattle.notation.specs.Tables.{putEntry, putType, putProcess, putExec, moreEntries, moreTypes, moreProcesses, moreExecs, afterType, afterAlternatives, writeType, afterProcess, afterBranches, writeProcess, afterEntries, writeEntries, afterDeclaration, writeDeclaration, afterScript, writeScript, processEntry}
 use Rattle.notation.specs.declared.reading.Tally.{Tally}
-use Rattle.reader.specs.Filling.{Area, FineType}
+use Rattle.typereader.specs.Filling.{Area, FineType}
 use Rattle.reader.specs.Processes.{FineProcess}
 use Rattle.reader.specs.Scripts.{FineEntries, FineDeclaration}
 use Rattle.tables.specs.Packing.{entry-put, type-put, process-put, exec-put}

@@ -16,7 +16,7 @@ use Rattle.notation.specs.Tables.{afterDeclaration, afterScript, writeScript, w
 use Rattle.notation.specs.declared.reading.Cursor.{Cursor}
 use Rattle.notation.specs.declared.reading.Tally.{Tally}
 use Rattle.notation.specs.declared.reading.ProcessEntry.{ProcessEntry}
-use Rattle.reader.specs.Filling.{Area}
+use Rattle.typereader.specs.Filling.{Area}
 use Rattle.tables.specs.Decode.{entryAt, typeAt, processAt, entriesIn, typeIn, scriptIn}
 use Rattle.tables.specs.Growth.{grown-counts}
 use Rattle.tables.specs.Stands.{EntriesAt, DeclarationAt, ScriptAt, EntriesFrom, DeclarationFrom, ScriptFrom}

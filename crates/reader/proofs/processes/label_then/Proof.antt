@@ -2,14 +2,14 @@ use native.Mathlib.Omega.{arith}
 use Rattle.notation.specs.Token.{kThen}
 use Rattle.notation.specs.Reader.{expect}
 use Rattle.reader.specs.Processes.{labelThen}
-use Rattle.reader.proofs.Taking.{first-no, second-no, both-at}
+use Rattle.typereader.proofs.Taking.{first-no, second-no, both-at}
 use borrow.Author.Needs.{needs}
 use Rattle.reader.proofs.processes.label_then.Statement.{statement}
 use Rattle.reader.proofs.processes.label_then.Tie as tie
 use Rattle.reader.proofs.processes.label_then.Reads as reads
 use Rattle.reader.proofs.processes.label_then.Lts as lts
-use Rattle.reader.proofs.steps.expect.Reads as expect-reads
-use Rattle.reader.proofs.steps.label_term.Reads as label-term-reads
+use Rattle.typereader.proofs.steps.expect.Reads as expect-reads
+use Rattle.typereader.proofs.steps.label_term.Reads as label-term-reads
 
 -- src/processes.rt:97:9
 label-term-requires : tie.Need-label-term-requires

@@ -1,4 +1,4 @@
-use Rattle.reader.proofs.Taking.{misfit-token, fault-is, misfit-is}
+use Rattle.typereader.proofs.Taking.{misfit-token, fault-is, misfit-is}
 use borrow.Author.Needs.{needs}
 use Rattle.reader.proofs.processes.misfit_token.Statement.{statement}
 use Rattle.reader.proofs.processes.misfit_token.Tie as tie

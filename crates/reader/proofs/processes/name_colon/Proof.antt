@@ -2,14 +2,14 @@ use native.Mathlib.Omega.{arith}
 use Rattle.notation.specs.Token.{kColon}
 use Rattle.notation.specs.Reader.{expect}
 use Rattle.reader.specs.Processes.{nameColon}
-use Rattle.reader.proofs.Taking.{first-no, second-no, both-at}
+use Rattle.typereader.proofs.Taking.{first-no, second-no, both-at}
 use borrow.Author.Needs.{needs}
 use Rattle.reader.proofs.processes.name_colon.Statement.{statement}
 use Rattle.reader.proofs.processes.name_colon.Tie as tie
 use Rattle.reader.proofs.processes.name_colon.Reads as reads
 use Rattle.reader.proofs.processes.name_colon.Lts as lts
-use Rattle.reader.proofs.steps.expect.Reads as expect-reads
-use Rattle.reader.proofs.steps.process_term.Reads as process-term-reads
+use Rattle.typereader.proofs.steps.expect.Reads as expect-reads
+use Rattle.typereader.proofs.steps.process_term.Reads as process-term-reads
 
 -- src/processes.rt:112:9
 process-term-requires : tie.Need-process-term-requires

@@ -2,14 +2,14 @@ use native.Mathlib.Omega.{arith}
 use Rattle.notation.specs.Token.{kThen}
 use Rattle.notation.specs.Reader.{expect}
 use Rattle.reader.specs.Processes.{payloadThen}
-use Rattle.reader.proofs.Taking.{first-no, second-no, both-at}
+use Rattle.typereader.proofs.Taking.{first-no, second-no, both-at}
 use borrow.Author.Needs.{needs}
 use Rattle.reader.proofs.processes.payload_then.Statement.{statement}
 use Rattle.reader.proofs.processes.payload_then.Tie as tie
 use Rattle.reader.proofs.processes.payload_then.Reads as reads
 use Rattle.reader.proofs.processes.payload_then.Lts as lts
 use Rattle.reader.proofs.processes.payload_token.Reads as payload-token-reads
-use Rattle.reader.proofs.steps.expect.Reads as expect-reads
+use Rattle.typereader.proofs.steps.expect.Reads as expect-reads
 
 -- src/processes.rt:82:9
 payload-token-requires : tie.Need-payload-token-requires

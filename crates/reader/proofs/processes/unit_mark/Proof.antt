@@ -2,16 +2,16 @@ use native.Mathlib.Omega.{arith}
 use Rattle.notation.specs.Token.{kRoundClose}
 use Rattle.notation.specs.Reader.{expect}
 use Rattle.notation.specs.Processes.{unitTaken}
-use Rattle.reader.proofs.Taking.{first-no, second-no, both-at}
-use Rattle.reader.proofs.Taking.{closing-no, closing-at}
+use Rattle.typereader.proofs.Taking.{first-no, second-no, both-at}
+use Rattle.typereader.proofs.Taking.{closing-no, closing-at}
 use mathlib.Core.Path.{refl}
 use borrow.Author.Needs.{needs}
 use Rattle.reader.proofs.processes.unit_mark.Statement.{statement}
 use Rattle.reader.proofs.processes.unit_mark.Tie as tie
 use Rattle.reader.proofs.processes.unit_mark.Reads as reads
 use Rattle.reader.proofs.processes.unit_mark.Lts as lts
-use Rattle.reader.proofs.steps.expect.Reads as expect-reads
-use Rattle.reader.proofs.steps.opening.Reads as opening-reads
+use Rattle.typereader.proofs.steps.expect.Reads as expect-reads
+use Rattle.typereader.proofs.steps.opening.Reads as opening-reads
 
 -- src/processes.rt:35:9
 opening-requires : tie.Need-opening-requires

@@ -1,12 +1,12 @@
 use Rattle.notation.specs.Tables.{writeCounts}
-use Rattle.reader.proofs.Filled.{_set-more_}
+use Rattle.typereader.proofs.Filled.{_set-more_}
 use native.Mathlib.Omega.{arith}
 use borrow.Author.Needs.{needs}
 use Rattle.reader.proofs.reading.write_counts.Statement.{statement}
 use Rattle.reader.proofs.reading.write_counts.Tie as tie
 use Rattle.reader.proofs.reading.write_counts.Reads as reads
 use Rattle.reader.proofs.reading.write_counts.Lts as lts
-use Rattle.reader.proofs.store.put_word.Reads as put-word-reads
+use Rattle.typereader.proofs.store.put_word.Reads as put-word-reads
 
 -- src/reading.rt:39:5
 put-word-requires : tie.Need-put-word-requires

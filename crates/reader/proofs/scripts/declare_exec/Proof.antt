@@ -8,9 +8,9 @@ use Rattle.reader.proofs.scripts.declare_exec.Tie as tie
 use Rattle.reader.proofs.scripts.declare_exec.Reads as reads
 use Rattle.reader.proofs.scripts.declare_exec.Lts as lts
 use Rattle.reader.proofs.scripts.keyword.Reads as keyword-reads
-use Rattle.reader.proofs.steps.expect.Reads as expect-reads
-use Rattle.reader.proofs.steps.refusal.Reads as refusal-reads
-use Rattle.reader.proofs.store.put_exec.Reads as put-exec-reads
+use Rattle.typereader.proofs.steps.expect.Reads as expect-reads
+use Rattle.typereader.proofs.steps.refusal.Reads as refusal-reads
+use Rattle.typereader.proofs.store.put_exec.Reads as put-exec-reads
 
 -- src/scripts.rt:112:9
 keyword-requires : tie.Need-keyword-requires

@@ -11,9 +11,9 @@ use Rattle.reader.proofs.scripts.declare_proc.Lts as lts
 use Rattle.reader.proofs.processes.read_process.Reads as read-process-reads
 use Rattle.reader.proofs.scripts.keyword.Reads as keyword-reads
 use Rattle.reader.proofs.signatures.entry_list.Reads as entry-list-reads
-use Rattle.reader.proofs.steps.expect.Reads as expect-reads
-use Rattle.reader.proofs.steps.refusal.Reads as refusal-reads
-use Rattle.reader.proofs.store.put_process.Reads as put-process-reads
+use Rattle.typereader.proofs.steps.expect.Reads as expect-reads
+use Rattle.typereader.proofs.steps.refusal.Reads as refusal-reads
+use Rattle.typereader.proofs.store.put_process.Reads as put-process-reads
 
 -- src/scripts.rt:72:9
 keyword-requires : tie.Need-keyword-requires

@@ -8,10 +8,10 @@ use Rattle.reader.proofs.scripts.declare_type.Tie as tie
 use Rattle.reader.proofs.scripts.declare_type.Reads as reads
 use Rattle.reader.proofs.scripts.declare_type.Lts as lts
 use Rattle.reader.proofs.scripts.keyword.Reads as keyword-reads
-use Rattle.reader.proofs.steps.expect.Reads as expect-reads
-use Rattle.reader.proofs.steps.refusal.Reads as refusal-reads
-use Rattle.reader.proofs.store.put_type.Reads as put-type-reads
-use Rattle.reader.proofs.types.read_type.Reads as read-type-reads
+use Rattle.typereader.proofs.steps.expect.Reads as expect-reads
+use Rattle.typereader.proofs.steps.refusal.Reads as refusal-reads
+use Rattle.typereader.proofs.store.put_type.Reads as put-type-reads
+use Rattle.typereader.proofs.types.read_type.Reads as read-type-reads
 
 -- src/scripts.rt:47:9
 keyword-requires : tie.Need-keyword-requires

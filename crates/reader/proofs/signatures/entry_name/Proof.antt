@@ -2,13 +2,13 @@ use native.Mathlib.Omega.{arith}
 use Rattle.notation.specs.Token.{kColon}
 use Rattle.notation.specs.Reader.{expect}
 use Rattle.reader.specs.Scripts.{entryName}
-use Rattle.reader.proofs.Taking.{first-no, second-no, both-at}
+use Rattle.typereader.proofs.Taking.{first-no, second-no, both-at}
 use borrow.Author.Needs.{needs}
 use Rattle.reader.proofs.signatures.entry_name.Statement.{statement}
 use Rattle.reader.proofs.signatures.entry_name.Tie as tie
 use Rattle.reader.proofs.signatures.entry_name.Reads as reads
 use Rattle.reader.proofs.signatures.entry_name.Lts as lts
-use Rattle.reader.proofs.steps.expect.Reads as expect-reads
+use Rattle.typereader.proofs.steps.expect.Reads as expect-reads
 
 -- src/signatures.rt:23:9
 expect-requires : tie.Need-expect-requires

@@ -9,8 +9,8 @@ use Rattle.reader.proofs.scripts.declaration_head.Reads as declaration-
 use Rattle.reader.proofs.scripts.declare_exec.Reads as declare-exec-reads
 use Rattle.reader.proofs.scripts.declare_proc.Reads as declare-proc-reads
 use Rattle.reader.proofs.scripts.declare_type.Reads as declare-type-reads
-use Rattle.reader.proofs.steps.kind_at.Reads as kind-at-reads
-use Rattle.reader.proofs.steps.misfit.Reads as misfit-reads
+use Rattle.typereader.proofs.steps.kind_at.Reads as kind-at-reads
+use Rattle.typereader.proofs.steps.misfit.Reads as misfit-reads
 use Rattle.reader.proofs.scripts.read_script.Reads as read-script
 use Rattle.reader.proofs.scripts.+read_script.Lts-read_script as read-script-lts
 use Rattle.reader.proofs.scripts.+read_script.Proof.Measures.{read-script-at, read-script-below}
