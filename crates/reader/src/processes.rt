@@ -12,6 +12,7 @@ use typereader::steps::expect;
 use typereader::steps::kind_at;
 use typereader::steps::label_term;
 use typereader::steps::misfit;
+use typereader::steps::misfit_token;
 use typereader::steps::opening;
 use typereader::steps::payload_head;
 use typereader::steps::process_term;
@@ -26,7 +27,7 @@ ghost use Prim.Native.Nat.{_<_, _≤_};
 ghost use Rattle.notation.specs.Token.{tokenAt};
 ghost use Rattle.notation.specs.Processes.{unitTaken, readNames, nameList};
 ghost use Rattle.notation.specs.declared.token.TermHead.the-variants.{Send, Recv, Fwd, Call, Cancel, Raise, Try, Spawn};
-ghost use Rattle.typereader.specs.Filling.{Stepped, Room, FitsTerm, misfitTaken};
+ghost use Rattle.typereader.specs.Filling.{Stepped, Room, FitsTerm};
 ghost use Rattle.reader.specs.Processes.{NamesTaken, listEnd, namesOrNone, payloadTaken, payloadThen, labelThen, nameColon, sentNode, recvdNode, TermRead, SentRead, HandlerRead, OneRead, LabelsRead, BracketedRead, PartsRead, ProcessRead, RestRead, BranchesRead, MoreBranchesRead};
 
 // The mark ().
@@ -62,18 +63,6 @@ fn payload_token(text: &[u8], c: Cursor, head: Payload) -> Taken
         Payload::Label => expect(text, c, Token::LABEL),
         Payload::Other => misfit_token(text, c),
     }
-}
-
-// No token fits here.
-fn misfit_token(text: &[u8], c: Cursor) -> Taken
-    ensures { λ r. ⌜ r ≡ misfitTaken (now (text .entry)) c ⌝ }
-{
-    let at = c.at;
-    let t = next_token(text, at);
-    if t.kind == Token::FAULT {
-        return Taken::Refused(3, t.start);
-    }
-    Taken::Refused(4, t.start)
 }
 
 // What a recv takes, and =>.

@@ -13,8 +13,7 @@ use Rattle.notation.specs.declared.token.Token.{Token}
 use Rattle.notation.specs.declared.reading.Cursor.{Cursor}
 use Rattle.notation.specs.declared.reading.Taken.{Taken}
 use Rattle.notation.specs.declared.reading.Taken.the-variants.{At, Refused}
-use Rattle.typereader.specs.Filling.{Further, Stepped, misfitTaken, misfitOut}
-use Rattle.typereader.specs.declared.steps.Out.the-variants.{Not}
+use Rattle.typereader.specs.Filling.{Further, Stepped, misfitTaken}
 
 -- every token has a byte
 pub width-pos : (k : ℕ) → 1 ≤ width k
@@ -53,13 +52,6 @@ module _ (s : List ℕ) (k : ℕ) (c : Cursor) (t : Token) (e : t ≡ tokenAt s 
   unfolding expect
   expect-no d n q = stepped-no _ _ (rw (← e, ne-eqb _ _ d) (ap (λ m. Refused m (t .start)) q))
 
--- what a token at fault, and another, is refused as
-pub fault-is : (t : Token) → t .kind ≡ kFault → 3 ≡ fault t
-fault-is t e = rw (eq-eqb _ _ e)
-
-pub misfit-is : (t : Token) → ((t .kind ≡ kFault) → ⊥) → 4 ≡ fault t
-misfit-is t d = rw (ne-eqb _ _ d)
-
 -- a step with a limit, over the step that it is made of
 module _ {s : List ℕ} {c : Cursor} {n : ℕ} {want r : Taken} (u : Stepped s c n 0 0 want r) (types terms : ℕ) (fits : Cursor → Bool) (more : Cursor → Cursor) where
   pub limit-no : {m j : ℕ} → r ≡ Refused m j → Stepped s c n types terms (limited want fits more) r
@@ -70,10 +62,6 @@ module _ {s : List ℕ} {c : Cursor} {n : ℕ} {want r : Taken} (u : Stepped s c
 
   pub limit-kept : {i : ℕ} {d : Cursor} → r ≡ At i d → fits d ≡ true → Further s c n types terms i (more d) → Stepped s c n types terms (limited want fits more) (At i (more d))
   limit-kept e f o = stepped-at _ _ (rw (← u .is, e, f)) o
-
--- no token fits: the next one is t
-pub misfit-out : (s : List ℕ) (c : Cursor) (t : Token) → t ≡ tokenAt s (c .at) → (n : ℕ) → n ≡ fault t → Not n (t .start) ≡ misfitOut s c
-misfit-out s c t e n q = rw (← e) (ap (λ m. Not m (t .start)) q)
 
 -- two tokens in a row
 module _ {s : List ℕ} {c : Cursor} {n types terms : ℕ} {want r : Taken} (u : Stepped s c n types terms want r) (n′ types′ : ℕ) (f : Cursor → Taken) where
@@ -102,6 +90,3 @@ module _ {s : List ℕ} {c : Cursor} {n types terms : ℕ} {want r : Taken} (u :
 -- a refusal of a step, whatever it would have been
 pub refused-step : {s : List ℕ} {c : Cursor} {n types terms m j : ℕ} {r : Taken} → r ≡ Refused m j → Stepped s c n types terms (Refused m j) r
 refused-step e = rw e (stepped-no _ _ refl)
-
-pub misfit-token : (s : List ℕ) (c : Cursor) (t : Token) → t ≡ tokenAt s (c .at) → (n : ℕ) → n ≡ fault t → Refused n (t .start) ≡ misfitTaken s c
-misfit-token s c t e n q = rw (← e) (ap (λ m. Refused m (t .start)) q)

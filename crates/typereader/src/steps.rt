@@ -11,10 +11,10 @@ use notation::token::next_token;
 ghost use mathlib.Core.Path.{_≡_};
 ghost use Prim.Native.Nat.{_≤_};
 ghost use Rattle.notation.specs.Token.{kindAt, width};
-ghost use Rattle.notation.specs.Reader.{expect, opening, typeTerm, processTerm};
+ghost use Rattle.notation.specs.Reader.{fault, expect, opening, typeTerm, processTerm};
 ghost use Rattle.notation.specs.Types.{typeHead, isInfix, labelTerm};
 ghost use Rattle.notation.specs.Processes.{termHead, payload};
-ghost use Rattle.typereader.specs.Filling.{Stepped, asOut, misfitOut};
+ghost use Rattle.typereader.specs.Filling.{Stepped, asOut, misfitTaken, misfitOut};
 
 // Where a reading went on to, with the fill of the tables; or the refusal's number and offset.
 pub enum Out {
@@ -28,6 +28,25 @@ pub fn kind_at(text: &[u8], at: usize) -> usize
 {
     let t = next_token(text, at);
     t.kind
+}
+
+// What a token that is not wanted is refused as.
+fn fault(t: Token) -> u32
+    ensures { λ r. ⌜ r ≡ fault t ⌝ }
+{
+    if t.kind == Token::FAULT {
+        return 3;
+    }
+    4
+}
+
+// No token fits here.
+pub fn misfit_token(text: &[u8], c: Cursor) -> Taken
+    ensures { λ r. ⌜ r ≡ misfitTaken (now (text .entry)) c ⌝ }
+{
+    let at = c.at;
+    let t = next_token(text, at);
+    Taken::Refused(fault(t), t.start)
 }
 
 // The token of this kind, or the refusal where another stands.
@@ -48,10 +67,7 @@ pub fn expect(text: &[u8], c: Cursor, kind: usize) -> Taken
             },
         );
     }
-    if t.kind == Token::FAULT {
-        return Taken::Refused(3, t.start);
-    }
-    Taken::Refused(4, t.start)
+    Taken::Refused(fault(t), t.start)
 }
 
 // A bracket that opens.
@@ -147,16 +163,11 @@ pub fn refusal(t: Taken) -> Out
     }
 }
 
-// No token fits here.
+// No token fits here, as an answer.
 pub fn misfit(text: &[u8], c: Cursor) -> Out
     ensures { λ r. ⌜ r ≡ misfitOut (now (text .entry)) c ⌝ }
 {
-    let at = c.at;
-    let t = next_token(text, at);
-    if t.kind == Token::FAULT {
-        return Out::Not(3, t.start);
-    }
-    Out::Not(4, t.start)
+    refusal(misfit_token(text, c))
 }
 
 // What a token of this kind begins in a type.

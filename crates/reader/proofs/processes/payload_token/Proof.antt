@@ -6,7 +6,7 @@ use Rattle.reader.proofs.processes.payload_token.Statement.{statement}
 use Rattle.reader.proofs.processes.payload_token.Tie as tie
 use Rattle.reader.proofs.processes.payload_token.Reads as reads
 use Rattle.reader.proofs.processes.payload_token.Lts as lts
-use Rattle.reader.proofs.processes.misfit_token.Reads as misfit-token-reads
+use Rattle.typereader.proofs.steps.misfit_token.Reads as misfit-token-reads
 use Rattle.reader.proofs.processes.unit_mark.Reads as unit-mark-reads
 use Rattle.typereader.proofs.steps.expect.Reads as expect-reads
 
