@@ -5,15 +5,15 @@ use mathlib.Core.Bool.{Bool, true, false, cond}
 use Prim.Native.Nat.{ℕ, suc, _+_, _-_, _*_, _<_, _≤_}
 use native.Mathlib.Omega.{arith}
 use lib.ListN.{length}
-use lib.Dec.{ltb}
-use borrow.Author.Tests.{ltb-true}
+use lib.Dec.{eqb, ltb}
+use borrow.Author.Tests.{ltb-true, ne-eqb}
 use Rattle.notation.specs.Limits.{textLimit, typeLimit, processLimit, execLimit}
-use Rattle.notation.specs.Token.{kindAt, kName, kEquals, kType, kProc, kExec, kRoundOpen, kRoundClose, kSquareOpen, kSquareClose}
+use Rattle.notation.specs.Token.{kindAt, kName, kEquals, kType, kProc, kExec, kEnd, kRoundOpen, kRoundClose, kSquareOpen, kSquareClose}
 use Rattle.notation.specs.Tree.{Located, Ty, unit, named, tensor, par, lolli, plus, with, Alternatives, alternative, Entry, Declaration, declareType, declareProc, declareExec}
 use Rattle.notation.specs.Reader.{Result, got, refused, take, part, lastly, expect, limited, misfit, nameIn}
 use Rattle.notation.specs.Types.{readType}
 use Rattle.notation.specs.Processes.{readProcess}
-use Rattle.notation.specs.Scripts.{Count, moreTypes as countTypes, moreProcesses as countProcesses, moreExecs as countExecs, keyword, entryList, declarationHead, typeDeclaration, procDeclaration, execDeclaration, scriptBy, readScript}
+use Rattle.notation.specs.Scripts.{Count, keyword, entryList, declarationHead, typeDeclaration, procDeclaration, execDeclaration, scriptBy, readScript}
 use Rattle.notation.specs.Tables.{moreEntries, moreTypes, moreProcesses, moreExecs, putType, putProcess, processEntry, putExec, afterType, afterAlternatives, writeType, afterEntries, writeEntries, afterProcess, writeProcess, afterDeclaration, writeDeclaration, afterScript, writeScript}
 use Rattle.notation.specs.declared.reading.Cursor.{Cursor}
 use Rattle.notation.specs.declared.reading.Tally.{Tally}
@@ -25,7 +25,7 @@ use Rattle.typereader.specs.declared.steps.Out.{Out}
 use Rattle.typereader.specs.declared.steps.Out.the-variants.{Got, Not}
 use Rattle.typereader.specs.Filling.{TypeRead, Stepped, asOut, misfitOut, Put, Room, unread}
 use Rattle.reader.specs.Processes.{ProcessRead}
-use Rattle.reader.specs.Scripts.{EntriesRead, FineDeclaration, DeclarationRead, countOf, Counted, scriptForm, ScriptRead}
+use Rattle.reader.specs.Scripts.{EntriesRead, FineDeclaration, declarationBy, countBy, DeclarationRead, countOf, Counted, scriptForm, ScriptRead}
 use Rattle.typereader.proofs.Taking.{never}
 use Rattle.typereader.proofs.Filled.{same, _upon_, put-kept, took, refused-out, made-got, gone-on, stopped, meets-no, meets-got, more-no, more-got}
 
@@ -70,10 +70,14 @@ entries-read es k l e =
     let here : l .entries ≡ afterEntries es k .entries = ap (λ x. x .entries) e in
     omega arith
 
+-- how many of each kind a tally has
+count-is : (l : Tally) (types processes execs : ℕ) → l .types ≡ types → l .processes ≡ processes → l .execs ≡ execs → countOf l ≡ record { types = types; processes = processes; execs = execs }
+count-is l types processes execs a b d = λ j. record { types = a j; processes = b j; execs = d j }
+
 -- ── type t = A
 module _ (s w : List ℕ) (c : Cursor) (k : Tally) (room : Room s w c k) {q : Taken} (u : Stepped s c 1 0 0 (keyword s kType (k .types) typeLimit c) q) where
   abbrev Types : Out → List ℕ → Type 0
-  Types = DeclarationRead 1 0 0 (λ m. typeDeclaration m s (k .types) c) s w c k
+  Types = DeclarationRead TypeWord s w c k
 
   pub type-no : {r : Out} {n i : ℕ} → q ≡ Refused n i → r ≡ asOut q → Types r w
   unfolding typeDeclaration
@@ -107,7 +111,7 @@ module _ (s w : List ℕ) (c : Cursor) (k : Tally) (room : Room s w c k) {q : Ta
             let o₄ = t .on b₂ l n in
             let few = keyword-held kType (k .types) typeLimit u e in
             rw (pt .is, pt .words)
-            (meets-got s w c k (omega arith) (put-kept pt upon t .kept)
+            (meets-got s w c k (omega arith, count-is (moreTypes l) (k .types + 1) (k .processes) (k .execs) (omega arith) (omega arith) (omega arith), λ n. omega arith) (put-kept pt upon t .kept)
             (λ m lo. gone-on (readType m s b) (t .is m (omega arith)) n λ A x₂ al av fi.
             let number : l .types ≡ k .types = o₄ .0 .6 .4 .0 in
             made-got (declareType (nameIn s i) A) (rw (took u e, took y g, took a h, x₂)) (λ j. Got b₂ (moreTypes (al j)))
@@ -116,7 +120,7 @@ module _ (s w : List ℕ) (c : Cursor) (k : Tally) (room : Room s w c k) {q : Ta
 -- ── exec p
 module _ (s w : List ℕ) (c : Cursor) (k : Tally) (room : Room s w c k) {q : Taken} (u : Stepped s c 1 0 0 (keyword s kExec (k .execs) execLimit c) q) where
   abbrev Execs : Out → List ℕ → Type 0
-  Execs = DeclarationRead 0 0 1 (λ m. execDeclaration s (k .execs) c) s w c k
+  Execs = DeclarationRead ExecWord s w c k
 
   pub exec-no : {r : Out} {n i : ℕ} → q ≡ Refused n i → r ≡ asOut q → Execs r w
   unfolding execDeclaration
@@ -134,13 +138,13 @@ module _ (s w : List ℕ) (c : Cursor) (k : Tally) (room : Room s w c k) {q : Ta
         let o₂ = y .on i f g in
         let few = keyword-held kExec (k .execs) execLimit u e in
         rw (pt .is, pt .words)
-        (meets-got s w c k (omega arith) (put-kept pt)
+        (meets-got s w c k (omega arith, refl, λ n. omega arith) (put-kept pt)
         (λ m lo. made-got (declareExec (nameIn s i)) (rw (took u e, took y g)) refl refl (omega arith)))
 
 -- ── proc p (x : A, ..) [y : B, ..] = P
 module _ (s w : List ℕ) (c : Cursor) (k : Tally) (room : Room s w c k) {q : Taken} (u : Stepped s c 1 0 0 (keyword s kProc (k .processes) processLimit c) q) where
   abbrev Procs : Out → List ℕ → Type 0
-  Procs = DeclarationRead 0 1 0 (λ m. procDeclaration m s (k .processes) c) s w c k
+  Procs = DeclarationRead ProcWord s w c k
 
   pub proc-no : {r : Out} {n i : ℕ} → q ≡ Refused n i → r ≡ asOut q → Procs r w
   unfolding procDeclaration
@@ -208,7 +212,7 @@ module _ (s w : List ℕ) (c : Cursor) (k : Tally) (room : Room s w c k) {q : Ta
                 let o₆ = t₃ .on b₄ l₃ r in
                 let few = keyword-held kProc (k .processes) processLimit u e in
                 rw (pt .is, pt .words)
-                (meets-got s w c k (omega arith) (put-kept pt upon t₃ .kept upon t₂ .kept upon t .kept)
+                (meets-got s w c k (omega arith, count-is (moreProcesses l₃) (k .types) (k .processes + 1) (k .execs) (omega arith) (omega arith) (omega arith), λ n. omega arith) (put-kept pt upon t₃ .kept upon t₂ .kept upon t .kept)
                 (λ m lo. gone-on (entryList m s kRoundOpen kRoundClose f) (t .is m (omega arith)) h λ xs x₁ al av fi.
                 gone-on (entryList m s kSquareOpen kSquareClose b) (t₂ .is m (omega arith)) h₂ λ ys x₂ bl bv fi₂.
                 gone-on (readProcess m s b₃) (t₃ .is m (omega arith)) r λ P x₃ cl cv fi₃.
@@ -222,87 +226,64 @@ module _ (s w : List ℕ) (c : Cursor) (k : Tally) (room : Room s w c k) {q : Ta
                 made-got (declareProc (nameIn s i) xs ys P) (rw (took u e, took y g, x₁, x₂, took a n, x₃)) (λ j. Got b₄ (moreProcesses (last j)))
                 (λ j. putProcess (all j) (number j) (processEntry i (k .entries) (first j) (second j) (last j .last))) (omega arith, fi, fi₂, fi₃)))
 
--- ── the script
-module _ (s w : List ℕ) (c : Cursor) (k : Tally) (room : Room s w c k) (counted : Counted k) where
-  script-suc : (m : ℕ) → readScript (suc m) s (countOf k) c ≡ scriptBy (λ j d. readScript m s j d) m s (countOf k) c (declarationHead (kindAt s (c .at)))
-  unfolding readScript
-  script-suc m = refl
+-- ── a declaration that no token begins
+pub declare-no : (h : DeclarationHead) (s w : List ℕ) (c : Cursor) (k : Tally) {r : Out} → ((m : ℕ) → declarationBy h m s (countOf k) c ≡ misfit s c) → r ≡ misfitOut s c → DeclarationRead h s w c k r w
+unfolding misfit
+declare-no h s w c k e g = meets-no s w c k g same (λ m _. e m)
 
-  pub script-end : declarationHead (kindAt s (c .at)) ≡ End → ScriptRead s w c k (Got c k) w
-  unfolding scriptBy afterScript writeScript
+-- ── the script
+-- before the end of the text: a declaration by what begins it, and the script after it
+script-by : (script : Count → Cursor → Result (List Declaration)) (m : ℕ) (s : List ℕ) (n : Count) (c : Cursor) (k : ℕ) → ((k ≡ kEnd) → ⊥)
+    → scriptBy script m s n c (declarationHead k) ≡ part (declarationBy (declarationHead k) m s n c) (λ a d. lastly (_∷_ a) (script (countBy (declarationHead k) n) d))
+unfolding scriptBy declarationHead misfit
+script-by script m s n c k e = rw (ne-eqb k kEnd e) (go (eqb k kType) (eqb k kProc) (eqb k kExec))
+  where
+    head : Bool → Bool → Bool → DeclarationHead
+    head a b d = cond a TypeWord (cond b ProcWord (cond d ExecWord Other))
+
+    go : (a b d : Bool) → scriptBy script m s n c (head a b d) ≡ part (declarationBy (head a b d) m s n c) (λ x f. lastly (_∷_ x) (script (countBy (head a b d) n) f))
+    go true b d = refl
+    go false true d = refl
+    go false false true = refl
+    go false false false = refl
+
+module _ (s w : List ℕ) (c : Cursor) (k : Tally) (room : Room s w c k) (counted : Counted k) {kind : ℕ} (at : kind ≡ kindAt s (c .at)) where
+  script-suc : (m : ℕ) → readScript (suc m) s (countOf k) c ≡ scriptBy (λ j d. readScript m s j d) m s (countOf k) c (declarationHead kind)
+  unfolding readScript
+  script-suc m = rw at refl
+
+  pub script-end : kind ≡ kEnd → ScriptRead s w c k (Got c k) w
+  unfolding scriptBy declarationHead afterScript writeScript
   script-end e =
       more-got scriptForm s w c k (λ m. readScript m s (countOf k) c) (omega arith) same
-      (λ m _. made-got [] (script-suc m ∙ rw e) refl refl (omega arith))
+      (λ m _. made-got [] (script-suc m ∙ rw e refl) refl refl (omega arith))
 
-  pub script-other : {r : Out} → declarationHead (kindAt s (c .at)) ≡ Other → r ≡ misfitOut s c → ScriptRead s w c k r w
-  unfolding scriptBy misfit
-  script-other e h = more-no scriptForm s w c k (λ m. readScript m s (countOf k) c) h same (λ m _. script-suc m ∙ rw e)
+  module _ (more : (kind ≡ kEnd) → ⊥) {h : DeclarationHead} (head : h ≡ declarationHead kind) {p : Out} {v : List ℕ} (t : DeclarationRead h s w c k p v) where
+    script-is : (m : ℕ) → readScript (suc m) s (countOf k) c ≡ part (declarationBy h m s (countOf k) c) (λ a d. lastly (_∷_ a) (readScript m s (countBy h (countOf k)) d))
+    script-is m = script-suc m ∙ rw head (script-by (λ j d. readScript m s j d) m s (countOf k) c kind more)
 
-  -- a declaration f, and the script after it
-  module _ (types processes execs : ℕ) (f : ℕ → Result Declaration) {h : DeclarationHead} (head : declarationHead (kindAt s (c .at)) ≡ h) (count : Count)
-      (by : (m : ℕ) → scriptBy (λ j d. readScript m s j d) m s (countOf k) c h ≡ part (f m) (λ a d. lastly (_∷_ a) (readScript m s count d)))
-      {p : Out} {v : List ℕ} (t : DeclarationRead types processes execs f s w c k p v) where
-    script-is : (m : ℕ) → readScript (suc m) s (countOf k) c ≡ part (f m) (λ a d. lastly (_∷_ a) (readScript m s count d))
-    script-is m = script-suc m ∙ ap (scriptBy (λ j d. readScript m s j d) m s (countOf k) c) head ∙ by m
-
-    script-no : {n i : ℕ} → p ≡ Not n i → ScriptRead s w c k p v
+    pub script-no : {n i : ℕ} → p ≡ Not n i → ScriptRead s w c k p v
     script-no g =
-        more-no scriptForm s w c k (λ m. readScript m s (countOf k) c) g (t .kept) (λ m lo. script-is m ∙ rw (stopped (f m) (t .is m (omega arith)) g))
+        more-no scriptForm s w c k (λ m. readScript m s (countOf k) c) g (t .kept) (λ m lo. script-is m ∙ rw (stopped (declarationBy h m s (countOf k) c) (t .is m (omega arith)) g))
 
-    script-more : {d : Cursor} {l : Tally} → p ≡ Got d l → countOf l ≡ count → {x : Out} {v₂ : List ℕ} → ScriptRead s v d l x v₂ → ScriptRead s w c k x v₂
+    pub script-more : {d : Cursor} {l : Tally} → p ≡ Got d l → {x : Out} {v₂ : List ℕ} → ScriptRead s v d l x v₂ → ScriptRead s w c k x v₂
     unfolding afterScript writeScript
-    script-more {d} {l} g number {x} {v₂} y = go x refl
+    script-more {d} {l} g {x} {v₂} y = go x refl
       where
+        after : (m : ℕ) → readScript m s (countBy h (countOf k)) d ≡ readScript m s (countOf l) d
+        after m = sym (ap (λ j. readScript m s j d) (t .on d l g .1))
+
         go : (x′ : Out) → x ≡ x′ → ScriptRead s w c k x v₂
         go (Not n i) z =
-            let o = t .on d l g in
+            let o = t .on d l g .0 in
             more-no scriptForm s w c k (λ m. readScript m s (countOf k) c) z (y .kept upon t .kept)
-            (λ m lo. gone-on (f m) (t .is m (omega arith)) g λ a x₁ _ _ _.
-            let ended : readScript m s count d ≡ refused n i = sym (ap (λ j. readScript m s j d) number) ∙ stopped (readScript m s (countOf l) d) (y .is m (omega arith)) z in
-            script-is m ∙ rw (x₁, ended))
+            (λ m lo. gone-on (declarationBy h m s (countOf k) c) (t .is m (omega arith)) g λ a x₁ _ _ _.
+            script-is m ∙ rw (x₁, after m, stopped (readScript m s (countOf l) d) (y .is m (omega arith)) z))
         go (Got b l₂) z =
-            let o = t .on d l g in
+            let o = t .on d l g .0 in
             let o₂ = y .on b l₂ z in
             rw z
             (more-got scriptForm s w c k (λ m. readScript m s (countOf k) c) (omega arith) (y .kept upon t .kept)
-            (λ m lo. gone-on (f m) (t .is m (omega arith)) g λ a x₁ al av _.
+            (λ m lo. gone-on (declarationBy h m s (countOf k) c) (t .is m (omega arith)) g λ a x₁ al av _.
             gone-on (readScript m s (countOf l) d) (y .is m (omega arith)) z λ ds x₂ bl bv _.
-            let more : readScript m s count d ≡ got ds b = sym (ap (λ j. readScript m s j d) number) ∙ x₂ in
-            made-got (a ∷ ds) (script-is m ∙ rw (x₁, more)) (ap (Got b) (bl ∙ ap (afterScript ds) al)) (bv ∙ (λ j. writeScript ds (al j) (av j))) (omega arith)))
-
-  -- one count more
-  count-is : (l : Tally) (types processes execs : ℕ) → l .types ≡ types → l .processes ≡ processes → l .execs ≡ execs → countOf l ≡ record { types = types; processes = processes; execs = execs }
-  count-is l types processes execs a b d = λ j. record { types = a j; processes = b j; execs = d j }
-
-  module _ {p : Out} {v : List ℕ} (t : DeclarationRead 1 0 0 (λ m. typeDeclaration m s (k .types) c) s w c k p v) (head : declarationHead (kindAt s (c .at)) ≡ TypeWord) where
-    pub script-type-no : {n i : ℕ} → p ≡ Not n i → ScriptRead s w c k p v
-    unfolding scriptBy
-    script-type-no = script-no 1 0 0 (λ m. typeDeclaration m s (k .types) c) head (countTypes (countOf k)) (λ m. refl) t
-
-    pub script-type : {d : Cursor} {l : Tally} → p ≡ Got d l → {x : Out} {v₂ : List ℕ} → ScriptRead s v d l x v₂ → ScriptRead s w c k x v₂
-    unfolding scriptBy
-    script-type {d} {l} g =
-        let o = t .on d l g in
-        script-more 1 0 0 (λ m. typeDeclaration m s (k .types) c) head (countTypes (countOf k)) (λ m. refl) t g (count-is l (k .types + 1) (k .processes) (k .execs) (omega arith) (omega arith) (omega arith))
-
-  module _ {p : Out} {v : List ℕ} (t : DeclarationRead 0 1 0 (λ m. procDeclaration m s (k .processes) c) s w c k p v) (head : declarationHead (kindAt s (c .at)) ≡ ProcWord) where
-    pub script-proc-no : {n i : ℕ} → p ≡ Not n i → ScriptRead s w c k p v
-    unfolding scriptBy
-    script-proc-no = script-no 0 1 0 (λ m. procDeclaration m s (k .processes) c) head (countProcesses (countOf k)) (λ m. refl) t
-
-    pub script-proc : {d : Cursor} {l : Tally} → p ≡ Got d l → {x : Out} {v₂ : List ℕ} → ScriptRead s v d l x v₂ → ScriptRead s w c k x v₂
-    unfolding scriptBy
-    script-proc {d} {l} g =
-        let o = t .on d l g in
-        script-more 0 1 0 (λ m. procDeclaration m s (k .processes) c) head (countProcesses (countOf k)) (λ m. refl) t g (count-is l (k .types) (k .processes + 1) (k .execs) (omega arith) (omega arith) (omega arith))
-
-  module _ {p : Out} {v : List ℕ} (t : DeclarationRead 0 0 1 (λ m. execDeclaration s (k .execs) c) s w c k p v) (head : declarationHead (kindAt s (c .at)) ≡ ExecWord) where
-    pub script-exec-no : {n i : ℕ} → p ≡ Not n i → ScriptRead s w c k p v
-    unfolding scriptBy
-    script-exec-no = script-no 0 0 1 (λ m. execDeclaration s (k .execs) c) head (countExecs (countOf k)) (λ m. refl) t
-
-    pub script-exec : {d : Cursor} {l : Tally} → p ≡ Got d l → {x : Out} {v₂ : List ℕ} → ScriptRead s v d l x v₂ → ScriptRead s w c k x v₂
-    unfolding scriptBy
-    script-exec {d} {l} g =
-        let o = t .on d l g in
-        script-more 0 0 1 (λ m. execDeclaration s (k .execs) c) head (countExecs (countOf k)) (λ m. refl) t g (count-is l (k .types) (k .processes) (k .execs + 1) (omega arith) (omega arith) (omega arith))
+            made-got (a ∷ ds) (script-is m ∙ rw (x₁, after m, x₂)) (ap (Got b) (bl ∙ ap (afterScript ds) al)) (bv ∙ (λ j. writeScript ds (al j) (av j))) (omega arith)))

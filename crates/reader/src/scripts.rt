@@ -20,7 +20,8 @@ use typereader::types::read_type;
 ghost use mathlib.Core.Path.{_≡_};
 ghost use Prim.Native.Nat.{_<_, _≤_};
 ghost use Rattle.notation.specs.Token.{width};
-ghost use Rattle.notation.specs.Scripts.{keyword, declarationHead, typeDeclaration, procDeclaration, execDeclaration};
+ghost use Rattle.notation.specs.Scripts.{keyword, declarationHead};
+ghost use Rattle.notation.specs.declared.token.DeclarationHead.the-variants.{TypeWord, ProcWord, ExecWord};
 ghost use Rattle.typereader.specs.Filling.{Stepped, Room};
 ghost use Rattle.reader.specs.Scripts.{DeclarationRead, ScriptRead, Counted};
 
@@ -42,7 +43,7 @@ fn keyword(text: &[u8], c: Cursor, kind: usize, before: usize, limit: usize) -> 
 // type t = A
 fn declare_type(text: &[u8], scratch: &mut [u32], c: Cursor, k: Tally) -> Out
     requires { ⌜ Room (now text) (now scratch) c k ⌝ }
-    ensures { λ r. ⌜ DeclarationRead 1 0 0 (λ m. typeDeclaration m (now (text .entry)) (k .types) c) (now (text .entry)) (now (scratch .entry)) c k r (now (scratch .exit)) ⌝ }
+    ensures { λ r. ⌜ DeclarationRead TypeWord (now (text .entry)) (now (scratch .entry)) c k r (now (scratch .exit)) ⌝ }
 {
     let word = keyword(text, c, Token::TYPE, k.types, Script::TYPES);
     let Taken::At(_, d) = word else {
@@ -67,7 +68,7 @@ fn declare_type(text: &[u8], scratch: &mut [u32], c: Cursor, k: Tally) -> Out
 // proc p (x : A, ..) [y : B, ..] = P
 fn declare_proc(text: &[u8], scratch: &mut [u32], c: Cursor, k: Tally) -> Out
     requires { ⌜ Room (now text) (now scratch) c k ⌝ }
-    ensures { λ r. ⌜ DeclarationRead 0 1 0 (λ m. procDeclaration m (now (text .entry)) (k .processes) c) (now (text .entry)) (now (scratch .entry)) c k r (now (scratch .exit)) ⌝ }
+    ensures { λ r. ⌜ DeclarationRead ProcWord (now (text .entry)) (now (scratch .entry)) c k r (now (scratch .exit)) ⌝ }
 {
     let word = keyword(text, c, Token::PROC, k.processes, Script::PROCESSES);
     let Taken::At(_, d) = word else {
@@ -107,7 +108,7 @@ fn declare_proc(text: &[u8], scratch: &mut [u32], c: Cursor, k: Tally) -> Out
 // exec p
 fn declare_exec(text: &[u8], scratch: &mut [u32], c: Cursor, k: Tally) -> Out
     requires { ⌜ Room (now text) (now scratch) c k ⌝ }
-    ensures { λ r. ⌜ DeclarationRead 0 0 1 (λ m. execDeclaration (now (text .entry)) (k .execs) c) (now (text .entry)) (now (scratch .entry)) c k r (now (scratch .exit)) ⌝ }
+    ensures { λ r. ⌜ DeclarationRead ExecWord (now (text .entry)) (now (scratch .entry)) c k r (now (scratch .exit)) ⌝ }
 {
     let word = keyword(text, c, Token::EXEC, k.execs, Script::EXECS);
     let Taken::At(_, d) = word else {
@@ -140,36 +141,33 @@ fn declaration_head(kind: usize) -> DeclarationHead
     DeclarationHead::Other
 }
 
+// A declaration, by what begins it; the end of the text is never handed here.
+fn declare(text: &[u8], scratch: &mut [u32], c: Cursor, k: Tally, head: DeclarationHead) -> Out
+    requires { ⌜ Room (now text) (now scratch) c k ⌝ }
+    ensures { λ r. ⌜ DeclarationRead head (now (text .entry)) (now (scratch .entry)) c k r (now (scratch .exit)) ⌝ }
+{
+    match head {
+        DeclarationHead::TypeWord => declare_type(text, scratch, c, k),
+        DeclarationHead::ProcWord => declare_proc(text, scratch, c, k),
+        DeclarationHead::ExecWord => declare_exec(text, scratch, c, k),
+        DeclarationHead::End => misfit(text, c),
+        DeclarationHead::Other => misfit(text, c),
+    }
+}
+
 // Declarations, none or more, up to the end of the text.
 pub(crate) fn read_script(text: &[u8], scratch: &mut [u32], c: Cursor, k: Tally) -> Out
     requires { ⌜ Room (now text) (now scratch) c k × Counted k ⌝ }
     ensures { λ r. ⌜ ScriptRead (now (text .entry)) (now (scratch .entry)) c k r (now (scratch .exit)) ⌝ }
 {
     let at = c.at;
-    let head = declaration_head(kind_at(text, at));
-    match head {
-        DeclarationHead::TypeWord => {
-            let one = declare_type(text, scratch, c, k);
-            let Out::Got(d, l) = one else {
-                return one;
-            };
-            read_script(text, scratch, d, l)
-        }
-        DeclarationHead::ProcWord => {
-            let one = declare_proc(text, scratch, c, k);
-            let Out::Got(d, l) = one else {
-                return one;
-            };
-            read_script(text, scratch, d, l)
-        }
-        DeclarationHead::ExecWord => {
-            let one = declare_exec(text, scratch, c, k);
-            let Out::Got(d, l) = one else {
-                return one;
-            };
-            read_script(text, scratch, d, l)
-        }
-        DeclarationHead::End => Out::Got(c, k),
-        DeclarationHead::Other => misfit(text, c),
+    let kind = kind_at(text, at);
+    if kind == Token::END {
+        return Out::Got(c, k);
     }
+    let one = declare(text, scratch, c, k, declaration_head(kind));
+    let Out::Got(d, l) = one else {
+        return one;
+    };
+    read_script(text, scratch, d, l)
 }
