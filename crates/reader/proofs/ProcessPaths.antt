@@ -1,35 +1,33 @@
 -- What the definition says on each way through the code that reads processes.
-use mathlib.Core.Path.{_≡_, refl, ap, sym, subst, _∙_}
+use mathlib.Core.Path.{_≡_, refl, ap, sym, _∙_}
 use mathlib.Core.List.{List}
-use mathlib.Core.Bool.{Bool, true, false, cond}
-use Prim.Native.Nat.{ℕ, zero, suc, _+_, _-_, _*_, _<_, _≤_}
+use mathlib.Core.Bool.{true, false}
+use Prim.Native.Nat.{ℕ, suc, _+_, _*_, _<_, _≤_}
 use native.Mathlib.Omega.{arith}
-use lib.ListN.{length}
 use lib.Dec.{eqb, ltb}
 use borrow.Author.Tests.{eq-eqb, ne-eqb, ltb-true}
 use Rattle.notation.specs.declared.token.Token.{Token}
 use Rattle.notation.specs.Limits.{textLimit}
-use Rattle.notation.specs.Token.{kindAt, tokenAt, width, kFwd, kName, kThen, kRoundOpen, kRoundClose, kCancel, kRaise, kSend, kRecv, kSemicolon, kBar, kTry, kCatch, kFrom, kColon, kLabel, Onward}
-use Rattle.notation.specs.Tree.{Located, Ty, Proc, empty, sendUnit, sendChannel, sendLabel, cancel, spawn, recvUnit, recvChannel, recvLabel, fwd, call, raise, try, Branches, branch}
-use Rattle.notation.specs.Reader.{Result, got, refused, take, part, lastly, choose, expect, misfit, opening, processTerm, closed, thenToken, nameIn, labelIn}
+use Rattle.notation.specs.Token.{kindAt, tokenAt, kFwd, kName, kThen, kRoundOpen, kRoundClose, kCancel, kRaise, kSend, kRecv, kSemicolon, kBar, kTry, kCatch, kFrom, kColon, kLabel, Onward}
+use Rattle.notation.specs.Tree.{Located, Ty, Proc, empty, cancel, spawn, recvLabel, fwd, raise, try, Branches, branch}
+use Rattle.notation.specs.Reader.{Result, got, refused, take, part, lastly, expect, misfit, opening, processTerm, closed, nameIn, labelIn}
 use Rattle.notation.specs.Types.{readType, labelTerm}
 use Rattle.notation.specs.Processes.{termHead, payload, unitTaken, bracketedBy, sendBy, recvBy, processBy, restBy, branchesBy, moreBranchesBy, readProcess, readRest, readBranches}
-use Rattle.notation.specs.Tables.{moreTerms, moreBranches, lasting, termNode, putTerm, putBranch, putOver, emptyPointer, afterProcess, afterBranches, writeProcess, writeBranches}
+use Rattle.notation.specs.Tables.{moreTerms, moreBranches, lasting, termNode, putTerm, putBranch, emptyPointer, afterProcess, afterBranches, writeProcess, writeBranches}
 use Rattle.notation.specs.declared.reading.Cursor.{Cursor}
 use Rattle.notation.specs.declared.reading.Tally.{Tally}
-use Rattle.notation.specs.declared.reading.TermNode.{TermNode}
 use Rattle.notation.specs.declared.reading.Taken.{Taken}
 use Rattle.notation.specs.declared.reading.Taken.the-variants.{At, Refused}
 use Rattle.notation.specs.declared.token.TermHead.{TermHead}
-use Rattle.notation.specs.declared.token.TermHead.the-variants.{Send, Recv, Fwd, Call, Cancel, Raise, Try, Spawn, Empty}
+use Rattle.notation.specs.declared.token.TermHead.the-variants.{Send, Recv, Fwd, Cancel, Raise, Try, Spawn, Empty}
 use Rattle.typereader.specs.declared.steps.Out.{Out}
 use Rattle.typereader.specs.declared.steps.Out.the-variants.{Got, Not}
-use Rattle.typereader.specs.Filling.{TypeRead, Stepped, asOut, misfitOut, Put, Room, Form, Made, Meets, unread, misfitTaken}
-use Rattle.reader.specs.Processes.{payloadTaken, payloadThen, labelThen, nameColon, sentOf, sentNode, recvdOf, recvdNode, FineProcess, FineBranches, SomeBranch, processForm, branchesForm, moreBranchesForm, partsForm, termBy, handlerBy, TermRead, SentRead, HandlerRead, OneRead, LabelsRead, BracketedRead, PartsRead, ProcessRead, RestRead, BranchesRead, MoreBranchesRead}
+use Rattle.typereader.specs.Filling.{TypeRead, Stepped, asOut, misfitOut, Put, Room, Form, Made, Meets, unread}
+use Rattle.reader.specs.Processes.{payloadTaken, payloadThen, labelThen, nameColon, sentOf, sentNode, recvdOf, recvdNode, FineProcess, FineBranches, processForm, branchesForm, partsForm, termBy, handlerBy, TermRead, SentRead, HandlerRead, OneRead, LabelsRead, BracketedRead, PartsRead, ProcessRead, RestRead, BranchesRead, MoreBranchesRead}
 use Rattle.notation.specs.declared.token.Payload.{Payload}
 use Rattle.notation.specs.declared.token.Payload.the-variants.{Unit as UnitPayload, Channel, Label, Other}
 use Rattle.typereader.proofs.TypePaths.{then-take, within-limit}
-use Rattle.typereader.proofs.Filled.{same, _upon_, put-kept, took, refused-out, made-no, made-got, gone-on, stopped, meets-no, meets-got, more-no, more-got, more-made}
+use Rattle.typereader.proofs.Filled.{same, _upon_, put-kept, took, refused-out, made-got, gone-on, stopped, meets-no, meets-got, more-no, more-got, more-made}
 
 -- the definition at one more fuel
 process-suc : (m : ℕ) (s : List ℕ) (c : Cursor) → readProcess (suc m) s c ≡ termBy (termHead (kindAt s (c .at))) s c m

@@ -2,28 +2,28 @@
 use mathlib.Core.Path.{_≡_, refl, ap, sym, _∙_}
 use mathlib.Core.List.{List, [], _∷_}
 use mathlib.Core.Bool.{Bool, true, false, cond}
-use Prim.Native.Nat.{ℕ, suc, _+_, _-_, _*_, _<_, _≤_}
+use Prim.Native.Nat.{ℕ, suc, _+_, _-_, _<_}
 use native.Mathlib.Omega.{arith}
 use lib.ListN.{length}
 use lib.Dec.{eqb, ltb}
 use borrow.Author.Tests.{ltb-true, ne-eqb}
-use Rattle.notation.specs.Limits.{textLimit, typeLimit, processLimit, execLimit}
+use Rattle.notation.specs.Limits.{typeLimit, processLimit, execLimit}
 use Rattle.notation.specs.Token.{kindAt, kName, kEquals, kType, kProc, kExec, kEnd, kRoundOpen, kRoundClose, kSquareOpen, kSquareClose}
 use Rattle.notation.specs.Tree.{Located, Ty, unit, named, tensor, par, lolli, plus, with, Alternatives, alternative, Entry, Declaration, declareType, declareProc, declareExec}
-use Rattle.notation.specs.Reader.{Result, got, refused, take, part, lastly, expect, limited, misfit, nameIn}
+use Rattle.notation.specs.Reader.{Result, part, lastly, expect, limited, misfit, nameIn}
 use Rattle.notation.specs.Types.{readType}
 use Rattle.notation.specs.Processes.{readProcess}
 use Rattle.notation.specs.Scripts.{Count, keyword, entryList, declarationHead, typeDeclaration, procDeclaration, execDeclaration, scriptBy, readScript}
-use Rattle.notation.specs.Tables.{moreEntries, moreTypes, moreProcesses, moreExecs, putType, putProcess, processEntry, putExec, afterType, afterAlternatives, writeType, afterEntries, writeEntries, afterProcess, writeProcess, afterDeclaration, writeDeclaration, afterScript, writeScript}
+use Rattle.notation.specs.Tables.{moreEntries, moreTypes, moreProcesses, moreExecs, putType, putProcess, processEntry, putExec, afterType, afterAlternatives, afterEntries, writeEntries, afterProcess, writeProcess, afterDeclaration, writeDeclaration, afterScript, writeScript}
 use Rattle.notation.specs.declared.reading.Cursor.{Cursor}
 use Rattle.notation.specs.declared.reading.Tally.{Tally}
 use Rattle.notation.specs.declared.reading.Taken.{Taken}
 use Rattle.notation.specs.declared.reading.Taken.the-variants.{At, Refused}
 use Rattle.notation.specs.declared.token.DeclarationHead.{DeclarationHead}
-use Rattle.notation.specs.declared.token.DeclarationHead.the-variants.{TypeWord, ProcWord, ExecWord, End, Other}
+use Rattle.notation.specs.declared.token.DeclarationHead.the-variants.{TypeWord, ProcWord, ExecWord, Other}
 use Rattle.typereader.specs.declared.steps.Out.{Out}
 use Rattle.typereader.specs.declared.steps.Out.the-variants.{Got, Not}
-use Rattle.typereader.specs.Filling.{TypeRead, Stepped, asOut, misfitOut, Put, Room, unread}
+use Rattle.typereader.specs.Filling.{TypeRead, Stepped, asOut, misfitOut, Put, Room}
 use Rattle.reader.specs.Processes.{ProcessRead}
 use Rattle.reader.specs.Scripts.{EntriesRead, FineDeclaration, declarationBy, countBy, DeclarationRead, countOf, Counted, scriptForm, ScriptRead}
 use Rattle.typereader.proofs.Taking.{never}

@@ -1,17 +1,15 @@
 -- A whole text.
 use mathlib.Core.Path.{_≡_, refl, ap, sym, subst, _∙_}
-use mathlib.Core.List.{List, [], _∷_, _++_}
-use mathlib.Core.Bool.{Bool, true, false, cond}
-use Prim.Native.Nat.{ℕ, zero, suc, _+_, _-_, _*_, _<_, _≤_}
+use mathlib.Core.List.{List, _++_}
+use Prim.Native.Nat.{ℕ, _+_, _<_, _≤_}
 use native.Mathlib.Omega.{arith}
 use borrow.Author.Tests.{lt-leb, le-leb}
 use native.Mathlib.Decide.{ℕ-discrete}
 use lib.ListN.{length, getD, set, drop, replicate, length-replicate, getD-replicate}
 use lib.Seq.{ext-getD, getD-set-same, getD-set-other}
-use lib.Dec.{leb}
 use Rattle.notation.specs.Limits.{textLimit, scratchWords}
 use Rattle.notation.specs.Tree.{Declaration}
-use Rattle.notation.specs.Reader.{Result, got, refused}
+use Rattle.notation.specs.Reader.{got, refused}
 use Rattle.notation.specs.Scripts.{readText, readScript, start, fuel}
 use Rattle.notation.specs.Tables.{afterScript, writeScript, writeCounts, nothing, zeros, tables, tablesOf}
 use Rattle.notation.specs.declared.reading.Cursor.{Cursor}
@@ -21,7 +19,7 @@ use Rattle.typereader.specs.declared.steps.Out.the-variants.{Got, Not}
 use Rattle.reader.specs.declared.reading.Reading.{Reading}
 use Rattle.reader.specs.declared.reading.Reading.the-variants.{Read, Refused}
 use Rattle.reader.specs.Scripts.{ScriptRead}
-use Rattle.reader.specs.Reading.{Within, answerOf, Filled, TextRead}
+use Rattle.reader.specs.Reading.{Within, Filled, TextRead}
 use Rattle.typereader.proofs.Filled.{gone-on, stopped}
 
 pub all-zero : (p : List ℕ) → length p ≡ 8192 → ((j : ℕ) → j < 8192 → getD p j 0 ≡ 0) → p ≡ zeros

@@ -1,16 +1,15 @@
 -- What the code that reads processes promises.
 use mathlib.Core.Path.{_≡_}
-use Prim.Native.Nat.{ℕ, _+_, _-_, _*_, _<_, _≤_}
+use Prim.Native.Nat.{ℕ, _+_, _*_, _<_, _≤_}
 use mathlib.Core.List.{List, []}
-use mathlib.Core.Bool.{cond}
 use lib.Dec.{eqb}
 use lib.ListN.{length}
 use Rattle.notation.specs.Limits.{textLimit, typeTermLimit, processTermLimit}
-use Rattle.notation.specs.Token.{tokenAt, kindAt, kName, kLabel, kThen, kColon}
-use Rattle.notation.specs.Tree.{Located, Ty, Proc, empty, sendUnit, sendChannel, sendLabel, cancel, spawn, recvUnit, recvChannel, recvLabel, fwd, call, raise, try, Branches, branch}
-use Rattle.notation.specs.Reader.{Result, got, refused, take, lastly, part, choose, fault, expect, processTerm, thenToken, nameIn, labelIn}
+use Rattle.notation.specs.Token.{kindAt, kName, kLabel, kThen, kColon}
+use Rattle.notation.specs.Tree.{Located, Proc, empty, sendUnit, sendChannel, sendLabel, cancel, spawn, recvUnit, recvChannel, recvLabel, fwd, call, raise, try, Branches, branch}
+use Rattle.notation.specs.Reader.{Result, got, refused, take, lastly, part, choose, expect, processTerm, thenToken, nameIn, labelIn}
 use Rattle.notation.specs.Types.{readType, labelTerm}
-use Rattle.notation.specs.Processes.{payload, unitTaken, bracketedBy, sendBy, recvBy, processBy, moreBranchesBy, readProcess, readRest, readBranches, readNames, nameList}
+use Rattle.notation.specs.Processes.{payload, unitTaken, bracketedBy, sendBy, recvBy, processBy, moreBranchesBy, readProcess, readRest, readBranches, readNames}
 use Rattle.notation.specs.Tables.{afterProcess, afterBranches, writeProcess, writeBranches, moreTerms, putOver, termNode}
 use Rattle.notation.specs.declared.reading.Cursor.{Cursor}
 use Rattle.notation.specs.declared.reading.Tally.{Tally}
@@ -18,7 +17,6 @@ use Rattle.notation.specs.declared.reading.TermNode.{TermNode}
 use Rattle.notation.specs.declared.reading.Taken.{Taken}
 use Rattle.notation.specs.declared.reading.Taken.the-variants.{At, Refused}
 use Rattle.notation.specs.declared.token.TermHead.{TermHead}
-use Rattle.notation.specs.declared.token.TermHead.the-variants.{Send, Recv, Fwd, Call, Cancel, Raise, Try, Spawn}
 use Rattle.notation.specs.declared.token.Payload.{Payload}
 use Rattle.notation.specs.declared.token.Payload.the-variants.{Unit as UnitPayload, Channel, Label, Other}
 use Rattle.typereader.specs.declared.steps.Out.{Out}

@@ -1,14 +1,14 @@
 -- What the code that reads signatures, declarations and the script promises.
 use mathlib.Core.Path.{_≡_}
-use Prim.Native.Nat.{ℕ, _+_, _-_, _*_, _<_, _≤_}
+use Prim.Native.Nat.{ℕ, _+_, _*_, _<_, _≤_}
 use mathlib.Core.List.{List, [], _∷_}
 use lib.ListN.{length}
 use lib.Dec.{eqb}
 use Rattle.notation.specs.Limits.{textLimit, typeTermLimit, processTermLimit, typeLimit, processLimit, execLimit}
 use Rattle.notation.specs.Token.{kindAt, kName, kColon, kComma}
-use Rattle.notation.specs.Tree.{Located, Entry, Declaration, declareType, declareProc, declareExec}
-use Rattle.notation.specs.Reader.{Result, got, refused, take, part, lastly, choose, expect, misfit, thenToken, nameIn}
-use Rattle.notation.specs.Scripts.{Count, moreTypes, moreProcesses, moreExecs, readEntries, entryList, typeDeclaration, procDeclaration, execDeclaration, readScript}
+use Rattle.notation.specs.Tree.{Entry, Declaration, declareType, declareProc, declareExec}
+use Rattle.notation.specs.Reader.{Result, got, take, choose, expect, misfit, thenToken}
+use Rattle.notation.specs.Scripts.{Count, moreTypes, moreProcesses, moreExecs, readEntries, typeDeclaration, procDeclaration, execDeclaration, readScript}
 use Rattle.notation.specs.Tables.{afterEntries, writeEntries, afterDeclaration, writeDeclaration, afterScript, writeScript}
 use Rattle.notation.specs.declared.reading.Cursor.{Cursor}
 use Rattle.notation.specs.declared.reading.Tally.{Tally}

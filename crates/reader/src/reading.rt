@@ -6,7 +6,7 @@ use notation::script::Script;
 use typereader::steps::Out;
 use typereader::store::put_word;
 ghost use mathlib.Core.Path.{_≡_};
-ghost use Prim.Native.Nat.{_<_, _≤_};
+ghost use Prim.Native.Nat.{_<_};
 ghost use lib.ListN.{length};
 ghost use Rattle.notation.specs.Limits.{scratchWords};
 ghost use Rattle.notation.specs.Tables.{writeCounts, zeros};

@@ -1,16 +1,15 @@
 -- How answers and words follow the definition's own combinators.
 use mathlib.Core.Path.{_≡_, refl, ap, sym, subst, _∙_}
 use mathlib.Core.List.{List, [], _∷_}
-use mathlib.Core.Bool.{Bool, true, false}
 use Prim.Native.Nat.{ℕ, zero, suc, _<_, _≤_}
 use native.Mathlib.Nat.{le-of-suc-le-suc, not-suc-le-zero}
 use native.Mathlib.Omega.{arith}
-use lib.ListN.{length, drop, set, length-set}
-use Rattle.notation.specs.Reader.{Result, got, refused, take, part, lastly, choose}
+use lib.ListN.{drop, set, length-set}
+use Rattle.notation.specs.Reader.{Result, got, refused}
 use Rattle.notation.specs.declared.reading.Cursor.{Cursor}
 use Rattle.notation.specs.declared.reading.Tally.{Tally}
 use Rattle.notation.specs.declared.reading.Taken.{Taken}
-use Rattle.notation.specs.declared.reading.Taken.the-variants.{At, Refused}
+use Rattle.notation.specs.declared.reading.Taken.the-variants.{Refused}
 use Rattle.typereader.specs.declared.steps.Out.{Out}
 use Rattle.typereader.specs.declared.steps.Out.the-variants.{Got, Not}
 use Rattle.typereader.specs.Filling.{Kept, WordPut, Put, pastArea, Stepped, asOut, Form, Made, Meets}

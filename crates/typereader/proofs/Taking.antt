@@ -1,19 +1,18 @@
 -- A step that is taken, and one that is refused.
-use mathlib.Core.Path.{_≡_, refl, sym, ap, subst, _∙_}
+use mathlib.Core.Path.{_≡_, refl, ap, subst}
 use mathlib.Core.List.{List}
 use mathlib.Core.Bool.{Bool, true, false, cond, _||_}
-use Prim.Native.Nat.{ℕ, _+_, _*_, _<_, _≤_}
+use Prim.Native.Nat.{ℕ, _+_, _≤_}
 use native.Mathlib.Omega.{arith}
 use lib.Dec.{eqb}
-use lib.ListN.{length}
 use borrow.Author.Tests.{eq-eqb, ne-eqb}
-use Rattle.notation.specs.Token.{tokenAt, kFault, kThen, kLabel, width, Onward}
+use Rattle.notation.specs.Token.{tokenAt, kThen, kLabel, width, Onward}
 use Rattle.notation.specs.Reader.{expect, limited, past, fault, thenToken, closed, closedTaken}
 use Rattle.notation.specs.declared.token.Token.{Token}
 use Rattle.notation.specs.declared.reading.Cursor.{Cursor}
 use Rattle.notation.specs.declared.reading.Taken.{Taken}
 use Rattle.notation.specs.declared.reading.Taken.the-variants.{At, Refused}
-use Rattle.typereader.specs.Filling.{Further, Stepped, misfitTaken}
+use Rattle.typereader.specs.Filling.{Further, Stepped}
 
 -- every token has a byte
 pub width-pos : (k : ℕ) → 1 ≤ width k

@@ -2,17 +2,15 @@
 use mathlib.Core.Path.{_≡_, refl, ap, sym, _∙_}
 use mathlib.Core.List.{List}
 use mathlib.Core.Bool.{Bool, true, false, cond, _||_}
-use Prim.Native.Nat.{ℕ, zero, suc, _+_, _-_, _*_, _<_, _≤_}
+use Prim.Native.Nat.{ℕ, suc, _+_, _-_, _*_, _<_, _≤_}
 use native.Mathlib.Omega.{arith}
 use native.Mathlib.Decide.{ℕ-discrete}
-use lib.ListN.{length}
 use lib.Dec.{eqb, ltb}
 use borrow.Author.Tests.{ltb-true, eqb-true}
-use Rattle.notation.specs.Limits.{textLimit}
-use Rattle.notation.specs.Token.{kindAt, tokenAt, kOne, kName, kRoundOpen, kRoundClose, kBraceOpen, kBraceClose, kColon, kComma, kPlus, kStar, kAt, kLolli, kLabel}
+use Rattle.notation.specs.Token.{kindAt, kOne, kName, kRoundOpen, kRoundClose, kBraceOpen, kBraceClose, kColon, kComma, kPlus, kStar, kAt, kLolli, kLabel}
 use Rattle.notation.specs.Tree.{Located, Ty, unit, named, tensor, par, lolli, plus, with, Alternatives, alternative}
-use Rattle.notation.specs.Reader.{Result, got, refused, take, part, lastly, choose, expect, limited, misfit, opening, typeTerm, fault, closed, thenToken, onwardFrom, nameIn, labelIn}
-use Rattle.notation.specs.Types.{typeHead, isInfix, infixOf, rightBy, typeBy, roundBy, choiceBy, atomBy, moreBy, alternativesBy, labelTerm, readType, readAtom, readAlternatives}
+use Rattle.notation.specs.Reader.{Result, got, take, part, lastly, expect, limited, misfit, opening, typeTerm, closed, thenToken, onwardFrom, nameIn, labelIn}
+use Rattle.notation.specs.Types.{typeHead, isInfix, infixOf, rightBy, typeBy, choiceBy, atomBy, moreBy, alternativesBy, labelTerm, readType, readAtom, readAlternatives}
 use Rattle.notation.specs.Tables.{moreNodes, moreAlternatives, lasting, typeNode, putNode, putAlternative, putInfix, putChoice, afterType, afterAlternatives, writeType, writeAlternatives}
 use Rattle.notation.specs.declared.reading.Cursor.{Cursor}
 use Rattle.notation.specs.declared.reading.Tally.{Tally}
@@ -22,9 +20,9 @@ use Rattle.notation.specs.declared.token.TypeHead.{TypeHead}
 use Rattle.notation.specs.declared.token.TypeHead.the-variants.{One, Name, Round, Plus, With, Other}
 use Rattle.typereader.specs.declared.steps.Out.{Out}
 use Rattle.typereader.specs.declared.steps.Out.the-variants.{Got, Not}
-use Rattle.typereader.specs.Filling.{Stepped, labelColon, choiceOpening, asOut, misfitOut, Put, Room, Form, Made, Meets, FineType, FineAlternatives, Some, typeForm, alternativesForm, moreForm, rightForm, infixKind, choiceOf, unread, TypeRead, AtomRead, RightRead, AlternativesRead, MoreRead, OneRead, NameRead, RoundRead, ChoiceRead}
+use Rattle.typereader.specs.Filling.{Stepped, labelColon, choiceOpening, asOut, misfitOut, Put, Room, Meets, FineType, FineAlternatives, Some, typeForm, alternativesForm, infixKind, choiceOf, unread, TypeRead, AtomRead, RightRead, AlternativesRead, MoreRead, OneRead, NameRead, RoundRead, ChoiceRead}
 use Rattle.typereader.proofs.Taking.{never}
-use Rattle.typereader.proofs.Filled.{same, _upon_, put-kept, took, refused-out, made-no, made-got, gone-on, stopped, meets-no, meets-got, more-no, more-got, more-made}
+use Rattle.typereader.proofs.Filled.{same, _upon_, put-kept, took, refused-out, made-got, gone-on, stopped, meets-no, meets-got, more-no, more-got, more-made}
 
 -- the definition at one more fuel
 type-suc : (m : ℕ) (s : List ℕ) (c : Cursor) → readType (suc m) s c ≡ typeBy (λ d. readAtom m s d) (λ d. readType m s d) s c

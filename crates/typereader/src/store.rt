@@ -4,8 +4,7 @@ use notation::reading::Tally;
 use notation::reading::TermNode;
 use notation::reading::TypeNode;
 ghost use mathlib.Core.Path.{_≡_};
-ghost use Prim.Native.Nat.{_<_, _≤_};
-ghost use lib.ListN.{length};
+ghost use Prim.Native.Nat.{_<_};
 ghost use Rattle.notation.specs.Tables.{moreNodes, moreAlternatives, moreTerms, moreBranches, pairWord, putNode, putAlternative, putTerm, putBranch, putEntry, putType, putProcess, putExec, moreEntries, moreTypes, moreProcesses, moreExecs, lasting};
 ghost use Rattle.typereader.specs.Filling.{WordPut, Put, Fits, FitsTerm, FitsEntry, Area};
 

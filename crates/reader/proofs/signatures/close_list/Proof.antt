@@ -1,4 +1,3 @@
-use native.Mathlib.Omega.{arith}
 use Rattle.reader.proofs.SignaturePaths.{close-no, close-got}
 use borrow.Author.Needs.{needs}
 use Rattle.reader.proofs.signatures.close_list.Statement.{statement}

@@ -2,7 +2,6 @@
 use borrow.Author.Needs.{needs}
 use Prim.Native.Nat.{ℕ}
 use native.Mathlib.Omega.{arith}
-use mathlib.Core.Path.{sym, _∙_}
 use Rattle.reader.proofs.ProcessPaths.{rest-none, rest-mark-no, rest-process}
 use Rattle.typereader.proofs.steps.expect.Reads as expect-reads
 use Rattle.typereader.proofs.store.lasting.Reads as lasting-reads

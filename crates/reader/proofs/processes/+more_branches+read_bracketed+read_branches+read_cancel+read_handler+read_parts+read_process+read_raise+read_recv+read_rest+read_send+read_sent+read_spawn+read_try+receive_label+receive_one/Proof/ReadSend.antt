@@ -2,8 +2,6 @@
 use borrow.Author.Needs.{needs}
 use Prim.Native.Nat.{ℕ}
 use native.Mathlib.Omega.{arith}
-use mathlib.Core.Path.{sym, _∙_}
-use Rattle.reader.specs.Processes.{SentRead}
 use Rattle.reader.proofs.ProcessPaths.{send-no, send-name-no, send-got}
 use Rattle.typereader.proofs.steps.expect.Reads as expect-reads
 use Rattle.typereader.proofs.steps.kind_at.Reads as kind-at-reads

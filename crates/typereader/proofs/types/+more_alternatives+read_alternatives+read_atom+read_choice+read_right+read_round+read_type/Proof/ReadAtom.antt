@@ -2,7 +2,7 @@
 use borrow.Author.Needs.{needs}
 use Prim.Native.Nat.{ℕ}
 use native.Mathlib.Omega.{arith}
-use mathlib.Core.Path.{ap, sym, _∙_}
+use mathlib.Core.Path.{sym, _∙_}
 use Rattle.typereader.proofs.TypePaths.{atom-one, atom-name, atom-round, atom-plus, atom-with, atom-other}
 use Rattle.typereader.proofs.steps.kind_at.Reads as kind-at-reads
 use Rattle.typereader.proofs.steps.misfit.Reads as misfit-reads

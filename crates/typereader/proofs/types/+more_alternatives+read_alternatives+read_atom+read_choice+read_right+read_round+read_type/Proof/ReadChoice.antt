@@ -2,7 +2,6 @@
 use borrow.Author.Needs.{needs}
 use Prim.Native.Nat.{ℕ}
 use native.Mathlib.Omega.{arith}
-use mathlib.Core.Path.{_∙_}
 use Rattle.typereader.proofs.TypePaths.{choice-no, choice-list-no, choice-close-no, choice-got}
 use Rattle.typereader.proofs.types.choice_opening.Reads as choice-opening-reads
 use Rattle.typereader.proofs.steps.expect.Reads as expect-reads

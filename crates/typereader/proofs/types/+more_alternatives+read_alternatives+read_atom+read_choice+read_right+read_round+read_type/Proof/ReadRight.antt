@@ -2,7 +2,6 @@
 use borrow.Author.Needs.{needs}
 use Prim.Native.Nat.{ℕ}
 use native.Mathlib.Omega.{arith}
-use mathlib.Core.Path.{ap, sym, _∙_}
 use Rattle.typereader.proofs.TypePaths.{right-no, right-type-no, right-got}
 use Rattle.typereader.proofs.Taking.{width-pos}
 use Rattle.typereader.proofs.types.infix_kind.Reads as infix-kind-reads
