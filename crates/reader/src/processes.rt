@@ -18,6 +18,7 @@ use typereader::steps::payload_head;
 use typereader::steps::process_term;
 use typereader::steps::refusal;
 use typereader::steps::term_head;
+use typereader::steps::then_expect;
 use typereader::store::lasting;
 use typereader::store::put_branch;
 use typereader::store::put_term;
@@ -34,20 +35,20 @@ ghost use Rattle.reader.specs.Processes.{NamesTaken, listEnd, namesOrNon
 fn unit_mark(text: &[u8], c: Cursor) -> Taken
     ensures { λ r. ⌜ Stepped (now (text .entry)) c 2 0 0 (unitTaken (now (text .entry)) c) r ⌝ }
 {
-    let opened = opening(text, c, Token::ROUND_OPEN);
-    let Taken::At(i, d) = opened else {
-        return opened;
-    };
-    let closed = expect(text, d, Token::ROUND_CLOSE);
-    let Taken::At(_, e) = closed else {
-        return closed;
+    let mark = then_expect(
+        text,
+        opening(text, c, Token::ROUND_OPEN),
+        Token::ROUND_CLOSE,
+    );
+    let Taken::At(i, d) = mark else {
+        return mark;
     };
     Taken::At(
         i,
         Cursor {
-            at: e.at,
-            types: e.types,
-            terms: e.terms,
+            at: d.at,
+            types: d.types,
+            terms: d.terms,
             depth: c.depth,
         },
     )
@@ -69,45 +70,21 @@ fn payload_token(text: &[u8], c: Cursor, head: Payload) -> Taken
 fn payload_then(text: &[u8], c: Cursor, head: Payload) -> Taken
     ensures { λ r. ⌜ Stepped (now (text .entry)) c 3 0 0 (payloadThen (now (text .entry)) c head) r ⌝ }
 {
-    let taken = payload_token(text, c, head);
-    let Taken::At(i, d) = taken else {
-        return taken;
-    };
-    let arrow = expect(text, d, Token::THEN);
-    let Taken::At(_, e) = arrow else {
-        return arrow;
-    };
-    Taken::At(i, e)
+    then_expect(text, payload_token(text, c, head), Token::THEN)
 }
 
 // A label of a branch list in which n came before, and =>.
 fn label_then(text: &[u8], c: Cursor, n: usize) -> Taken
     ensures { λ r. ⌜ Stepped (now (text .entry)) c 4 0 0 (labelThen (now (text .entry)) n c) r ⌝ }
 {
-    let labelled = label_term(text, c, n);
-    let Taken::At(i, d) = labelled else {
-        return labelled;
-    };
-    let arrow = expect(text, d, Token::THEN);
-    let Taken::At(_, e) = arrow else {
-        return arrow;
-    };
-    Taken::At(i, e)
+    then_expect(text, label_term(text, c, n), Token::THEN)
 }
 
 // The name that begins a spawn, and its colon.
 fn name_colon(text: &[u8], c: Cursor) -> Taken
     ensures { λ r. ⌜ Stepped (now (text .entry)) c 2 0 1 (nameColon (now (text .entry)) c) r ⌝ }
 {
-    let named = process_term(text, c, Token::NAME);
-    let Taken::At(i, d) = named else {
-        return named;
-    };
-    let colon = expect(text, d, Token::COLON);
-    let Taken::At(_, e) = colon else {
-        return colon;
-    };
-    Taken::At(i, e)
+    then_expect(text, process_term(text, c, Token::NAME), Token::COLON)
 }
 
 // The node of a send over its rest.

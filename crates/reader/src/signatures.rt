@@ -8,6 +8,7 @@ use typereader::steps::expect;
 use typereader::steps::kind_at;
 use typereader::steps::opening;
 use typereader::steps::refusal;
+use typereader::steps::then_expect;
 use typereader::store::put_entry;
 use typereader::types::read_type;
 ghost use Prim.Native.Nat.{_≤_};
@@ -19,15 +20,7 @@ ghost use Rattle.reader.specs.Scripts.{entryName, closeBy, moreEntriesBy
 fn entry_name(text: &[u8], c: Cursor) -> Taken
     ensures { λ r. ⌜ Stepped (now (text .entry)) c 2 0 0 (entryName (now (text .entry)) c) r ⌝ }
 {
-    let named = expect(text, c, Token::NAME);
-    let Taken::At(i, d) = named else {
-        return named;
-    };
-    let colon = expect(text, d, Token::COLON);
-    let Taken::At(_, e) = colon else {
-        return colon;
-    };
-    Taken::At(i, e)
+    then_expect(text, expect(text, c, Token::NAME), Token::COLON)
 }
 
 // The bracket that closes a list; nothing is appended.

@@ -1,18 +1,19 @@
 -- A step that is taken, and one that is refused.
-use mathlib.Core.Path.{_≡_, refl, ap, subst}
+use mathlib.Core.Path.{_≡_, refl, sym, ap, subst, _∙_}
 use mathlib.Core.List.{List}
 use mathlib.Core.Bool.{Bool, true, false, cond, _||_}
-use Prim.Native.Nat.{ℕ, _+_, _≤_}
+use Prim.Native.Nat.{ℕ, _+_, _*_, _≤_}
 use native.Mathlib.Omega.{arith}
 use lib.Dec.{eqb}
 use borrow.Author.Tests.{eq-eqb, ne-eqb}
+use Rattle.notation.specs.Limits.{typeTermLimit, processTermLimit}
 use Rattle.notation.specs.Token.{tokenAt, kThen, kLabel, width, Onward}
 use Rattle.notation.specs.Reader.{expect, limited, past, fault, thenToken, closed, closedTaken}
 use Rattle.notation.specs.declared.token.Token.{Token}
 use Rattle.notation.specs.declared.reading.Cursor.{Cursor}
 use Rattle.notation.specs.declared.reading.Taken.{Taken}
 use Rattle.notation.specs.declared.reading.Taken.the-variants.{At, Refused}
-use Rattle.typereader.specs.Filling.{Further, Stepped}
+use Rattle.typereader.specs.Filling.{Further, Stepped, Behind, Followed}
 
 -- every token has a byte
 pub width-pos : (k : ℕ) → 1 ≤ width k
@@ -73,6 +74,35 @@ module _ {s : List ℕ} {c : Cursor} {n types terms : ℕ} {want r : Taken} (u :
 
     pub both-at : {j : ℕ} {b : Cursor} → q ≡ At j b → Further s c n′ types′ terms i b → Stepped s c n′ types′ terms (thenToken want f) (At i b)
     both-at g o = stepped-at i _ (rw (← u .is, e, ← v .is, g)) o
+
+-- a step, and then a token, whatever the step is of
+module _ {s : List ℕ} {p : Taken} (kind : ℕ) where
+  pub followed-no : {m j : ℕ} → p ≡ Refused m j → Followed s p kind p
+  followed-no e = rw e (record { is = refl; on = λ i d q. never q })
+
+  module _ {i : ℕ} {d : Cursor} (e : p ≡ At i d) {q : Taken} (v : Stepped s d (width kind) 0 0 (expect s kind d) q) where
+    pub followed-then-no : {m j : ℕ} → q ≡ Refused m j → Followed s p kind q
+    followed-then-no g = rw g (record { is = rw (e, ← v .is, g); on = λ i d x. never x })
+
+    pub followed-at : {j : ℕ} {b : Cursor} → q ≡ At j b → Followed s p kind (At i b)
+    followed-at {j} {b} g = record { is = rw (e, ← v .is, g); on = onto }
+      where
+        onto : (k : ℕ) (f : Cursor) → At i b ≡ At k f → Behind s p kind k f
+        onto k f x =
+            let same : i ≡ k = cc in
+            let there : b ≡ f = cc in
+            let o = v .on j b g in
+            subst (λ y. Behind s p kind k y) there (d, e ∙ ap (λ n. At n d) same, o .0, o .1, omega arith, omega arith)
+
+pub followed : {s : List ℕ} {c : Cursor} {n types terms : ℕ} {want p r : Taken} {kind : ℕ} → Stepped s c n types terms want p → Followed s p kind r
+    → (n′ : ℕ) → n′ ≤ n + width kind → Stepped s c n′ types terms (thenToken want (expect s kind)) r
+followed {s} {types = types} {terms} {kind = kind} u v n′ l = record {
+  is = v .is ∙ ap (λ x. thenToken x (expect s kind)) (u .is);
+  on = λ i e q.
+      let w = v .on i e q in
+      let o = u .on i (w .0) (w .1) in
+      (omega arith, w .3, o .2, w .4 ∙ o .3, subst (λ x. types * x ≤ typeTermLimit) (sym (w .4)) (o .4), w .5 ∙ o .5, subst (λ x. terms * x ≤ processTermLimit) (sym (w .5)) (o .6));
+}
 
 -- as many brackets are open afterwards as before
 module _ {s : List ℕ} {c : Cursor} {n types terms : ℕ} {want r : Taken} (u : Stepped s c n types terms want r) where

@@ -6,7 +6,7 @@ use mathlib.Core.Bool.{cond}
 use lib.ListN.{length, drop, set}
 use lib.Dec.{eqb}
 use Rattle.notation.specs.Limits.{textLimit, typeTermLimit, processTermLimit}
-use Rattle.notation.specs.Token.{tokenAt, kColon, kBraceOpen, kStar, kAt, kOne, kName, kPlus}
+use Rattle.notation.specs.Token.{tokenAt, width, kColon, kBraceOpen, kStar, kAt, kOne, kName, kPlus}
 use Rattle.notation.specs.Tree.{Located, Ty, unit, named, tensor, par, lolli, plus, with, Alternatives, alternative}
 use Rattle.notation.specs.Reader.{Result, got, refused, take, fault, expect, opening, typeTerm, thenToken, nameIn}
 use Rattle.notation.specs.Types.{readType, readAtom, readAlternatives, labelTerm, rightBy, roundBy, choiceBy, moreBy}
@@ -36,6 +36,15 @@ Further s c n types terms i d =
 pub record Stepped (s : List ℕ) (c : Cursor) (n types terms : ℕ) (want r : Taken) : Type 0 where
   pub is : r ≡ want
   pub on : (i : ℕ) (d : Cursor) → r ≡ At i d → Further s c n types terms i d
+
+-- before e stands a token of this kind, and before that the step p that was taken at i
+abbrev pub Behind : List ℕ → Taken → ℕ → ℕ → Cursor → Type 0
+Behind s p kind i e = (d : Cursor) × (p ≡ At i d) × (d .at + width kind ≤ e .at) × (e .at ≤ length s) × (e .types ≡ d .types) × (e .terms ≡ d .terms)
+
+-- r is the step p, and then the token of this kind
+pub record Followed (s : List ℕ) (p : Taken) (kind : ℕ) (r : Taken) : Type 0 where
+  pub is : r ≡ thenToken p (expect s kind)
+  pub on : (i : ℕ) (e : Cursor) → r ≡ At i e → Behind s p kind i e
 
 -- the refusal of a step
 abbrev pub asOut : Taken → Out

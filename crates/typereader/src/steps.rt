@@ -14,7 +14,7 @@ ghost use Rattle.notation.specs.Token.{kindAt, width};
 ghost use Rattle.notation.specs.Reader.{fault, expect, opening, typeTerm, processTerm};
 ghost use Rattle.notation.specs.Types.{typeHead, isInfix, labelTerm};
 ghost use Rattle.notation.specs.Processes.{termHead, payload};
-ghost use Rattle.typereader.specs.Filling.{Stepped, asOut, misfitTaken, misfitOut};
+ghost use Rattle.typereader.specs.Filling.{Stepped, Followed, asOut, misfitTaken, misfitOut};
 
 // Where a reading went on to, with the fill of the tables; or the refusal's number and offset.
 pub enum Out {
@@ -68,6 +68,21 @@ pub fn expect(text: &[u8], c: Cursor, kind: usize) -> Taken
         );
     }
     Taken::Refused(fault(t), t.start)
+}
+
+// A step, and then the token of this kind; it is known by where the step began.
+pub fn then_expect(text: &[u8], step: Taken, kind: usize) -> Taken
+    requires { ⌜ kind ≤ 31 ⌝ }
+    ensures { λ r. ⌜ Followed (now (text .entry)) step kind r ⌝ }
+{
+    let Taken::At(i, d) = step else {
+        return step;
+    };
+    let next = expect(text, d, kind);
+    let Taken::At(_, e) = next else {
+        return next;
+    };
+    Taken::At(i, e)
 }
 
 // A bracket that opens.

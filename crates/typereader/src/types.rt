@@ -7,6 +7,7 @@ use crate::steps::label_term;
 use crate::steps::misfit;
 use crate::steps::opening;
 use crate::steps::refusal;
+use crate::steps::then_expect;
 use crate::steps::type_head;
 use crate::steps::type_term;
 use crate::store::put_alternative;
@@ -25,15 +26,7 @@ ghost use Rattle.typereader.specs.Filling.{Stepped, labelColon, choiceOp
 fn label_colon(text: &[u8], c: Cursor, n: usize) -> Taken
     ensures { λ r. ⌜ Stepped (now (text .entry)) c 3 0 0 (labelColon (now (text .entry)) n c) r ⌝ }
 {
-    let labelled = label_term(text, c, n);
-    let Taken::At(i, d) = labelled else {
-        return labelled;
-    };
-    let colon = expect(text, d, Token::COLON);
-    let Taken::At(_, e) = colon else {
-        return colon;
-    };
-    Taken::At(i, e)
+    then_expect(text, label_term(text, c, n), Token::COLON)
 }
 
 // The mark of a choice and its brace.
