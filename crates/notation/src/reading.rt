@@ -49,3 +49,9 @@ pub struct ProcessEntry {
     pub used: usize,
     pub body: usize,
 }
+
+// What a search found: a position or a number.
+pub enum Found {
+    At(usize),
+    Nothing,
+}

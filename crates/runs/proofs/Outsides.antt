@@ -14,7 +14,7 @@ use Rattle.runs.specs.SearchLaws.{First, here, later, first-here, none-f
 use Rattle.runs.specs.Raw.{RawOutside, RawConfig, rows, outsideOf, rawIn, BoundedOutside, Bounded}
 use Rattle.runs.specs.Values.{Changed, Written}
 use Rattle.runs.specs.Operations.{withOutside, withGiven, onChannel, outsideAt, letGo, changedOutside}
-use Rattle.runs.specs.declared.records.Found.the-variants as found
+use Rattle.notation.specs.declared.reading.Found.the-variants as found
 use Rattle.runs.specs.Bounds.{changed-as}
 use Rattle.runs.proofs.Rows.{outside-local, rows-same, rows-set, rows-append}
 use Rattle.runs.proofs.Slices.{word, counted-outside, numbered, outside-changed}

@@ -15,8 +15,8 @@ use Rattle.runs.specs.Raw.{RawProcess, RawConfig, sideOf}
 use Rattle.runs.specs.Values.{endIn}
 use Rattle.runs.specs.Operations.{firstStep, isEnd, heldAt, holderHere, holderStep, holderOf, outsideAt, orOutside, farFrom, farEnd}
 use Rattle.runs.specs.declared.records.End.{End}
-use Rattle.runs.specs.declared.records.Found.{Found}
-use Rattle.runs.specs.declared.records.Found.the-variants as found
+use Rattle.notation.specs.declared.reading.Found.{Found}
+use Rattle.notation.specs.declared.reading.Found.the-variants as found
 use Rattle.runs.specs.declared.records.Holder.{Holder}
 use Rattle.runs.specs.declared.records.Holder.the-variants as holder
 use Rattle.runs.specs.declared.records.Far.{Far}

@@ -17,8 +17,8 @@ use Rattle.runs.specs.SearchLaws.{First, here, later, first-here, none-f
 use Rattle.runs.specs.Raw.{RawEnd, RawProcess, RawOutside, RawConfig}
 use Rattle.runs.specs.Operations as raw
 use Rattle.runs.specs.Decode as decode
-use Rattle.runs.specs.declared.records.Found.{Found}
-use Rattle.runs.specs.declared.records.Found.the-variants as found
+use Rattle.notation.specs.declared.reading.Found.{Found}
+use Rattle.notation.specs.declared.reading.Found.the-variants as found
 use Rattle.runs.specs.declared.records.Holder.{Holder}
 use Rattle.runs.specs.declared.records.Holder.the-variants as holder
 use Rattle.runs.specs.declared.records.Far.{Far}

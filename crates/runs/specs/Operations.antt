@@ -9,8 +9,8 @@ use Rattle.calculus.specs.Types.{Side, provided, used, other, sameSide}
 use Rattle.calculus.specs.Configuration.{movedUp, movedDown, among, freeFrom}
 use Rattle.runs.specs.Lists.{insertAt, removeAt, scan}
 use Rattle.runs.specs.Raw.{RawEnd, RawProcess, RawOutside, RawConfig}
-use Rattle.runs.specs.declared.records.Found.{Found}
-use Rattle.runs.specs.declared.records.Found.the-variants as found
+use Rattle.notation.specs.declared.reading.Found.{Found}
+use Rattle.notation.specs.declared.reading.Found.the-variants as found
 use Rattle.runs.specs.declared.records.Holder.{Holder}
 use Rattle.runs.specs.declared.records.Holder.the-variants as holder
 use Rattle.runs.specs.declared.records.Far.{Far}

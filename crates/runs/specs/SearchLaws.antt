@@ -11,8 +11,8 @@ use Rattle.runs.specs.Lists.{All, scan}
 use Rattle.runs.specs.ListLaws.{below-length}
 use Rattle.runs.specs.Raw.{RawEnd, RawProcess, RawOutside, RawConfig}
 use Rattle.runs.specs.Operations.{firstStep, first, isEnd, heldAt, holderHere, holderStep, holderOf, onChannel, outsideAt, orOutside, farFrom, farEnd}
-use Rattle.runs.specs.declared.records.Found.{Found}
-use Rattle.runs.specs.declared.records.Found.the-variants as found
+use Rattle.notation.specs.declared.reading.Found.{Found}
+use Rattle.notation.specs.declared.reading.Found.the-variants as found
 use Rattle.runs.specs.declared.records.Holder.{Holder}
 use Rattle.runs.specs.declared.records.Holder.the-variants as holder
 use Rattle.runs.specs.declared.records.Far.{Far}

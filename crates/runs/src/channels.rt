@@ -12,9 +12,9 @@ use crate::outside::outside_at;
 use crate::outside::outside_count;
 use crate::processes::count;
 use crate::processes::load;
-use crate::records::Found;
 use crate::records::Held;
 use crate::words::wide;
+use notation::reading::Found;
 
 // Marks the channels of the outside.
 fn mark_outside(marks: &mut [u32; 512], run: &[u32])

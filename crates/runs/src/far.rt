@@ -10,8 +10,8 @@ use crate::outside::find_outside;
 use crate::processes::count;
 use crate::processes::load;
 use crate::records::Far;
-use crate::records::Found;
 use crate::records::Holder;
+use notation::reading::Found;
 
 // The first process that holds an end.
 pub fn holder(run: &[u32], channel: u32, side: u32) -> Holder

@@ -9,8 +9,8 @@ ghost use Rattle.runs.specs.Raw.{BoundedEnd, sideOf};
 ghost use Rattle.runs.specs.Values.{endIn, heldIn};
 ghost use Rattle.runs.specs.Operations.{heldAt};
 use crate::records::End;
-use crate::records::Found;
 use crate::records::Held;
+use notation::reading::Found;
 
 // Nothing held.
 pub fn no_ends() -> Held

@@ -8,9 +8,9 @@ ghost use Rattle.notation.specs.Limits.{runWords};
 ghost use Rattle.runs.specs.Raw.{rawIn, outsideOf, BoundedOutside, Bounded};
 ghost use Rattle.runs.specs.Values.{outsideIn, Changed, Written};
 ghost use Rattle.runs.specs.Operations.{onOutside, withGiven, outsideAt, letGo, changedOutside, retyped, rerouted};
-use crate::records::Found;
 use crate::records::Outside;
 use crate::words::wide;
+use notation::reading::Found;
 
 // How many there are.
 pub fn outside_count(run: &[u32]) -> usize

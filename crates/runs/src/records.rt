@@ -29,12 +29,6 @@ pub struct Outside {
     pub channel: u32,
 }
 
-// A position in a list.
-pub enum Found {
-    At(usize),
-    Nothing,
-}
-
 // Who holds an end: the process at a place, at a position of what it holds.
 pub enum Holder {
     At(usize, usize),

@@ -21,6 +21,7 @@ use Rattle.notation.specs.declared.reading.Cursor.{Cursor}
 use Rattle.notation.specs.declared.reading.Taken.{Taken}
 use Rattle.notation.specs.declared.reading.Taken.the-variants.{At, Refused}
 use Rattle.tables.specs.Decode.{fromStart, readArguments, argumentsOr, argumentsAt}
+use Rattle.tables.specs.Names.{NamesFrom, CallAt, Goes, goes-got, goes-part, list-goes}
 use Rattle.tables.specs.Read.{Reads, reads-got, reads-refused, first-start}
 
 -- ── the token at a token's start is that token
@@ -200,3 +201,19 @@ pub arguments-read : (n : ℕ) (s : List ℕ) (c : Cursor) → n ≤ fuel s → 
 unfolding argumentsAt
 arguments-read n s c h =
     same-arguments (arguments-again n (fuel s) s c (fromStart (tokenAt s (c .at) .start)) h (record { same = token-again s (c .at); open′ = omega arith }))
+
+-- and a walk over the two lists meets them
+pub call-read : (n : ℕ) (s : List ℕ) (c : Cursor) → Reads (λ (a : List Located × List Located). CallAt s (tokenAt s (c .at) .start) (a .0) (a .1)) (readArguments n s c)
+call-read n s c = reads-of
+    (goes-part {Q = λ xs d. NamesFrom s (tokenAt s (c .at) .end) xs (d .at)} _ (list-goes s kRoundClose refl refl n kRoundOpen c) λ xs d h.
+    goes-part {Q = λ ys e. NamesFrom s (tokenAt s (d .at) .end) ys (e .at)} _ (list-goes s kSquareClose refl refl n kSquareOpen d) λ ys e k.
+    goes-got (xs, ys) e (record {
+      middle = d .at;
+      end = e .at;
+      provided = subst (λ (t : Token). NamesFrom s (t .end) xs (d .at)) (sym (token-again s (c .at))) h;
+      used = k;
+    }))
+  where
+    reads-of : {A : Type 0} {P : A → Type 0} {r : Result A} → Goes (λ a d. P a) r → Reads P r
+    reads-of {r = got a d} h = reads-got a d (h .holds)
+    reads-of {r = refused n i} h = reads-refused n i

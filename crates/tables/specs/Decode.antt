@@ -12,9 +12,25 @@ use Rattle.notation.specs.Processes.{nameList}
 use Rattle.notation.specs.Scripts.{fuel}
 use Rattle.notation.specs.Tables.{typesAt, processesAt, execsAt, entriesAt, nodesAt, alternativesAt, termsAt, branchesAt, typeNode, termNode, processEntry}
 use Rattle.notation.specs.declared.reading.Cursor.{Cursor}
+use Rattle.notation.specs.declared.reading.Tally.{Tally}
 use Rattle.notation.specs.declared.reading.TypeNode.{TypeNode}
 use Rattle.notation.specs.declared.reading.TermNode.{TermNode}
 use Rattle.notation.specs.declared.reading.ProcessEntry.{ProcessEntry}
+
+-- ── how far each table is filled: the first eight words
+abbrev pub tallyIn : List ℕ → Tally
+tallyIn w =
+    record {
+      types = getD w 0 0;
+      processes = getD w 1 0;
+      execs = getD w 2 0;
+      entries = getD w 3 0;
+      nodes = getD w 4 0;
+      alternatives = getD w 5 0;
+      terms = getD w 6 0;
+      branches = getD w 7 0;
+      last = 0;
+    }
 
 -- ── one entry of each table
 -- the node that `typeWord` packs
@@ -165,10 +181,10 @@ unfoldable pub execDeclaration : List ℕ → List ℕ → ℕ → Declaration
 execDeclaration s w i = declareExec (nameIn s (execAt w i))
 
 -- what f says of n numbers from i on
-abbrev pub numbered : (ℕ → Declaration) → ℕ → ℕ → List Declaration
+abbrev pub numbered : {A : Type 0} → (ℕ → A) → ℕ → ℕ → List A
 numbered f i zero = []
 numbered f i (suc n) = f i ∷ numbered f (i + 1) n
 
 -- the script that the tables hold: each kind of declaration in text order, types first, then processes, then execs
 unfoldable pub scriptIn : List ℕ → List ℕ → List Declaration
-scriptIn s w = numbered (typeDeclaration s w) 0 (getD w 0 0) ++ (numbered (procDeclaration s w) 0 (getD w 1 0) ++ numbered (execDeclaration s w) 0 (getD w 2 0))
+scriptIn s w = numbered (typeDeclaration s w) 0 (tallyIn w .types) ++ (numbered (procDeclaration s w) 0 (tallyIn w .processes) ++ numbered (execDeclaration s w) 0 (tallyIn w .execs))

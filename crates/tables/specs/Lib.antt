@@ -1,3 +1,4 @@
+pub mod Names
 pub mod Decode
 pub mod Examples
 pub mod Packing
@@ -7,6 +8,7 @@ pub mod Types
 pub mod Processes
 pub mod Declarations
 pub mod Scripts
+pub mod Program
 pub mod Roots
 pub mod Read
 pub mod Arguments
@@ -14,4 +16,5 @@ pub mod ReadTypes
 pub mod ReadProcesses
 pub mod ReadScripts
 pub mod Whole
+pub mod Search
 pub mod Access

@@ -277,14 +277,14 @@ mutual
   process-read (recvUnit at c P) s w k p f h (t, u) (x, (b, e), i, q) l =
       let m = process-read P s w k x (f - 1) h u q (λ y. omega (arith, i y, l (omega arith))) in
       node-read f s w p _ (omega arith) (l (omega arith)) e ∙ λ j. recvUnit at (t j) (m j)
-  process-read (recvChannel at c a P) s w k p f h (t, t′, u) (x, (b, e), i, q) l =
+  process-read (recvChannel at c a P) s w k p f h (t, t′, n, u) (x, (b, e), i, q) l =
       let m = process-read P s w k x (f - 1) h u q (λ y. omega (arith, i y, l (omega arith))) in
       node-read f s w p _ (omega arith) (l (omega arith)) e ∙ λ j. recvChannel at (t j) (t′ j) (m j)
   process-read (recvLabel at c B) s w k p f h (t, u) (a, (b, e), i, q) l =
       let m = branches-read B s w k p a (f - 1) h u q (omega (arith, l (omega arith))) in
       node-read f s w p _ (omega arith) (l (omega arith)) e ∙ λ j. recvLabel at (t j) (m j)
   process-read (fwd at x c) s w k p f h (t, t′) (b, e) l = node-read f s w p _ (omega arith) (l (omega arith)) e ∙ λ j. fwd at (t j) (t′ j)
-  process-read (call at n bracket xs ys) s w k p f h (t, t′) (b, e) l =
+  process-read (call at n bracket xs ys) s w k p f h (t, t′, u) (b, e) l =
       node-read f s w p _ (omega arith) (l (omega arith)) e ∙ λ j. call at (t j) bracket (t′ j .0) (t′ j .1)
   process-read (raise at P) s w k p f h u (x, (b, e), i, q) l =
       let m = process-read P s w k x (f - 1) h u q (λ y. omega (arith, i y, l (omega arith))) in

@@ -23,7 +23,8 @@ use Rattle.tables.specs.Decode.{readArguments, argumentsAt}
 use Rattle.tables.specs.Stands.{TypeFrom, ProcessFrom, BranchesFrom}
 use Rattle.tables.specs.Read.{Reads, InText, start-most, start-in, reads-got, reads-refused, reads-take, reads-part, reads-lastly, reads-weak, reads-choose, reads-misfit, reads-fact, reads-and, takes-any, takes-start, takes-expect, takes-opening, takes-process}
 use Rattle.tables.specs.ReadTypes.{ReadType, takes-label, type-read-from}
-use Rattle.tables.specs.Arguments.{arguments-read}
+use Rattle.tables.specs.Arguments.{arguments-read, call-read}
+use Rattle.tables.specs.Names.{CallAt}
 
 abbrev pub ReadProcess : List ℕ → Proc → Type 0
 ReadProcess s P = ProcessFrom s P × FineProcess P
@@ -48,7 +49,7 @@ reads-both (refused n i) u f h g = reads-refused n i
 module _ (s : List ℕ) (short : length s ≤ textLimit) where
   empty-from : (c : Cursor) → Reads (ReadProcess s) (got (empty (tokenAt s (c .at) .start)) c)
   unfolding ProcessFrom FineProcess
-  empty-from c = reads-got _ c (omega arith, omega (arith, start-most s (c .at)))
+  empty-from c = let b : tokenAt s (c .at) .start ≤ textLimit = omega (arith, start-most s (c .at)) in reads-got _ c (b, b)
 
   send-from : (rest : Cursor → Result Proc) → ((c : Cursor) → Reads (ReadProcess s) (rest c)) → (at i : ℕ) → at < textLimit → i < textLimit
       → (c : Cursor) (h : Payload) → Reads (ReadProcess s) (sendBy rest s at (nameIn s i) c h)
@@ -66,10 +67,10 @@ module _ (s : List ℕ) (short : length s ≤ textLimit) where
   bracket-in n c = reads-part _ (reads-take _ (takes-start s kRoundOpen c (omega arith)) λ _ d l. reads-fact _ l) λ xs d l. reads-fact _ l
 
   call-from : (n : ℕ) (c : Cursor) → n ≤ fuel s → (f : List Located → List Located → Proc)
-      → ((xs ys : List Located) → tokenAt s (c .at) .start < length s → argumentsAt s (tokenAt s (c .at) .start) ≡ (xs, ys) → ReadProcess s (f xs ys))
+      → ((xs ys : List Located) → tokenAt s (c .at) .start < length s → argumentsAt s (tokenAt s (c .at) .start) ≡ (xs, ys) → CallAt s (tokenAt s (c .at) .start) xs ys → ReadProcess s (f xs ys))
       → Reads (ReadProcess s) (part (nameList n s kRoundOpen kRoundClose c) λ xs d. part (nameList n s kSquareOpen kSquareClose d) λ ys e. got (f xs ys) e)
   call-from n c m f g =
-      reads-both (nameList n s kRoundOpen kRoundClose c) (λ d. nameList n s kSquareOpen kSquareClose d) f (reads-and (bracket-in n c) (arguments-read n s c m)) λ xs ys (l, o). g xs ys l o
+      reads-both (nameList n s kRoundOpen kRoundClose c) (λ d. nameList n s kSquareOpen kSquareClose d) f (reads-and (bracket-in n c) (reads-and (arguments-read n s c m) (call-read n s c))) λ xs ys (l, (o, u)). g xs ys l o u
 
   module _ (process : Cursor → Result Proc) (p : (c : Cursor) → Reads (ReadProcess s) (process c)) where
     bracketed-from : (c : Cursor) → Reads (ReadProcess s) (bracketedBy process s c)
@@ -91,7 +92,7 @@ module _ (s : List ℕ) (short : length s ≤ textLimit) where
           reads-take _ (takes-any (expect s kThen d)) λ _ e _. reads-lastly _ (p e) λ P (f, g). ((refl, f), (a, b, g))
       recv-from branches q c Channel =
           reads-take _ (takes-expect s kName c (omega arith)) λ j d l.
-          reads-take _ (takes-any (expect s kThen d)) λ _ e _. reads-lastly _ (p e) λ P (f, g). ((refl, refl, f), (a, b, omega arith, g))
+          reads-take _ (takes-any (expect s kThen d)) λ _ e _. reads-lastly _ (p e) λ P (f, g). ((refl, refl, omega arith, f), (a, b, omega arith, g))
       recv-from branches q c Label = reads-lastly _ (q c) λ B ((f, g), o). ((refl, f), (a, b, g, o))
       recv-from branches q c Other = reads-misfit s c
 
@@ -129,7 +130,7 @@ module _ (s : List ℕ) (short : length s ≤ textLimit) where
     process-from type t rest r branches q n m c Call =
         reads-take _ (takes-process s kCall c (omega arith)) λ at d a.
         reads-take _ (takes-expect s kName d (omega arith)) λ i e b.
-        call-from n e m (call at (nameIn s i) (tokenAt s (e .at) .start)) (λ xs ys l o. ((refl, o), (omega arith, omega arith, omega arith)))
+        call-from n e m (call at (nameIn s i) (tokenAt s (e .at) .start)) (λ xs ys l o u. ((refl, o, u), (omega arith, omega arith, omega arith)))
     process-from type t rest r branches q n m c Cancel =
         reads-take _ (takes-process s kCancel c (omega arith)) λ at d a.
         reads-take _ (takes-expect s kName d (omega arith)) λ i e b. reads-lastly _ (r e) λ P (f, g). ((refl, f), (omega arith, omega arith, g))

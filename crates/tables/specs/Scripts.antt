@@ -4,15 +4,14 @@ use Prim.Native.Nat.{ℕ, zero, suc, _+_, _<_, _≤_}
 use mathlib.Core.Path.{_≡_, refl, sym, _∙_, ap}
 use mathlib.Core.List.{List, [], _∷_, _++_}
 use native.Mathlib.Omega.{arith}
-use lib.ListN.{length, getD, set, length-set, length-append, length-replicate}
-use lib.Seq.{getD-set-same, getD-set-other}
+use lib.ListN.{length, getD, length-append, length-replicate}
 use Rattle.notation.specs.Limits.{typeTermLimit, processTermLimit, scratchWords}
 use Rattle.notation.specs.Tree.{Located, Ty, Proc, Entry, Declaration, declareType, declareProc, declareExec}
 use Rattle.notation.specs.Reader.{nameIn}
-use Rattle.notation.specs.Tables.{afterType, afterEntries, afterProcess, afterDeclaration, afterScript, writeScript, writeCounts, nothing, zeros, tablesOf}
+use Rattle.notation.specs.Tables.{lasting, afterType, afterEntries, afterProcess, afterDeclaration, afterScript, writeScript, writeCounts, nothing, zeros, tablesOf}
 use Rattle.notation.specs.declared.reading.Tally.{Tally}
 use Rattle.typereader.specs.Filling.{Area}
-use Rattle.tables.specs.Decode.{entryAt, typeAt, execAt, processAt, typeIn, processIn, entriesIn, typeDeclaration, procBy, procDeclaration, execDeclaration, numbered, scriptIn}
+use Rattle.tables.specs.Decode.{tallyIn, entryAt, typeAt, execAt, processAt, typeIn, processIn, entriesIn, typeDeclaration, procBy, procDeclaration, execDeclaration, numbered, scriptIn}
 use Rattle.tables.specs.Growth.{Grown, grown-counts}
 use Rattle.tables.specs.Stands.{EntriesAt, DeclarationAt, ScriptAt, EntriesFrom, DeclarationFrom, ScriptFrom}
 use Rattle.tables.specs.Types.{type-read}
@@ -117,29 +116,18 @@ module _ (s w : List ℕ) (k : Tally) (h : Within k) where
   exec-head (declareProc n xs ys P) j t e = refl
   exec-head (declareExec n) j t (b, e) = (λ i. declareExec (nameIn s (e i)) ∷ []) ∙ λ i. declareExec (t i) ∷ []
 
--- ── the counts
-first-counts : (k : Tally) (w : List ℕ) → Area w → (getD (writeCounts k w) 0 0 ≡ k .types) × (getD (writeCounts k w) 1 0 ≡ k .processes) × (getD (writeCounts k w) 2 0 ≡ k .execs)
+-- ── the counts are those of the tables
+pub counted : (k : Tally) (w : List ℕ) → Area w → tallyIn (writeCounts k w) ≡ lasting 0 k
 unfolding writeCounts
-first-counts k w area =
-    let w₀ = set w 0 (k .types) in
-    let w₁ = set w₀ 1 (k .processes) in
-    let w₂ = set w₁ 2 (k .execs) in
-    let w₃ = set w₂ 3 (k .entries) in
-    let w₄ = set w₃ 4 (k .nodes) in
-    let w₅ = set w₄ 5 (k .alternatives) in
-    let w₆ = set w₅ 6 (k .terms) in
-    let l₀ = length-set w 0 (k .types) in
-    let l₁ = length-set w₀ 1 (k .processes) in
-    let past : (i : ℕ) → i < 3 → getD (set w₆ 7 (k .branches)) i 0 ≡ getD w₂ i 0 =
-    λ i l. getD-set-other w₆ 7 i _ 0 (omega arith)
-    ∙ getD-set-other w₅ 6 i _ 0 (omega arith)
-    ∙ getD-set-other w₄ 5 i _ 0 (omega arith)
-    ∙ getD-set-other w₃ 4 i _ 0 (omega arith)
-    ∙ getD-set-other w₂ 3 i _ 0 (omega arith) in (
-      past 0 (omega arith) ∙ getD-set-other w₁ 2 0 _ 0 (omega arith) ∙ getD-set-other w₀ 1 0 _ 0 (omega arith) ∙ getD-set-same w 0 _ 0 (omega arith),
-      past 1 (omega arith) ∙ getD-set-other w₁ 2 1 _ 0 (omega arith) ∙ getD-set-same w₀ 1 _ 0 (omega arith),
-      past 2 (omega arith) ∙ getD-set-same w₁ 2 _ 0 (omega arith),
-    )
+counted k [] area = absurd (omega arith)
+counted k (a ∷ []) area = absurd (omega arith)
+counted k (a ∷ b ∷ []) area = absurd (omega arith)
+counted k (a ∷ b ∷ c ∷ []) area = absurd (omega arith)
+counted k (a ∷ b ∷ c ∷ d ∷ []) area = absurd (omega arith)
+counted k (a ∷ b ∷ c ∷ d ∷ e ∷ []) area = absurd (omega arith)
+counted k (a ∷ b ∷ c ∷ d ∷ e ∷ f ∷ []) area = absurd (omega arith)
+counted k (a ∷ b ∷ c ∷ d ∷ e ∷ f ∷ g ∷ []) area = absurd (omega arith)
+counted k (a ∷ b ∷ c ∷ d ∷ e ∷ f ∷ g ∷ h ∷ w) area = refl
 
 -- a script that was read is read back from its tables
 pub script-decoded : (ds : List Declaration) (s : List ℕ) → ScriptFrom s ds → FineScript ds → Within (afterScript ds nothing) → scriptIn s (tablesOf ds) ≡ sorted ds
@@ -150,10 +138,10 @@ script-decoded ds s t f h =
     let v = writeCounts k w in
     let area : Area zeros = omega (arith, length-replicate {A = ℕ} scratchWords 0) in
     let e : ScriptAt v k nothing ds = script-kept (grown-counts k w) h ds nothing (script-written ds nothing zeros f area h) in
-    let c = first-counts k w (omega (arith, length-replicate {A = ℕ} scratchWords 0, script-grown ds nothing zeros .long)) in
-    let x : getD v 0 0 ≡ length (gather ownType ds) = omega (arith, c .0, gathered-count ownType (λ j. j .types) (λ a j. grows-by a j .0) ds nothing) in
-    let y : getD v 1 0 ≡ length (gather ownProc ds) = omega (arith, c .1, gathered-count ownProc (λ j. j .processes) (λ a j. grows-by a j .1) ds nothing) in
-    let z : getD v 2 0 ≡ length (gather ownExec ds) = omega (arith, c .2, gathered-count ownExec (λ j. j .execs) (λ a j. grows-by a j .2) ds nothing) in
+    let c = counted k w (omega (arith, length-replicate {A = ℕ} scratchWords 0, script-grown ds nothing zeros .long)) in
+    let x : getD v 0 0 ≡ length (gather ownType ds) = omega (arith, ap (λ (l : Tally). l .types) c, gathered-count ownType (λ j. j .types) (λ a j. grows-by a j .0) ds nothing) in
+    let y : getD v 1 0 ≡ length (gather ownProc ds) = omega (arith, ap (λ (l : Tally). l .processes) c, gathered-count ownProc (λ j. j .processes) (λ a j. grows-by a j .1) ds nothing) in
+    let z : getD v 2 0 ≡ length (gather ownExec ds) = omega (arith, ap (λ (l : Tally). l .execs) c, gathered-count ownExec (λ j. j .execs) (λ a j. grows-by a j .2) ds nothing) in
     let p = gathered ownType (λ j. j .types) (λ a j. grows-by a j .0) s v k (typeDeclaration s v) (λ a j. type-head s v k h a j) ds nothing t e in
     let q = gathered ownProc (λ j. j .processes) (λ a j. grows-by a j .1) s v k (procDeclaration s v) (λ a j. proc-head s v k h a j) ds nothing t e in
     let r = gathered ownExec (λ j. j .execs) (λ a j. grows-by a j .2) s v k (execDeclaration s v) (λ a j. exec-head s v k h a j) ds nothing t e in

@@ -5,9 +5,10 @@ use mathlib.Core.List.{List, [], _∷_}
 use lib.ListN.{length}
 use Rattle.notation.specs.Tree.{Located, Ty, unit, named, tensor, par, lolli, plus, with, Alternatives, alternative, Proc, empty, sendUnit, sendChannel, sendLabel, cancel, spawn, recvUnit, recvChannel, recvLabel, fwd, call, raise, try, Branches, branch, Entry, Declaration, declareType, declareProc, declareExec}
 use Rattle.notation.specs.Reader.{nameIn, labelIn}
-use Rattle.notation.specs.Limits.{processTermLimit}
+use Rattle.notation.specs.Limits.{textLimit, processTermLimit}
 use Rattle.notation.specs.Tables.{typeNode, termNode, emptyPointer, afterDeclaration, processEntry}
 use Rattle.notation.specs.declared.reading.Tally.{Tally}
+use Rattle.tables.specs.Names.{CallAt}
 use Rattle.tables.specs.Decode.{nodeAt, alternativeAt, termAt, branchAt, entryAt, typeAt, execAt, processAt, argumentsAt}
 
 abbrev pub count : Alternatives Located → ℕ
@@ -128,17 +129,17 @@ LabelFrom s n = labelIn s (n .at) ≡ n
 
 unfoldable mutual
   pub ProcessFrom : List ℕ → Proc → Type 0
-  ProcessFrom s (empty at) = 0 ≤ 0
+  ProcessFrom s (empty at) = at ≤ textLimit
   ProcessFrom s (sendUnit at c P) = NameFrom s c × ProcessFrom s P
   ProcessFrom s (sendChannel at c a P) = NameFrom s c × NameFrom s a × ProcessFrom s P
   ProcessFrom s (sendLabel at c l P) = NameFrom s c × LabelFrom s l × ProcessFrom s P
   ProcessFrom s (cancel at c P) = NameFrom s c × ProcessFrom s P
   ProcessFrom s (spawn n A P Q) = NameFrom s n × TypeFrom s A × ProcessFrom s P × ProcessFrom s Q
   ProcessFrom s (recvUnit at c P) = NameFrom s c × ProcessFrom s P
-  ProcessFrom s (recvChannel at c a P) = NameFrom s c × NameFrom s a × ProcessFrom s P
+  ProcessFrom s (recvChannel at c a P) = NameFrom s c × NameFrom s a × (a .at < textLimit) × ProcessFrom s P
   ProcessFrom s (recvLabel at c B) = NameFrom s c × BranchesFrom s B
   ProcessFrom s (fwd at x c) = NameFrom s x × NameFrom s c
-  ProcessFrom s (call at n bracket xs ys) = NameFrom s n × (argumentsAt s bracket ≡ (xs, ys))
+  ProcessFrom s (call at n bracket xs ys) = NameFrom s n × (argumentsAt s bracket ≡ (xs, ys)) × CallAt s bracket xs ys
   ProcessFrom s (raise at P) = ProcessFrom s P
   ProcessFrom s (try at P Q) = ProcessFrom s P × ProcessFrom s Q
 

@@ -12,50 +12,53 @@ use Rattle.notation.specs.Limits.{scratchWords}
 use Rattle.notation.specs.Tree.{Located, Entry, Declaration, declareType, declareProc, declareExec}
 use Rattle.notation.specs.Reader.{got, nameIn}
 use Rattle.notation.specs.Scripts.{readText}
-use Rattle.notation.specs.Tables.{afterDeclaration, afterScript, writeScript, writeCounts, nothing, zeros, tablesOf, tables, processEntry}
+use Rattle.notation.specs.Tables.{lasting, afterDeclaration, afterScript, writeScript, writeCounts, nothing, zeros, tablesOf, tables, processEntry}
 use Rattle.notation.specs.declared.reading.Cursor.{Cursor}
 use Rattle.notation.specs.declared.reading.Tally.{Tally}
 use Rattle.notation.specs.declared.reading.ProcessEntry.{ProcessEntry}
 use Rattle.typereader.specs.Filling.{Area}
-use Rattle.tables.specs.Decode.{entryAt, typeAt, processAt, entriesIn, typeIn, scriptIn}
-use Rattle.tables.specs.Growth.{grown-counts}
+use Rattle.tables.specs.Decode.{tallyIn, entryAt, typeAt, processAt, entriesIn, typeIn, scriptIn}
+use Rattle.tables.specs.Growth.{grown-then, grown-lasting, grown-counts}
 use Rattle.tables.specs.Stands.{EntriesAt, DeclarationAt, ScriptAt, EntriesFrom, DeclarationFrom, ScriptFrom}
-use Rattle.tables.specs.Declarations.{FineScript, script-kept, script-written}
-use Rattle.tables.specs.Scripts.{sorted, grows-by, script-decoded}
+use Rattle.tables.specs.Declarations.{FineScript, script-grown, script-kept, script-written}
+use Rattle.tables.specs.Scripts.{sorted, grows-by, counted, script-decoded}
 use Rattle.tables.specs.Read.{Reads}
 use Rattle.tables.specs.ReadScripts.{ReadScript, text-read-from}
 use Rattle.tables.specs.Roots.{TypeIn, ProcessIn}
 
 -- n signature entries stand from the place i on
-pub record EntriesIn (s w : List ℕ) (k : Tally) (i n : ℕ) : Type 0 where
+pub record EntriesIn (s w : List ℕ) (i n : ℕ) : Type 0 where
   pub list : List Entry
   pub long : n ≡ length list
   pub from : EntriesFrom s list
-  pub is : EntriesAt w k i list
+  pub is : EntriesAt w (tallyIn w) i list
 
--- the first of them: its name is at the entry's first number, its type at the second
-pub record FirstEntry (s w : List ℕ) (k : Tally) (i n : ℕ) : Type 0 where
-  pub within : i < k .entries
-  pub type : TypeIn s w k (entryAt w i .1)
-  pub rest : EntriesIn s w k (i + 1) n
-  pub is : entriesIn s w i (suc n) ≡ record { channel = nameIn s (entryAt w i .0); type = typeIn s w (entryAt w i .1) } ∷ entriesIn s w (i + 1) n
+-- the first of them: where its name stands, and the number of its type
+pub record FirstEntry (s w : List ℕ) (i n at number : ℕ) : Type 0 where
+  pub within : i < tallyIn w .entries
+  pub type : TypeIn s w number
+  pub rest : EntriesIn s w (i + 1) n
+  pub is : entriesIn s w i (suc n) ≡ record { channel = nameIn s at; type = typeIn s w number } ∷ entriesIn s w (i + 1) n
 
-pub first-entry : (s w : List ℕ) (k : Tally) (i n : ℕ) → EntriesIn s w k i (suc n) → FirstEntry s w k i n
+abbrev EntryThere : List ℕ → List ℕ → ℕ → ℕ → Type 0
+EntryThere s w i n = FirstEntry s w i n (entryAt w i .0) (entryAt w i .1)
+
+pub first-entry : (s w : List ℕ) (i n : ℕ) → EntriesIn s w i (suc n) → EntryThere s w i n
 unfolding EntriesAt EntriesFrom entriesIn
-first-entry s w k i n t = go (t .list) (t .long) (t .from) (t .is)
+first-entry s w i n t = go (t .list) (t .long) (t .from) (t .is)
   where
-    go : (es : List Entry) → suc n ≡ length es → EntriesFrom s es → EntriesAt w k i es → FirstEntry s w k i n
+    go : (es : List Entry) → suc n ≡ length es → EntriesFrom s es → EntriesAt w (tallyIn w) i es → EntryThere s w i n
     go [] l f m = absurd (omega arith)
     go (e ∷ es) l (f, f′, f″) (x, b, a, c, m, m′) =
         let z : x ≡ entryAt w i .1 = λ j. sym a j .1 in
-        let u : TypeIn s w k x = record { tree = e .type; small = c; from = f′; is = m } in
-        record { within = b; type = subst (TypeIn s w k) z u; rest = record { list = es; long = omega arith; from = f″; is = m′ }; is = refl }
+        let u : TypeIn s w x = record { tree = e .type; small = c; from = f′; is = m } in
+        record { within = b; type = subst (TypeIn s w) z u; rest = record { list = es; long = omega arith; from = f″; is = m′ }; is = refl }
 
 -- a process's entry: its signature and its body stand
-pub record SignatureIn (s w : List ℕ) (k : Tally) (e : ProcessEntry) : Type 0 where
-  pub provides : EntriesIn s w k (e .first) (e .provided)
-  pub uses : EntriesIn s w k (e .first + e .provided) (e .used)
-  pub body : ProcessIn s w k (e .body)
+pub record SignatureIn (s w : List ℕ) (e : ProcessEntry) : Type 0 where
+  pub provides : EntriesIn s w (e .first) (e .provided)
+  pub uses : EntriesIn s w (e .first + e .provided) (e .used)
+  pub body : ProcessIn s w (e .body)
 
 -- what holds here and of all that is past holds from here on
 here-or-past : (Q : ℕ → Type 0) (j i : ℕ) → j ≤ i → Q j → (j < i → Q i) → Q i
@@ -65,59 +68,69 @@ here-or-past Q j i l q f = go (eq-or-lt-of-le l)
     go (inl z) = subst Q z q
     go (inr m) = f m
 
-module _ (s w : List ℕ) (k : Tally) where
+module _ (s w : List ℕ) where
   abbrev TypeThere : ℕ → Type 0
-  TypeThere i = TypeIn s w k (typeAt w i .1)
+  TypeThere i = TypeIn s w (typeAt w i .1)
 
   abbrev SignatureThere : ℕ → Type 0
-  SignatureThere i = SignatureIn s w k (processAt w i)
+  SignatureThere i = SignatureIn s w (processAt w i)
 
   -- at each number of the table of types a type stands, and at each of processes a signature
-  pub each-type : (ds : List Declaration) (j : Tally) → ScriptFrom s ds → ScriptAt w k j ds → (i : ℕ) → j .types ≤ i → i < afterScript ds j .types → TypeIn s w k (typeAt w i .1)
+  pub each-type : (ds : List Declaration) (j : Tally) → ScriptFrom s ds → ScriptAt w (tallyIn w) j ds → (i : ℕ) → j .types ≤ i → i < afterScript ds j .types → TypeIn s w (typeAt w i .1)
   unfolding afterScript ScriptFrom ScriptAt DeclarationFrom DeclarationAt
   each-type [] j t e i lo hi = absurd (omega arith)
   each-type (declareType n A ∷ r) j ((t, t′), u) ((x, b, e, c, a), m) i lo hi =
-      let f : TypeIn s w k x = record { tree = A; small = c; from = t′; is = a } in
-      here-or-past TypeThere (j .types) i lo (subst (TypeIn s w k) (λ v. sym e v .1) f)
+      let f : TypeIn s w x = record { tree = A; small = c; from = t′; is = a } in
+      here-or-past TypeThere (j .types) i lo (subst (TypeIn s w) (λ v. sym e v .1) f)
       (λ l. each-type r (afterDeclaration (declareType n A) j) u m i (omega (arith, grows-by (declareType n A) j)) hi)
   each-type (declareProc n xs ys P ∷ r) j (t, u) (e, m) i lo hi =
       each-type r (afterDeclaration (declareProc n xs ys P) j) u m i (omega (arith, grows-by (declareProc n xs ys P) j)) hi
   each-type (declareExec n ∷ r) j (t, u) (e, m) i lo hi = each-type r (afterDeclaration (declareExec n) j) u m i (omega (arith, grows-by (declareExec n) j)) hi
 
-  pub each-process : (ds : List Declaration) (j : Tally) → ScriptFrom s ds → ScriptAt w k j ds → (i : ℕ) → j .processes ≤ i → i < afterScript ds j .processes → SignatureIn s w k (processAt w i)
+  pub each-process : (ds : List Declaration) (j : Tally) → ScriptFrom s ds → ScriptAt w (tallyIn w) j ds → (i : ℕ) → j .processes ≤ i → i < afterScript ds j .processes → SignatureIn s w (processAt w i)
   unfolding afterScript ScriptFrom ScriptAt DeclarationFrom DeclarationAt
   each-process [] j t e i lo hi = absurd (omega arith)
   each-process (declareType n A ∷ r) j (t, u) (e, m) i lo hi = each-process r (afterDeclaration (declareType n A) j) u m i (omega (arith, grows-by (declareType n A) j)) hi
   each-process (declareProc n xs ys P ∷ r) j ((t, t′, t″, o), u) ((p, b, e, f, g, q), m) i lo hi =
-      let y : SignatureIn s w k (processEntry (n .at) (j .entries) (length xs) (length ys) p) = record {
+      let y : SignatureIn s w (processEntry (n .at) (j .entries) (length xs) (length ys) p) = record {
         provides = record { list = xs; long = refl; from = t′; is = f };
         uses = record { list = ys; long = refl; from = t″; is = g };
         body = record { tree = P; from = o; is = q };
       } in
-      here-or-past SignatureThere (j .processes) i lo (subst (SignatureIn s w k) (sym e) y)
+      here-or-past SignatureThere (j .processes) i lo (subst (SignatureIn s w) (sym e) y)
       (λ l. each-process r (afterDeclaration (declareProc n xs ys P) j) u m i (omega (arith, grows-by (declareProc n xs ys P) j)) hi)
   each-process (declareExec n ∷ r) j (t, u) (e, m) i lo hi = each-process r (afterDeclaration (declareExec n) j) u m i (omega (arith, grows-by (declareExec n) j)) hi
 
--- tables w with so many entries: what code over the tables asks for
-pub record TablesIn (s w : List ℕ) (k : Tally) : Type 0 where
-  pub within : Within k
-  pub types : (i : ℕ) → i < k .types → TypeIn s w k (typeAt w i .1)
-  pub processes : (i : ℕ) → i < k .processes → SignatureIn s w k (processAt w i)
+-- the tables of a text stand in w: what code over the tables asks for
+pub record Tables (s w : List ℕ) : Type 0 where
+  pub area : Area w
+  pub within : Within (tallyIn w)
+  pub types : (i : ℕ) → i < tallyIn w .types → TypeIn s w (typeAt w i .1)
+  pub processes : (i : ℕ) → i < tallyIn w .processes → SignatureIn s w (processAt w i)
 
 -- the tables of a script that was read are such
-pub tables-in : (ds : List Declaration) (s : List ℕ) → ScriptFrom s ds → FineScript ds → Within (afterScript ds nothing) → TablesIn s (tablesOf ds) (afterScript ds nothing)
+pub tables-in : (ds : List Declaration) (s : List ℕ) → ScriptFrom s ds → FineScript ds → Within (afterScript ds nothing) → Tables s (tablesOf ds)
 unfolding tablesOf
 tables-in ds s t f h =
     let k = afterScript ds nothing in
     let w = writeScript ds nothing zeros in
     let v = writeCounts k w in
     let area : Area zeros = omega (arith, length-replicate {A = ℕ} scratchWords 0) in
-    let e : ScriptAt v k nothing ds = script-kept (grown-counts k w) h ds nothing (script-written ds nothing zeros f area h) in
-    record { within = h; types = λ i l. each-type s v k ds nothing t e i (omega arith) l; processes = λ i l. each-process s v k ds nothing t e i (omega arith) l }
+    let wide : Area w = omega (arith, script-grown ds nothing zeros .long) in
+    let c : tallyIn v ≡ lasting 0 k = counted k w wide in
+    let e : ScriptAt v (tallyIn v) nothing ds =
+    subst (λ (l : Tally). ScriptAt v l nothing ds) (sym c)
+    (script-kept (grown-then (grown-counts k w) (grown-lasting 0 k v)) h ds nothing (script-written ds nothing zeros f area h)) in
+    record {
+      area = omega (arith, wide, grown-counts k w .long);
+      within = subst Within (sym c) h;
+      types = λ i l. each-type s v ds nothing t e i (omega arith) (subst (λ (m : Tally). i < m .types) c l);
+      processes = λ i l. each-process s v ds nothing t e i (omega arith) (subst (λ (m : Tally). i < m .processes) c l);
+    }
 
 -- whatever text is read: its tables give back its script, where they have room for it, as a text that `read` did not refuse has (`FitsTables`)
 pub text-decoded : (s : List ℕ) (ds : List Declaration) (d : Cursor) → readText s ≡ got ds d → Within (afterScript ds nothing)
-    → (scriptIn s (tables s) ≡ sorted ds) × TablesIn s (tables s) (afterScript ds nothing)
+    → (scriptIn s (tables s) ≡ sorted ds) × Tables s (tables s)
 unfolding tables
 text-decoded s ds d e h =
     let r : Reads (ReadScript s) (got ds d) = subst (Reads (ReadScript s)) e (text-read-from s) in
@@ -126,5 +139,5 @@ text-decoded s ds d e h =
 
 -- what `read` left of a text that it did not refuse
 pub read-decoded : (s w v : List ℕ) (r : Reading) (ds : List Declaration) (d : Cursor) → TextRead s w r v → scratchWords ≤ length w → readText s ≡ got ds d
-    → (scriptIn s (tables s) ≡ sorted ds) × TablesIn s (tables s) (afterScript ds nothing)
+    → (scriptIn s (tables s) ≡ sorted ds) × Tables s (tables s)
 read-decoded s w v r ds d t h e = text-decoded s ds d e (t .enough h .2 ds d e)

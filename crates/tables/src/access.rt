@@ -2,11 +2,18 @@
 use notation::reading::TermNode;
 use notation::reading::TypeNode;
 ghost use mathlib.Core.Path.{_≡_};
-ghost use Prim.Native.Nat.{_<_, _≤_};
-ghost use lib.ListN.{length};
+ghost use Prim.Native.Nat.{ℕ, _+_, _-_, _<_, _≤_};
+ghost use lib.ListN.{length, getD};
 ghost use Rattle.typereader.specs.Filling.{Area};
-ghost use Rattle.tables.specs.Access.{Holds, asEntry};
-ghost use Rattle.tables.specs.Decode.{nodeAt, alternativeAt, termAt, branchAt, entryAt, typeAt, processAt, execAt};
+ghost use Rattle.tables.specs.Access.{Holds, NodeOf, TermOf, AlternativeOf, BranchOf, EntryOf, TypeOf, SignatureOf, ExecOf};
+ghost use Rattle.tables.specs.Decode.{tallyIn, pairOf};
+
+fn word(scratch: &[u32], i: usize) -> usize
+    requires { ⌜ i < length (now scratch) ⌝ }
+    ensures { λ r. ⌜ r ≡ getD (now (scratch .entry)) i 0 ⌝ }
+{
+    wide(scratch[i])
+}
 
 fn wide(x: u32) -> usize
     ensures { λ r. ⌜ r ≡ x ⌝ }
@@ -17,9 +24,9 @@ fn wide(x: u32) -> usize
 // The type node i.
 pub fn type_node(scratch: &[u32], i: usize) -> TypeNode
     requires { ⌜ Area (now scratch) × (i < 512) ⌝ }
-    ensures { λ r. ⌜ r ≡ nodeAt (now (scratch .entry)) i ⌝ }
+    ensures { λ r. ⌜ NodeOf (now (scratch .entry)) i r ⌝ }
 {
-    let x = wide(scratch[928 + i]);
+    let x = word(scratch, 928 + i);
     TypeNode {
         kind: x % 8,
         first: x / 8 % 1024,
@@ -30,10 +37,10 @@ pub fn type_node(scratch: &[u32], i: usize) -> TypeNode
 // The process node i.
 pub fn term_node(scratch: &[u32], i: usize) -> TermNode
     requires { ⌜ Area (now scratch) × (i < 1024) ⌝ }
-    ensures { λ r. ⌜ r ≡ termAt (now (scratch .entry)) i ⌝ }
+    ensures { λ r. ⌜ TermOf (now (scratch .entry)) i r ⌝ }
 {
-    let x = wide(scratch[1952 + 2 * i]);
-    let y = wide(scratch[1952 + 2 * i + 1]);
+    let x = word(scratch, 1952 + 2 * i);
+    let y = word(scratch, 1952 + 2 * i + 1);
     TermNode {
         kind: x % 16,
         at: x / 16 % 8192,
@@ -49,50 +56,85 @@ pub struct Labelled {
     pub number: usize,
 }
 
-// The alternative at the place i.
-pub fn alternative(scratch: &[u32], i: usize) -> Labelled
-    requires { ⌜ Area (now scratch) × (i < 512) ⌝ }
-    ensures { λ r. ⌜ Holds r (alternativeAt (now (scratch .entry)) i) ⌝ }
+fn pair(scratch: &[u32], i: usize) -> Labelled
+    requires { ⌜ i < length (now scratch) ⌝ }
+    ensures { λ r. ⌜ Holds r (pairOf (getD (now (scratch .entry)) i 0)) ⌝ }
 {
-    let x = wide(scratch[1440 + i]);
+    let x = word(scratch, i);
     Labelled {
         at: x % 8192,
         number: x / 8192,
     }
 }
 
-// The branch at the place i.
-pub fn branch(scratch: &[u32], i: usize) -> Labelled
-    requires { ⌜ Area (now scratch) × (i < 1640) ⌝ }
-    ensures { λ r. ⌜ Holds r (branchAt (now (scratch .entry)) i) ⌝ }
+// The first of the alternatives before the place e.
+pub fn alternative(scratch: &[u32], e: usize) -> Labelled
+    requires { ⌜ Area (now scratch) × (1 ≤ e) × (e ≤ 512) ⌝ }
+    ensures { λ r. ⌜ AlternativeOf (now (scratch .entry)) e r ⌝ }
 {
-    let x = wide(scratch[4000 + i]);
-    Labelled {
-        at: x % 8192,
-        number: x / 8192,
-    }
+    pair(scratch, 1440 + (e - 1))
+}
+
+// The first of the branches before the place e.
+pub fn branch(scratch: &[u32], e: usize) -> Labelled
+    requires { ⌜ Area (now scratch) × (1 ≤ e) × (e ≤ 1640) ⌝ }
+    ensures { λ r. ⌜ BranchOf (now (scratch .entry)) e r ⌝ }
+{
+    pair(scratch, 4000 + (e - 1))
 }
 
 // The signature entry at the place i.
 pub fn entry(scratch: &[u32], i: usize) -> Labelled
     requires { ⌜ Area (now scratch) × (i < 512) ⌝ }
-    ensures { λ r. ⌜ Holds r (entryAt (now (scratch .entry)) i) ⌝ }
+    ensures { λ r. ⌜ EntryOf (now (scratch .entry)) i r ⌝ }
 {
-    let x = wide(scratch[416 + i]);
-    Labelled {
-        at: x % 8192,
-        number: x / 8192,
-    }
+    pair(scratch, 416 + i)
 }
 
-// The type i: its name, and the node of its definition.
+// How many types, processes and execs are declared, and how many type nodes and process nodes there are.
+pub fn type_count(scratch: &[u32]) -> usize
+    requires { ⌜ Area (now scratch) ⌝ }
+    ensures { λ r. ⌜ r ≡ tallyIn (now (scratch .entry)) .types ⌝ }
+{
+    word(scratch, 0)
+}
+
+pub fn process_count(scratch: &[u32]) -> usize
+    requires { ⌜ Area (now scratch) ⌝ }
+    ensures { λ r. ⌜ r ≡ tallyIn (now (scratch .entry)) .processes ⌝ }
+{
+    word(scratch, 1)
+}
+
+pub fn exec_count(scratch: &[u32]) -> usize
+    requires { ⌜ Area (now scratch) ⌝ }
+    ensures { λ r. ⌜ r ≡ tallyIn (now (scratch .entry)) .execs ⌝ }
+{
+    word(scratch, 2)
+}
+
+pub fn node_count(scratch: &[u32]) -> usize
+    requires { ⌜ Area (now scratch) ⌝ }
+    ensures { λ r. ⌜ r ≡ tallyIn (now (scratch .entry)) .nodes ⌝ }
+{
+    word(scratch, 4)
+}
+
+pub fn term_count(scratch: &[u32]) -> usize
+    requires { ⌜ Area (now scratch) ⌝ }
+    ensures { λ r. ⌜ r ≡ tallyIn (now (scratch .entry)) .terms ⌝ }
+{
+    word(scratch, 6)
+}
+
+// The type i: where its name stands, and the node of its definition.
 pub fn declared_type(scratch: &[u32], i: usize) -> Labelled
     requires { ⌜ Area (now scratch) × (i < 64) ⌝ }
-    ensures { λ r. ⌜ Holds r (typeAt (now (scratch .entry)) i) ⌝ }
+    ensures { λ r. ⌜ TypeOf (now (scratch .entry)) i r ⌝ }
 {
-    let x = wide(scratch[16 + 2 * i]);
-    let y = wide(scratch[16 + 2 * i + 1]);
-    Labelled { at: x, number: y }
+    let at = word(scratch, 16 + 2 * i);
+    let number = word(scratch, 16 + 2 * i + 1);
+    Labelled { at, number }
 }
 
 // A process's entry: its name, its first signature entry, how many it provides and uses, its body.
@@ -107,25 +149,25 @@ pub struct Declared {
 // The process i.
 pub fn declared_process(scratch: &[u32], i: usize) -> Declared
     requires { ⌜ Area (now scratch) × (i < 64) ⌝ }
-    ensures { λ r. ⌜ asEntry r ≡ processAt (now (scratch .entry)) i ⌝ }
+    ensures { λ r. ⌜ SignatureOf (now (scratch .entry)) i r ⌝ }
 {
-    let x = wide(scratch[144 + 4 * i]);
-    let y = wide(scratch[144 + 4 * i + 1]);
-    let z = wide(scratch[144 + 4 * i + 2]);
-    let u = wide(scratch[144 + 4 * i + 3]);
+    let at = word(scratch, 144 + 4 * i);
+    let first = word(scratch, 144 + 4 * i + 1);
+    let counts = word(scratch, 144 + 4 * i + 2);
+    let body = word(scratch, 144 + 4 * i + 3);
     Declared {
-        at: x,
-        first: y,
-        provided: z % 1024,
-        used: z / 1024,
-        body: u,
+        at,
+        first,
+        provided: counts % 1024,
+        used: counts / 1024,
+        body,
     }
 }
 
 // Where the name of the exec i stands.
 pub fn exec_at(scratch: &[u32], i: usize) -> usize
     requires { ⌜ Area (now scratch) × (i < 16) ⌝ }
-    ensures { λ r. ⌜ r ≡ execAt (now (scratch .entry)) i ⌝ }
+    ensures { λ r. ⌜ ExecOf (now (scratch .entry)) i r ⌝ }
 {
-    wide(scratch[400 + i])
+    word(scratch, 400 + i)
 }

@@ -1,34 +1,28 @@
-use mathlib.Core.Path.{ap}
-use Prim.Native.Nat.{ℕ, _/_, _%_}
-use Rattle.tables.specs.Decode.{alternativeAt, pairOf}
+use Rattle.tables.specs.Access.{alternative-of}
+use Rattle.tables.specs.Decode.{alternativeAt}
 use borrow.Author.Needs.{needs}
 use Rattle.tables.proofs.access.alternative.Statement.{statement}
 use Rattle.tables.proofs.access.alternative.Tie as tie
 use Rattle.tables.proofs.access.alternative.Reads as reads
 use Rattle.tables.proofs.access.alternative.Lts as lts
-use Rattle.tables.proofs.access.wide.Reads as wide-reads
+use Rattle.tables.proofs.access.pair.Reads as pair-reads
 
--- src/access.rt:57:26
-add-wide : tie.Need-add-wide
-add-wide c = search needs
+-- src/access.rt:75:27
+sub-pair : tie.Need-sub-pair
+sub-pair c = search needs
 
--- src/access.rt:57:18
-mul-wide : tie.Need-mul-wide
-mul-wide c = search needs
+-- src/access.rt:75:19
+add-pair : tie.Need-add-pair
+add-pair c = search needs
 
--- src/access.rt:57:18
-shared-slice-read-wide : tie.Need-shared-slice-read-wide
-shared-slice-read-wide c = search needs
+-- src/access.rt:75:5
+pair-requires : tie.Need-pair-requires
+pair-requires c κs = search needs
 
--- src/access.rt:57:9
-wide-requires : tie.Need-wide-requires
-wide-requires c κs = search needs
-
--- src/access.rt:53:1
+-- src/access.rt:71:1
 returns : tie.Need-returns
-unfolding alternativeAt pairOf
-returns c = record { at = ap (λ (x : ℕ). x % 8192) (c .wide .ensures); number = ap (λ (x : ℕ). x / 8192) (c .wide .ensures) }
+unfolding alternativeAt
+returns c = alternative-of _ _ _ (c .pair .ensures)
 
 pub alternative-spec : {M : Type 1} → statement M
-alternative-spec =
-    tie.close (tie.spec add-wide mul-wide shared-slice-read-wide wide-requires returns)
+alternative-spec = tie.close (tie.spec sub-pair add-pair pair-requires returns)

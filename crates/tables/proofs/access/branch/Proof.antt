@@ -1,33 +1,28 @@
-use mathlib.Core.Path.{ap}
-use Prim.Native.Nat.{ℕ, _/_, _%_}
-use Rattle.tables.specs.Decode.{branchAt, pairOf}
+use Rattle.tables.specs.Access.{branch-of}
+use Rattle.tables.specs.Decode.{branchAt}
 use borrow.Author.Needs.{needs}
 use Rattle.tables.proofs.access.branch.Statement.{statement}
 use Rattle.tables.proofs.access.branch.Tie as tie
 use Rattle.tables.proofs.access.branch.Reads as reads
 use Rattle.tables.proofs.access.branch.Lts as lts
-use Rattle.tables.proofs.access.wide.Reads as wide-reads
+use Rattle.tables.proofs.access.pair.Reads as pair-reads
 
--- src/access.rt:69:26
-add-wide : tie.Need-add-wide
-add-wide c = search needs
+-- src/access.rt:83:27
+sub-pair : tie.Need-sub-pair
+sub-pair c = search needs
 
--- src/access.rt:69:18
-mul-wide : tie.Need-mul-wide
-mul-wide c = search needs
+-- src/access.rt:83:19
+add-pair : tie.Need-add-pair
+add-pair c = search needs
 
--- src/access.rt:69:18
-shared-slice-read-wide : tie.Need-shared-slice-read-wide
-shared-slice-read-wide c = search needs
+-- src/access.rt:83:5
+pair-requires : tie.Need-pair-requires
+pair-requires c κs = search needs
 
--- src/access.rt:69:9
-wide-requires : tie.Need-wide-requires
-wide-requires c κs = search needs
-
--- src/access.rt:65:1
+-- src/access.rt:79:1
 returns : tie.Need-returns
-unfolding branchAt pairOf
-returns c = record { at = ap (λ (x : ℕ). x % 8192) (c .wide .ensures); number = ap (λ (x : ℕ). x / 8192) (c .wide .ensures) }
+unfolding branchAt
+returns c = branch-of _ _ _ (c .pair .ensures)
 
 pub branch-spec : {M : Type 1} → statement M
-branch-spec = tie.close (tie.spec add-wide mul-wide shared-slice-read-wide wide-requires returns)
+branch-spec = tie.close (tie.spec sub-pair add-pair pair-requires returns)

@@ -1,33 +1,24 @@
-use mathlib.Core.Path.{ap}
-use Prim.Native.Nat.{ℕ, _/_, _%_}
-use Rattle.tables.specs.Decode.{entryAt, pairOf}
+use Rattle.tables.specs.Access.{entry-of}
+use Rattle.tables.specs.Decode.{entryAt}
 use borrow.Author.Needs.{needs}
 use Rattle.tables.proofs.access.entry.Statement.{statement}
 use Rattle.tables.proofs.access.entry.Tie as tie
 use Rattle.tables.proofs.access.entry.Reads as reads
 use Rattle.tables.proofs.access.entry.Lts as lts
-use Rattle.tables.proofs.access.wide.Reads as wide-reads
+use Rattle.tables.proofs.access.pair.Reads as pair-reads
 
--- src/access.rt:81:26
-add-wide : tie.Need-add-wide
-add-wide c = search needs
+-- src/access.rt:91:19
+add-pair : tie.Need-add-pair
+add-pair c = search needs
 
--- src/access.rt:81:18
-mul-wide : tie.Need-mul-wide
-mul-wide c = search needs
+-- src/access.rt:91:5
+pair-requires : tie.Need-pair-requires
+pair-requires c κs = search needs
 
--- src/access.rt:81:18
-shared-slice-read-wide : tie.Need-shared-slice-read-wide
-shared-slice-read-wide c = search needs
-
--- src/access.rt:81:9
-wide-requires : tie.Need-wide-requires
-wide-requires c κs = search needs
-
--- src/access.rt:77:1
+-- src/access.rt:87:1
 returns : tie.Need-returns
-unfolding entryAt pairOf
-returns c = record { at = ap (λ (x : ℕ). x % 8192) (c .wide .ensures); number = ap (λ (x : ℕ). x / 8192) (c .wide .ensures) }
+unfolding entryAt
+returns c = entry-of _ _ _ (c .pair .ensures)
 
 pub entry-spec : {M : Type 1} → statement M
-entry-spec = tie.close (tie.spec add-wide mul-wide shared-slice-read-wide wide-requires returns)
+entry-spec = tie.close (tie.spec add-pair pair-requires returns)

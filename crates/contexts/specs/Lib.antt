@@ -1,0 +1,6 @@
+pub mod Held
+pub mod Named
+pub mod Found
+pub mod Walks
+pub mod Falling
+pub mod Mentioned
