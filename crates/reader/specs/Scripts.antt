@@ -8,11 +8,12 @@ use Rattle.notation.specs.Limits.{textLimit, typeTermLimit, processTermLimit, t
 use Rattle.notation.specs.Token.{kindAt, kName, kColon, kComma}
 use Rattle.notation.specs.Tree.{Entry, Declaration, declareType, declareProc, declareExec}
 use Rattle.notation.specs.Reader.{Result, got, take, choose, expect, misfit, thenToken}
-use Rattle.notation.specs.Scripts.{Count, moreTypes, moreProcesses, moreExecs, readEntries, typeDeclaration, procDeclaration, execDeclaration, readScript}
+use Rattle.notation.specs.Scripts.{Count, keyword, moreTypes, moreProcesses, moreExecs, readEntries, typeDeclaration, procDeclaration, execDeclaration, readScript}
 use Rattle.notation.specs.Tables.{afterEntries, writeEntries, afterDeclaration, writeDeclaration, afterScript, writeScript}
 use Rattle.notation.specs.declared.reading.Cursor.{Cursor}
 use Rattle.notation.specs.declared.reading.Tally.{Tally}
 use Rattle.notation.specs.declared.reading.Taken.{Taken}
+use Rattle.notation.specs.declared.reading.Taken.the-variants.{At, Refused}
 use Rattle.notation.specs.declared.token.DeclarationHead.{DeclarationHead}
 use Rattle.notation.specs.declared.token.DeclarationHead.the-variants.{TypeWord, ProcWord, ExecWord, End, Other}
 use Rattle.typereader.specs.declared.steps.Out.{Out}
@@ -88,6 +89,15 @@ AheadDeclared s c k d l =
     × (l .entries + c .types ≤ d .types + k .entries)
     × (l .terms + c .terms ≤ d .terms + k .terms)
     × (5 * l .branches + c .at ≤ d .at + 5 * k .branches)
+
+-- a step, and then another, by which both are known
+abbrev pub afterToken : Taken → (Cursor → Taken) → Taken
+afterToken (At i d) f = f d
+afterToken (Refused n i) f = Refused n i
+
+-- the keyword of a declaration within its limit, and its name
+unfoldable pub declaredName : List ℕ → ℕ → ℕ → ℕ → Cursor → Taken
+declaredName s kind before limit c = afterToken (keyword s kind before limit c) (expect s kName)
 
 abbrev pub countOf : Tally → Count
 countOf k = record { types = k .types; processes = k .processes; execs = k .execs }

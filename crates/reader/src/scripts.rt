@@ -23,7 +23,7 @@ ghost use Rattle.notation.specs.Token.{width};
 ghost use Rattle.notation.specs.Scripts.{keyword, declarationHead};
 ghost use Rattle.notation.specs.declared.token.DeclarationHead.the-variants.{TypeWord, ProcWord, ExecWord};
 ghost use Rattle.typereader.specs.Filling.{Stepped, Room};
-ghost use Rattle.reader.specs.Scripts.{DeclarationRead, ScriptRead, Counted};
+ghost use Rattle.reader.specs.Scripts.{declaredName, DeclarationRead, ScriptRead, Counted};
 
 // The keyword of a declaration of whose kind `before` came before.
 fn keyword(text: &[u8], c: Cursor, kind: usize, before: usize, limit: usize) -> Taken
@@ -40,16 +40,24 @@ fn keyword(text: &[u8], c: Cursor, kind: usize, before: usize, limit: usize) -> 
     Taken::Refused(5, i)
 }
 
+// The keyword, and the name that is declared.
+fn declared_name(text: &[u8], c: Cursor, kind: usize, before: usize, limit: usize) -> Taken
+    requires { ⌜ kind ≤ 31 ⌝ }
+    ensures { λ r. ⌜ Stepped (now (text .entry)) c 2 0 0 (declaredName (now (text .entry)) kind before limit c) r ⌝ }
+{
+    let word = keyword(text, c, kind, before, limit);
+    let Taken::At(_, d) = word else {
+        return word;
+    };
+    expect(text, d, Token::NAME)
+}
+
 // type t = A
 fn declare_type(text: &[u8], scratch: &mut [u32], c: Cursor, k: Tally) -> Out
     requires { ⌜ Room (now text) (now scratch) c k ⌝ }
     ensures { λ r. ⌜ DeclarationRead TypeWord (now (text .entry)) (now (scratch .entry)) c k r (now (scratch .exit)) ⌝ }
 {
-    let word = keyword(text, c, Token::TYPE, k.types, Script::TYPES);
-    let Taken::At(_, d) = word else {
-        return refusal(word);
-    };
-    let named = expect(text, d, Token::NAME);
+    let named = declared_name(text, c, Token::TYPE, k.types, Script::TYPES);
     let Taken::At(i, e) = named else {
         return refusal(named);
     };
@@ -70,11 +78,7 @@ fn declare_proc(text: &[u8], scratch: &mut [u32], c: Cursor, k: Tally) -> Out
     requires { ⌜ Room (now text) (now scratch) c k ⌝ }
     ensures { λ r. ⌜ DeclarationRead ProcWord (now (text .entry)) (now (scratch .entry)) c k r (now (scratch .exit)) ⌝ }
 {
-    let word = keyword(text, c, Token::PROC, k.processes, Script::PROCESSES);
-    let Taken::At(_, d) = word else {
-        return refusal(word);
-    };
-    let named = expect(text, d, Token::NAME);
+    let named = declared_name(text, c, Token::PROC, k.processes, Script::PROCESSES);
     let Taken::At(i, e) = named else {
         return refusal(named);
     };
@@ -110,11 +114,7 @@ fn declare_exec(text: &[u8], scratch: &mut [u32], c: Cursor, k: Tally) -> Out
     requires { ⌜ Room (now text) (now scratch) c k ⌝ }
     ensures { λ r. ⌜ DeclarationRead ExecWord (now (text .entry)) (now (scratch .entry)) c k r (now (scratch .exit)) ⌝ }
 {
-    let word = keyword(text, c, Token::EXEC, k.execs, Script::EXECS);
-    let Taken::At(_, d) = word else {
-        return refusal(word);
-    };
-    let named = expect(text, d, Token::NAME);
+    let named = declared_name(text, c, Token::EXEC, k.execs, Script::EXECS);
     let Taken::At(i, e) = named else {
         return refusal(named);
     };
