@@ -4,3 +4,4 @@ pub mod Found
 pub mod Walks
 pub mod Falling
 pub mod Mentioned
+pub mod Halves
