@@ -1,0 +1,4 @@
+pub mod Next
+pub mod Rules
+pub mod Acting
+pub mod Sends
