@@ -6,12 +6,14 @@ use native.Mathlib.Omega.{arith}
 use Rattle.notation.specs.Limits.{textLimit, typeTermLimit, processTermLimit}
 use Rattle.notation.specs.Token.{nameAt}
 use Rattle.notation.specs.Reader.{nameIn}
+use Rattle.notation.specs.Tables.{processEntry}
 use Rattle.notation.specs.declared.reading.TypeNode.{TypeNode}
 use Rattle.notation.specs.declared.reading.TermNode.{TermNode}
-use Rattle.reader.specs.Filling.{Area}
+use Rattle.notation.specs.declared.reading.ProcessEntry.{ProcessEntry}
+use Rattle.typereader.specs.Filling.{Area}
 use Rattle.tables.specs.declared.access.Labelled.{Labelled}
 use Rattle.tables.specs.declared.access.Declared.{Declared}
-use Rattle.tables.specs.Decode.{tallyIn, pairOf, nodeAt, termAt, alternativeAt, branchAt, entryAt, typeAt, ProcessEntry, processEntry, processAt, execAt, typeIn, processIn}
+use Rattle.tables.specs.Decode.{tallyIn, pairOf, nodeAt, termAt, alternativeAt, branchAt, entryAt, typeAt, processAt, execAt, typeIn, processIn}
 use Rattle.tables.specs.Program.{plainIn, signatureOf, namedType, namedProcess, execIn}
 use Rattle.tables.specs.Roots.{TypeIn, TypeRoot, type-root, AlternativesIn, FirstAlternative, first-alternative, ProcessIn, ProcessRoot, process-root, BranchesIn, FirstBranch, first-branch}
 use Rattle.tables.specs.Whole.{EntriesIn, FirstEntry, first-entry, SignatureIn, Tables}

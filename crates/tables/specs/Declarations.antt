@@ -7,9 +7,9 @@ use native.Mathlib.Omega.{arith}
 use lib.ListN.{length, getD}
 use Rattle.notation.specs.Limits.{textLimit, typeTermLimit, processTermLimit}
 use Rattle.notation.specs.Tree.{Located, Ty, unit, named, tensor, par, lolli, plus, with, Alternatives, alternative, Proc, empty, sendUnit, sendChannel, sendLabel, cancel, spawn, recvUnit, recvChannel, recvLabel, fwd, call, raise, try, Branches, branch, Entry, Declaration, declareType, declareProc, declareExec}
-use Rattle.notation.specs.Tables.{putEntry, putType, putProcess, putExec, moreEntries, moreTypes, moreProcesses, moreExecs, afterType, afterAlternatives, writeType, afterProcess, afterBranches, writeProcess, afterEntries, writeEntries, afterDeclaration, writeDeclaration, afterScript, writeScript}
+use Rattle.notation.specs.Tables.{putEntry, putType, putProcess, putExec, moreEntries, moreTypes, moreProcesses, moreExecs, afterType, afterAlternatives, writeType, afterProcess, afterBranches, writeProcess, afterEntries, writeEntries, afterDeclaration, writeDeclaration, afterScript, writeScript, processEntry}
 use Rattle.notation.specs.declared.reading.Tally.{Tally}
-use Rattle.reader.specs.Filling.{Area, FineType}
+use Rattle.typereader.specs.Filling.{Area, FineType}
 use Rattle.reader.specs.Processes.{FineProcess}
 use Rattle.reader.specs.Scripts.{FineEntries, FineDeclaration}
 use Rattle.tables.specs.Packing.{entry-put, type-put, process-put, exec-put}
@@ -101,7 +101,7 @@ declaration-grown (declareProc n xs ys P) k w =
     let w₃ = writeProcess P e w₂ in
     let z : f .processes ≡ k .processes = omega (arith, process-steady P e, entries-count ys d, entries-count xs k) in
     grown-then (entries-grown xs k w) (grown-then (entries-grown ys d w₁) (grown-then (process-grown P e w₂)
-    (subst (λ i. Grown f (moreProcesses f) w₃ (putProcess w₃ i (n .at) (k .entries) (length xs) (length ys) (f .last))) z (grown-process f w₃ (n .at) (k .entries) (length xs) (length ys) (f .last)))))
+    (subst (λ i. Grown f (moreProcesses f) w₃ (putProcess w₃ i (processEntry (n .at) (k .entries) (length xs) (length ys) (f .last)))) z (grown-process f w₃ _))))
 declaration-grown (declareExec n) k w = grown-exec k w (n .at)
 
 pub script-grown : (ds : List Declaration) (k : Tally) (w : List ℕ) → Grown k (afterScript ds k) w (writeScript ds k w)
@@ -185,15 +185,15 @@ declaration-written (declareProc n xs ys P) k w (f, f′, f″, m) area h =
     let cy = entries-count ys d in
     let cp = process-steady P e in
     let z : r .processes ≡ k .processes = omega arith in
-    let gn : Grown r (moreProcesses r) w₃ (putProcess w₃ (k .processes) (n .at) (k .entries) (length xs) (length ys) (r .last)) =
-    subst (λ i. Grown r (moreProcesses r) w₃ (putProcess w₃ i (n .at) (k .entries) (length xs) (length ys) (r .last))) z (grown-process r w₃ (n .at) (k .entries) (length xs) (length ys) (r .last)) in
+    let p = processEntry (n .at) (k .entries) (length xs) (length ys) (r .last) in
+    let gn : Grown r (moreProcesses r) w₃ (putProcess w₃ (k .processes) p) = subst (λ i. Grown r (moreProcesses r) w₃ (putProcess w₃ i p)) z (grown-process r w₃ p) in
     let uy = gy .more in
     let up = gp .more in (
       r .last,
       omega arith,
       process-put w₃ (k .processes) (n .at) (k .entries) (length xs) (length ys) (r .last) (omega (arith, gx .long, gy .long, gp .long)) (omega arith) (omega arith),
       entries-kept (grown-then gy (grown-then gp gn)) h xs (k .entries) (entries-written xs k w f′ area (omega arith)),
-      subst (λ i. EntriesAt (putProcess w₃ (k .processes) (n .at) (k .entries) (length xs) (length ys) (r .last)) (moreProcesses r) i ys) (cx .0) (entries-kept (grown-then gp gn) h ys (d .entries) (entries-written ys d w₁ f″ (omega (arith, gx .long)) (omega arith))),
+      subst (λ i. EntriesAt (putProcess w₃ (k .processes) p) (moreProcesses r) i ys) (cx .0) (entries-kept (grown-then gp gn) h ys (d .entries) (entries-written ys d w₁ f″ (omega (arith, gx .long)) (omega arith))),
       process-kept gn h P (r .last) (process-written P e w₂ m (omega (arith, gx .long, gy .long)) (omega arith)),
     )
 declaration-written (declareExec n) k w f area h = (omega arith, exec-put w (k .execs) (n .at) area (omega arith))

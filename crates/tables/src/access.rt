@@ -4,7 +4,7 @@ use notation::reading::TypeNode;
 ghost use mathlib.Core.Path.{_≡_};
 ghost use Prim.Native.Nat.{ℕ, _+_, _-_, _<_, _≤_};
 ghost use lib.ListN.{length, getD};
-ghost use Rattle.reader.specs.Filling.{Area};
+ghost use Rattle.typereader.specs.Filling.{Area};
 ghost use Rattle.tables.specs.Access.{Holds, NodeOf, TermOf, AlternativeOf, BranchOf, EntryOf, TypeOf, SignatureOf, ExecOf};
 ghost use Rattle.tables.specs.Decode.{tallyIn, pairOf};
 
