@@ -1,3 +1,4 @@
 pub mod Lowest
 pub mod Passes
 pub mod Bare
+pub mod Names
