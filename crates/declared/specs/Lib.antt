@@ -1,4 +1,6 @@
-pub mod Lowest
-pub mod Passes
 pub mod Bare
+pub mod Faults
+pub mod Listed
+pub mod Lowest
 pub mod Names
+pub mod Passes

@@ -7,6 +7,7 @@ use native.Mathlib.Omega.{arith}
 use lib.Dec.{ltb}
 use Rattle.calculus.specs.Verdict.{fine, refused, lower, lowest, faults}
 use Rattle.calculus.specs.Verdict as calculus
+use Rattle.declared.specs.Listed.{fold}
 use Rattle.declared.specs.declared.lowest.Lowest.{Lowest}
 use Rattle.declared.specs.declared.lowest.Lowest.the-variants.{At, Nothing}
 use Rattle.declared.specs.declared.lowest.Verdict.{Verdict}
@@ -79,8 +80,7 @@ lowered-as {l} e a = record { is = a .is ∙ ap (lowestWith l) e }
 
 -- ── the offsets that g gives for n numbers from i on
 abbrev pub over : (ℕ → List ℕ) → ℕ → ℕ → List ℕ
-over g i zero = []
-over g i (suc n) = g i ++ over g (i + 1) n
+over = fold _++_ []
 
 -- a walk over n numbers that has come to the number i
 pub record Walking (g : ℕ → List ℕ) (low : Lowest) (n i : ℕ) (l : Lowest) : Type 0 where

@@ -35,7 +35,7 @@ nameOf s w (Branches e) k = labelIn s (branchAt w (e - k - 1) .0)
 abbrev pub Fits : Names → ℕ → Type 0
 Fits Types n = n ≤ 64
 Fits Processes n = n ≤ 64
-Fits (Entries i) n = i + n ≤ 512
+Fits (Entries i) n = 0 < n → i + n ≤ 512
 Fits (Alternatives e) n = (n ≤ e) × (e ≤ 512)
 Fits (Branches e) n = (n ≤ e) × (e ≤ 1640)
 
@@ -142,7 +142,7 @@ module _ {names : Names} {n k : ℕ} (h : k < n) (f : Fits names n) where
   fits-processes e = let g = fits-as Processes e in omega arith
 
   pub fits-entries : {i : ℕ} → names ≡ Entries i → i + k < 512
-  fits-entries {i} e = let g = fits-as (Entries i) e in omega arith
+  fits-entries {i} e = let g = fits-as (Entries i) e (omega arith) in omega arith
 
   pub fits-alternatives : {e : ℕ} → names ≡ Alternatives e → (k ≤ e) × (1 ≤ e - k) × (e - k ≤ 512)
   fits-alternatives {e} q = let (a, b) = fits-as (Alternatives e) q in (omega arith, omega arith, omega arith)
