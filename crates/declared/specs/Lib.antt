@@ -4,3 +4,4 @@ pub mod Listed
 pub mod Lowest
 pub mod Names
 pub mod Passes
+pub mod ProcessFaults

@@ -39,7 +39,7 @@ fn undefined_type(text: &[u8], scratch: &[u32], at: usize, low: Lowest) -> Lowes
 }
 
 // The name at `at` where no process has it.
-fn undefined_process(text: &[u8], scratch: &[u32], at: usize, low: Lowest) -> Lowest
+pub(crate) fn undefined_process(text: &[u8], scratch: &[u32], at: usize, low: Lowest) -> Lowest
     requires { ⌜ Tables (now text) (now scratch) ⌝ }
     ensures { λ r. ⌜ Lowered low (unless (programIn (now (text .entry)) (now (scratch .entry)) .processes) (nameIn (now (text .entry)) at)) r ⌝ }
 {
@@ -62,7 +62,7 @@ fn name_faults(text: &[u8], scratch: &[u32], pass: Pass, at: usize, low: Lowest)
 }
 
 // The names or labels of one list.
-fn list_faults(
+pub(crate) fn list_faults(
     text: &[u8],
     scratch: &[u32],
     pass: Pass,
@@ -80,7 +80,7 @@ fn list_faults(
 }
 
 // The type i and its parts.
-fn type_faults(text: &[u8], scratch: &[u32], pass: Pass, i: usize, low: Lowest) -> Lowest
+pub(crate) fn type_faults(text: &[u8], scratch: &[u32], pass: Pass, i: usize, low: Lowest) -> Lowest
     requires { ⌜ Tables (now text) (now scratch) × TypeIn (now text) (now scratch) i ⌝ }
     ensures { λ r. ⌜ Lowered low (faultsIn (now (text .entry)) (now (scratch .entry)) pass i) r ⌝ }
 {

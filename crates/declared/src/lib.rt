@@ -3,3 +3,4 @@ pub mod bare;
 pub mod faults;
 pub mod lowest;
 pub mod names;
+pub mod processes;
