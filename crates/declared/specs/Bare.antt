@@ -1,7 +1,7 @@
 -- Refusal 8 by number.
 use Prim.Native.Nat.{ℕ, zero, suc, _<_}
 use mathlib.Core.Path.{_≡_, refl, sym, _∙_, ap, subst}
-use mathlib.Core.List.{List, [], _∷_, _++_, append-nil}
+use mathlib.Core.List.{List, [], _∷_}
 use Rattle.notation.specs.Tree.{Located, Ty, Declaration}
 use Rattle.notation.specs.declared.reading.TypeNode.{TypeNode}
 use Rattle.calculus.specs.Declarations.{bareName, ownBareName, bareNames}
@@ -12,7 +12,7 @@ use Rattle.tables.specs.Roots.{TypeIn, TypeRoot, typeCases, atKind}
 use Rattle.tables.specs.Whole.{Tables}
 use Rattle.declared.specs.declared.lowest.Lowest.{Lowest}
 use Rattle.declared.specs.Lowest.{Lowered, lowered-as, lowered-none}
-use Rattle.declared.specs.Passes.{ofTypes, ofProcesses, ofExecs, gathered-in, over-none}
+use Rattle.declared.specs.Passes.{ofTypes, types-only}
 
 module _ (s w : List ℕ) (i : ℕ) (n : TypeNode) (A : Ty Located) where
   bare-one : n .kind ≡ 1 → TypeRoot s w i n A → n .second ∷ [] ≡ bareName A
@@ -49,8 +49,4 @@ module _ (s w : List ℕ) (t : Tables s w) (i : ℕ) (b : i < tallyIn w .types) 
 -- only types have bare names
 pub bare-names : (s w : List ℕ) → ofTypes ownBareName s w ≡ bareNames (scriptIn s w)
 unfolding bareNames procDeclaration execDeclaration
-bare-names s w =
-    let k = tallyIn w in
-    sym (append-nil _)
-    ∙ ap (λ m. ofTypes ownBareName s w ++ m) (sym (rw (over-none (λ i. ownBareName (procDeclaration s w i)) (λ i. refl) 0 (k .processes), over-none (λ i. ownBareName (execDeclaration s w i)) (λ i. refl) 0 (k .execs)) refl))
-    ∙ gathered-in ownBareName s w
+bare-names s w = types-only s w ownBareName (λ i. refl) (λ i. refl)

@@ -1,4 +1,5 @@
 pub mod Bare
+pub mod DeclarationFaults
 pub mod Faults
 pub mod Listed
 pub mod Lowest

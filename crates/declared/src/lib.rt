@@ -3,4 +3,5 @@ pub mod bare;
 pub mod faults;
 pub mod lowest;
 pub mod names;
+pub mod passes;
 pub mod processes;
