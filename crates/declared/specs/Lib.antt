@@ -4,5 +4,7 @@ pub mod Faults
 pub mod Listed
 pub mod Lowest
 pub mod Names
+pub mod Other
 pub mod Passes
 pub mod ProcessFaults
+pub mod Reach

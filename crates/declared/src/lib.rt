@@ -5,3 +5,4 @@ pub mod lowest;
 pub mod names;
 pub mod passes;
 pub mod processes;
+pub mod reach;
