@@ -1,5 +1,6 @@
 pub mod Bare
 pub mod DeclarationFaults
+pub mod Execs
 pub mod Faults
 pub mod Listed
 pub mod Lowest
