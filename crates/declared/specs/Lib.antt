@@ -9,3 +9,4 @@ pub mod Other
 pub mod Passes
 pub mod ProcessFaults
 pub mod Reach
+pub mod Verdicts

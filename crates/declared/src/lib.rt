@@ -7,3 +7,4 @@ pub mod names;
 pub mod passes;
 pub mod processes;
 pub mod reach;
+pub mod verdict;
