@@ -9,4 +9,5 @@ pub mod Other
 pub mod Passes
 pub mod ProcessFaults
 pub mod Reach
+pub mod Sorted
 pub mod Verdicts
