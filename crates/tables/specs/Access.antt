@@ -38,20 +38,26 @@ pub record TermOf (w : List ℕ) (p : ℕ) (n : TermNode) : Type 0 where
 -- the list of alternatives before the place e begins with r
 pub record AlternativeOf (w : List ℕ) (e : ℕ) (r : Labelled) : Type 0 where
   pub says : (s : List ℕ) (i n : ℕ) → AlternativesIn s w i e (suc n) → FirstAlternative s w i e n (r .at) (r .number)
+  pub holds : Holds r (alternativeAt w (e - 1))
+  pub at : r .at < textLimit
 
 -- the list of branches before the place e begins with r
 pub record BranchOf (w : List ℕ) (e : ℕ) (r : Labelled) : Type 0 where
   pub says : (s : List ℕ) (p n : ℕ) → BranchesIn s w p e (suc n) → FirstBranch s w p e n (r .at) (r .number)
+  pub holds : Holds r (branchAt w (e - 1))
+  pub at : r .at < textLimit
 
 -- the signature entries from the place i on begin with r
 pub record EntryOf (w : List ℕ) (i : ℕ) (r : Labelled) : Type 0 where
   pub says : (s : List ℕ) (n : ℕ) → EntriesIn s w i (suc n) → FirstEntry s w i n (r .at) (r .number)
+  pub holds : Holds r (entryAt w i)
   pub at : r .at < textLimit
 
 -- r is the type i of the program
 pub record TypeOf (w : List ℕ) (i : ℕ) (r : Labelled) : Type 0 where
   pub is : (s : List ℕ) → namedType s w i ≡ (nameAt s (r .at), plainIn s w (r .number))
   pub stands : (s : List ℕ) → Tables s w → i < tallyIn w .types → TypeIn s w (r .number)
+  pub holds : Holds r (typeAt w i)
 
 -- r is the process i of the program
 pub record SignatureOf (w : List ℕ) (i : ℕ) (r : Declared) : Type 0 where
@@ -59,6 +65,7 @@ pub record SignatureOf (w : List ℕ) (i : ℕ) (r : Declared) : Type 0 where
   pub stands : (s : List ℕ) → Tables s w → i < tallyIn w .processes → SignatureIn s w (asEntry r)
   -- its entries have places that can be counted
   pub small : r .first + r .provided < 8589934592
+  pub holds : asEntry r ≡ processAt w i
 
 -- r is where the name of the exec i stands
 pub record ExecOf (w : List ℕ) (i : ℕ) (r : ℕ) : Type 0 where
@@ -82,23 +89,31 @@ module _ (w : List ℕ) where
   term-of p n e b = record { says = λ s t a. back e (λ m. ProcessRoot s w p m (processIn s w p)) (process-root s w (t .within) p a); at = b }
 
   pub alternative-of : (e : ℕ) (r : Labelled) → Holds r (alternativeAt w (e - 1)) → AlternativeOf w e r
-  alternative-of e r h = record { says = λ s i n a. of-pair (FirstAlternative s w i e n) r _ h (first-alternative s w i e n a) }
+  unfolding alternativeAt pairOf
+  alternative-of e r h =
+      let a = h .at in
+      record { says = λ s i n a. of-pair (FirstAlternative s w i e n) r _ h (first-alternative s w i e n a); holds = h; at = omega arith }
 
   pub branch-of : (e : ℕ) (r : Labelled) → Holds r (branchAt w (e - 1)) → BranchOf w e r
-  branch-of e r h = record { says = λ s p n a. of-pair (FirstBranch s w p e n) r _ h (first-branch s w p e n a) }
+  unfolding branchAt pairOf
+  branch-of e r h = let a = h .at in record { says = λ s p n a. of-pair (FirstBranch s w p e n) r _ h (first-branch s w p e n a); holds = h; at = omega arith }
 
   pub entry-of : (i : ℕ) (r : Labelled) → Holds r (entryAt w i) → EntryOf w i r
   unfolding entryAt pairOf
-  entry-of i r h = let a = h .at in record { says = λ s n a. of-pair (FirstEntry s w i n) r _ h (first-entry s w i n a); at = omega arith }
+  entry-of i r h = let a = h .at in record { says = λ s n a. of-pair (FirstEntry s w i n) r _ h (first-entry s w i n a); holds = h; at = omega arith }
 
   pub type-of : (i : ℕ) (r : Labelled) → Holds r (typeAt w i) → TypeOf w i r
   unfolding namedType
-  type-of i r h = record { is = λ s j. (nameAt s (sym (h .at) j), plainIn s w (sym (h .number) j)); stands = λ s t b. back (h .number) (TypeIn s w) (t .types i b) }
+  type-of i r h = record { is = λ s j. (nameAt s (sym (h .at) j), plainIn s w (sym (h .number) j)); stands = λ s t b. back (h .number) (TypeIn s w) (t .types i b); holds = h }
 
   pub signature-of : (i : ℕ) (r : Declared) → asEntry r ≡ processAt w i → r .first + r .provided < 8589934592 → SignatureOf w i r
   unfolding namedProcess
-  signature-of i r h b =
-      record { is = λ s j. (nameAt s (sym h j .at), signatureOf s w (sym h j)); stands = λ s t c. back h (SignatureIn s w) (t .processes i c); small = b }
+  signature-of i r h b = record {
+    is = λ s j. (nameAt s (sym h j .at), signatureOf s w (sym h j));
+    stands = λ s t c. back h (SignatureIn s w) (t .processes i c);
+    small = b;
+    holds = h;
+  }
 
   pub exec-of : (i r : ℕ) → r ≡ execAt w i → ExecOf w i r
   unfolding execIn

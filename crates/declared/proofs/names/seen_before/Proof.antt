@@ -1,0 +1,56 @@
+use borrow.Author.Needs.{needs}
+use Rattle.declared.specs.Names.{nameOf, Seeking, seek-start, seek-end, seek-found, seek-on}
+use native.Mathlib.Omega.{arith}
+use Rattle.declared.proofs.names.seen_before.Statement.{statement}
+use Rattle.declared.proofs.names.seen_before.Tie as tie
+use Rattle.declared.proofs.names.seen_before.Reads as reads
+use Rattle.declared.proofs.names.seen_before.Lts as lts
+use Rattle.declared.proofs.names.same_names.Reads as same-names-reads
+
+abbrev Inv-loop : tie.InvT-loop
+Inv-loop text scratch names j count k₀ k = Seeking (nameOf text scratch names) (nameOf text scratch names j .name) j k
+
+abbrev μ-loop : tie.MeasureT-loop
+μ-loop text scratch names j count k₀ k = k
+
+-- src/names.rt:96:5
+loop-holds : tie.Need-loop-holds Inv-loop μ-loop
+loop-holds c = seek-start
+
+-- src/names.rt:97:9
+sub-k : tie.Need-sub-k Inv-loop μ-loop
+sub-k c = search needs
+
+-- src/names.rt:98:12
+same-names-requires : tie.Need-same-names-requires Inv-loop μ-loop
+same-names-requires c κs = search needs
+
+-- src/names.rt:99:13
+returns : tie.Need-returns Inv-loop μ-loop
+returns c = seek-found (c .before .before .before .loop .inv) (c .before .before .loop-test .taken) (c .before .same-names .ensures) (c .if1 .taken)
+
+-- src/names.rt:96:5
+loop-less : tie.Need-loop-less Inv-loop μ-loop
+loop-less c = search needs
+
+-- src/names.rt:96:5
+loop-again : tie.Need-loop-again Inv-loop μ-loop
+loop-again c = seek-on (c .before .before .before .loop .inv) (c .before .before .loop-test .taken) (c .before .same-names .ensures) (c .if1 .left)
+
+-- src/names.rt:91:1
+returns-2 : tie.Need-returns-2 Inv-loop μ-loop
+returns-2 c = seek-end (c .before .loop .inv) (c .loop-test .left)
+
+pub seen-before-spec : {M : Type 1} → statement M
+seen-before-spec =
+    tie.close
+    (tie.spec
+    Inv-loop
+    μ-loop
+    loop-holds
+    sub-k
+    same-names-requires
+    returns
+    loop-less
+    loop-again
+    returns-2)

@@ -1,0 +1,33 @@
+use Rattle.declared.specs.Reach.{marked-not, marked-named}
+use borrow.Author.Needs.{needs}
+use Rattle.declared.proofs.reach.marked_so.Statement.{statement}
+use Rattle.declared.proofs.reach.marked_so.Tie as tie
+use Rattle.declared.proofs.reach.marked_so.Reads as reads
+use Rattle.declared.proofs.reach.marked_so.Lts as lts
+use Rattle.notation.proofs.token.names_equal.Reads as names-equal-reads
+use Rattle.tables.proofs.access.declared_type.Reads as declared-type-reads
+
+-- src/reach.rt:25:8
+array-read-if1 : tie.Need-array-read-if1
+array-read-if1 c = search needs
+
+-- src/reach.rt:26:13
+declared-type-requires : tie.Need-declared-type-requires
+declared-type-requires c κs = search needs
+
+-- src/reach.rt:28:9
+names-equal-requires : tie.Need-names-equal-requires
+names-equal-requires c κs = search needs
+
+-- src/reach.rt:28:9
+returns : tie.Need-returns
+returns c = marked-named _ _ _ _ _ (c .before .before .if1 .taken) (c .before .declared-type .ensures) (c .names-equal .ensures)
+
+-- src/reach.rt:21:1
+returns-2 : tie.Need-returns-2
+returns-2 c = marked-not _ _ _ _ _ (c .if1 .left)
+
+pub marked-so-spec : {M : Type 1} → statement M
+marked-so-spec =
+    tie.close
+    (tie.spec array-read-if1 declared-type-requires names-equal-requires returns returns-2)

@@ -1,0 +1,13 @@
+pub mod Bare
+pub mod DeclarationFaults
+pub mod Execs
+pub mod Faults
+pub mod Listed
+pub mod Lowest
+pub mod Names
+pub mod Other
+pub mod Passes
+pub mod ProcessFaults
+pub mod Reach
+pub mod Sorted
+pub mod Verdicts
