@@ -26,7 +26,7 @@ pub(crate) fn wide(x: u32) -> usize
     x as usize
 }
 
-pub(crate) fn narrow(x: usize) -> u32
+pub fn narrow(x: usize) -> u32
     requires { ⌜ x < 65536 ⌝ }
     ensures { λ r. ⌜ r ≡ x ⌝ }
 {
