@@ -12,7 +12,7 @@ use Rattle.notation.specs.Tree.{Name, plains}
 use Rattle.calculus.specs.Named.{all}
 use Rattle.calculus.specs.Types.{labelsOf}
 use Rattle.calculus.specs.Typing.{times, labelNames, fitting}
-use Rattle.reader.specs.Filling.{Area}
+use Rattle.typereader.specs.Filling.{Area}
 use Rattle.tables.specs.declared.access.Labelled.{Labelled}
 use Rattle.tables.specs.Access.{AlternativeOf}
 use Rattle.tables.specs.Roots.{AlternativesIn, alternativesIn, branchesIn}

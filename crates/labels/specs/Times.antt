@@ -7,7 +7,7 @@ use native.Mathlib.Omega.{arith}
 use Rattle.notation.specs.Bytes.{same}
 use Rattle.notation.specs.Token.{nameAt}
 use Rattle.calculus.specs.Typing.{times, labelNames}
-use Rattle.reader.specs.Filling.{Area}
+use Rattle.typereader.specs.Filling.{Area}
 use Rattle.tables.specs.declared.access.Labelled.{Labelled}
 use Rattle.tables.specs.Access.{BranchOf, branch-there}
 use Rattle.tables.specs.Roots.{BranchesIn, branchesIn, FirstBranch}

@@ -7,9 +7,9 @@ use native.Mathlib.Omega.{arith}
 use lib.ListN.{length, getD}
 use Rattle.notation.specs.Limits.{textLimit, typeTermLimit, processTermLimit}
 use Rattle.notation.specs.Tree.{Located, Ty, unit, named, tensor, par, lolli, plus, with, Alternatives, alternative, Proc, empty, sendUnit, sendChannel, sendLabel, cancel, spawn, recvUnit, recvChannel, recvLabel, fwd, call, raise, try, Branches, branch, Entry, Declaration, declareType, declareProc, declareExec}
-use Rattle.notation.specs.Tables.{putEntry, putType, putProcess, putExec, moreEntries, moreTypes, moreProcesses, moreExecs, afterType, afterAlternatives, writeType, afterProcess, afterBranches, writeProcess, afterEntries, writeEntries, afterDeclaration, writeDeclaration, afterScript, writeScript}
+use Rattle.notation.specs.Tables.{putEntry, putType, putProcess, putExec, moreEntries, moreTypes, moreProcesses, moreExecs, afterType, afterAlternatives, writeType, afterProcess, afterBranches, writeProcess, afterEntries, writeEntries, afterDeclaration, writeDeclaration, afterScript, writeScript, processEntry}
 use Rattle.notation.specs.declared.reading.Tally.{Tally}
-use Rattle.reader.specs.Filling.{Area, FineType}
+use Rattle.typereader.specs.Filling.{Area, FineType}
 use Rattle.reader.specs.Processes.{FineProcess}
 use Rattle.reader.specs.Scripts.{FineEntries, FineDeclaration}
 use Rattle.tables.specs.Packing.{entry-put, type-put, process-put, exec-put}
@@ -86,12 +86,13 @@ abbrev pub afterParts : List Entry → List Entry → Proc → Tally → Tally
 afterParts xs ys P k = afterProcess P (afterEntries ys (afterEntries xs k))
 
 pub process-after : (at : ℕ) (xs ys : List Entry) (P : Proc) (k : Tally) (w : List ℕ)
-    → Grown (afterParts xs ys P k) (moreProcesses (afterParts xs ys P k)) w (putProcess w (k .processes) at (k .entries) (length xs) (length ys) (afterParts xs ys P k .last))
+    → Grown (afterParts xs ys P k) (moreProcesses (afterParts xs ys P k)) w (putProcess w (k .processes) (processEntry at (k .entries) (length xs) (length ys) (afterParts xs ys P k .last)))
 process-after at xs ys P k w =
     let d = afterEntries xs k in
     let f = afterParts xs ys P k in
+    let p = processEntry at (k .entries) (length xs) (length ys) (f .last) in
     let z : f .processes ≡ k .processes = omega (arith, process-steady P (afterEntries ys d), entries-count ys d, entries-count xs k) in
-    subst (λ i. Grown f (moreProcesses f) w (putProcess w i at (k .entries) (length xs) (length ys) (f .last))) z (grown-process f w at (k .entries) (length xs) (length ys) (f .last))
+    subst (λ i. Grown f (moreProcesses f) w (putProcess w i p)) z (grown-process f w p)
 
 pub grown-none : (k : Tally) (w : List ℕ) → Grown k k w w
 grown-none k w = record { more = omega arith; long = refl; kept = λ j o. refl }
@@ -189,6 +190,7 @@ declaration-written (declareProc n xs ys P) k w (f, f′, f″, m) area h =
     let cx = entries-count xs k in
     let cy = entries-count ys d in
     let cp = process-steady P e in
+    let p = processEntry (n .at) (k .entries) (length xs) (length ys) (r .last) in
     let gn = process-after (n .at) xs ys P k w₃ in
     let uy = gy .more in
     let up = gp .more in (
@@ -196,7 +198,7 @@ declaration-written (declareProc n xs ys P) k w (f, f′, f″, m) area h =
       omega arith,
       process-put w₃ (k .processes) (n .at) (k .entries) (length xs) (length ys) (r .last) (omega (arith, gx .long, gy .long, gp .long)) (omega arith) (omega arith),
       entries-kept (grown-then gy (grown-then gp gn)) h xs (k .entries) (entries-written xs k w f′ area (omega arith)),
-      subst (λ i. EntriesAt (putProcess w₃ (k .processes) (n .at) (k .entries) (length xs) (length ys) (r .last)) (moreProcesses r) i ys) (cx .0) (entries-kept (grown-then gp gn) h ys (d .entries) (entries-written ys d w₁ f″ (omega (arith, gx .long)) (omega arith))),
+      subst (λ i. EntriesAt (putProcess w₃ (k .processes) p) (moreProcesses r) i ys) (cx .0) (entries-kept (grown-then gp gn) h ys (d .entries) (entries-written ys d w₁ f″ (omega (arith, gx .long)) (omega arith))),
       process-kept gn h P (r .last) (process-written P e w₂ m (omega (arith, gx .long, gy .long)) (omega arith)),
     )
 declaration-written (declareExec n) k w f area h = (omega arith, exec-put w (k .execs) (n .at) area (omega arith))

@@ -18,7 +18,7 @@ use Rattle.notation.specs.declared.reading.Cursor.{Cursor}
 use Rattle.notation.specs.declared.reading.Tally.{Tally}
 use Rattle.notation.specs.declared.reading.TypeNode.{TypeNode}
 use Rattle.notation.specs.declared.reading.TermNode.{TermNode}
-use Rattle.reader.specs.Filling.{Area, FineType, FineAlternatives}
+use Rattle.typereader.specs.Filling.{Area, FineType, FineAlternatives}
 use Rattle.reader.specs.Processes.{FineProcess, FineBranches}
 use Rattle.reader.specs.Scripts.{FineEntries, FineDeclaration}
 use Rattle.tables.specs.Decode.{tallyIn}

@@ -12,11 +12,12 @@ use Rattle.notation.specs.Limits.{scratchWords}
 use Rattle.notation.specs.Tree.{Located, Entry, Declaration, declareType, declareProc, declareExec}
 use Rattle.notation.specs.Reader.{got, nameIn}
 use Rattle.notation.specs.Scripts.{readText}
-use Rattle.notation.specs.Tables.{lasting, afterDeclaration, afterScript, writeScript, nothing, zeros, tablesOf, tables}
+use Rattle.notation.specs.Tables.{lasting, afterDeclaration, afterScript, writeScript, nothing, zeros, tablesOf, tables, processEntry}
 use Rattle.notation.specs.declared.reading.Cursor.{Cursor}
 use Rattle.notation.specs.declared.reading.Tally.{Tally}
-use Rattle.reader.specs.Filling.{Area}
-use Rattle.tables.specs.Decode.{tallyIn, entryAt, typeAt, processAt, ProcessEntry, processEntry, entriesIn, typeIn, scriptIn}
+use Rattle.notation.specs.declared.reading.ProcessEntry.{ProcessEntry}
+use Rattle.typereader.specs.Filling.{Area}
+use Rattle.tables.specs.Decode.{tallyIn, entryAt, typeAt, processAt, entriesIn, typeIn, scriptIn}
 use Rattle.tables.specs.Growth.{Grown, grown-then, grown-lasting, grown-counts}
 use Rattle.tables.specs.Stands.{EntriesAt, DeclarationAt, ScriptAt, EntriesFrom, DeclarationFrom, ScriptFrom}
 use Rattle.tables.specs.Declarations.{FineScript, script-grown, script-kept, script-written}
@@ -145,7 +146,7 @@ tables-in ds s t f h =
 pub text-known : (s : List ℕ) (ds : List Declaration) (d : Cursor) → readText s ≡ got ds d → ReadScript s ds
 text-known s ds d e = let r : Reads (ReadScript s) (got ds d) = subst (Reads (ReadScript s)) e (text-read-from s) in r .holds
 
--- whatever text is read: its tables give back its script, where they have room for it, as a text that `read` did not refuse has (`Roomy`)
+-- whatever text is read: its tables give back its script, where they have room for it, as a text that `read` did not refuse has (`FitsTables`)
 pub text-decoded : (s : List ℕ) (ds : List Declaration) (d : Cursor) → readText s ≡ got ds d → Within (afterScript ds nothing)
     → (scriptIn s (tables s) ≡ sorted ds) × Tables s (tables s)
 unfolding tables

@@ -4,3 +4,4 @@ pub mod Acting
 pub mod Sends
 pub mod Endings
 pub mod Lists
+pub mod Calls

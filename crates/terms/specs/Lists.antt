@@ -75,7 +75,7 @@ module _ (s : List ℕ) (h : Held) where
   held-end t p e = record { is = λ w xs rest n. sym (walk-end t p e xs rest n .1 w) }
 
 -- ── distinct
-any-is : (n : Name) (xs : List Located) → any (same n) (namesOf xs) ≡ isOneOf n xs
+pub any-is : (n : Name) (xs : List Located) → any (same n) (namesOf xs) ≡ isOneOf n xs
 any-is n [] = refl
 any-is n (x ∷ xs) = go (same n (x .name)) (any-is n xs)
   where

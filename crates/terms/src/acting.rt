@@ -15,7 +15,7 @@ use types::messages::Passing;
 ghost use mathlib.Core.Path.{_≡_};
 ghost use Prim.Native.Nat.{ℕ, _<_};
 ghost use Rattle.contexts.specs.Held.{EndIn, HeldIn};
-ghost use Rattle.reader.specs.Filling.{Area};
+ghost use Rattle.typereader.specs.Filling.{Area};
 ghost use Rattle.runs.specs.Values.{endIn};
 ghost use Rattle.tables.specs.Whole.{Tables};
 ghost use Rattle.terms.specs.Acting.{Acts, UnitOf, PassesOver, ChoosesOver, TakesFrom};

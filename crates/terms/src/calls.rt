@@ -30,6 +30,7 @@ ghost use Rattle.tables.specs.Whole.{Tables, EntriesIn};
 ghost use Rattle.terms.specs.Next.{contextIn};
 ghost use Rattle.terms.specs.Endings.{numberOf, calls};
 ghost use Rattle.terms.specs.Lists.{AllHeld, Fit, Distinct, Apart, Without};
+ghost use Rattle.terms.specs.Calls.{BothDistinct, BothFit, BothHeld, BothWithout, ListsRefused};
 
 // Each name of the list that goes on from `from` is held.
 fn list_held(text: &[u8], h: Held, from: usize) -> bool
@@ -149,4 +150,86 @@ fn drop_list(text: &[u8], h: Held, from: usize) -> Held
         r = drop_end(text, r, x);
         i = past;
     }
+}
+
+// No name of the two lists comes twice.
+fn names_distinct(text: &[u8], a: usize, b: usize) -> bool
+    ensures { λ r. ⌜ BothDistinct (now (text .entry)) a b r ⌝ }
+{
+    if !list_distinct(text, a) {
+        return false;
+    }
+    if !lists_apart(text, a, b) {
+        return false;
+    }
+    list_distinct(text, b)
+}
+
+// The two lists fit the signature of the process whose name is the one at `q`.
+fn lists_fit(text: &[u8], scratch: &[u32], h: Held, q: usize, a: usize, b: usize) -> bool
+    requires { ⌜ Tables (now text) (now scratch) × HeldIn (now text) (now scratch) h ⌝ }
+    ensures { λ r. ⌜ BothFit (now (text .entry)) (now (scratch .entry)) h q a b r ⌝ }
+{
+    let f = find_process(text, scratch, q);
+    let Found::At(k) = f else {
+        return false;
+    };
+    let e = declared_process(scratch, k);
+    if !list_fits(text, scratch, h, a, 0, e.first, e.provided) {
+        return false;
+    }
+    list_fits(text, scratch, h, b, 1, e.first + e.provided, e.used)
+}
+
+// Each name of the two lists is held.
+fn lists_held(text: &[u8], h: Held, a: usize, b: usize) -> bool
+    requires { ⌜ h .count ≤ 16 ⌝ }
+    ensures { λ r. ⌜ BothHeld (now (text .entry)) h a b r ⌝ }
+{
+    if !list_held(text, h, a) {
+        return false;
+    }
+    list_held(text, h, b)
+}
+
+// How many channels are held beside the names of the two lists.
+fn count_left(text: &[u8], h: Held, a: usize, b: usize) -> usize
+    requires { ⌜ h .count ≤ 16 ⌝ }
+    ensures { λ r. ⌜ BothWithout (now (text .entry)) h a b r ⌝ }
+{
+    let l = drop_list(text, h, a);
+    let r = drop_list(text, l, b);
+    r.count
+}
+
+// The refusal's number for a call of the process named at `q`, whose lists go on from a and b.
+fn lists_refusal(text: &[u8], scratch: &[u32], h: Held, q: usize, a: usize, b: usize) -> u32
+    requires { ⌜ Tables (now text) (now scratch) × HeldIn (now text) (now scratch) h ⌝ }
+    ensures { λ r. ⌜ ListsRefused (now (text .entry)) (now (scratch .entry)) h q a b r ⌝ }
+{
+    if !lists_held(text, h, a, b) {
+        return 10;
+    }
+    if !lists_fit(text, scratch, h, q, a, b) {
+        return 11;
+    }
+    if !names_distinct(text, a, b) {
+        return 11;
+    }
+    if count_left(text, h, a, b) == 0 {
+        return 0;
+    }
+    13
+}
+
+// The same, by the round bracket of the call.
+pub fn call_refusal(text: &[u8], scratch: &[u32], h: Held, q: usize, bracket: usize) -> u32
+    requires { ⌜ Tables (now text) (now scratch) × HeldIn (now text) (now scratch) h ⌝ }
+    requires { ⌜ CallAt (now text) bracket (argumentsAt (now text) bracket .0) (argumentsAt (now text) bracket .1) ⌝ }
+    ensures { λ r. ⌜ r ≡ numberOf (calls (programIn (now (text .entry)) (now (scratch .entry))) (nameAt (now (text .entry)) q) (namesOf (argumentsAt (now (text .entry)) bracket .0)) (namesOf (argumentsAt (now (text .entry)) bracket .1)) (contextIn (now (text .entry)) (now (scratch .entry)) h)) ⌝ }
+{
+    let a = list_start(text, bracket);
+    let m = list_end(text, a);
+    let b = list_start(text, m);
+    lists_refusal(text, scratch, h, q, a, b)
 }

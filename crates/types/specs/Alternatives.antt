@@ -5,7 +5,7 @@ use mathlib.Core.List.{List}
 use native.Mathlib.Omega.{arith}
 use Rattle.notation.specs.Token.{nameAt}
 use Rattle.notation.specs.Tree.{alternative, plains}
-use Rattle.reader.specs.Filling.{Area}
+use Rattle.typereader.specs.Filling.{Area}
 use Rattle.tables.specs.declared.access.Labelled.{Labelled}
 use Rattle.tables.specs.Access.{AlternativeOf, alternative-there}
 use Rattle.tables.specs.Program.{plainIn}

@@ -13,7 +13,7 @@ use Rattle.notation.specs.Tree.{Name, Ty, plains}
 use Rattle.notation.specs.declared.reading.Found.{Found}
 use Rattle.notation.specs.declared.reading.Found.the-variants.{At, Nothing}
 use Rattle.calculus.specs.Types.{labelled}
-use Rattle.reader.specs.Filling.{Area}
+use Rattle.typereader.specs.Filling.{Area}
 use Rattle.tables.specs.declared.access.Labelled.{Labelled}
 use Rattle.tables.specs.Access.{AlternativeOf}
 use Rattle.tables.specs.Program.{plainIn}

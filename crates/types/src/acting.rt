@@ -11,7 +11,7 @@ ghost use mathlib.Core.Path.{_≡_};
 ghost use Prim.Native.Nat.{ℕ, _+_, _<_};
 ghost use Rattle.notation.specs.Bytes.{same};
 ghost use Rattle.notation.specs.Token.{nameAt};
-ghost use Rattle.reader.specs.Filling.{Area};
+ghost use Rattle.typereader.specs.Filling.{Area};
 ghost use Rattle.tables.specs.Roots.{TypeIn, AlternativesIn};
 ghost use Rattle.tables.specs.Whole.{Tables};
 ghost use Rattle.types.specs.Acting.{StandsFor, PassingOf, ChoosingOf};
