@@ -187,7 +187,7 @@ module _ (s w : List ℕ) (c : EndWords) (at i : ℕ) (z : i ≡ c .node) (r : C
         leads found.Nothing h = tt
 
 -- ── a channel received
-other-so : (b : ℕ) (s : Side) → sameSide (sideOf b) (other s) ≡ not (sameSide (sideOf b) s)
+pub other-so : (b : ℕ) (s : Side) → sameSide (sideOf b) (other s) ≡ not (sameSide (sideOf b) s)
 other-so zero provided = refl
 other-so zero used = refl
 other-so (suc b) provided = refl

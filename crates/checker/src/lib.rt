@@ -1,0 +1,4 @@
+// Checker: refusals 10 to 15, and the check of a whole text.
+pub mod choices;
+pub mod process;
+pub mod rules;

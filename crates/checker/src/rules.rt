@@ -1,0 +1,118 @@
+// What the rules ask of one term, by the kind of its node.
+use contexts::halves::Half;
+use contexts::halves::divides;
+use contexts::halves::keep;
+use contexts::held::bring_end;
+use notation::reading::TermNode;
+use runs::records::Held;
+use terms::acting::narrow;
+use terms::calls::call_refusal;
+use terms::forwards::forward_refusal;
+use terms::next::Next;
+use terms::sends::cancel_next;
+use terms::sends::choose_next;
+use terms::sends::close_next;
+use terms::sends::is_new;
+use terms::sends::pass_next;
+use terms::sends::receive_next;
+ghost use mathlib.Core.Path.{_≡_};
+ghost use Prim.Native.Nat.{ℕ, _<_, _≤_};
+ghost use Rattle.contexts.specs.Held.{HeldIn};
+ghost use Rattle.runs.specs.Raw.{sideOf};
+ghost use Rattle.tables.specs.Program.{programIn};
+ghost use Rattle.tables.specs.Decode.{argumentsAt};
+ghost use Rattle.tables.specs.Names.{CallAt};
+ghost use Rattle.tables.specs.Roots.{TypeIn, ProcessIn};
+ghost use Rattle.tables.specs.Whole.{Tables};
+ghost use Rattle.terms.specs.Next.{contextIn, Goes};
+ghost use Rattle.terms.specs.Endings.{numberOf};
+ghost use Rattle.checker.specs.Nodes.{sendStep, receiveStep, endStep, spawnStep, halfSide, SpawnHalf};
+
+// A send, or a cancel: what is held after it.
+pub(crate) fn send_next(text: &[u8], scratch: &[u32], h: Held, n: TermNode) -> Next
+    requires { ⌜ Tables (now text) (now scratch) × HeldIn (now text) (now scratch) h ⌝ }
+    ensures { λ r. ⌜ Goes (now (text .entry)) (now (scratch .entry)) r (sendStep (now (text .entry)) (now (scratch .entry)) n (contextIn (now (text .entry)) (now (scratch .entry)) h)) ⌝ }
+{
+    if n.kind == 1 {
+        return close_next(text, scratch, h, n.first, 0);
+    }
+    if n.kind == 2 {
+        return pass_next(text, scratch, h, n.first, n.second);
+    }
+    if n.kind == 3 {
+        return choose_next(text, scratch, h, n.first, n.second);
+    }
+    cancel_next(text, scratch, h, n.first)
+}
+
+// A receive of a close or of a channel.
+pub(crate) fn receive_one(text: &[u8], scratch: &[u32], h: Held, n: TermNode) -> Next
+    requires { ⌜ Tables (now text) (now scratch) × HeldIn (now text) (now scratch) h × (n .kind ≡ 7 → n .second < 8192) × (6 ≤ n .kind) × (n .kind ≤ 7) ⌝ }
+    ensures { λ r. ⌜ Goes (now (text .entry)) (now (scratch .entry)) r (receiveStep (now (text .entry)) (now (scratch .entry)) n (contextIn (now (text .entry)) (now (scratch .entry)) h)) ⌝ }
+{
+    if n.kind == 6 {
+        return close_next(text, scratch, h, n.first, 1);
+    }
+    receive_next(text, scratch, h, n.first, n.second)
+}
+
+// A term that ends its process: the refusal's number, or 0.
+pub(crate) fn ending_refusal(text: &[u8], scratch: &[u32], h: Held, n: TermNode) -> u32
+    requires { ⌜ Tables (now text) (now scratch) × HeldIn (now text) (now scratch) h ⌝ }
+    requires { ⌜ ((n .kind ≡ 9 → ⊥) → CallAt (now text) (n .second) (argumentsAt (now text) (n .second) .0) (argumentsAt (now text) (n .second) .1)) ⌝ }
+    ensures { λ r. ⌜ r ≡ numberOf (endStep (now (text .entry)) (now (scratch .entry)) n (contextIn (now (text .entry)) (now (scratch .entry)) h)) ⌝ }
+{
+    if n.kind == 9 {
+        return forward_refusal(text, scratch, h, n.first, n.second);
+    }
+    call_refusal(text, scratch, h, n.first, n.second)
+}
+
+// A spawn's halves may be divided so, and its new name joins both: the refusal's number, or 0.
+pub(crate) fn spawn_refusal(text: &[u8], scratch: &[u32], h: Held, n: TermNode) -> u32
+    requires { ⌜ Tables (now text) (now scratch) × HeldIn (now text) (now scratch) h × ProcessIn (now text) (now scratch) (n .second) × ProcessIn (now text) (now scratch) (n .third) ⌝ }
+    ensures { λ r. ⌜ r ≡ numberOf (spawnStep (now (text .entry)) (now (scratch .entry)) n (contextIn (now (text .entry)) (now (scratch .entry)) h)) ⌝ }
+{
+    let first = Half::OfSpawn(n.at, n.second);
+    let second = Half::OfSpawn(n.at, n.third);
+    if !divides(text, scratch, h, first, second, false) {
+        return 13;
+    }
+    if !is_new(text, h, n.at) {
+        return 15;
+    }
+    let a = keep(text, scratch, h, first, true);
+    if a.count == 16 {
+        return 15;
+    }
+    let b = keep(text, scratch, h, first, false);
+    if b.count == 16 {
+        return 15;
+    }
+    0
+}
+
+// What a half of a spawn holds: what it takes, or what the first half leaves, and the new channel.
+pub(crate) fn spawn_half(text: &[u8], scratch: &[u32], h: Held, n: TermNode, first: bool) -> Held
+    requires { ⌜ Tables (now text) (now scratch) × HeldIn (now text) (now scratch) h × ProcessIn (now text) (now scratch) (n .second) × TypeIn (now text) (now scratch) (n .first) × (n .at < 8192) ⌝ }
+    requires { ⌜ numberOf (spawnStep (now text) (now scratch) n (contextIn (now text) (now scratch) h)) ≡ 0 ⌝ }
+    ensures { λ r. ⌜ SpawnHalf (now (text .entry)) (now (scratch .entry)) h n first r ⌝ }
+{
+    let half = Half::OfSpawn(n.at, n.second);
+    let a = keep(text, scratch, h, half, first);
+    let side = side_of(first);
+    let at = narrow(n.at);
+    let node = narrow(n.first);
+    bring_end(a, at, side, node, 0)
+}
+
+// The first half provides the new channel, the second uses it.
+fn side_of(first: bool) -> u32
+    ensures { λ r. ⌜ sideOf r ≡ halfSide first ⌝ }
+    ensures { λ r. ⌜ r < 2 ⌝ }
+{
+    if first {
+        return 0;
+    }
+    1
+}
