@@ -1,14 +1,14 @@
 -- Refusal 8 by number.
 use Prim.Native.Nat.{ℕ, zero, suc, _<_}
-use mathlib.Core.Path.{_≡_, refl, sym, _∙_, ap, subst}
+use mathlib.Core.Path.{_≡_, refl, _∙_, ap, subst}
 use mathlib.Core.List.{List, [], _∷_}
-use Rattle.notation.specs.Tree.{Located, Ty, Declaration}
+use Rattle.notation.specs.Tree.{Located, Ty}
 use Rattle.notation.specs.declared.reading.TypeNode.{TypeNode}
 use Rattle.calculus.specs.Declarations.{bareName, ownBareName, bareNames}
 use Rattle.tables.specs.declared.access.Labelled.{Labelled}
-use Rattle.tables.specs.Access.{Holds, TypeOf, NodeOf, node-there}
-use Rattle.tables.specs.Decode.{tallyIn, typeIn, typeAt, typeDeclaration, procDeclaration, execDeclaration, scriptIn}
-use Rattle.tables.specs.Roots.{TypeIn, TypeRoot, typeCases, atKind}
+use Rattle.tables.specs.Access.{TypeOf, NodeOf, node-there}
+use Rattle.tables.specs.Decode.{tallyIn, typeIn, typeDeclaration, procDeclaration, execDeclaration, scriptIn}
+use Rattle.tables.specs.Roots.{TypeRoot, typeCases, atKind}
 use Rattle.tables.specs.Whole.{Tables}
 use Rattle.declared.specs.declared.lowest.Lowest.{Lowest}
 use Rattle.declared.specs.Lowest.{Lowered, lowered-as, lowered-none}

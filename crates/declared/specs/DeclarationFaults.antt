@@ -1,28 +1,28 @@
 -- Refusals 6 and 7: what each pass finds in a declaration.
-use Prim.Native.Nat.{ℕ, zero, suc, _+_, _-_, _<_, _≤_}
-use mathlib.Core.Path.{_≡_, refl, sym, _∙_, ap, subst}
-use mathlib.Core.List.{List, [], _∷_, _++_, append-assoc}
+use Prim.Native.Nat.{ℕ, zero, suc, _+_, _<_, _≤_}
+use mathlib.Core.Path.{_≡_, refl, sym, _∙_, ap}
+use mathlib.Core.List.{List, [], _∷_, _++_}
 use mathlib.Core.Logic.{_⊎_, inl, inr}
 use native.Mathlib.Omega.{arith}
-use Rattle.notation.specs.Tree.{Located, Entry, Declaration, declareType, declareProc, declareExec}
+use Rattle.notation.specs.Tree.{Located, Entry, Declaration}
 use Rattle.notation.specs.Reader.{nameIn}
 use Rattle.calculus.specs.Program.{Program, programOf}
-use Rattle.calculus.specs.Declarations.{gather, typeName, processName, channels, repeats, unless, entriesRepeats, entriesUndefined, ownRepeats, ownUndefined, repeated, undefined}
+use Rattle.calculus.specs.Declarations.{channels, repeats, unless, entriesRepeats, entriesUndefined, ownRepeats, ownUndefined, repeated, undefined}
 use Rattle.tables.specs.declared.access.Labelled.{Labelled}
 use Rattle.tables.specs.declared.access.Declared.{Declared}
 use Rattle.tables.specs.Access.{asEntry, TypeOf, SignatureOf, ExecOf, EntryOf}
-use Rattle.tables.specs.Decode.{tallyIn, numbered, entryAt, entriesIn, typeAt, typeIn, processIn, ProcessEntry, procBy, typeDeclaration, procDeclaration, execDeclaration, scriptIn}
+use Rattle.tables.specs.Decode.{tallyIn, numbered, entryAt, entriesIn, typeAt, ProcessEntry, procBy, typeDeclaration, procDeclaration, execDeclaration, scriptIn}
 use Rattle.tables.specs.Program.{programIn, execIn}
-use Rattle.tables.specs.Whole.{Tables, EntriesIn, SignatureIn}
+use Rattle.tables.specs.Whole.{Tables, SignatureIn}
 use Rattle.declared.specs.Faults.{labelFaults, faultsIn, by-pass}
 use Rattle.declared.specs.Listed.{up, by-steps, entry-names, entries-fit}
-use Rattle.declared.specs.ProcessFaults.{processFaults, processFaultsIn}
+use Rattle.declared.specs.ProcessFaults.{processFaultsIn}
 use Rattle.declared.specs.Passes.{ofTypes, ofProcesses, ofExecs, gathered-in, without-execs, type-names, process-names}
 use Rattle.declared.specs.declared.faults.Pass.{Pass}
 use Rattle.declared.specs.declared.faults.Pass.the-variants.{Repeated, Undefined}
 use Rattle.declared.specs.declared.lowest.Lowest.{Lowest}
 use Rattle.declared.specs.declared.names.Names.the-variants.{Types, Processes, Entries}
-use Rattle.declared.specs.Lowest.{Lowered, least, lowered-as, lowered-then, over}
+use Rattle.declared.specs.Lowest.{Lowered, lowered-as, over}
 use Rattle.declared.specs.Names.{nameOf}
 
 abbrev pub entriesFaults : Pass → Program → List Entry → List ℕ

@@ -1,23 +1,23 @@
 -- Refusals 6 and 7 as one walk: what each pass finds in a type.
-use Prim.Native.Nat.{ℕ, zero, suc, _+_, _-_, _<_, _≤_}
+use Prim.Native.Nat.{ℕ, zero, suc, _-_, _<_, _≤_}
 use mathlib.Core.Path.{_≡_, refl, sym, _∙_, ap, subst}
 use mathlib.Core.List.{List, [], _∷_, _++_}
-use mathlib.Core.Bool.{Bool, true, false, cond}
-use mathlib.Core.Option.{some, none, Option·map}
+use mathlib.Core.Bool.{cond}
+use mathlib.Core.Option.{Option·map}
 use native.Mathlib.Omega.{arith}
-use Rattle.notation.specs.Tree.{Name, Located, Ty, unit, named, tensor, par, lolli, plus, with, Alternatives}
-use Rattle.notation.specs.Reader.{nameIn, labelIn}
+use Rattle.notation.specs.Tree.{Name, Located, Ty, named, Alternatives}
+use Rattle.notation.specs.Reader.{nameIn}
 use Rattle.notation.specs.declared.reading.Found.{Found}
 use Rattle.notation.specs.declared.reading.Found.the-variants.{At, Nothing}
 use Rattle.notation.specs.declared.reading.TypeNode.{TypeNode}
 use Rattle.calculus.specs.Program.{Program}
 use Rattle.calculus.specs.Declarations.{repeats, unless, choiceLabels, typeRepeats, alternativesRepeats, typeUndefined, alternativesUndefined}
-use Rattle.calculus.specs.Named.{lookup, isSome}
+use Rattle.calculus.specs.Named.{isSome}
 use Rattle.tables.specs.declared.access.Labelled.{Labelled}
 use Rattle.tables.specs.Access.{AlternativeOf, NodeOf}
 use Rattle.tables.specs.Decode.{numbered, alternativeAt, typeIn}
 use Rattle.tables.specs.Program.{programIn}
-use Rattle.tables.specs.Roots.{TypeIn, AlternativesIn, alternativesIn, TypeRoot, typeCases, atKind}
+use Rattle.tables.specs.Roots.{TypeIn, AlternativesIn, alternativesIn, typeCases, atKind}
 use Rattle.tables.specs.Search.{Sought, placeOf}
 use Rattle.tables.specs.Whole.{Tables}
 use Rattle.declared.specs.Listed.{down, by-steps, choice-labels}
@@ -25,7 +25,7 @@ use Rattle.declared.specs.declared.faults.Pass.{Pass}
 use Rattle.declared.specs.declared.faults.Pass.the-variants.{Repeated, Undefined}
 use Rattle.declared.specs.declared.lowest.Lowest.{Lowest}
 use Rattle.declared.specs.declared.names.Names.the-variants.{Alternatives as AlternativesFrom}
-use Rattle.declared.specs.Lowest.{Lowered, lowered-as, lowered-none, lowered-then, over}
+use Rattle.declared.specs.Lowest.{Lowered, lowered-as, lowered-none, over}
 use Rattle.declared.specs.Names.{nameOf}
 
 -- the labels of one list

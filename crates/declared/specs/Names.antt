@@ -13,7 +13,7 @@ use Rattle.notation.specs.Reader.{nameIn, labelIn}
 use Rattle.calculus.specs.Declarations.{repeats}
 use Rattle.calculus.specs.Named.{any}
 use Rattle.derivations.specs.Equality.{same-cases}
-use Rattle.tables.specs.Access.{Holds, TypeOf, SignatureOf, EntryOf, AlternativeOf, BranchOf}
+use Rattle.tables.specs.Access.{TypeOf, SignatureOf, EntryOf, AlternativeOf, BranchOf}
 use Rattle.tables.specs.declared.access.Labelled.{Labelled}
 use Rattle.tables.specs.declared.access.Declared.{Declared}
 use Rattle.tables.specs.Decode.{typeAt, processAt, entryAt, alternativeAt, branchAt, numbered}

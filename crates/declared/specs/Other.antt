@@ -1,11 +1,11 @@
 -- Refusal 9: whether a type has @, -o or &, or a name among those given, by its node.
-use Prim.Native.Nat.{ℕ, zero, suc, _+_, _-_, _<_, _≤_}
+use Prim.Native.Nat.{ℕ, zero, suc, _-_, _<_}
 use mathlib.Core.Path.{_≡_, refl, sym, _∙_, ap, subst}
 use mathlib.Core.List.{List}
 use mathlib.Core.Bool.{Bool, true, false, _||_}
 use Rattle.notation.specs.Bytes.{same}
 use Rattle.notation.specs.Token.{nameAt}
-use Rattle.notation.specs.Tree.{Name, Located, Ty, plain, plains}
+use Rattle.notation.specs.Tree.{Name, plain, plains}
 use Rattle.notation.specs.declared.reading.TypeNode.{TypeNode}
 use Rattle.calculus.specs.Declarations.{hasOther, haveOther}
 use Rattle.calculus.specs.Named.{any}

@@ -1,19 +1,19 @@
 -- Refusals 6 and 7: what each pass finds in a process.
 use Prim.Native.Nat.{ℕ, zero, suc, _+_, _-_, _*_, _/_, _<_, _≤_}
 use mathlib.Core.Path.{_≡_, refl, sym, _∙_, ap, subst}
-use mathlib.Core.List.{List, [], _∷_, _++_}
+use mathlib.Core.List.{List, [], _++_}
 use mathlib.Core.Bool.{Bool, true, false, cond}
 use native.Mathlib.Omega.{arith}
 use lib.Dec.{ltb, eqb}
 use borrow.Author.Tests.{ltb-true, ltb-false, ne-eqb}
-use Rattle.notation.specs.Tree.{Located, Proc, empty, sendUnit, sendChannel, sendLabel, cancel, spawn, recvUnit, recvChannel, recvLabel, fwd, call, raise, try, Branches}
-use Rattle.notation.specs.Reader.{nameIn, labelIn}
+use Rattle.notation.specs.Tree.{Located, Proc, empty, call, Branches}
+use Rattle.notation.specs.Reader.{nameIn}
 use Rattle.notation.specs.declared.reading.TermNode.{TermNode}
 use Rattle.calculus.specs.Program.{Program}
-use Rattle.calculus.specs.Declarations.{repeats, unless, branchLabels, typeRepeats, typeUndefined, processRepeats, branchesRepeats, processUndefined, branchesUndefined}
+use Rattle.calculus.specs.Declarations.{unless, branchLabels, processRepeats, branchesRepeats, processUndefined, branchesUndefined}
 use Rattle.tables.specs.declared.access.Labelled.{Labelled}
 use Rattle.tables.specs.Access.{BranchOf, TermOf}
-use Rattle.tables.specs.Decode.{numbered, branchAt, typeIn, processIn}
+use Rattle.tables.specs.Decode.{numbered, branchAt, processIn}
 use Rattle.tables.specs.Program.{programIn}
 use Rattle.tables.specs.Roots.{TypeIn, ProcessIn, BranchesIn, branchesIn, process-root, processCases, atKind}
 use Rattle.tables.specs.Stands.{Smaller}

@@ -1,5 +1,5 @@
 -- How declarations of different kinds are mixed does not matter: what refusals 6 to 15 say of a script they say of it sorted, as the tables hold it.
-use Prim.Native.Nat.{ℕ, _<_, _≤_, min}
+use Prim.Native.Nat.{ℕ, min}
 use mathlib.Core.Path.{_≡_, refl, sym, _∙_, ap}
 use mathlib.Core.List.{List, [], _∷_, _++_, append-nil, append-assoc}
 use mathlib.Core.Bool.{Bool, true, false, cond}

@@ -3,15 +3,6 @@ use native.Mathlib.Omega.{arith}
 use borrow.Author.Needs.{needs}
 use Rattle.declared.proofs.names.name_at.Statement.{statement}
 use Rattle.declared.proofs.names.name_at.Tie as tie
-use Rattle.declared.proofs.names.name_at.Reads as reads
-use Rattle.declared.proofs.names.name_at.Lts as lts
-use Rattle.declared.proofs.names.label.Reads as label-reads
-use Rattle.declared.proofs.names.name.Reads as name-reads
-use Rattle.tables.proofs.access.alternative.Reads as alternative-reads
-use Rattle.tables.proofs.access.branch.Reads as branch-reads
-use Rattle.tables.proofs.access.declared_process.Reads as declared-process-reads
-use Rattle.tables.proofs.access.declared_type.Reads as declared-type-reads
-use Rattle.tables.proofs.access.entry.Reads as entry-reads
 
 -- src/names.rt:58:17
 enum-told : tie.Need-enum-told

@@ -1,14 +1,10 @@
 use borrow.Author.Needs.{needs}
-use native.Mathlib.Omega.{arith}
 use Prim.Native.Nat.{_-_}
 use mathlib.Core.Path.{refl}
 use Rattle.declared.specs.Names.{nameOf, repeatAt, repeats-numbered}
 use Rattle.declared.specs.Lowest.{Walking, walk-start, walk-on}
 use Rattle.declared.proofs.names.repeated_names.Statement.{statement}
 use Rattle.declared.proofs.names.repeated_names.Tie as tie
-use Rattle.declared.proofs.names.repeated_names.Reads as reads
-use Rattle.declared.proofs.names.repeated_names.Lts as lts
-use Rattle.declared.proofs.names.repeated_name.Reads as repeated-name-reads
 
 abbrev Inv-loop : tie.InvT-loop
 Inv-loop text scratch names count l₀ j₀ l j = Walking (repeatAt (nameOf text scratch names)) l₀ count j l

@@ -1,11 +1,7 @@
 use borrow.Author.Needs.{needs}
 use Rattle.declared.specs.Names.{nameOf, Seeking, seek-start, seek-end, seek-found, seek-on}
-use native.Mathlib.Omega.{arith}
 use Rattle.declared.proofs.names.seen_before.Statement.{statement}
 use Rattle.declared.proofs.names.seen_before.Tie as tie
-use Rattle.declared.proofs.names.seen_before.Reads as reads
-use Rattle.declared.proofs.names.seen_before.Lts as lts
-use Rattle.declared.proofs.names.same_names.Reads as same-names-reads
 
 abbrev Inv-loop : tie.InvT-loop
 Inv-loop text scratch names j count k₀ k = Seeking (nameOf text scratch names) (nameOf text scratch names j .name) j k
