@@ -33,6 +33,7 @@ module _ (s : List ℕ) (h : Held) (at k : ℕ) (f : first (isNamed s at) (heldI
   unfolding channelsOf
   drops-there r e n = record {
     is = λ w. ap (map (endIs s w)) e ∙ there-without s w at (first-of (isNamed s at) (heldIn h) k f .1);
+    few = omega arith;
     fits = λ w t. let m = t .many in record { many = omega arith; each = subst (All (EndIn s w)) (sym e) (all-remove (EndIn s w) k (heldIn h) (t .each)) };
   }
 
@@ -58,7 +59,7 @@ module _ (s : List ℕ) (h : Held) (at : ℕ) (f : first (isNamed s at) (heldIn 
 
   pub drops-nothing : Drops s h at h
   unfolding channelsOf
-  drops-nothing = record { is = λ w. absent-without s w at (heldIn h) (none-from (isNamed s at) (heldIn h) 0 f); fits = λ w t. t }
+  drops-nothing = record { is = λ w. absent-without s w at (heldIn h) (none-from (isNamed s at) (heldIn h) 0 f); few = omega arith; fits = λ w t. t }
 
   pub retypes-nothing : (node : ℕ) → Retypes s h at node h
   unfolding channelsOf

@@ -59,6 +59,7 @@ pub record Sees (s : List ℕ) (h : Held) (at : ℕ) (r : Lookup) : Type 0 where
 -- without the channel under the name at an offset
 pub record Drops (s : List ℕ) (h : Held) (at : ℕ) (r : Held) : Type 0 where
   pub is : (w : List ℕ) → channelsOf s w r ≡ without (nameAt s at) (channelsOf s w h)
+  pub few : r .count ≤ h .count
   pub fits : (w : List ℕ) → HeldIn s w h → HeldIn s w r
 
 -- with the type of a node for the channel under the name at an offset

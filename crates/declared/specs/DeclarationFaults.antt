@@ -11,7 +11,8 @@ use Rattle.calculus.specs.Declarations.{channels, repeats, unless, entriesRepea
 use Rattle.tables.specs.declared.access.Labelled.{Labelled}
 use Rattle.tables.specs.declared.access.Declared.{Declared}
 use Rattle.tables.specs.Access.{asEntry, TypeOf, SignatureOf, ExecOf, EntryOf}
-use Rattle.tables.specs.Decode.{tallyIn, numbered, entryAt, entriesIn, typeAt, ProcessEntry, procBy, typeDeclaration, procDeclaration, execDeclaration, scriptIn}
+use Rattle.notation.specs.declared.reading.ProcessEntry.{ProcessEntry}
+use Rattle.tables.specs.Decode.{tallyIn, numbered, entryAt, entriesIn, typeAt, procBy, typeDeclaration, procDeclaration, execDeclaration, scriptIn}
 use Rattle.tables.specs.Program.{programIn, execIn}
 use Rattle.tables.specs.Whole.{Tables, SignatureIn}
 use Rattle.declared.specs.Faults.{labelFaults, faultsIn, by-pass}

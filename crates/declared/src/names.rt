@@ -12,7 +12,7 @@ ghost use mathlib.Core.List.{[]};
 ghost use Prim.Native.Nat.{_+_, _<_};
 ghost use Rattle.notation.specs.Bytes.{same};
 ghost use Rattle.calculus.specs.Declarations.{repeats};
-ghost use Rattle.reader.specs.Filling.{Area};
+ghost use Rattle.typereader.specs.Filling.{Area};
 ghost use Rattle.tables.specs.Decode.{numbered};
 ghost use Rattle.declared.specs.Lowest.{Lowered};
 ghost use Rattle.declared.specs.Names.{nameOf, Fits, StandsAt, seenBelow, repeatAt};

@@ -10,6 +10,7 @@ use Rattle.notation.specs.Scripts.{readText}
 use Rattle.notation.specs.declared.reading.Tally.{Tally}
 use Rattle.notation.specs.declared.reading.TypeNode.{TypeNode}
 use Rattle.notation.specs.declared.reading.TermNode.{TermNode}
+use Rattle.notation.specs.declared.reading.ProcessEntry.{ProcessEntry}
 
 -- ── where each table begins: 16 counts, then 64 × 2 types, 64 × 4 processes, 16 execs, 512 signature entries, 512 type nodes,
 -- 512 alternatives, 1,024 × 2 process nodes, 1,640 branches; 5,640 words in all
@@ -71,10 +72,9 @@ putEntry w i at n = set w (entriesAt + i) (pairWord at n)
 unfoldable pub putType : List ℕ → ℕ → ℕ → ℕ → List ℕ
 putType w i at n = set (set w (typesAt + 2 * i) at) (typesAt + 2 * i + 1) n
 
--- a process: its name, its first signature entry, how many it provides and uses, its body
-unfoldable pub putProcess : List ℕ → ℕ → ℕ → ℕ → ℕ → ℕ → ℕ → List ℕ
-putProcess w i at first provided used body =
-    set (set (set (set w (processesAt + 4 * i) at) (processesAt + 4 * i + 1) first) (processesAt + 4 * i + 2) (provided + 1024 * used)) (processesAt + 4 * i + 3) body
+unfoldable pub putProcess : List ℕ → ℕ → ProcessEntry → List ℕ
+putProcess w i p =
+    set (set (set (set w (processesAt + 4 * i) (p .at)) (processesAt + 4 * i + 1) (p .first)) (processesAt + 4 * i + 2) (p .provided + 1024 * p .used)) (processesAt + 4 * i + 3) (p .body)
 
 unfoldable pub putExec : List ℕ → ℕ → ℕ → List ℕ
 putExec w i at = set w (execsAt + i) at
@@ -214,6 +214,9 @@ writeEntries [] k w = w
 writeEntries (e ∷ es) k w =
     writeEntries es (moreEntries (afterType (e .type) k)) (putEntry (writeType (e .type) k w) (k .entries) (e .channel .at) (afterType (e .type) k .last))
 
+abbrev pub processEntry : ℕ → ℕ → ℕ → ℕ → ℕ → ProcessEntry
+processEntry at first provided used body = record { at = at; first = first; provided = provided; used = used; body = body }
+
 unfoldable pub afterDeclaration : Declaration → Tally → Tally
 afterDeclaration (declareType n A) k = moreTypes (afterType A k)
 afterDeclaration (declareProc n xs ys P) k = moreProcesses (afterProcess P (afterEntries ys (afterEntries xs k)))
@@ -224,7 +227,7 @@ writeDeclaration (declareType n A) k w = putType (writeType A k w) (k .types) (n
 writeDeclaration (declareProc n xs ys P) k w =
     let d = afterEntries xs k in
     let e = afterEntries ys d in
-    putProcess (writeProcess P e (writeEntries ys d (writeEntries xs k w))) (k .processes) (n .at) (k .entries) (length xs) (length ys) (afterProcess P e .last)
+    putProcess (writeProcess P e (writeEntries ys d (writeEntries xs k w))) (k .processes) (processEntry (n .at) (k .entries) (length xs) (length ys) (afterProcess P e .last))
 writeDeclaration (declareExec n) k w = putExec w (k .execs) (n .at)
 
 unfoldable pub afterScript : List Declaration → Tally → Tally

@@ -32,13 +32,22 @@ pub struct TypeNode {
     pub second: usize,
 }
 
-// A node of the process table.
+// A node of a process's body.
 pub struct TermNode {
     pub kind: usize,
     pub at: usize,
     pub first: usize,
     pub second: usize,
     pub third: usize,
+}
+
+// An entry of the process table: its name, its first signature entry, how many channels it provides and uses, its body.
+pub struct ProcessEntry {
+    pub at: usize,
+    pub first: usize,
+    pub provided: usize,
+    pub used: usize,
+    pub body: usize,
 }
 
 // What a search found: a position or a number.

@@ -1,6 +1,3 @@
-pub mod Taking
-pub mod Filled
-pub mod TypePaths
 pub mod NamePaths
 pub mod ProcessPaths
 pub mod SignaturePaths

@@ -2,14 +2,12 @@
 use mathlib.Core.Path.{_≡_, refl, ap, sym, subst, _∙_}
 use mathlib.Core.List.{List, [], _∷_}
 use mathlib.Core.Bool.{Bool, true, false, cond}
-use Prim.Native.Nat.{ℕ, zero, suc, _+_, _-_, _<_, _≤_}
+use Prim.Native.Nat.{ℕ, suc, _<_, _≤_}
 use native.Mathlib.Omega.{arith}
-use lib.ListN.{length}
 use lib.Dec.{eqb}
 use Rattle.notation.specs.declared.token.Token.{Token}
-use Rattle.notation.specs.Limits.{textLimit}
 use Rattle.notation.specs.Token.{kindAt, tokenAt, kName, kComma, kCall, kRoundOpen, kRoundClose, kSquareOpen, kSquareClose}
-use Rattle.notation.specs.Tree.{Located, Proc, call}
+use Rattle.notation.specs.Tree.{Located, call}
 use Rattle.notation.specs.Reader.{Result, got, refused, take, part, lastly, choose, expect, opening, limited, mayOpen, deeper, past, fault, processTerm, closed, nameIn}
 use Rattle.notation.specs.Processes.{processBy, readNames, nameList}
 use Rattle.notation.specs.Tables.{moreTerms, termNode, putTerm, afterProcess, writeProcess}
@@ -18,12 +16,12 @@ use Rattle.notation.specs.declared.reading.Tally.{Tally}
 use Rattle.notation.specs.declared.reading.Taken.{Taken}
 use Rattle.notation.specs.declared.reading.Taken.the-variants.{At, Refused}
 use Rattle.notation.specs.declared.token.TermHead.the-variants.{Call}
-use Rattle.reader.specs.declared.steps.Out.{Out}
-use Rattle.reader.specs.declared.steps.Out.the-variants.{Got, Not}
-use Rattle.reader.specs.Filling.{Stepped, asOut, Put, Room, unread}
+use Rattle.typereader.specs.declared.steps.Out.{Out}
+use Rattle.typereader.specs.declared.steps.Out.the-variants.{Got}
+use Rattle.typereader.specs.Filling.{Stepped, asOut, Put, Room, unread}
 use Rattle.reader.specs.Processes.{AheadNames, NamesTaken, forgetNames, listEnd, namesOrNone, FineProcess, TermRead}
-use Rattle.reader.proofs.Taking.{never}
-use Rattle.reader.proofs.Filled.{at-more, same, _upon_, put-kept, took, refused-out, made-got, meets-no, meets-got}
+use Rattle.typereader.proofs.Taking.{never}
+use Rattle.typereader.proofs.Filled.{at-more, same, put-kept, took, refused-out, made-got, meets-no, meets-got}
 
 -- a list that was read, and one that was refused
 module _ {P : Type 0} {r : Taken} (i : ℕ) (x : Result (List Located)) (is : r ≡ forgetNames i x) where

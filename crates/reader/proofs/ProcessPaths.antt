@@ -1,35 +1,33 @@
 -- What the definition says on each way through the code that reads processes.
-use mathlib.Core.Path.{_≡_, refl, ap, sym, subst, _∙_}
+use mathlib.Core.Path.{_≡_, refl, ap, sym, _∙_}
 use mathlib.Core.List.{List}
-use mathlib.Core.Bool.{Bool, true, false, cond}
-use Prim.Native.Nat.{ℕ, zero, suc, _+_, _-_, _*_, _<_, _≤_}
+use mathlib.Core.Bool.{true, false}
+use Prim.Native.Nat.{ℕ, suc, _+_, _*_, _<_, _≤_}
 use native.Mathlib.Omega.{arith}
-use lib.ListN.{length}
 use lib.Dec.{eqb, ltb}
 use borrow.Author.Tests.{eq-eqb, ne-eqb, ltb-true}
 use Rattle.notation.specs.declared.token.Token.{Token}
 use Rattle.notation.specs.Limits.{textLimit}
-use Rattle.notation.specs.Token.{kindAt, tokenAt, width, kFwd, kName, kThen, kRoundOpen, kRoundClose, kCancel, kRaise, kSend, kRecv, kSemicolon, kBar, kTry, kCatch, kFrom, kColon, kLabel, Onward}
-use Rattle.notation.specs.Tree.{Located, Ty, Proc, empty, sendUnit, sendChannel, sendLabel, cancel, spawn, recvUnit, recvChannel, recvLabel, fwd, call, raise, try, Branches, branch}
-use Rattle.notation.specs.Reader.{Result, got, refused, take, part, lastly, choose, expect, misfit, opening, processTerm, closed, thenToken, nameIn, labelIn}
+use Rattle.notation.specs.Token.{kindAt, tokenAt, kFwd, kName, kThen, kRoundOpen, kRoundClose, kCancel, kRaise, kSend, kRecv, kSemicolon, kBar, kTry, kCatch, kFrom, kColon, kLabel, Onward}
+use Rattle.notation.specs.Tree.{Located, Ty, Proc, empty, cancel, spawn, recvLabel, fwd, raise, try, Branches, branch}
+use Rattle.notation.specs.Reader.{Result, got, refused, take, part, lastly, expect, misfit, opening, processTerm, closed, nameIn, labelIn}
 use Rattle.notation.specs.Types.{readType, labelTerm}
 use Rattle.notation.specs.Processes.{termHead, payload, unitTaken, bracketedBy, sendBy, recvBy, processBy, restBy, branchesBy, moreBranchesBy, readProcess, readRest, readBranches}
-use Rattle.notation.specs.Tables.{moreTerms, moreBranches, lasting, termNode, putTerm, putBranch, putOver, emptyPointer, afterProcess, afterBranches, writeProcess, writeBranches}
+use Rattle.notation.specs.Tables.{moreTerms, moreBranches, lasting, termNode, putTerm, putBranch, emptyPointer, afterProcess, afterBranches, writeProcess, writeBranches}
 use Rattle.notation.specs.declared.reading.Cursor.{Cursor}
 use Rattle.notation.specs.declared.reading.Tally.{Tally}
-use Rattle.notation.specs.declared.reading.TermNode.{TermNode}
 use Rattle.notation.specs.declared.reading.Taken.{Taken}
 use Rattle.notation.specs.declared.reading.Taken.the-variants.{At, Refused}
 use Rattle.notation.specs.declared.token.TermHead.{TermHead}
-use Rattle.notation.specs.declared.token.TermHead.the-variants.{Send, Recv, Fwd, Call, Cancel, Raise, Try, Spawn, Empty}
-use Rattle.reader.specs.declared.steps.Out.{Out}
-use Rattle.reader.specs.declared.steps.Out.the-variants.{Got, Not}
-use Rattle.reader.specs.Filling.{TypeRead, Stepped, asOut, misfitOut, Put, Room, Form, Made, Meets, unread}
-use Rattle.reader.specs.Processes.{payloadTaken, payloadThen, labelThen, nameColon, misfitTaken, sentOf, sentNode, recvdOf, recvdNode, FineProcess, FineBranches, SomeBranch, processForm, sentForm, handlerForm, branchesForm, moreBranchesForm, partsForm, termBy, handlerBy, TermRead, SentRead, HandlerRead, OneRead, LabelsRead, BracketedRead, PartsRead, ProcessRead, RestRead, BranchesRead, MoreBranchesRead}
+use Rattle.notation.specs.declared.token.TermHead.the-variants.{Send, Recv, Fwd, Cancel, Raise, Try, Spawn, Empty}
+use Rattle.typereader.specs.declared.steps.Out.{Out}
+use Rattle.typereader.specs.declared.steps.Out.the-variants.{Got, Not}
+use Rattle.typereader.specs.Filling.{TypeRead, Stepped, asOut, misfitOut, Put, Room, Form, Made, Meets, unread}
+use Rattle.reader.specs.Processes.{payloadTaken, payloadThen, labelThen, nameColon, sentOf, sentNode, recvdOf, recvdNode, FineProcess, FineBranches, processForm, branchesForm, partsForm, termBy, handlerBy, TermRead, SentRead, HandlerRead, OneRead, LabelsRead, BracketedRead, PartsRead, ProcessRead, RestRead, BranchesRead, MoreBranchesRead}
 use Rattle.notation.specs.declared.token.Payload.{Payload}
 use Rattle.notation.specs.declared.token.Payload.the-variants.{Unit as UnitPayload, Channel, Label, Other}
-use Rattle.reader.proofs.TypePaths.{then-take, within-limit}
-use Rattle.reader.proofs.Filled.{same, _upon_, put-kept, took, refused-out, made-no, made-got, gone-on, stopped, meets-no, meets-got, more-no, more-got, more-made}
+use Rattle.typereader.proofs.TypePaths.{then-take, within-limit}
+use Rattle.typereader.proofs.Filled.{same, _upon_, put-kept, took, refused-out, made-got, gone-on, stopped, meets-no, meets-got, more-no, more-got, more-made}
 
 -- the definition at one more fuel
 process-suc : (m : ℕ) (s : List ℕ) (c : Cursor) → readProcess (suc m) s c ≡ termBy (termHead (kindAt s (c .at))) s c m
@@ -141,8 +139,8 @@ received-fine s Channel at i j P a b d f = (a, b, d, f)
 received-fine s Label at i j P a b d f = (a, b, f)
 received-fine s Other at i j P a b d f = (a, b, f)
 
--- the two forms of a process's reading say the same of its words
-as-process : {w v : List ℕ} {k : Tally} {r : Out} (x : Result Proc) → Made sentForm w k x r v → Made processForm w k x r v
+-- a process's words are the same whatever was counted before
+as-process : {w v : List ℕ} {k : Tally} {r : Out} (x : Result Proc) → Made (processForm 1 0) w k x r v → Made (processForm 0 0) w k x r v
 as-process (got P d) h = record { said = h .said }
 as-process (refused n i) h = record { said = h .said }
 
@@ -205,7 +203,7 @@ module _ (s w : List ℕ) (c : Cursor) (k : Tally) (at i kind : ℕ) (is : kind 
   handler-by e m = rw (← is, e)
 
   handler-as : {h : Payload} → payload kind ≡ h → {f : ℕ → Result Proc} {r : Out} {v : List ℕ}
-      → ((m : ℕ) → recvBy (λ d. readProcess m s d) (λ d. readBranches m s 0 d) s at (nameIn s i) c h ≡ f m) → Meets handlerForm s w c k (3 * unread s c + 1) f r v → HandlerRead at i s w c k r v
+      → ((m : ℕ) → recvBy (λ d. readProcess m s d) (λ d. readBranches m s 0 d) s at (nameIn s i) c h ≡ f m) → Meets (processForm 1 1) s w c k (3 * unread s c + 1) f r v → HandlerRead at i s w c k r v
   handler-as e {f} same t = record { is = λ m lo. rw (handler-by e m, same m) (t .is m (omega arith)); kept = t .kept; on = t .on }
 
   pub handler-unit : {r : Out} {v : List ℕ} → payload kind ≡ UnitPayload → OneRead at i UnitPayload s w c k r v → HandlerRead at i s w c k r v
@@ -381,19 +379,19 @@ module _ (s w : List ℕ) (c : Cursor) (k : Tally) (room : Room s w c k) (t : To
   pub process-empty : termHead (t .kind) ≡ Empty → ProcessRead s w c k (Got c (lasting (emptyPointer (t .start)) k)) w
   unfolding processBy afterProcess writeProcess FineProcess
   process-empty e =
-      more-got processForm s w c k (λ m. readProcess m s c) (omega (arith, o .starts)) same
+      more-got (processForm 0 0) s w c k (λ m. readProcess m s c) (omega (arith, o .starts)) same
       (λ m _. made-got (empty (t .start)) (process-suc m s c ∙ rw (ap termHead kind-is ∙ e) (ap (λ x. got x c) empty-is)) refl refl (omega (arith, o .starts)))
 
   -- a term that its first token decides
   pub process-as : (h : TermHead) → termHead (t .kind) ≡ h → {r : Out} {v : List ℕ} → TermRead h s w c k r v → ProcessRead s w c k r v
   process-as h e {r} {v} y =
       let head : termHead (kindAt s (c .at)) ≡ h = ap termHead kind-is ∙ e in
-      record { is = more-made processForm w k (λ m. readProcess m s c) (λ m lo. rw (process-suc m s c, head) (y .is m (omega arith))); kept = y .kept; on = y .on }
+      record { is = more-made (processForm 0 0) w k (λ m. readProcess m s c) (λ m lo. rw (process-suc m s c, head) (y .is m (omega arith))); kept = y .kept; on = y .on }
 
   pub rest-none : ((t .kind ≡ kSemicolon) → ⊥) → RestRead s w c k (Got c (lasting (emptyPointer (t .start)) k)) w
   unfolding restBy afterProcess writeProcess FineProcess
   rest-none d =
-      more-got processForm s w c k (λ m. readRest m s c) (omega (arith, o .starts)) same
+      more-got (processForm 0 0) s w c k (λ m. readRest m s c) (omega (arith, o .starts)) same
       (λ m _. made-got (empty (t .start)) (rest-suc m s c ∙ rw (ne-eqb _ _ (λ e. d (sym kind-is ∙ e))) (ap (λ x. got x c) empty-is)) refl refl (omega (arith, o .starts)))
 
   module _ (e : t .kind ≡ kSemicolon) {q : Taken} (u : Stepped s c 1 0 0 (expect s kSemicolon c) q) where
@@ -403,14 +401,14 @@ module _ (s w : List ℕ) (c : Cursor) (k : Tally) (room : Room s w c k) (t : To
     pub rest-mark-no : {r : Out} {n i : ℕ} → q ≡ Refused n i → r ≡ asOut q → RestRead s w c k r w
     unfolding restBy
     rest-mark-no g h =
-        more-no processForm s w c k (λ m. readRest m s c) (refused-out g h) same (λ m _. rest-suc m s c ∙ rw (semicolon, took u g))
+        more-no (processForm 0 0) s w c k (λ m. readRest m s c) (refused-out g h) same (λ m _. rest-suc m s c ∙ rw (semicolon, took u g))
 
     pub rest-process : {i : ℕ} {d : Cursor} → q ≡ At i d → {r : Out} {v : List ℕ} → ProcessRead s w d k r v → RestRead s w c k r v
     unfolding restBy
     rest-process {i} {d} g {r} {v} y =
         let z = u .on i d g in
         record {
-          is = more-made processForm w k (λ m. readRest m s c) (λ m lo. rw (rest-suc m s c, semicolon, took u g) (y .is m (omega arith)));
+          is = more-made (processForm 0 0) w k (λ m. readRest m s c) (λ m lo. rw (rest-suc m s c, semicolon, took u g) (y .is m (omega arith)));
           kept = y .kept;
           on = λ b l x. let o₂ = y .on b l x in omega arith;
         }

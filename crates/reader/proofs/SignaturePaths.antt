@@ -2,11 +2,9 @@
 use mathlib.Core.Path.{_≡_, refl, ap, sym, _∙_}
 use mathlib.Core.List.{List, [], _∷_}
 use mathlib.Core.Bool.{Bool, true, false}
-use Prim.Native.Nat.{ℕ, suc, _+_, _-_, _*_, _<_, _≤_}
+use Prim.Native.Nat.{ℕ, suc, _+_, _≤_}
 use native.Mathlib.Omega.{arith}
-use lib.ListN.{length}
 use lib.Dec.{eqb}
-use Rattle.notation.specs.Limits.{textLimit}
 use Rattle.notation.specs.Token.{kindAt, kName, kColon, kComma}
 use Rattle.notation.specs.Tree.{Located, Ty, Entry}
 use Rattle.notation.specs.Reader.{Result, got, refused, take, part, lastly, choose, expect, opening, closed, nameIn}
@@ -17,12 +15,12 @@ use Rattle.notation.specs.declared.reading.Cursor.{Cursor}
 use Rattle.notation.specs.declared.reading.Tally.{Tally}
 use Rattle.notation.specs.declared.reading.Taken.{Taken}
 use Rattle.notation.specs.declared.reading.Taken.the-variants.{At, Refused}
-use Rattle.reader.specs.declared.steps.Out.{Out}
-use Rattle.reader.specs.declared.steps.Out.the-variants.{Got, Not}
-use Rattle.reader.specs.Filling.{SameDeclared, TypeRead, Stepped, asOut, Put, Room, unread}
+use Rattle.typereader.specs.declared.steps.Out.{Out}
+use Rattle.typereader.specs.declared.steps.Out.the-variants.{Got, Not}
+use Rattle.typereader.specs.Filling.{SameDeclared, TypeRead, Stepped, asOut, Put, Room}
 use Rattle.reader.specs.Scripts.{entryName, FineEntries, entriesForm, closeBy, moreEntriesBy, entriesOrNone, EntriesRead}
-use Rattle.reader.proofs.TypePaths.{then-take}
-use Rattle.reader.proofs.Filled.{same, _upon_, put-kept, took, refused-out, made-got, gone-on, stopped, meets-no, meets-got, more-no, more-got}
+use Rattle.typereader.proofs.TypePaths.{then-take}
+use Rattle.typereader.proofs.Filled.{same, _upon_, took, refused-out, made-got, gone-on, stopped, meets-no, meets-got, more-no, more-got}
 
 abbrev entry : List ℕ → ℕ → Ty Located → Entry
 entry s i A = record { channel = nameIn s i; type = A }

@@ -1,28 +1,26 @@
 -- A whole text.
 use mathlib.Core.Path.{_≡_, refl, ap, sym, subst, _∙_}
-use mathlib.Core.List.{List, [], _∷_, _++_}
-use mathlib.Core.Bool.{Bool, true, false, cond}
-use Prim.Native.Nat.{ℕ, zero, suc, _+_, _-_, _*_, _<_, _≤_}
+use mathlib.Core.List.{List, _++_}
+use Prim.Native.Nat.{ℕ, _+_, _<_, _≤_}
 use native.Mathlib.Omega.{arith}
 use borrow.Author.Tests.{lt-leb, le-leb}
 use native.Mathlib.Decide.{ℕ-discrete}
 use lib.ListN.{length, getD, set, drop, replicate, length-replicate, getD-replicate}
 use lib.Seq.{ext-getD, getD-set-same, getD-set-other}
-use lib.Dec.{leb}
 use Rattle.notation.specs.Limits.{textLimit, scratchWords}
 use Rattle.notation.specs.Tree.{Declaration}
-use Rattle.notation.specs.Reader.{Result, got, refused}
+use Rattle.notation.specs.Reader.{got, refused}
 use Rattle.notation.specs.Scripts.{readText, readScript, start, fuel}
 use Rattle.notation.specs.Tables.{afterScript, writeScript, writeCounts, nothing, zeros, tables, tablesOf}
 use Rattle.notation.specs.declared.reading.Cursor.{Cursor}
 use Rattle.notation.specs.declared.reading.Tally.{Tally}
-use Rattle.reader.specs.declared.steps.Out.{Out}
-use Rattle.reader.specs.declared.steps.Out.the-variants.{Got, Not}
+use Rattle.typereader.specs.declared.steps.Out.{Out}
+use Rattle.typereader.specs.declared.steps.Out.the-variants.{Got, Not}
 use Rattle.reader.specs.declared.reading.Reading.{Reading}
 use Rattle.reader.specs.declared.reading.Reading.the-variants.{Read, Refused}
 use Rattle.reader.specs.Scripts.{ScriptRead}
-use Rattle.reader.specs.Reading.{Within, answerOf, Filled, TextRead}
-use Rattle.reader.proofs.Filled.{gone-on, stopped}
+use Rattle.reader.specs.Reading.{Within, Filled, TextRead}
+use Rattle.typereader.proofs.Filled.{gone-on, stopped}
 
 pub all-zero : (p : List ℕ) → length p ≡ 8192 → ((j : ℕ) → j < 8192 → getD p j 0 ≡ 0) → p ≡ zeros
 all-zero p l h = ext-getD 0 p (replicate 8192 0) (l ∙ sym (length-replicate {A = ℕ} 8192 0)) (λ i m. h i (omega arith) ∙ sym (getD-replicate {A = ℕ} 8192 i 0 0 (omega arith)))
@@ -43,15 +41,15 @@ not-read e = absurd (let z : _≡_ {A = ℕ} 0 1 = cc in omega arith)
 
 filled-no : (s v : List ℕ) (n i : ℕ) → readText s ≡ refused n i → v ≡ zeros → Filled s (Refused n i) v
 unfolding tables
-filled-no s v n i x z = record { is = rw x; words = rw x z; room = λ ds d e. not-read (sym x ∙ e) }
+filled-no s v n i x z = record { is = rw x; words = rw x z; fits = λ ds d e. not-read (sym x ∙ e) }
 
 pub fill-long : (s v : List ℕ) → textLimit < length s → v ≡ zeros → Filled s (Refused 2 textLimit) v
 unfolding readText
 fill-long s v h z = filled-no s v 2 textLimit (rw (lt-leb _ _ h)) z
 
 -- what is read is read once
-same-room : (ds ds₂ : List Declaration) (d d₂ : Cursor) → got ds d ≡ got ds₂ d₂ → Within (afterScript ds nothing) → Within (afterScript ds₂ nothing)
-same-room ds ds₂ d d₂ e h = let both : ds ≡ ds₂ = cc in subst (λ x. Within (afterScript x nothing)) both h
+same-fits : (ds ds₂ : List Declaration) (d d₂ : Cursor) → got ds d ≡ got ds₂ d₂ → Within (afterScript ds nothing) → Within (afterScript ds₂ nothing)
+same-fits ds ds₂ d d₂ e h = let both : ds ≡ ds₂ = cc in subst (λ x. Within (afterScript x nothing)) both h
 
 -- a text that is not too long
 read-is : (s : List ℕ) → length s ≤ textLimit → readText s ≡ readScript (fuel s) s (record { types = 0; processes = 0; execs = 0 }) start
@@ -72,11 +70,11 @@ module _ (s w v : List ℕ) {r : Out} (h : length s ≤ textLimit) (t : ScriptRe
       record {
         is = rw same (λ j. Read (record { types = al j .types; processes = al j .processes; execs = al j .execs }));
         words = rw same (x ∙ (λ j. writeCounts (al j) (av j)) ∙ ap (λ w. writeCounts (afterScript ds nothing) (writeScript ds nothing w)) z);
-        room = λ ds₂ d₂ e. same-room ds ds₂ d d₂ (sym same ∙ e) (subst Within al (omega arith));
+        fits = λ ds₂ d₂ e. same-fits ds ds₂ d d₂ (sym same ∙ e) (subst Within al (omega arith));
       }
 
 pub text-short : (s w : List ℕ) → length w < scratchWords → TextRead s w (Refused 1 0) w
 text-short s w h = record { short = λ _. (refl, refl); enough = λ l. absurd (omega arith) }
 
 pub text-full : (s w ys : List ℕ) (r : Reading) → scratchWords ≤ length w → Filled s r ys → TextRead s w r (ys ++ drop 8192 w)
-text-full s w ys r h f = record { short = λ m. absurd (omega arith); enough = λ _. (f .is, ap (λ x. x ++ drop 8192 w) (f .words), f .room) }
+text-full s w ys r h f = record { short = λ m. absurd (omega arith); enough = λ _. (f .is, ap (λ x. x ++ drop 8192 w) (f .words), f .fits) }

@@ -1,4 +1,3 @@
-pub mod Filling
 pub mod Processes
 pub mod Scripts
 pub mod Reading

@@ -1,16 +1,15 @@
 -- What the code that reads processes promises.
 use mathlib.Core.Path.{_≡_}
-use Prim.Native.Nat.{ℕ, _+_, _-_, _*_, _<_, _≤_}
+use Prim.Native.Nat.{ℕ, _+_, _*_, _<_, _≤_}
 use mathlib.Core.List.{List, []}
-use mathlib.Core.Bool.{cond}
 use lib.Dec.{eqb}
 use lib.ListN.{length}
 use Rattle.notation.specs.Limits.{textLimit, typeTermLimit, processTermLimit}
-use Rattle.notation.specs.Token.{tokenAt, kindAt, kName, kLabel, kThen, kColon}
-use Rattle.notation.specs.Tree.{Located, Ty, Proc, empty, sendUnit, sendChannel, sendLabel, cancel, spawn, recvUnit, recvChannel, recvLabel, fwd, call, raise, try, Branches, branch}
-use Rattle.notation.specs.Reader.{Result, got, refused, take, lastly, part, choose, fault, expect, processTerm, thenToken, nameIn, labelIn}
+use Rattle.notation.specs.Token.{kindAt, kName, kLabel, kThen, kColon}
+use Rattle.notation.specs.Tree.{Located, Proc, empty, sendUnit, sendChannel, sendLabel, cancel, spawn, recvUnit, recvChannel, recvLabel, fwd, call, raise, try, Branches, branch}
+use Rattle.notation.specs.Reader.{Result, got, refused, take, lastly, part, choose, expect, processTerm, thenToken, nameIn, labelIn}
 use Rattle.notation.specs.Types.{readType, labelTerm}
-use Rattle.notation.specs.Processes.{payload, unitTaken, bracketedBy, sendBy, recvBy, processBy, moreBranchesBy, readProcess, readRest, readBranches, readNames, nameList}
+use Rattle.notation.specs.Processes.{payload, unitTaken, bracketedBy, sendBy, recvBy, processBy, moreBranchesBy, readProcess, readRest, readBranches, readNames}
 use Rattle.notation.specs.Tables.{afterProcess, afterBranches, writeProcess, writeBranches, moreTerms, putOver, termNode}
 use Rattle.notation.specs.declared.reading.Cursor.{Cursor}
 use Rattle.notation.specs.declared.reading.Tally.{Tally}
@@ -18,16 +17,12 @@ use Rattle.notation.specs.declared.reading.TermNode.{TermNode}
 use Rattle.notation.specs.declared.reading.Taken.{Taken}
 use Rattle.notation.specs.declared.reading.Taken.the-variants.{At, Refused}
 use Rattle.notation.specs.declared.token.TermHead.{TermHead}
-use Rattle.notation.specs.declared.token.TermHead.the-variants.{Send, Recv, Fwd, Call, Cancel, Raise, Try, Spawn}
 use Rattle.notation.specs.declared.token.Payload.{Payload}
 use Rattle.notation.specs.declared.token.Payload.the-variants.{Unit as UnitPayload, Channel, Label, Other}
-use Rattle.reader.specs.declared.steps.Out.{Out}
-use Rattle.reader.specs.Filling.{SameDeclared, Form, Meets, FineType, unread}
+use Rattle.typereader.specs.declared.steps.Out.{Out}
+use Rattle.typereader.specs.Filling.{misfitTaken, SameDeclared, Form, Meets, FineType, unread}
 
 -- ── tokens
-abbrev pub misfitTaken : List ℕ → Cursor → Taken
-misfitTaken s c = Refused (fault (tokenAt s (c .at))) (tokenAt s (c .at) .start)
-
 -- what a send sends or a recv takes, as one step
 unfoldable pub payloadTaken : List ℕ → Cursor → Payload → Taken
 payloadTaken s c UnitPayload = unitTaken s c
@@ -85,30 +80,12 @@ AheadProcess own spare s c k d l =
     × SameDeclared k l
 
 -- a process: its pointer is a node's or an empty process's
-abbrev pub processForm : Form Proc
-processForm = record {
+abbrev pub processForm : ℕ → ℕ → Form Proc
+processForm own spare = record {
   after = afterProcess;
   write = writeProcess;
   Fine = FineProcess;
-  Ahead = λ s c k d l. AheadProcess 0 0 s c k d l × (l .last ≤ 9216);
-}
-
--- a process whose own term was counted before: a send's from what it sends on
-abbrev pub sentForm : Form Proc
-sentForm = record {
-  after = afterProcess;
-  write = writeProcess;
-  Fine = FineProcess;
-  Ahead = λ s c k d l. AheadProcess 1 0 s c k d l × (l .last ≤ 9216);
-}
-
--- what stands in a recv's bracket
-abbrev pub handlerForm : Form Proc
-handlerForm = record {
-  after = afterProcess;
-  write = writeProcess;
-  Fine = FineProcess;
-  Ahead = λ s c k d l. AheadProcess 1 1 s c k d l × (l .last ≤ 9216);
+  Ahead = λ s c k d l. AheadProcess own spare s c k d l × (l .last ≤ 9216);
 }
 
 abbrev pub branchesForm : ℕ → Form Branches
@@ -129,10 +106,10 @@ moreBranchesForm n = record {
 
 -- ── readings
 abbrev pub ProcessRead : List ℕ → List ℕ → Cursor → Tally → Out → List ℕ → Type 0
-ProcessRead s w c k = Meets processForm s w c k (3 * unread s c + 1) (λ m. readProcess m s c)
+ProcessRead s w c k = Meets (processForm 0 0) s w c k (3 * unread s c + 1) (λ m. readProcess m s c)
 
 abbrev pub RestRead : List ℕ → List ℕ → Cursor → Tally → Out → List ℕ → Type 0
-RestRead s w c k = Meets processForm s w c k (3 * unread s c + 1) (λ m. readRest m s c)
+RestRead s w c k = Meets (processForm 0 0) s w c k (3 * unread s c + 1) (λ m. readRest m s c)
 
 abbrev pub BranchesRead : ℕ → List ℕ → List ℕ → Cursor → Tally → Out → List ℕ → Type 0
 BranchesRead n s w c k = Meets (branchesForm n) s w c k (3 * unread s c + 1) (λ m. readBranches m s n c)
@@ -145,20 +122,20 @@ abbrev pub termBy : TermHead → List ℕ → Cursor → ℕ → Result Proc
 termBy h s c m = processBy (λ d. readType m s d) (λ d. readProcess m s d) (λ d. readRest m s d) (λ d. readBranches m s 0 d) m s c h
 
 abbrev pub TermRead : TermHead → List ℕ → List ℕ → Cursor → Tally → Out → List ℕ → Type 0
-TermRead h s w c k = Meets processForm s w c k (3 * unread s c) (termBy h s c)
+TermRead h s w c k = Meets (processForm 0 0) s w c k (3 * unread s c) (termBy h s c)
 
 abbrev pub SentRead : ℕ → ℕ → Payload → List ℕ → List ℕ → Cursor → Tally → Out → List ℕ → Type 0
 SentRead at i h s w c k =
-    Meets sentForm s w c k (3 * unread s c + 1) (λ m. sendBy (λ d. readRest m s d) s at (nameIn s i) c h)
+    Meets (processForm 1 0) s w c k (3 * unread s c + 1) (λ m. sendBy (λ d. readRest m s d) s at (nameIn s i) c h)
 
 abbrev pub handlerBy : ℕ → ℕ → List ℕ → Cursor → ℕ → Result Proc
 handlerBy at i s c m = recvBy (λ d. readProcess m s d) (λ d. readBranches m s 0 d) s at (nameIn s i) c (payload (kindAt s (c .at)))
 
 abbrev pub HandlerRead : ℕ → ℕ → List ℕ → List ℕ → Cursor → Tally → Out → List ℕ → Type 0
-HandlerRead at i s w c k = Meets handlerForm s w c k (3 * unread s c + 2) (handlerBy at i s c)
+HandlerRead at i s w c k = Meets (processForm 1 1) s w c k (3 * unread s c + 2) (handlerBy at i s c)
 
 abbrev pub BracketedRead : List ℕ → List ℕ → Cursor → Tally → Out → List ℕ → Type 0
-BracketedRead s w c k = Meets processForm s w c k (3 * unread s c) (λ m. bracketedBy (λ d. readProcess m s d) s c)
+BracketedRead s w c k = Meets (processForm 0 0) s w c k (3 * unread s c) (λ m. bracketedBy (λ d. readProcess m s d) s c)
 
 -- ── a send by what it sends, and its node: the channel at i, what is sent at j; l is the tally after the rest
 unfoldable pub sentOf : List ℕ → Payload → ℕ → Located → ℕ → Proc → Proc
@@ -187,10 +164,10 @@ recvdNode Label at i j l = termNode 6 at i 0 (l .last)
 recvdNode Other at i j l = termNode 6 at i 0 (l .last)
 
 abbrev pub OneRead : ℕ → ℕ → Payload → List ℕ → List ℕ → Cursor → Tally → Out → List ℕ → Type 0
-OneRead at i h s w c k = Meets handlerForm s w c k (3 * unread s c + 1) (λ m. take (payloadThen s c h) λ j d. lastly (recvdOf s h at (nameIn s i) j) (readProcess m s d))
+OneRead at i h s w c k = Meets (processForm 1 1) s w c k (3 * unread s c + 1) (λ m. take (payloadThen s c h) λ j d. lastly (recvdOf s h at (nameIn s i) j) (readProcess m s d))
 
 abbrev pub LabelsRead : ℕ → ℕ → List ℕ → List ℕ → Cursor → Tally → Out → List ℕ → Type 0
-LabelsRead at i s w c k = Meets handlerForm s w c k (3 * unread s c + 1) (λ m. lastly (recvLabel at (nameIn s i)) (readBranches m s 0 c))
+LabelsRead at i s w c k = Meets (processForm 1 1) s w c k (3 * unread s c + 1) (λ m. lastly (recvLabel at (nameIn s i)) (readBranches m s 0 c))
 
 -- ── lists of names, of which the code keeps none
 abbrev pub forgetNames : ℕ → Result (List Located) → Taken
@@ -219,7 +196,7 @@ partsForm i = record {
   after = λ p k. moreTerms (afterProcess (p .1) (afterProcess (p .0) k));
   write = λ p k w. putOver 5 i (k .last) (afterProcess (p .0) k .last) (afterProcess (p .1) (afterProcess (p .0) k)) (writeProcess (p .1) (afterProcess (p .0) k) (writeProcess (p .0) k w));
   Fine = λ p. FineProcess (p .0) × FineProcess (p .1);
-  Ahead = sentForm .Ahead;
+  Ahead = processForm 1 0 .Ahead;
 }
 
 abbrev pub PartsRead : ℕ → List ℕ → List ℕ → Cursor → Tally → Out → List ℕ → Type 0

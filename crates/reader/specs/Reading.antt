@@ -26,9 +26,8 @@ Within k =
     × (k .terms ≤ 1024)
     × (k .branches ≤ 1640)
 
--- the tables have room for what is read
-abbrev pub Roomy : List ℕ → Type 0
-Roomy s = (ds : List Declaration) (d : Cursor) → readText s ≡ got ds d → Within (afterScript ds nothing)
+abbrev pub FitsTables : List ℕ → Type 0
+FitsTables s = (ds : List Declaration) (d : Cursor) → readText s ≡ got ds d → Within (afterScript ds nothing)
 
 -- how many declarations of each kind a script has
 abbrev pub scriptOf : List Declaration → Script
@@ -43,9 +42,9 @@ answerOf (refused n i) = Refused n i
 pub record Filled (s : List ℕ) (r : Reading) (v : List ℕ) : Type 0 where
   pub is : r ≡ answerOf (readText s)
   pub words : v ≡ tables s
-  pub room : Roomy s
+  pub fits : FitsTables s
 
 -- for texts and slices of any length: refusal 1 touches nothing, and past the first 8,192 words nothing changes
 pub record TextRead (s w : List ℕ) (r : Reading) (v : List ℕ) : Type 0 where
   pub short : length w < scratchWords → (r ≡ Refused 1 0) × (v ≡ w)
-  pub enough : scratchWords ≤ length w → (r ≡ answerOf (readText s)) × (v ≡ tables s ++ drop scratchWords w) × Roomy s
+  pub enough : scratchWords ≤ length w → (r ≡ answerOf (readText s)) × (v ≡ tables s ++ drop scratchWords w) × FitsTables s

@@ -1,29 +1,24 @@
 -- What the code that reads signatures, declarations and the script promises.
 use mathlib.Core.Path.{_≡_}
-use Prim.Native.Nat.{ℕ, _+_, _-_, _*_, _<_, _≤_}
+use Prim.Native.Nat.{ℕ, _+_, _*_, _<_, _≤_}
 use mathlib.Core.List.{List, [], _∷_}
 use lib.ListN.{length}
 use lib.Dec.{eqb}
 use Rattle.notation.specs.Limits.{textLimit, typeTermLimit, processTermLimit, typeLimit, processLimit, execLimit}
 use Rattle.notation.specs.Token.{kindAt, kName, kColon, kComma}
-use Rattle.notation.specs.Tree.{Located, Entry, Declaration, declareType, declareProc, declareExec}
-use Rattle.notation.specs.Reader.{Result, got, refused, take, part, lastly, choose, expect, thenToken, nameIn}
-use Rattle.notation.specs.Scripts.{Count, readEntries, entryList, readScript}
-use Rattle.notation.specs.Tables.{afterEntries, writeEntries, afterDeclaration, writeDeclaration, afterScript, writeScript, putProcess}
+use Rattle.notation.specs.Tree.{Entry, Declaration, declareType, declareProc, declareExec}
+use Rattle.notation.specs.Reader.{Result, got, take, choose, expect, misfit, thenToken}
+use Rattle.notation.specs.Scripts.{Count, keyword, moreTypes, moreProcesses, moreExecs, readEntries, typeDeclaration, procDeclaration, execDeclaration, readScript}
+use Rattle.notation.specs.Tables.{afterEntries, writeEntries, afterDeclaration, writeDeclaration, afterScript, writeScript}
 use Rattle.notation.specs.declared.reading.Cursor.{Cursor}
 use Rattle.notation.specs.declared.reading.Tally.{Tally}
 use Rattle.notation.specs.declared.reading.Taken.{Taken}
-use Rattle.reader.specs.declared.steps.Out.{Out}
-use Rattle.reader.specs.declared.store.Signed.{Signed}
+use Rattle.notation.specs.declared.reading.Taken.the-variants.{At, Refused}
+use Rattle.notation.specs.declared.token.DeclarationHead.{DeclarationHead}
+use Rattle.notation.specs.declared.token.DeclarationHead.the-variants.{TypeWord, ProcWord, ExecWord, End, Other}
+use Rattle.typereader.specs.declared.steps.Out.{Out}
 use Rattle.reader.specs.Processes.{FineProcess}
-use Rattle.reader.specs.Filling.{SameDeclared, Form, Meets, FineType, unread}
-
--- ── the process table's words
-abbrev pub FitsSigned : Signed → Type 0
-FitsSigned p = (p .at < 8192) × (p .first ≤ 512) × (p .provided ≤ 512) × (p .used ≤ 512) × (p .body ≤ 9216)
-
-unfoldable pub putSigned : List ℕ → ℕ → Signed → List ℕ
-putSigned w i p = putProcess w i (p .at) (p .first) (p .provided) (p .used) (p .body)
+use Rattle.typereader.specs.Filling.{SameDeclared, Form, Meets, FineType, unread}
 
 -- ── signatures
 unfoldable pub entryName : List ℕ → Cursor → Taken
@@ -95,27 +90,15 @@ AheadDeclared s c k d l =
     × (l .terms + c .terms ≤ d .terms + k .terms)
     × (5 * l .branches + c .at ≤ d .at + 5 * k .branches)
 
--- one declaration: so many types, processes and execs more, each within its limit
-abbrev pub declarationForm : ℕ → ℕ → ℕ → Form Declaration
-declarationForm types processes execs = record {
-  after = afterDeclaration;
-  write = writeDeclaration;
-  Fine = FineDeclaration;
-  Ahead = λ s c k d l.
-      AheadDeclared s c k d l
-      × (c .at < d .at)
-      × (l .types ≡ k .types + types)
-      × (l .processes ≡ k .processes + processes)
-      × (l .execs ≡ k .execs + execs)
-      × (types * l .types ≤ typeLimit)
-      × (processes * l .processes ≤ processLimit)
-      × (execs * l .execs ≤ execLimit);
-}
+-- a step, and then another, by which both are known
+abbrev pub afterToken : Taken → (Cursor → Taken) → Taken
+afterToken (At i d) f = f d
+afterToken (Refused n i) f = Refused n i
 
-abbrev pub DeclarationRead : ℕ → ℕ → ℕ → (ℕ → Result Declaration) → List ℕ → List ℕ → Cursor → Tally → Out → List ℕ → Type 0
-DeclarationRead types processes execs f s w c k = Meets (declarationForm types processes execs) s w c k (3 * unread s c) f
+-- the keyword of a declaration within its limit, and its name
+unfoldable pub declaredName : List ℕ → ℕ → ℕ → ℕ → Cursor → Taken
+declaredName s kind before limit c = afterToken (keyword s kind before limit c) (expect s kName)
 
--- ── the script
 abbrev pub countOf : Tally → Count
 countOf k = record { types = k .types; processes = k .processes; execs = k .execs }
 
@@ -123,6 +106,34 @@ countOf k = record { types = k .types; processes = k .processes; execs = k .exec
 abbrev pub Counted : Tally → Type 0
 Counted k = (k .types ≤ typeLimit) × (k .processes ≤ processLimit) × (k .execs ≤ execLimit)
 
+-- a declaration by what begins it, and the count after it
+abbrev pub declarationBy : DeclarationHead → ℕ → List ℕ → Count → Cursor → Result Declaration
+declarationBy TypeWord m s n c = typeDeclaration m s (n .types) c
+declarationBy ProcWord m s n c = procDeclaration m s (n .processes) c
+declarationBy ExecWord m s n c = execDeclaration s (n .execs) c
+declarationBy End m s n c = misfit s c
+declarationBy Other m s n c = misfit s c
+
+abbrev pub countBy : DeclarationHead → Count → Count
+countBy TypeWord n = moreTypes n
+countBy ProcWord n = moreProcesses n
+countBy ExecWord n = moreExecs n
+countBy End n = n
+countBy Other n = n
+
+-- one declaration, within its limit
+abbrev pub declarationForm : DeclarationHead → Form Declaration
+declarationForm h = record {
+  after = afterDeclaration;
+  write = writeDeclaration;
+  Fine = FineDeclaration;
+  Ahead = λ s c k d l. (AheadDeclared s c k d l × (c .at < d .at)) × (countOf l ≡ countBy h (countOf k)) × (Counted k → Counted l);
+}
+
+abbrev pub DeclarationRead : DeclarationHead → List ℕ → List ℕ → Cursor → Tally → Out → List ℕ → Type 0
+DeclarationRead h s w c k = Meets (declarationForm h) s w c k (3 * unread s c) (λ m. declarationBy h m s (countOf k) c)
+
+-- ── the script
 abbrev pub scriptForm : Form (List Declaration)
 scriptForm = record {
   after = afterScript;

@@ -3,6 +3,3 @@ pub mod processes;
 pub mod reading;
 pub mod scripts;
 pub mod signatures;
-pub mod steps;
-pub mod store;
-pub mod types;

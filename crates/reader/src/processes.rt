@@ -1,18 +1,4 @@
 // The reading of processes: "A process holds branches and a branch holds a process".
-use crate::steps::Out;
-use crate::steps::expect;
-use crate::steps::kind_at;
-use crate::steps::label_term;
-use crate::steps::misfit;
-use crate::steps::opening;
-use crate::steps::payload_head;
-use crate::steps::process_term;
-use crate::steps::refusal;
-use crate::steps::term_head;
-use crate::store::lasting;
-use crate::store::put_branch;
-use crate::store::put_term;
-use crate::types::read_type;
 use notation::reading::Cursor;
 use notation::reading::Taken;
 use notation::reading::Tally;
@@ -21,32 +7,48 @@ use notation::token::Payload;
 use notation::token::TermHead;
 use notation::token::Token;
 use notation::token::next_token;
+use typereader::steps::Out;
+use typereader::steps::expect;
+use typereader::steps::kind_at;
+use typereader::steps::label_term;
+use typereader::steps::misfit;
+use typereader::steps::misfit_token;
+use typereader::steps::opening;
+use typereader::steps::payload_head;
+use typereader::steps::process_term;
+use typereader::steps::refusal;
+use typereader::steps::term_head;
+use typereader::steps::then_expect;
+use typereader::store::lasting;
+use typereader::store::put_branch;
+use typereader::store::put_term;
+use typereader::types::read_type;
 ghost use mathlib.Core.Path.{_≡_};
 ghost use Prim.Native.Nat.{_<_, _≤_};
 ghost use Rattle.notation.specs.Token.{tokenAt};
 ghost use Rattle.notation.specs.Processes.{unitTaken, readNames, nameList};
 ghost use Rattle.notation.specs.declared.token.TermHead.the-variants.{Send, Recv, Fwd, Call, Cancel, Raise, Try, Spawn};
-ghost use Rattle.reader.specs.Filling.{Stepped, Room, FitsTerm};
-ghost use Rattle.reader.specs.Processes.{NamesTaken, listEnd, namesOrNone, misfitTaken, payloadTaken, payloadThen, labelThen, nameColon, sentNode, recvdNode, TermRead, SentRead, HandlerRead, OneRead, LabelsRead, BracketedRead, PartsRead, ProcessRead, RestRead, BranchesRead, MoreBranchesRead};
+ghost use Rattle.typereader.specs.Filling.{Stepped, Room, FitsTerm};
+ghost use Rattle.reader.specs.Processes.{NamesTaken, listEnd, namesOrNone, payloadTaken, payloadThen, labelThen, nameColon, sentNode, recvdNode, TermRead, SentRead, HandlerRead, OneRead, LabelsRead, BracketedRead, PartsRead, ProcessRead, RestRead, BranchesRead, MoreBranchesRead};
 
 // The mark ().
 fn unit_mark(text: &[u8], c: Cursor) -> Taken
     ensures { λ r. ⌜ Stepped (now (text .entry)) c 2 0 0 (unitTaken (now (text .entry)) c) r ⌝ }
 {
-    let opened = opening(text, c, Token::ROUND_OPEN);
-    let Taken::At(i, d) = opened else {
-        return opened;
-    };
-    let closed = expect(text, d, Token::ROUND_CLOSE);
-    let Taken::At(_, e) = closed else {
-        return closed;
+    let mark = then_expect(
+        text,
+        opening(text, c, Token::ROUND_OPEN),
+        Token::ROUND_CLOSE,
+    );
+    let Taken::At(i, d) = mark else {
+        return mark;
     };
     Taken::At(
         i,
         Cursor {
-            at: e.at,
-            types: e.types,
-            terms: e.terms,
+            at: d.at,
+            types: d.types,
+            terms: d.terms,
             depth: c.depth,
         },
     )
@@ -64,61 +66,25 @@ fn payload_token(text: &[u8], c: Cursor, head: Payload) -> Taken
     }
 }
 
-// No token fits here.
-fn misfit_token(text: &[u8], c: Cursor) -> Taken
-    ensures { λ r. ⌜ r ≡ misfitTaken (now (text .entry)) c ⌝ }
-{
-    let at = c.at;
-    let t = next_token(text, at);
-    if t.kind == Token::FAULT {
-        return Taken::Refused(3, t.start);
-    }
-    Taken::Refused(4, t.start)
-}
-
 // What a recv takes, and =>.
 fn payload_then(text: &[u8], c: Cursor, head: Payload) -> Taken
     ensures { λ r. ⌜ Stepped (now (text .entry)) c 3 0 0 (payloadThen (now (text .entry)) c head) r ⌝ }
 {
-    let taken = payload_token(text, c, head);
-    let Taken::At(i, d) = taken else {
-        return taken;
-    };
-    let arrow = expect(text, d, Token::THEN);
-    let Taken::At(_, e) = arrow else {
-        return arrow;
-    };
-    Taken::At(i, e)
+    then_expect(text, payload_token(text, c, head), Token::THEN)
 }
 
 // A label of a branch list in which n came before, and =>.
 fn label_then(text: &[u8], c: Cursor, n: usize) -> Taken
     ensures { λ r. ⌜ Stepped (now (text .entry)) c 4 0 0 (labelThen (now (text .entry)) n c) r ⌝ }
 {
-    let labelled = label_term(text, c, n);
-    let Taken::At(i, d) = labelled else {
-        return labelled;
-    };
-    let arrow = expect(text, d, Token::THEN);
-    let Taken::At(_, e) = arrow else {
-        return arrow;
-    };
-    Taken::At(i, e)
+    then_expect(text, label_term(text, c, n), Token::THEN)
 }
 
 // The name that begins a spawn, and its colon.
 fn name_colon(text: &[u8], c: Cursor) -> Taken
     ensures { λ r. ⌜ Stepped (now (text .entry)) c 2 0 1 (nameColon (now (text .entry)) c) r ⌝ }
 {
-    let named = process_term(text, c, Token::NAME);
-    let Taken::At(i, d) = named else {
-        return named;
-    };
-    let colon = expect(text, d, Token::COLON);
-    let Taken::At(_, e) = colon else {
-        return colon;
-    };
-    Taken::At(i, e)
+    then_expect(text, process_term(text, c, Token::NAME), Token::COLON)
 }
 
 // The node of a send over its rest.

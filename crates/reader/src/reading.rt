@@ -1,12 +1,13 @@
 // The reading of a whole text into the lent words.
 use crate::scripts::read_script;
-use crate::steps::Out;
 use notation::reading::Cursor;
 use notation::reading::Tally;
 use notation::script::Script;
+use typereader::steps::Out;
+use typereader::store::put_word;
 ghost use mathlib.Core.Path.{_≡_};
-ghost use Prim.Native.Nat.{_<_, _≤_};
-ghost use lib.ListN.{length, set};
+ghost use Prim.Native.Nat.{_<_};
+ghost use lib.ListN.{length};
 ghost use Rattle.notation.specs.Limits.{scratchWords};
 ghost use Rattle.notation.specs.Tables.{writeCounts, zeros};
 ghost use Rattle.reader.specs.Reading.{Within, Filled, TextRead};
@@ -29,30 +30,20 @@ fn zero(part: &mut [u32])
     }
 }
 
-// The word at i is n.
-fn put_count(part: &mut [u32], i: usize, n: usize)
-    requires { ⌜ length (now part) ≡ scratchWords ⌝ }
-    requires { ⌜ (i < 8) × (n ≤ 8192) ⌝ }
-    ensures { λ r. ⌜ now (part .exit) ≡ set (now (part .entry)) i n ⌝ }
-    ensures { λ r. ⌜ length (now (part .exit)) ≡ scratchWords ⌝ }
-{
-    part[i] = n as u32;
-}
-
 // The first eight words: how many entries each table has.
 fn write_counts(part: &mut [u32], k: Tally)
     requires { ⌜ length (now part) ≡ scratchWords ⌝ }
     requires { ⌜ Within k ⌝ }
     ensures { λ r. ⌜ now (part .exit) ≡ writeCounts k (now (part .entry)) ⌝ }
 {
-    put_count(part, 0, k.types);
-    put_count(part, 1, k.processes);
-    put_count(part, 2, k.execs);
-    put_count(part, 3, k.entries);
-    put_count(part, 4, k.nodes);
-    put_count(part, 5, k.alternatives);
-    put_count(part, 6, k.terms);
-    put_count(part, 7, k.branches);
+    put_word(part, 0, k.types);
+    put_word(part, 1, k.processes);
+    put_word(part, 2, k.execs);
+    put_word(part, 3, k.entries);
+    put_word(part, 4, k.nodes);
+    put_word(part, 5, k.alternatives);
+    put_word(part, 6, k.terms);
+    put_word(part, 7, k.branches);
 }
 
 // Reads a text into the words of its tables.

@@ -1,28 +1,29 @@
 // The reading of declarations and of the script.
 use crate::processes::read_process;
 use crate::signatures::entry_list;
-use crate::steps::Out;
-use crate::steps::expect;
-use crate::steps::kind_at;
-use crate::steps::misfit;
-use crate::steps::refusal;
-use crate::store::Signed;
-use crate::store::put_exec;
-use crate::store::put_process;
-use crate::store::put_type;
-use crate::types::read_type;
 use notation::reading::Cursor;
+use notation::reading::ProcessEntry;
 use notation::reading::Taken;
 use notation::reading::Tally;
 use notation::script::Script;
 use notation::token::DeclarationHead;
 use notation::token::Token;
+use typereader::steps::Out;
+use typereader::steps::expect;
+use typereader::steps::kind_at;
+use typereader::steps::misfit;
+use typereader::steps::refusal;
+use typereader::store::put_exec;
+use typereader::store::put_process;
+use typereader::store::put_type;
+use typereader::types::read_type;
 ghost use mathlib.Core.Path.{_≡_};
 ghost use Prim.Native.Nat.{_<_, _≤_};
 ghost use Rattle.notation.specs.Token.{width};
-ghost use Rattle.notation.specs.Scripts.{keyword, declarationHead, typeDeclaration, procDeclaration, execDeclaration};
-ghost use Rattle.reader.specs.Filling.{Stepped, Room};
-ghost use Rattle.reader.specs.Scripts.{DeclarationRead, ScriptRead, Counted};
+ghost use Rattle.notation.specs.Scripts.{keyword, declarationHead};
+ghost use Rattle.notation.specs.declared.token.DeclarationHead.the-variants.{TypeWord, ProcWord, ExecWord};
+ghost use Rattle.typereader.specs.Filling.{Stepped, Room};
+ghost use Rattle.reader.specs.Scripts.{declaredName, DeclarationRead, ScriptRead, Counted};
 
 // The keyword of a declaration of whose kind `before` came before.
 fn keyword(text: &[u8], c: Cursor, kind: usize, before: usize, limit: usize) -> Taken
@@ -39,16 +40,24 @@ fn keyword(text: &[u8], c: Cursor, kind: usize, before: usize, limit: usize) -> 
     Taken::Refused(5, i)
 }
 
+// The keyword, and the name that is declared.
+fn declared_name(text: &[u8], c: Cursor, kind: usize, before: usize, limit: usize) -> Taken
+    requires { ⌜ kind ≤ 31 ⌝ }
+    ensures { λ r. ⌜ Stepped (now (text .entry)) c 2 0 0 (declaredName (now (text .entry)) kind before limit c) r ⌝ }
+{
+    let word = keyword(text, c, kind, before, limit);
+    let Taken::At(_, d) = word else {
+        return word;
+    };
+    expect(text, d, Token::NAME)
+}
+
 // type t = A
 fn declare_type(text: &[u8], scratch: &mut [u32], c: Cursor, k: Tally) -> Out
     requires { ⌜ Room (now text) (now scratch) c k ⌝ }
-    ensures { λ r. ⌜ DeclarationRead 1 0 0 (λ m. typeDeclaration m (now (text .entry)) (k .types) c) (now (text .entry)) (now (scratch .entry)) c k r (now (scratch .exit)) ⌝ }
+    ensures { λ r. ⌜ DeclarationRead TypeWord (now (text .entry)) (now (scratch .entry)) c k r (now (scratch .exit)) ⌝ }
 {
-    let word = keyword(text, c, Token::TYPE, k.types, Script::TYPES);
-    let Taken::At(_, d) = word else {
-        return refusal(word);
-    };
-    let named = expect(text, d, Token::NAME);
+    let named = declared_name(text, c, Token::TYPE, k.types, Script::TYPES);
     let Taken::At(i, e) = named else {
         return refusal(named);
     };
@@ -67,13 +76,9 @@ fn declare_type(text: &[u8], scratch: &mut [u32], c: Cursor, k: Tally) -> Out
 // proc p (x : A, ..) [y : B, ..] = P
 fn declare_proc(text: &[u8], scratch: &mut [u32], c: Cursor, k: Tally) -> Out
     requires { ⌜ Room (now text) (now scratch) c k ⌝ }
-    ensures { λ r. ⌜ DeclarationRead 0 1 0 (λ m. procDeclaration m (now (text .entry)) (k .processes) c) (now (text .entry)) (now (scratch .entry)) c k r (now (scratch .exit)) ⌝ }
+    ensures { λ r. ⌜ DeclarationRead ProcWord (now (text .entry)) (now (scratch .entry)) c k r (now (scratch .exit)) ⌝ }
 {
-    let word = keyword(text, c, Token::PROC, k.processes, Script::PROCESSES);
-    let Taken::At(_, d) = word else {
-        return refusal(word);
-    };
-    let named = expect(text, d, Token::NAME);
+    let named = declared_name(text, c, Token::PROC, k.processes, Script::PROCESSES);
     let Taken::At(i, e) = named else {
         return refusal(named);
     };
@@ -93,7 +98,7 @@ fn declare_proc(text: &[u8], scratch: &mut [u32], c: Cursor, k: Tally) -> Out
     let Out::Got(z, n) = body else {
         return body;
     };
-    let p = Signed {
+    let p = ProcessEntry {
         at: i,
         first: k.entries,
         provided: l.entries - k.entries,
@@ -107,13 +112,9 @@ fn declare_proc(text: &[u8], scratch: &mut [u32], c: Cursor, k: Tally) -> Out
 // exec p
 fn declare_exec(text: &[u8], scratch: &mut [u32], c: Cursor, k: Tally) -> Out
     requires { ⌜ Room (now text) (now scratch) c k ⌝ }
-    ensures { λ r. ⌜ DeclarationRead 0 0 1 (λ m. execDeclaration (now (text .entry)) (k .execs) c) (now (text .entry)) (now (scratch .entry)) c k r (now (scratch .exit)) ⌝ }
+    ensures { λ r. ⌜ DeclarationRead ExecWord (now (text .entry)) (now (scratch .entry)) c k r (now (scratch .exit)) ⌝ }
 {
-    let word = keyword(text, c, Token::EXEC, k.execs, Script::EXECS);
-    let Taken::At(_, d) = word else {
-        return refusal(word);
-    };
-    let named = expect(text, d, Token::NAME);
+    let named = declared_name(text, c, Token::EXEC, k.execs, Script::EXECS);
     let Taken::At(i, e) = named else {
         return refusal(named);
     };
@@ -140,36 +141,33 @@ fn declaration_head(kind: usize) -> DeclarationHead
     DeclarationHead::Other
 }
 
+// A declaration, by what begins it; the end of the text is never handed here.
+fn declare(text: &[u8], scratch: &mut [u32], c: Cursor, k: Tally, head: DeclarationHead) -> Out
+    requires { ⌜ Room (now text) (now scratch) c k ⌝ }
+    ensures { λ r. ⌜ DeclarationRead head (now (text .entry)) (now (scratch .entry)) c k r (now (scratch .exit)) ⌝ }
+{
+    match head {
+        DeclarationHead::TypeWord => declare_type(text, scratch, c, k),
+        DeclarationHead::ProcWord => declare_proc(text, scratch, c, k),
+        DeclarationHead::ExecWord => declare_exec(text, scratch, c, k),
+        DeclarationHead::End => misfit(text, c),
+        DeclarationHead::Other => misfit(text, c),
+    }
+}
+
 // Declarations, none or more, up to the end of the text.
 pub(crate) fn read_script(text: &[u8], scratch: &mut [u32], c: Cursor, k: Tally) -> Out
     requires { ⌜ Room (now text) (now scratch) c k × Counted k ⌝ }
     ensures { λ r. ⌜ ScriptRead (now (text .entry)) (now (scratch .entry)) c k r (now (scratch .exit)) ⌝ }
 {
     let at = c.at;
-    let head = declaration_head(kind_at(text, at));
-    match head {
-        DeclarationHead::TypeWord => {
-            let one = declare_type(text, scratch, c, k);
-            let Out::Got(d, l) = one else {
-                return one;
-            };
-            read_script(text, scratch, d, l)
-        }
-        DeclarationHead::ProcWord => {
-            let one = declare_proc(text, scratch, c, k);
-            let Out::Got(d, l) = one else {
-                return one;
-            };
-            read_script(text, scratch, d, l)
-        }
-        DeclarationHead::ExecWord => {
-            let one = declare_exec(text, scratch, c, k);
-            let Out::Got(d, l) = one else {
-                return one;
-            };
-            read_script(text, scratch, d, l)
-        }
-        DeclarationHead::End => Out::Got(c, k),
-        DeclarationHead::Other => misfit(text, c),
+    let kind = kind_at(text, at);
+    if kind == Token::END {
+        return Out::Got(c, k);
     }
+    let one = declare(text, scratch, c, k, declaration_head(kind));
+    let Out::Got(d, l) = one else {
+        return one;
+    };
+    read_script(text, scratch, d, l)
 }

@@ -1,34 +1,26 @@
 // The reading of signatures: lists of channels with their types.
-use crate::steps::Out;
-use crate::steps::expect;
-use crate::steps::kind_at;
-use crate::steps::opening;
-use crate::steps::refusal;
-use crate::store::put_entry;
-use crate::types::read_type;
 use notation::reading::Cursor;
 use notation::reading::Taken;
 use notation::reading::Tally;
 use notation::token::Token;
-ghost use mathlib.Core.Path.{_≡_};
-ghost use Prim.Native.Nat.{_<_, _≤_};
+use typereader::steps::Out;
+use typereader::steps::expect;
+use typereader::steps::kind_at;
+use typereader::steps::opening;
+use typereader::steps::refusal;
+use typereader::steps::then_expect;
+use typereader::store::put_entry;
+use typereader::types::read_type;
+ghost use Prim.Native.Nat.{_≤_};
 ghost use Rattle.notation.specs.Scripts.{readEntries, entryList};
-ghost use Rattle.reader.specs.Filling.{Stepped, Room};
+ghost use Rattle.typereader.specs.Filling.{Stepped, Room};
 ghost use Rattle.reader.specs.Scripts.{entryName, closeBy, moreEntriesBy, entriesOrNone, EntriesRead};
 
 // The name of an entry, and its colon.
 fn entry_name(text: &[u8], c: Cursor) -> Taken
     ensures { λ r. ⌜ Stepped (now (text .entry)) c 2 0 0 (entryName (now (text .entry)) c) r ⌝ }
 {
-    let named = expect(text, c, Token::NAME);
-    let Taken::At(i, d) = named else {
-        return named;
-    };
-    let colon = expect(text, d, Token::COLON);
-    let Taken::At(_, e) = colon else {
-        return colon;
-    };
-    Taken::At(i, e)
+    then_expect(text, expect(text, c, Token::NAME), Token::COLON)
 }
 
 // The bracket that closes a list; nothing is appended.

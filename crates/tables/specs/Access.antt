@@ -6,12 +6,14 @@ use native.Mathlib.Omega.{arith}
 use Rattle.notation.specs.Limits.{textLimit, typeTermLimit, processTermLimit}
 use Rattle.notation.specs.Token.{nameAt}
 use Rattle.notation.specs.Reader.{nameIn}
+use Rattle.notation.specs.Tables.{processEntry}
 use Rattle.notation.specs.declared.reading.TypeNode.{TypeNode}
 use Rattle.notation.specs.declared.reading.TermNode.{TermNode}
-use Rattle.reader.specs.Filling.{Area}
+use Rattle.notation.specs.declared.reading.ProcessEntry.{ProcessEntry}
+use Rattle.typereader.specs.Filling.{Area}
 use Rattle.tables.specs.declared.access.Labelled.{Labelled}
 use Rattle.tables.specs.declared.access.Declared.{Declared}
-use Rattle.tables.specs.Decode.{tallyIn, pairOf, nodeAt, termAt, alternativeAt, branchAt, entryAt, typeAt, ProcessEntry, processEntry, processAt, execAt, typeIn, processIn}
+use Rattle.tables.specs.Decode.{tallyIn, pairOf, nodeAt, termAt, alternativeAt, branchAt, entryAt, typeAt, processAt, execAt, typeIn, processIn}
 use Rattle.tables.specs.Program.{plainIn, signatureOf, namedType, namedProcess, execIn}
 use Rattle.tables.specs.Roots.{TypeIn, TypeRoot, type-root, AlternativesIn, FirstAlternative, first-alternative, ProcessIn, ProcessRoot, process-root, BranchesIn, FirstBranch, first-branch}
 use Rattle.tables.specs.Whole.{EntriesIn, FirstEntry, first-entry, SignatureIn, Tables}
@@ -61,6 +63,8 @@ pub record TypeOf (w : List ℕ) (i : ℕ) (r : Labelled) : Type 0 where
 pub record SignatureOf (w : List ℕ) (i : ℕ) (r : Declared) : Type 0 where
   pub is : (s : List ℕ) → namedProcess s w i ≡ (nameAt s (r .at), signatureOf s w (asEntry r))
   pub stands : (s : List ℕ) → Tables s w → i < tallyIn w .processes → SignatureIn s w (asEntry r)
+  -- its entries have places that can be counted
+  pub small : r .first + r .provided < 8589934592
   pub holds : asEntry r ≡ processAt w i
 
 -- r is where the name of the exec i stands
@@ -102,10 +106,14 @@ module _ (w : List ℕ) where
   unfolding namedType
   type-of i r h = record { is = λ s j. (nameAt s (sym (h .at) j), plainIn s w (sym (h .number) j)); stands = λ s t b. back (h .number) (TypeIn s w) (t .types i b); holds = h }
 
-  pub signature-of : (i : ℕ) (r : Declared) → asEntry r ≡ processAt w i → SignatureOf w i r
+  pub signature-of : (i : ℕ) (r : Declared) → asEntry r ≡ processAt w i → r .first + r .provided < 8589934592 → SignatureOf w i r
   unfolding namedProcess
-  signature-of i r h =
-      record { is = λ s j. (nameAt s (sym h j .at), signatureOf s w (sym h j)); stands = λ s t b. back h (SignatureIn s w) (t .processes i b); holds = h }
+  signature-of i r h b = record {
+    is = λ s j. (nameAt s (sym h j .at), signatureOf s w (sym h j));
+    stands = λ s t c. back h (SignatureIn s w) (t .processes i c);
+    small = b;
+    holds = h;
+  }
 
   pub exec-of : (i r : ℕ) → r ≡ execAt w i → ExecOf w i r
   unfolding execIn

@@ -7,9 +7,9 @@ use native.Mathlib.Omega.{arith}
 use lib.ListN.{length, getD}
 use Rattle.notation.specs.Limits.{textLimit, typeTermLimit, processTermLimit}
 use Rattle.notation.specs.Tree.{Located, Ty, unit, named, tensor, par, lolli, plus, with, Alternatives, alternative, Proc, empty, sendUnit, sendChannel, sendLabel, cancel, spawn, recvUnit, recvChannel, recvLabel, fwd, call, raise, try, Branches, branch, Entry, Declaration, declareType, declareProc, declareExec}
-use Rattle.notation.specs.Tables.{putEntry, putType, putProcess, putExec, moreEntries, moreTypes, moreProcesses, moreExecs, afterType, afterAlternatives, writeType, afterProcess, afterBranches, writeProcess, afterEntries, writeEntries, afterDeclaration, writeDeclaration, afterScript, writeScript}
+use Rattle.notation.specs.Tables.{putEntry, putType, putProcess, putExec, moreEntries, moreTypes, moreProcesses, moreExecs, afterType, afterAlternatives, writeType, afterProcess, afterBranches, writeProcess, afterEntries, writeEntries, afterDeclaration, writeDeclaration, afterScript, writeScript, processEntry}
 use Rattle.notation.specs.declared.reading.Tally.{Tally}
-use Rattle.reader.specs.Filling.{Area, FineType}
+use Rattle.typereader.specs.Filling.{Area, FineType}
 use Rattle.reader.specs.Processes.{FineProcess}
 use Rattle.reader.specs.Scripts.{FineEntries, FineDeclaration}
 use Rattle.tables.specs.Packing.{entry-put, type-put, process-put, exec-put}
@@ -71,37 +71,43 @@ entries-count [] k = omega arith
 entries-count (e ∷ es) k = omega (arith, type-steady (e .type) k, entries-count es (moreEntries (afterType (e .type) k)))
 
 -- ── declarations are appended
-entry-grown : (e : Entry) (k : Tally) (w : List ℕ) → Grown k (moreEntries (afterType (e .type) k)) w (putEntry (writeType (e .type) k w) (k .entries) (e .channel .at) (afterType (e .type) k .last))
-entry-grown e k w =
+-- an entry's number is known before its parts are written, which leave its table alone
+pub entry-after : (e : Entry) (k : Tally) (w : List ℕ) → Grown (afterType (e .type) k) (moreEntries (afterType (e .type) k)) w (putEntry w (k .entries) (e .channel .at) (afterType (e .type) k .last))
+entry-after e k w =
     let d = afterType (e .type) k in
-    let w₁ = writeType (e .type) k w in
-    let z : d .entries ≡ k .entries = type-steady (e .type) k .3 in
-    grown-then (type-grown (e .type) k w) (subst (λ i. Grown d (moreEntries d) w₁ (putEntry w₁ i (e .channel .at) (d .last))) z (grown-entry d w₁ (e .channel .at) (d .last)))
+    subst (λ i. Grown d (moreEntries d) w (putEntry w i (e .channel .at) (d .last))) (type-steady (e .type) k .3) (grown-entry d w (e .channel .at) (d .last))
 
-grown-none : (k : Tally) (w : List ℕ) → Grown k k w w
+pub type-after : (at : ℕ) (A : Ty Located) (k : Tally) (w : List ℕ) → Grown (afterType A k) (moreTypes (afterType A k)) w (putType w (k .types) at (afterType A k .last))
+type-after at A k w =
+    let d = afterType A k in
+    subst (λ i. Grown d (moreTypes d) w (putType w i at (d .last))) (type-steady A k .0) (grown-type d w at (d .last))
+
+abbrev pub afterParts : List Entry → List Entry → Proc → Tally → Tally
+afterParts xs ys P k = afterProcess P (afterEntries ys (afterEntries xs k))
+
+pub process-after : (at : ℕ) (xs ys : List Entry) (P : Proc) (k : Tally) (w : List ℕ)
+    → Grown (afterParts xs ys P k) (moreProcesses (afterParts xs ys P k)) w (putProcess w (k .processes) (processEntry at (k .entries) (length xs) (length ys) (afterParts xs ys P k .last)))
+process-after at xs ys P k w =
+    let d = afterEntries xs k in
+    let f = afterParts xs ys P k in
+    let p = processEntry at (k .entries) (length xs) (length ys) (f .last) in
+    let z : f .processes ≡ k .processes = omega (arith, process-steady P (afterEntries ys d), entries-count ys d, entries-count xs k) in
+    subst (λ i. Grown f (moreProcesses f) w (putProcess w i p)) z (grown-process f w p)
+
+pub grown-none : (k : Tally) (w : List ℕ) → Grown k k w w
 grown-none k w = record { more = omega arith; long = refl; kept = λ j o. refl }
 
 pub entries-grown : (es : List Entry) (k : Tally) (w : List ℕ) → Grown k (afterEntries es k) w (writeEntries es k w)
 unfolding afterEntries writeEntries
 entries-grown [] k w = grown-none k w
-entries-grown (e ∷ es) k w = grown-then (entry-grown e k w) (entries-grown es (moreEntries (afterType (e .type) k)) _)
+entries-grown (e ∷ es) k w = grown-then (type-grown (e .type) k w) (grown-then (entry-after e k _) (entries-grown es (moreEntries (afterType (e .type) k)) _))
 
 pub declaration-grown : (a : Declaration) (k : Tally) (w : List ℕ) → Grown k (afterDeclaration a k) w (writeDeclaration a k w)
 unfolding afterDeclaration writeDeclaration
-declaration-grown (declareType n A) k w =
-    let d = afterType A k in
-    let w₁ = writeType A k w in
-    grown-then (type-grown A k w) (subst (λ i. Grown d (moreTypes d) w₁ (putType w₁ i (n .at) (d .last))) (type-steady A k .0) (grown-type d w₁ (n .at) (d .last)))
+declaration-grown (declareType n A) k w = grown-then (type-grown A k w) (type-after (n .at) A k _)
 declaration-grown (declareProc n xs ys P) k w =
     let d = afterEntries xs k in
-    let e = afterEntries ys d in
-    let f = afterProcess P e in
-    let w₁ = writeEntries xs k w in
-    let w₂ = writeEntries ys d w₁ in
-    let w₃ = writeProcess P e w₂ in
-    let z : f .processes ≡ k .processes = omega (arith, process-steady P e, entries-count ys d, entries-count xs k) in
-    grown-then (entries-grown xs k w) (grown-then (entries-grown ys d w₁) (grown-then (process-grown P e w₂)
-    (subst (λ i. Grown f (moreProcesses f) w₃ (putProcess w₃ i (n .at) (k .entries) (length xs) (length ys) (f .last))) z (grown-process f w₃ (n .at) (k .entries) (length xs) (length ys) (f .last)))))
+    grown-then (entries-grown xs k w) (grown-then (entries-grown ys d _) (grown-then (process-grown P (afterEntries ys d) _) (process-after (n .at) xs ys P k _)))
 declaration-grown (declareExec n) k w = grown-exec k w (n .at)
 
 pub script-grown : (ds : List Declaration) (k : Tally) (w : List ℕ) → Grown k (afterScript ds k) w (writeScript ds k w)
@@ -140,7 +146,7 @@ entries-written (e ∷ es) k w (f, f′, f″) area h =
     let w₁ = writeType (e .type) k w in
     let w₂ = putEntry w₁ (k .entries) (e .channel .at) (d .last) in
     let ga = type-grown (e .type) k w in
-    let ge : Grown d m w₁ w₂ = subst (λ i. Grown d m w₁ (putEntry w₁ i (e .channel .at) (d .last))) (type-steady (e .type) k .3) (grown-entry d w₁ (e .channel .at) (d .last)) in
+    let ge : Grown d m w₁ w₂ = entry-after e k w₁ in
     let gr = entries-grown es m w₂ in
     let ua = ga .more in
     let ue = ge .more in
@@ -162,7 +168,7 @@ declaration-written (declareType n A) k w (f, f′) area h =
     let d = afterType A k in
     let w₁ = writeType A k w in
     let ga = type-grown A k w in
-    let gt : Grown d (moreTypes d) w₁ (putType w₁ (k .types) (n .at) (d .last)) = subst (λ i. Grown d (moreTypes d) w₁ (putType w₁ i (n .at) (d .last))) (type-steady A k .0) (grown-type d w₁ (n .at) (d .last)) in
+    let gt = type-after (n .at) A k w₁ in
     let st = type-steady A k in
     let la = type-last A k in (
       d .last,
@@ -184,16 +190,15 @@ declaration-written (declareProc n xs ys P) k w (f, f′, f″, m) area h =
     let cx = entries-count xs k in
     let cy = entries-count ys d in
     let cp = process-steady P e in
-    let z : r .processes ≡ k .processes = omega arith in
-    let gn : Grown r (moreProcesses r) w₃ (putProcess w₃ (k .processes) (n .at) (k .entries) (length xs) (length ys) (r .last)) =
-    subst (λ i. Grown r (moreProcesses r) w₃ (putProcess w₃ i (n .at) (k .entries) (length xs) (length ys) (r .last))) z (grown-process r w₃ (n .at) (k .entries) (length xs) (length ys) (r .last)) in
+    let p = processEntry (n .at) (k .entries) (length xs) (length ys) (r .last) in
+    let gn = process-after (n .at) xs ys P k w₃ in
     let uy = gy .more in
     let up = gp .more in (
       r .last,
       omega arith,
       process-put w₃ (k .processes) (n .at) (k .entries) (length xs) (length ys) (r .last) (omega (arith, gx .long, gy .long, gp .long)) (omega arith) (omega arith),
       entries-kept (grown-then gy (grown-then gp gn)) h xs (k .entries) (entries-written xs k w f′ area (omega arith)),
-      subst (λ i. EntriesAt (putProcess w₃ (k .processes) (n .at) (k .entries) (length xs) (length ys) (r .last)) (moreProcesses r) i ys) (cx .0) (entries-kept (grown-then gp gn) h ys (d .entries) (entries-written ys d w₁ f″ (omega (arith, gx .long)) (omega arith))),
+      subst (λ i. EntriesAt (putProcess w₃ (k .processes) p) (moreProcesses r) i ys) (cx .0) (entries-kept (grown-then gp gn) h ys (d .entries) (entries-written ys d w₁ f″ (omega (arith, gx .long)) (omega arith))),
       process-kept gn h P (r .last) (process-written P e w₂ m (omega (arith, gx .long, gy .long)) (omega arith)),
     )
 declaration-written (declareExec n) k w f area h = (omega arith, exec-put w (k .execs) (n .at) area (omega arith))

@@ -10,11 +10,12 @@ use Rattle.notation.specs.Tree.{Located, Ty, unit, named, tensor, par, lolli, p
 use Rattle.notation.specs.Reader.{Result, got, refused, part, nameIn, labelIn}
 use Rattle.notation.specs.Processes.{nameList}
 use Rattle.notation.specs.Scripts.{fuel}
-use Rattle.notation.specs.Tables.{typesAt, processesAt, execsAt, entriesAt, nodesAt, alternativesAt, termsAt, branchesAt, typeNode, termNode}
+use Rattle.notation.specs.Tables.{typesAt, processesAt, execsAt, entriesAt, nodesAt, alternativesAt, termsAt, branchesAt, typeNode, termNode, processEntry}
 use Rattle.notation.specs.declared.reading.Cursor.{Cursor}
 use Rattle.notation.specs.declared.reading.Tally.{Tally}
 use Rattle.notation.specs.declared.reading.TypeNode.{TypeNode}
 use Rattle.notation.specs.declared.reading.TermNode.{TermNode}
+use Rattle.notation.specs.declared.reading.ProcessEntry.{ProcessEntry}
 
 -- ── how far each table is filled: the first eight words
 abbrev pub tallyIn : List ℕ → Tally
@@ -61,17 +62,6 @@ entryAt w i = pairOf (getD w (entriesAt + i) 0)
 
 unfoldable pub typeAt : List ℕ → ℕ → ℕ × ℕ
 typeAt w i = (getD w (typesAt + 2 * i) 0, getD w (typesAt + 2 * i + 1) 0)
-
--- a process: its name, its first signature entry, how many it provides and uses, its body
-pub record ProcessEntry : Type 0 where
-  pub at : ℕ
-  pub first : ℕ
-  pub provided : ℕ
-  pub used : ℕ
-  pub body : ℕ
-
-abbrev pub processEntry : ℕ → ℕ → ℕ → ℕ → ℕ → ProcessEntry
-processEntry at first provided used body = record { at = at; first = first; provided = provided; used = used; body = body }
 
 -- what `putProcess` packs
 unfoldable pub processEntryOf : ℕ → ℕ → ℕ → ℕ → ProcessEntry

@@ -10,6 +10,7 @@ use Rattle.notation.specs.Tables.{typesAt, processesAt, execsAt, entriesAt, nod
 use Rattle.notation.specs.declared.reading.Tally.{Tally}
 use Rattle.notation.specs.declared.reading.TypeNode.{TypeNode}
 use Rattle.notation.specs.declared.reading.TermNode.{TermNode}
+use Rattle.notation.specs.declared.reading.ProcessEntry.{ProcessEntry}
 use Rattle.tables.specs.Decode.{typeNodeOf, termNodeOf, pairOf, nodeAt, alternativeAt, termAt, branchAt, entryAt, typeAt, execAt, processEntryOf, processAt}
 
 -- each table has as many entries as before, or more
@@ -167,16 +168,16 @@ grown-at k w t x l = record {
 grown-same : {k l : Tally} {w v x : List ℕ} → Grown k l w v → Grown k l v x → Grown k l w x
 grown-same f g = record { more = f .more; long = g .long ∙ f .long; kept = λ j o. g .kept j o ∙ f .kept j o }
 
-pub grown-process : (k : Tally) (w : List ℕ) (at first provided used body : ℕ) → Grown k (moreProcesses k) w (putProcess w (k .processes) at first provided used body)
+pub grown-process : (k : Tally) (w : List ℕ) (p : ProcessEntry) → Grown k (moreProcesses k) w (putProcess w (k .processes) p)
 unfolding putProcess
-grown-process k w at first provided used body =
+grown-process k w p =
     let i = processesAt + 4 * k .processes in
     let z : i + 0 ≡ i = omega arith in
-    let w₀ = set w i at in
-    let w₁ = set w₀ (i + 1) first in
-    let w₂ = set w₁ (i + 2) (provided + 1024 * used) in
-    let g₀ : Grown k (moreProcesses k) w w₀ = rw z at (grown-at k w 0 at (omega arith)) in
-    grown-same g₀ (grown-same (grown-at k w₀ 1 first (omega arith)) (grown-same (grown-at k w₁ 2 (provided + 1024 * used) (omega arith)) (grown-at k w₂ 3 body (omega arith))))
+    let w₀ = set w i (p .at) in
+    let w₁ = set w₀ (i + 1) (p .first) in
+    let w₂ = set w₁ (i + 2) (p .provided + 1024 * p .used) in
+    let g₀ : Grown k (moreProcesses k) w w₀ = rw z at (grown-at k w 0 (p .at) (omega arith)) in
+    grown-same g₀ (grown-same (grown-at k w₀ 1 (p .first) (omega arith)) (grown-same (grown-at k w₁ 2 (p .provided + 1024 * p .used) (omega arith)) (grown-at k w₂ 3 (p .body) (omega arith))))
 
 -- the counts, which no entry depends on
 count-set : (k : Tally) (w : List ℕ) (i x : ℕ) → i < 16 → Grown k k w (set w i x)

@@ -16,5 +16,6 @@ pub mod ReadTypes
 pub mod ReadProcesses
 pub mod ReadScripts
 pub mod Whole
+pub mod Everywhere
 pub mod Search
 pub mod Access

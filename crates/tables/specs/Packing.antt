@@ -5,10 +5,10 @@ use mathlib.Core.List.{List}
 use native.Mathlib.Omega.{arith}
 use lib.ListN.{length, getD, set, length-set}
 use lib.Seq.{getD-set-same, getD-set-other}
-use Rattle.notation.specs.Tables.{typesAt, processesAt, execsAt, entriesAt, nodesAt, alternativesAt, termsAt, branchesAt, typeNode, termNode, typeWord, termWord, termWord′, pairWord, putNode, putAlternative, putTerm, putBranch, putEntry, putType, putProcess, putExec}
+use Rattle.notation.specs.Tables.{typesAt, processesAt, execsAt, entriesAt, nodesAt, alternativesAt, termsAt, branchesAt, typeNode, termNode, typeWord, termWord, termWord′, pairWord, putNode, putAlternative, putTerm, putBranch, putEntry, putType, putProcess, putExec, processEntry}
 use Rattle.notation.specs.declared.reading.TypeNode.{TypeNode}
-use Rattle.reader.specs.Filling.{Area}
-use Rattle.tables.specs.Decode.{typeNodeOf, termNodeOf, pairOf, nodeAt, alternativeAt, termAt, branchAt, entryAt, typeAt, execAt, processEntry, processEntryOf, processAt}
+use Rattle.typereader.specs.Filling.{Area}
+use Rattle.tables.specs.Decode.{typeNodeOf, termNodeOf, pairOf, nodeAt, alternativeAt, termAt, branchAt, entryAt, typeAt, execAt, processEntryOf, processAt}
 
 -- ── packings
 pub type-word : (kind first second : ℕ) → kind < 8 → first < 1024 → typeNodeOf (typeWord (typeNode kind first second)) ≡ typeNode kind first second
@@ -90,7 +90,7 @@ type-put w i at n h l =
     λ j. (p j, q j)
 
 pub process-put : (w : List ℕ) (i at first provided used body : ℕ) → Area w → i < 64 → provided < 1024
-    → processAt (putProcess w i at first provided used body) i ≡ processEntry at first provided used body
+    → processAt (putProcess w i (processEntry at first provided used body)) i ≡ processEntry at first provided used body
 unfolding processAt putProcess
 process-put w i at first provided used body h l a =
     let b = processesAt + 4 * i in

@@ -14,7 +14,7 @@ use Rattle.notation.specs.Reader.{nameIn, labelIn}
 use Rattle.notation.specs.Tables.{termNode, putTerm, putOver, emptyPointer, moreTerms, moreBranches, afterType, writeType, afterProcess, afterBranches, writeProcess, writeBranches}
 use Rattle.notation.specs.declared.reading.Tally.{Tally}
 use Rattle.notation.specs.declared.reading.TermNode.{TermNode}
-use Rattle.reader.specs.Filling.{Area, FineType}
+use Rattle.typereader.specs.Filling.{Area, FineType}
 use Rattle.reader.specs.Processes.{FineProcess, FineBranches}
 use Rattle.tables.specs.Decode.{termAt, branchAt, argumentsAt, branchesBy, termBy, processOf, processIn, typeIn}
 use Rattle.tables.specs.Packing.{term-put, branch-put}

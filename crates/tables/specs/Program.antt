@@ -6,7 +6,8 @@ use Rattle.notation.specs.Token.{nameAt}
 use Rattle.notation.specs.Tree.{Name, Located, Ty, Proc, Entry, Declaration, declareType, declareProc, declareExec, plain}
 use Rattle.notation.specs.Reader.{nameIn}
 use Rattle.calculus.specs.Program.{Signature, Program, entries, addTo, programOf}
-use Rattle.tables.specs.Decode.{tallyIn, typeAt, ProcessEntry, processAt, execAt, typeIn, processIn, entriesIn, typeDeclaration, procDeclaration, execDeclaration, numbered, scriptIn}
+use Rattle.notation.specs.declared.reading.ProcessEntry.{ProcessEntry}
+use Rattle.tables.specs.Decode.{tallyIn, typeAt, processAt, execAt, typeIn, processIn, entriesIn, typeDeclaration, procDeclaration, execDeclaration, numbered, scriptIn}
 use Rattle.tables.specs.Scripts.{ownType, ownProc, ownExec, gather, sorted}
 
 unfoldable pub programIn : List ℕ → List ℕ → Program

@@ -17,7 +17,7 @@ use Rattle.notation.specs.declared.token.TermHead.{TermHead}
 use Rattle.notation.specs.declared.token.TermHead.the-variants.{Send, Recv, Fwd, Call, Cancel, Raise, Try, Spawn, Empty}
 use Rattle.notation.specs.declared.token.Payload.{Payload}
 use Rattle.notation.specs.declared.token.Payload.the-variants.{Unit as UnitPayload, Channel, Label, Other}
-use Rattle.reader.specs.Filling.{FineType}
+use Rattle.typereader.specs.Filling.{FineType}
 use Rattle.reader.specs.Processes.{FineProcess, FineBranches, SomeBranch}
 use Rattle.tables.specs.Decode.{readArguments, argumentsAt}
 use Rattle.tables.specs.Stands.{TypeFrom, ProcessFrom, BranchesFrom}

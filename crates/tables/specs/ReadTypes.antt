@@ -14,7 +14,7 @@ use Rattle.notation.specs.Types.{typeHead, isInfix, infixOf, rightBy, typeBy, r
 use Rattle.notation.specs.declared.reading.Cursor.{Cursor}
 use Rattle.notation.specs.declared.token.TypeHead.{TypeHead}
 use Rattle.notation.specs.declared.token.TypeHead.the-variants.{One, Name, Round, Plus, With, Other}
-use Rattle.reader.specs.Filling.{FineType, FineAlternatives, Some}
+use Rattle.typereader.specs.Filling.{FineType, FineAlternatives, Some}
 use Rattle.tables.specs.Stands.{TypeFrom, AlternativesFrom}
 use Rattle.tables.specs.Read.{cond-both, Reads, InText, reads-got, reads-refused, reads-take, reads-part, reads-lastly, reads-choose, reads-misfit, reads-weak, takes-any, takes-limited, takes-expect, takes-opening, takes-type}
 

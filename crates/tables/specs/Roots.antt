@@ -28,6 +28,16 @@ atKind Cases.none k = ⊥
 atKind (P or r) zero = P
 atKind (P or r) (suc k) = atKind r k
 
+-- to show something of every kind: show it where each case holds
+abbrev pub Handlers : Cases → (ℕ → Type 0) → Type 0
+Handlers Cases.none Q = Unit {0}
+Handlers (P or r) Q = (P → Q 0) × Handlers r (λ k. Q (suc k))
+
+pub each-kind : (cs : Cases) (Q : ℕ → Type 0) → Handlers cs Q → (k : ℕ) → atKind cs k → Q k
+each-kind Cases.none Q h k e = absurd e
+each-kind (P or r) Q (f, g) zero e = f e
+each-kind (P or r) Q (f, g) (suc k) e = each-kind r (λ j. Q (suc j)) g k e
+
 -- ── types
 -- a type stands at node i; n alternatives stand before the place e, with types at nodes below i
 pub record TypeIn (s w : List ℕ) (i : ℕ) : Type 0 where

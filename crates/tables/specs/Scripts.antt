@@ -10,8 +10,8 @@ use Rattle.notation.specs.Tree.{Located, Ty, Proc, Entry, Declaration, declareT
 use Rattle.notation.specs.Reader.{nameIn}
 use Rattle.notation.specs.Tables.{lasting, afterType, afterEntries, afterProcess, afterDeclaration, afterScript, writeScript, writeCounts, nothing, zeros, tablesOf}
 use Rattle.notation.specs.declared.reading.Tally.{Tally}
-use Rattle.reader.specs.Filling.{Area}
-use Rattle.tables.specs.Decode.{tallyIn, entryAt, typeAt, execAt, processAt, ProcessEntry, typeIn, processIn, entriesIn, typeDeclaration, procBy, procDeclaration, execDeclaration, numbered, scriptIn}
+use Rattle.typereader.specs.Filling.{Area}
+use Rattle.tables.specs.Decode.{tallyIn, entryAt, typeAt, execAt, processAt, typeIn, processIn, entriesIn, typeDeclaration, procBy, procDeclaration, execDeclaration, numbered, scriptIn}
 use Rattle.tables.specs.Growth.{Grown, grown-counts}
 use Rattle.tables.specs.Stands.{EntriesAt, DeclarationAt, ScriptAt, EntriesFrom, DeclarationFrom, ScriptFrom}
 use Rattle.tables.specs.Types.{type-read}

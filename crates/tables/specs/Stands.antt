@@ -6,10 +6,10 @@ use lib.ListN.{length}
 use Rattle.notation.specs.Tree.{Located, Ty, unit, named, tensor, par, lolli, plus, with, Alternatives, alternative, Proc, empty, sendUnit, sendChannel, sendLabel, cancel, spawn, recvUnit, recvChannel, recvLabel, fwd, call, raise, try, Branches, branch, Entry, Declaration, declareType, declareProc, declareExec}
 use Rattle.notation.specs.Reader.{nameIn, labelIn}
 use Rattle.notation.specs.Limits.{textLimit, processTermLimit}
-use Rattle.notation.specs.Tables.{typeNode, termNode, emptyPointer, afterDeclaration}
+use Rattle.notation.specs.Tables.{typeNode, termNode, emptyPointer, afterDeclaration, processEntry}
 use Rattle.notation.specs.declared.reading.Tally.{Tally}
 use Rattle.tables.specs.Names.{CallAt}
-use Rattle.tables.specs.Decode.{nodeAt, alternativeAt, termAt, branchAt, entryAt, typeAt, execAt, processEntry, processAt, argumentsAt}
+use Rattle.tables.specs.Decode.{nodeAt, alternativeAt, termAt, branchAt, entryAt, typeAt, execAt, processAt, argumentsAt}
 
 abbrev pub count : Alternatives Located → ℕ
 count Alternatives.none = 0

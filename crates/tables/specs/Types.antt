@@ -11,7 +11,7 @@ use Rattle.notation.specs.Reader.{nameIn, labelIn}
 use Rattle.notation.specs.Tables.{typeNode, putNode, putInfix, putChoice, putAlternative, moreNodes, moreAlternatives, afterType, afterAlternatives, writeType, writeAlternatives}
 use Rattle.notation.specs.declared.reading.Tally.{Tally}
 use Rattle.notation.specs.declared.reading.TypeNode.{TypeNode}
-use Rattle.reader.specs.Filling.{Area, FineType, FineAlternatives}
+use Rattle.typereader.specs.Filling.{Area, FineType, FineAlternatives}
 use Rattle.tables.specs.Decode.{nodeAt, alternativeAt, alternativesBy, typeBy, typeOf, typeIn}
 use Rattle.tables.specs.Packing.{node-put, alternative-put}
 use Rattle.tables.specs.Growth.{Upto, Grown, grown-then, grown-lasting, grown-node, grown-alternative, node-kept, alternative-kept}

@@ -12,12 +12,13 @@ use Rattle.notation.specs.Limits.{scratchWords}
 use Rattle.notation.specs.Tree.{Located, Entry, Declaration, declareType, declareProc, declareExec}
 use Rattle.notation.specs.Reader.{got, nameIn}
 use Rattle.notation.specs.Scripts.{readText}
-use Rattle.notation.specs.Tables.{lasting, afterDeclaration, afterScript, writeScript, writeCounts, nothing, zeros, tablesOf, tables}
+use Rattle.notation.specs.Tables.{lasting, afterDeclaration, afterScript, writeScript, nothing, zeros, tablesOf, tables, processEntry}
 use Rattle.notation.specs.declared.reading.Cursor.{Cursor}
 use Rattle.notation.specs.declared.reading.Tally.{Tally}
-use Rattle.reader.specs.Filling.{Area}
-use Rattle.tables.specs.Decode.{tallyIn, entryAt, typeAt, processAt, ProcessEntry, processEntry, entriesIn, typeIn, scriptIn}
-use Rattle.tables.specs.Growth.{grown-then, grown-lasting, grown-counts}
+use Rattle.notation.specs.declared.reading.ProcessEntry.{ProcessEntry}
+use Rattle.typereader.specs.Filling.{Area}
+use Rattle.tables.specs.Decode.{tallyIn, entryAt, typeAt, processAt, entriesIn, typeIn, scriptIn}
+use Rattle.tables.specs.Growth.{Grown, grown-then, grown-lasting, grown-counts}
 use Rattle.tables.specs.Stands.{EntriesAt, DeclarationAt, ScriptAt, EntriesFrom, DeclarationFrom, ScriptFrom}
 use Rattle.tables.specs.Declarations.{FineScript, script-grown, script-kept, script-written}
 use Rattle.tables.specs.Scripts.{sorted, grows-by, counted, script-decoded}
@@ -107,33 +108,50 @@ pub record Tables (s w : List ℕ) : Type 0 where
   pub types : (i : ℕ) → i < tallyIn w .types → TypeIn s w (typeAt w i .1)
   pub processes : (i : ℕ) → i < tallyIn w .processes → SignatureIn s w (processAt w i)
 
+pub wide : Area zeros
+wide = omega (arith, length-replicate {A = ℕ} scratchWords 0)
+
+-- the counts are written last, over the words of a script
+module _ (ds : List Declaration) where
+  filled : Area (writeScript ds nothing zeros)
+  filled = omega (arith, wide, script-grown ds nothing zeros .long)
+
+  pub tables-counted : tallyIn (tablesOf ds) ≡ lasting 0 (afterScript ds nothing)
+  unfolding tablesOf
+  tables-counted = counted (afterScript ds nothing) (writeScript ds nothing zeros) filled
+
+  pub tables-grown : Grown (afterScript ds nothing) (tallyIn (tablesOf ds)) (writeScript ds nothing zeros) (tablesOf ds)
+  unfolding tablesOf
+  tables-grown =
+      let k = afterScript ds nothing in
+      let w = writeScript ds nothing zeros in
+      subst (λ (l : Tally). Grown k l w (tablesOf ds)) (sym tables-counted) (grown-then (grown-counts k w) (grown-lasting 0 k (tablesOf ds)))
+
 -- the tables of a script that was read are such
 pub tables-in : (ds : List Declaration) (s : List ℕ) → ScriptFrom s ds → FineScript ds → Within (afterScript ds nothing) → Tables s (tablesOf ds)
-unfolding tablesOf
 tables-in ds s t f h =
-    let k = afterScript ds nothing in
-    let w = writeScript ds nothing zeros in
-    let v = writeCounts k w in
-    let area : Area zeros = omega (arith, length-replicate {A = ℕ} scratchWords 0) in
-    let wide : Area w = omega (arith, script-grown ds nothing zeros .long) in
-    let c : tallyIn v ≡ lasting 0 k = counted k w wide in
-    let e : ScriptAt v (tallyIn v) nothing ds =
-    subst (λ (l : Tally). ScriptAt v l nothing ds) (sym c)
-    (script-kept (grown-then (grown-counts k w) (grown-lasting 0 k v)) h ds nothing (script-written ds nothing zeros f area h)) in
+    let v = tablesOf ds in
+    let c = tables-counted ds in
+    let g = tables-grown ds in
+    let within : Within (tallyIn v) = subst Within (sym c) h in
+    let e : ScriptAt v (tallyIn v) nothing ds = script-kept g within ds nothing (script-written ds nothing zeros f wide h) in
     record {
-      area = omega (arith, wide, grown-counts k w .long);
-      within = subst Within (sym c) h;
+      area = omega (arith, filled ds, g .long);
+      within = within;
       types = λ i l. each-type s v ds nothing t e i (omega arith) (subst (λ (m : Tally). i < m .types) c l);
       processes = λ i l. each-process s v ds nothing t e i (omega arith) (subst (λ (m : Tally). i < m .processes) c l);
     }
 
--- whatever text is read: its tables give back its script, where they have room for it, as a text that `read` did not refuse has (`Roomy`)
+-- what is known of the script that was read
+pub text-known : (s : List ℕ) (ds : List Declaration) (d : Cursor) → readText s ≡ got ds d → ReadScript s ds
+text-known s ds d e = let r : Reads (ReadScript s) (got ds d) = subst (Reads (ReadScript s)) e (text-read-from s) in r .holds
+
+-- whatever text is read: its tables give back its script, where they have room for it, as a text that `read` did not refuse has (`FitsTables`)
 pub text-decoded : (s : List ℕ) (ds : List Declaration) (d : Cursor) → readText s ≡ got ds d → Within (afterScript ds nothing)
     → (scriptIn s (tables s) ≡ sorted ds) × Tables s (tables s)
 unfolding tables
 text-decoded s ds d e h =
-    let r : Reads (ReadScript s) (got ds d) = subst (Reads (ReadScript s)) e (text-read-from s) in
-    let (t, f) = r .holds in
+    let (t, f) = text-known s ds d e in
     rw e (script-decoded ds s t f h, tables-in ds s t f h)
 
 -- what `read` left of a text that it did not refuse

@@ -4,19 +4,21 @@ use notation::reading::TypeNode;
 ghost use mathlib.Core.Path.{_≡_};
 ghost use Prim.Native.Nat.{ℕ, _+_, _-_, _<_, _≤_};
 ghost use lib.ListN.{length, getD};
-ghost use Rattle.reader.specs.Filling.{Area};
+ghost use Rattle.typereader.specs.Filling.{Area};
 ghost use Rattle.tables.specs.Access.{Holds, NodeOf, TermOf, AlternativeOf, BranchOf, EntryOf, TypeOf, SignatureOf, ExecOf};
 ghost use Rattle.tables.specs.Decode.{tallyIn, pairOf};
 
 fn word(scratch: &[u32], i: usize) -> usize
     requires { ⌜ i < length (now scratch) ⌝ }
     ensures { λ r. ⌜ r ≡ getD (now (scratch .entry)) i 0 ⌝ }
+    ensures { λ r. ⌜ r < 4294967296 ⌝ }
 {
     wide(scratch[i])
 }
 
 fn wide(x: u32) -> usize
     ensures { λ r. ⌜ r ≡ x ⌝ }
+    ensures { λ r. ⌜ r < 4294967296 ⌝ }
 {
     x as usize
 }

@@ -1,11 +1,11 @@
 use Rattle.reader.proofs.NamePaths.{end-no, end-at}
-use Rattle.reader.proofs.Taking.{width-pos}
+use Rattle.typereader.proofs.Taking.{width-pos}
 use borrow.Author.Needs.{needs}
 use Rattle.reader.proofs.processes.list_end.Statement.{statement}
 use Rattle.reader.proofs.processes.list_end.Tie as tie
 use Rattle.reader.proofs.processes.list_end.Reads as reads
 use Rattle.reader.proofs.processes.list_end.Lts as lts
-use Rattle.reader.proofs.steps.expect.Reads as expect-reads
+use Rattle.typereader.proofs.steps.expect.Reads as expect-reads
 
 -- src/processes.rt:226:9
 expect-requires : tie.Need-expect-requires

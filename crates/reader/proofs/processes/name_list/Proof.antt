@@ -1,12 +1,12 @@
 use Rattle.reader.proofs.NamePaths.{list-no, list-names-no, list-got}
-use Rattle.reader.proofs.Taking.{width-pos}
+use Rattle.typereader.proofs.Taking.{width-pos}
 use borrow.Author.Needs.{needs}
 use Rattle.reader.proofs.processes.name_list.Statement.{statement}
 use Rattle.reader.proofs.processes.name_list.Tie as tie
 use Rattle.reader.proofs.processes.name_list.Reads as reads
 use Rattle.reader.proofs.processes.name_list.Lts as lts
 use Rattle.reader.proofs.processes.names_or_none.Reads as names-or-none-reads
-use Rattle.reader.proofs.steps.opening.Reads as opening-reads
+use Rattle.typereader.proofs.steps.opening.Reads as opening-reads
 
 -- src/processes.rt:250:9
 opening-requires : tie.Need-opening-requires

@@ -8,7 +8,7 @@ use Rattle.reader.proofs.processes.names_or_none.Reads as reads
 use Rattle.reader.proofs.processes.names_or_none.Lts as lts
 use Rattle.reader.proofs.processes.list_end.Reads as list-end-reads
 use Rattle.reader.proofs.processes.read_names.Reads as read-names-reads
-use Rattle.reader.proofs.steps.kind_at.Reads as kind-at-reads
+use Rattle.typereader.proofs.steps.kind_at.Reads as kind-at-reads
 
 -- src/processes.rt:239:8
 kind-at-requires : tie.Need-kind-at-requires

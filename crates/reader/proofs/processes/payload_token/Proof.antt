@@ -1,14 +1,14 @@
 use native.Mathlib.Omega.{arith}
 use Rattle.reader.specs.Processes.{payloadTaken}
-use Rattle.reader.proofs.Taking.{narrower, refused-step}
+use Rattle.typereader.proofs.Taking.{narrower, refused-step}
 use borrow.Author.Needs.{needs}
 use Rattle.reader.proofs.processes.payload_token.Statement.{statement}
 use Rattle.reader.proofs.processes.payload_token.Tie as tie
 use Rattle.reader.proofs.processes.payload_token.Reads as reads
 use Rattle.reader.proofs.processes.payload_token.Lts as lts
-use Rattle.reader.proofs.processes.misfit_token.Reads as misfit-token-reads
+use Rattle.typereader.proofs.steps.misfit_token.Reads as misfit-token-reads
 use Rattle.reader.proofs.processes.unit_mark.Reads as unit-mark-reads
-use Rattle.reader.proofs.steps.expect.Reads as expect-reads
+use Rattle.typereader.proofs.steps.expect.Reads as expect-reads
 
 -- src/processes.rt:59:26
 enum-told : tie.Need-enum-told

@@ -6,10 +6,10 @@ use Rattle.reader.proofs.processes.read_call.Tie as tie
 use Rattle.reader.proofs.processes.read_call.Reads as reads
 use Rattle.reader.proofs.processes.read_call.Lts as lts
 use Rattle.reader.proofs.processes.name_list.Reads as name-list-reads
-use Rattle.reader.proofs.steps.expect.Reads as expect-reads
-use Rattle.reader.proofs.steps.process_term.Reads as process-term-reads
-use Rattle.reader.proofs.steps.refusal.Reads as refusal-reads
-use Rattle.reader.proofs.store.put_term.Reads as put-term-reads
+use Rattle.typereader.proofs.steps.expect.Reads as expect-reads
+use Rattle.typereader.proofs.steps.process_term.Reads as process-term-reads
+use Rattle.typereader.proofs.steps.refusal.Reads as refusal-reads
+use Rattle.typereader.proofs.store.put_term.Reads as put-term-reads
 
 -- src/processes.rt:274:9
 process-term-requires : tie.Need-process-term-requires

@@ -1,70 +1,41 @@
 use native.Mathlib.Omega.{arith}
-use Rattle.notation.specs.Token.{kRoundClose}
-use Rattle.notation.specs.Reader.{expect}
 use Rattle.notation.specs.Processes.{unitTaken}
-use Rattle.reader.proofs.Taking.{first-no, second-no, both-at}
-use Rattle.reader.proofs.Taking.{closing-no, closing-at}
-use mathlib.Core.Path.{refl}
+use Rattle.typereader.proofs.Taking.{followed, closing-no, closing-at}
 use borrow.Author.Needs.{needs}
 use Rattle.reader.proofs.processes.unit_mark.Statement.{statement}
 use Rattle.reader.proofs.processes.unit_mark.Tie as tie
 use Rattle.reader.proofs.processes.unit_mark.Reads as reads
 use Rattle.reader.proofs.processes.unit_mark.Lts as lts
-use Rattle.reader.proofs.steps.expect.Reads as expect-reads
-use Rattle.reader.proofs.steps.opening.Reads as opening-reads
+use Rattle.typereader.proofs.steps.opening.Reads as opening-reads
+use Rattle.typereader.proofs.steps.then_expect.Reads as then-expect-reads
 
--- src/processes.rt:35:9
+-- src/processes.rt:38:34
 opening-requires : tie.Need-opening-requires
 opening-requires c κs = search needs
 
--- src/processes.rt:36:19
-enum-known-opened : tie.Need-enum-known-opened
-enum-known-opened c = search needs
+-- src/processes.rt:38:9
+then-expect-requires : tie.Need-then-expect-requires
+then-expect-requires c κs = search needs
 
--- src/processes.rt:37:9
+-- src/processes.rt:39:19
+enum-known-mark : tie.Need-enum-known-mark
+enum-known-mark c = search needs
+
+-- src/processes.rt:40:9
 enum-told : tie.Need-enum-told
 enum-told c = search needs
 
--- src/processes.rt:37:9
+-- src/processes.rt:40:9
 returns : tie.Need-returns
 unfolding unitTaken
-returns c = closing-no (first-no (c .before .before .opening .ensures) 2 0 (expect _ kRoundClose) (c .enum-told .given .1)) (c .enum-told .given .1)
+returns c = closing-no (followed (c .before .before .before .opening .ensures) (c .before .before .then-expect .ensures) 2 (omega arith)) (c .enum-told .given .1)
 
--- src/processes.rt:39:9
-expect-requires : tie.Need-expect-requires
-expect-requires c κs = search needs
-
--- src/processes.rt:40:22
-enum-known-closed : tie.Need-enum-known-closed
-enum-known-closed c = search needs
-
--- src/processes.rt:41:9
-enum-told-2 : tie.Need-enum-told-2
-enum-told-2 c = search needs
-
--- src/processes.rt:41:9
+-- src/processes.rt:35:1
 returns-2 : tie.Need-returns-2
 unfolding unitTaken
-returns-2 c = closing-no (second-no (c .before .before .before .before .before .before .opening .ensures) 2 0 (expect _ kRoundClose) (c .before .before .before .before .opened .given .1) (c .before .before .expect .ensures) (c .enum-told2 .given .1)) (c .enum-told2 .given .1)
-
--- src/processes.rt:32:1
-returns-3 : tie.Need-returns-3
-unfolding unitTaken
-returns-3 c =
-    let o = c .before .before .before .before .before .before .before .opening .ensures .on _ _ (c .before .before .before .before .before .opened .given .1) in
-    let p = c .before .before .before .expect .ensures .on _ _ (c .before .closed .given .1) in
-    closing-at (both-at (c .before .before .before .before .before .before .before .opening .ensures) 2 0 (expect _ kRoundClose) (c .before .before .before .before .before .opened .given .1) (c .before .before .before .expect .ensures) (c .before .closed .given .1) (omega arith)) refl
+returns-2 c = closing-at (followed (c .before .before .before .before .opening .ensures) (c .before .before .before .then-expect .ensures) 2 (omega arith)) (c .before .mark .given .1)
 
 pub unit-mark-spec : {M : Type 1} → statement M
 unit-mark-spec =
     tie.close
-    (tie.spec
-    opening-requires
-    enum-known-opened
-    enum-told
-    returns
-    expect-requires
-    enum-known-closed
-    enum-told-2
-    returns-2
-    returns-3)
+    (tie.spec opening-requires then-expect-requires enum-known-mark enum-told returns returns-2)

@@ -1,4 +1,3 @@
-use native.Mathlib.Omega.{arith}
 use Rattle.reader.proofs.Whole.{text-short, text-full}
 use borrow.Author.Needs.{needs}
 use Rattle.reader.proofs.reading.read.Statement.{statement}

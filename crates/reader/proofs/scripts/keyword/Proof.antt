@@ -1,12 +1,12 @@
 use lib.Dec.{ltb}
-use Rattle.reader.proofs.Taking.{limit-no, limit-passed, limit-kept}
+use Rattle.typereader.proofs.Taking.{limit-no, limit-passed, limit-kept}
 use borrow.Author.Tests.{lt-ltb, le-ltb}
 use borrow.Author.Needs.{needs}
 use Rattle.reader.proofs.scripts.keyword.Statement.{statement}
 use Rattle.reader.proofs.scripts.keyword.Tie as tie
 use Rattle.reader.proofs.scripts.keyword.Reads as reads
 use Rattle.reader.proofs.scripts.keyword.Lts as lts
-use Rattle.reader.proofs.steps.expect.Reads as expect-reads
+use Rattle.typereader.proofs.steps.expect.Reads as expect-reads
 
 -- src/scripts.rt:32:9
 expect-requires : tie.Need-expect-requires

@@ -1,12 +1,11 @@
-use native.Mathlib.Omega.{arith}
 use Rattle.reader.proofs.SignaturePaths.{close-no, close-got}
 use borrow.Author.Needs.{needs}
 use Rattle.reader.proofs.signatures.close_list.Statement.{statement}
 use Rattle.reader.proofs.signatures.close_list.Tie as tie
 use Rattle.reader.proofs.signatures.close_list.Reads as reads
 use Rattle.reader.proofs.signatures.close_list.Lts as lts
-use Rattle.reader.proofs.steps.expect.Reads as expect-reads
-use Rattle.reader.proofs.steps.refusal.Reads as refusal-reads
+use Rattle.typereader.proofs.steps.expect.Reads as expect-reads
+use Rattle.typereader.proofs.steps.refusal.Reads as refusal-reads
 
 -- src/signatures.rt:39:9
 expect-requires : tie.Need-expect-requires

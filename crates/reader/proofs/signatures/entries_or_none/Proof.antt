@@ -8,7 +8,7 @@ use Rattle.reader.proofs.signatures.entries_or_none.Reads as reads
 use Rattle.reader.proofs.signatures.entries_or_none.Lts as lts
 use Rattle.reader.proofs.signatures.close_list.Reads as close-list-reads
 use Rattle.reader.proofs.signatures.read_entries.Reads as read-entries-reads
-use Rattle.reader.proofs.steps.kind_at.Reads as kind-at-reads
+use Rattle.typereader.proofs.steps.kind_at.Reads as kind-at-reads
 
 -- src/signatures.rt:85:8
 kind-at-requires : tie.Need-kind-at-requires

@@ -1,14 +1,14 @@
 use native.Mathlib.Omega.{arith}
 use Rattle.reader.proofs.SignaturePaths.{list-no, list-inner-no, list-got}
-use Rattle.reader.proofs.Taking.{width-pos}
+use Rattle.typereader.proofs.Taking.{width-pos}
 use borrow.Author.Needs.{needs}
 use Rattle.reader.proofs.signatures.entry_list.Statement.{statement}
 use Rattle.reader.proofs.signatures.entry_list.Tie as tie
 use Rattle.reader.proofs.signatures.entry_list.Reads as reads
 use Rattle.reader.proofs.signatures.entry_list.Lts as lts
 use Rattle.reader.proofs.signatures.entries_or_none.Reads as entries-or-none-reads
-use Rattle.reader.proofs.steps.opening.Reads as opening-reads
-use Rattle.reader.proofs.steps.refusal.Reads as refusal-reads
+use Rattle.typereader.proofs.steps.opening.Reads as opening-reads
+use Rattle.typereader.proofs.steps.refusal.Reads as refusal-reads
 
 -- src/signatures.rt:96:9
 opening-requires : tie.Need-opening-requires

@@ -1,3 +1,4 @@
+use native.Mathlib.Omega.{arith}
 use Rattle.tables.specs.Access.{signature-of}
 use Rattle.tables.specs.Decode.{processAt, processEntryOf}
 use borrow.Author.Needs.{needs}
@@ -70,7 +71,7 @@ word-requires-4 c κs = search needs
 -- src/access.rt:150:1
 returns : tie.Need-returns
 unfolding processAt processEntryOf
-returns c = signature-of _ _ _ λ j. processEntryOf (c .before .before .before .word .ensures j) (c .before .before .word2 .ensures j) (c .before .word3 .ensures j) (c .word4 .ensures j)
+returns c = signature-of _ _ _ (λ j. processEntryOf (c .before .before .before .word .ensures .0 j) (c .before .before .word2 .ensures .0 j) (c .before .word3 .ensures .0 j) (c .word4 .ensures .0 j)) (omega (arith, c .before .before .word2 .ensures .1))
 
 pub declared-process-spec : {M : Type 1} → statement M
 declared-process-spec =

@@ -38,7 +38,7 @@ word-requires-2 c κs = search needs
 -- src/access.rt:131:1
 returns : tie.Need-returns
 unfolding typeAt
-returns c = type-of _ _ _ (record { at = c .before .word .ensures; number = c .word2 .ensures })
+returns c = type-of _ _ _ (record { at = c .before .word .ensures .0; number = c .word2 .ensures .0 })
 
 pub declared-type-spec : {M : Type 1} → statement M
 declared-type-spec =

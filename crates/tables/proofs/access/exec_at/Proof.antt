@@ -18,7 +18,7 @@ word-requires c κs = search needs
 -- src/access.rt:168:1
 returns : tie.Need-returns
 unfolding execAt
-returns c = exec-of _ _ _ (c .word .ensures)
+returns c = exec-of _ _ _ (c .word .ensures .0)
 
 pub exec-at-spec : {M : Type 1} → statement M
 exec-at-spec = tie.close (tie.spec add-word word-requires returns)

@@ -15,7 +15,7 @@ word-requires c κs = search needs
 -- src/access.rt:59:1
 returns : tie.Need-returns
 unfolding pairOf
-returns c = record { at = ap (λ (x : ℕ). x % 8192) (c .word .ensures); number = ap (λ (x : ℕ). x / 8192) (c .word .ensures) }
+returns c = record { at = ap (λ (x : ℕ). x % 8192) (c .word .ensures .0); number = ap (λ (x : ℕ). x / 8192) (c .word .ensures .0) }
 
 pub pair-spec : {M : Type 1} → statement M
 pair-spec = tie.close (tie.spec word-requires returns)

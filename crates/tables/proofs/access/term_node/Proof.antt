@@ -39,7 +39,7 @@ word-requires-2 c κs = search needs
 -- src/access.rt:38:1
 returns : tie.Need-returns
 unfolding termAt termNodeOf
-returns c = term-of _ _ _ (λ j. termNodeOf (c .before .word .ensures j) (c .word2 .ensures j)) (omega arith)
+returns c = term-of _ _ _ (λ j. termNodeOf (c .before .word .ensures .0 j) (c .word2 .ensures .0 j)) (omega arith)
 
 pub term-node-spec : {M : Type 1} → statement M
 term-node-spec =

@@ -19,7 +19,7 @@ word-requires c κs = search needs
 -- src/access.rt:25:1
 returns : tie.Need-returns
 unfolding nodeAt typeNodeOf
-returns c = node-of _ _ _ (ap typeNodeOf (c .word .ensures))
+returns c = node-of _ _ _ (ap typeNodeOf (c .word .ensures .0))
 
 pub type-node-spec : {M : Type 1} → statement M
 type-node-spec = tie.close (tie.spec add-word word-requires returns)

@@ -2,7 +2,7 @@
 use Prim.Native.Nat.{ℕ, _+_, _*_, _<_}
 use borrow.Fn.Kinds.{In}
 use borrow.Fn.PlainCycle.{Measures, is, falls, and}
-use Rattle.reader.specs.Filling.{unread}
+use Rattle.typereader.specs.Filling.{unread}
 use Rattle.reader.proofs.processes.more_branches.Reads as more-branches
 use Rattle.reader.proofs.processes.more_branches.Kinds as more-branches-kinds
 use Rattle.reader.proofs.processes.read_bracketed.Reads as read-bracketed

@@ -5,13 +5,13 @@ use native.Mathlib.Omega.{arith}
 use mathlib.Core.Path.{sym, _∙_}
 use borrow.Author.Tests.{eq-eqb, ne-eqb}
 use Rattle.reader.proofs.ProcessPaths.{more-branches-none, more-branches-no, more-branches-list}
-use Rattle.reader.proofs.steps.expect.Reads as expect-reads
-use Rattle.reader.proofs.steps.kind_at.Reads as kind-at-reads
-use Rattle.reader.proofs.store.lasting.Reads as lasting-reads
+use Rattle.typereader.proofs.steps.expect.Reads as expect-reads
+use Rattle.typereader.proofs.steps.kind_at.Reads as kind-at-reads
+use Rattle.typereader.proofs.store.lasting.Reads as lasting-reads
 use Rattle.reader.proofs.processes.more_branches.Reads as more-branches
 use Rattle.reader.proofs.processes.+more_branches+read_bracketed+read_branches+read_cancel+read_handler+read_parts+read_process+read_raise+read_recv+read_rest+read_send+read_sent+read_spawn+read_try+receive_label+receive_one.Lts-more_branches as more-branches-lts
 use Rattle.reader.proofs.processes.read_branches.Reads as read-branches
-use Rattle.reader.proofs.steps.refusal.Reads as refusal-reads
+use Rattle.typereader.proofs.steps.refusal.Reads as refusal-reads
 use Rattle.reader.proofs.processes.+more_branches+read_bracketed+read_branches+read_cancel+read_handler+read_parts+read_process+read_raise+read_recv+read_rest+read_send+read_sent+read_spawn+read_try+receive_label+receive_one.Proof.Measures.{more-branches-at, read-branches-below}
 
 pub more-branches-met : {M : Type 1} (t : ℕ) → more-branches-lts.Closed (kind-at-reads.Asked, kind-at-reads.Learnt, expect-reads.Asked, expect-reads.Learnt, refusal-reads.Asked, refusal-reads.Learnt, read-branches-below t, read-branches.Post, lasting-reads.Asked, lasting-reads.Learnt) (more-branches-at t) more-branches.Post M

@@ -3,12 +3,12 @@ use borrow.Author.Needs.{needs}
 use Prim.Native.Nat.{ℕ}
 use native.Mathlib.Omega.{arith}
 use Rattle.reader.proofs.ProcessPaths.{bracketed-no, bracketed-inner-no, bracketed-close-no, bracketed-got}
-use Rattle.reader.proofs.steps.expect.Reads as expect-reads
-use Rattle.reader.proofs.steps.opening.Reads as opening-reads
+use Rattle.typereader.proofs.steps.expect.Reads as expect-reads
+use Rattle.typereader.proofs.steps.opening.Reads as opening-reads
 use Rattle.reader.proofs.processes.read_bracketed.Reads as read-bracketed
 use Rattle.reader.proofs.processes.+more_branches+read_bracketed+read_branches+read_cancel+read_handler+read_parts+read_process+read_raise+read_recv+read_rest+read_send+read_sent+read_spawn+read_try+receive_label+receive_one.Lts-read_bracketed as read-bracketed-lts
 use Rattle.reader.proofs.processes.read_process.Reads as read-process
-use Rattle.reader.proofs.steps.refusal.Reads as refusal-reads
+use Rattle.typereader.proofs.steps.refusal.Reads as refusal-reads
 use Rattle.reader.proofs.processes.+more_branches+read_bracketed+read_branches+read_cancel+read_handler+read_parts+read_process+read_raise+read_recv+read_rest+read_send+read_sent+read_spawn+read_try+receive_label+receive_one.Proof.Measures.{read-bracketed-at, read-process-below}
 
 pub read-bracketed-met : {M : Type 1} (t : ℕ) → read-bracketed-lts.Closed (opening-reads.Asked, opening-reads.Learnt, refusal-reads.Asked, refusal-reads.Learnt, read-process-below t, read-process.Post, expect-reads.Asked, expect-reads.Learnt) (read-bracketed-at t) read-bracketed.Post M

@@ -6,11 +6,11 @@ use mathlib.Core.Path.{_∙_}
 use Rattle.reader.proofs.ProcessPaths.{branches-no, branches-inner-no, branches-more-no, branches-got, branch-few}
 use Rattle.reader.proofs.processes.label_then.Reads as label-then-reads
 use Rattle.reader.proofs.processes.more_branches.Reads as more-branches
-use Rattle.reader.proofs.store.put_branch.Reads as put-branch-reads
+use Rattle.typereader.proofs.store.put_branch.Reads as put-branch-reads
 use Rattle.reader.proofs.processes.read_branches.Reads as read-branches
 use Rattle.reader.proofs.processes.+more_branches+read_bracketed+read_branches+read_cancel+read_handler+read_parts+read_process+read_raise+read_recv+read_rest+read_send+read_sent+read_spawn+read_try+receive_label+receive_one.Lts-read_branches as read-branches-lts
 use Rattle.reader.proofs.processes.read_process.Reads as read-process
-use Rattle.reader.proofs.steps.refusal.Reads as refusal-reads
+use Rattle.typereader.proofs.steps.refusal.Reads as refusal-reads
 use Rattle.reader.proofs.processes.+more_branches+read_bracketed+read_branches+read_cancel+read_handler+read_parts+read_process+read_raise+read_recv+read_rest+read_send+read_sent+read_spawn+read_try+receive_label+receive_one.Proof.Measures.{more-branches-below, read-branches-at, read-process-below}
 
 pub read-branches-met : {M : Type 1} (t : ℕ) → read-branches-lts.Closed (label-then-reads.Asked, label-then-reads.Learnt, refusal-reads.Asked, refusal-reads.Learnt, read-process-below t, read-process.Post, more-branches-below t, more-branches.Post, put-branch-reads.Asked, put-branch-reads.Learnt) (read-branches-at t) read-branches.Post M

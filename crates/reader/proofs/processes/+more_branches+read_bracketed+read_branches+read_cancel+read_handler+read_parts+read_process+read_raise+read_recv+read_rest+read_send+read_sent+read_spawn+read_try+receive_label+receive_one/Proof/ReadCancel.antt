@@ -3,13 +3,13 @@ use borrow.Author.Needs.{needs}
 use Prim.Native.Nat.{ℕ}
 use native.Mathlib.Omega.{arith}
 use Rattle.reader.proofs.ProcessPaths.{cancel-no, cancel-name-no, cancel-rest-no, cancel-got}
-use Rattle.reader.proofs.steps.expect.Reads as expect-reads
-use Rattle.reader.proofs.steps.process_term.Reads as process-term-reads
-use Rattle.reader.proofs.store.put_term.Reads as put-term-reads
+use Rattle.typereader.proofs.steps.expect.Reads as expect-reads
+use Rattle.typereader.proofs.steps.process_term.Reads as process-term-reads
+use Rattle.typereader.proofs.store.put_term.Reads as put-term-reads
 use Rattle.reader.proofs.processes.read_cancel.Reads as read-cancel
 use Rattle.reader.proofs.processes.+more_branches+read_bracketed+read_branches+read_cancel+read_handler+read_parts+read_process+read_raise+read_recv+read_rest+read_send+read_sent+read_spawn+read_try+receive_label+receive_one.Lts-read_cancel as read-cancel-lts
 use Rattle.reader.proofs.processes.read_rest.Reads as read-rest
-use Rattle.reader.proofs.steps.refusal.Reads as refusal-reads
+use Rattle.typereader.proofs.steps.refusal.Reads as refusal-reads
 use Rattle.reader.proofs.processes.+more_branches+read_bracketed+read_branches+read_cancel+read_handler+read_parts+read_process+read_raise+read_recv+read_rest+read_send+read_sent+read_spawn+read_try+receive_label+receive_one.Proof.Measures.{read-cancel-at, read-rest-below}
 
 pub read-cancel-met : {M : Type 1} (t : ℕ) → read-cancel-lts.Closed (process-term-reads.Asked, process-term-reads.Learnt, refusal-reads.Asked, refusal-reads.Learnt, expect-reads.Asked, expect-reads.Learnt, read-rest-below t, read-rest.Post, put-term-reads.Asked, put-term-reads.Learnt) (read-cancel-at t) read-cancel.Post M

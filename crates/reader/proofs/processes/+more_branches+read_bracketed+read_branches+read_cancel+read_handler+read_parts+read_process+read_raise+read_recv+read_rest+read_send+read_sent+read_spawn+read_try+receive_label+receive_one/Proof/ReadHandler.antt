@@ -4,9 +4,9 @@ use Prim.Native.Nat.{ℕ}
 use native.Mathlib.Omega.{arith}
 use mathlib.Core.Path.{sym, _∙_}
 use Rattle.reader.proofs.ProcessPaths.{handler-unit, handler-channel, handler-label, handler-other}
-use Rattle.reader.proofs.steps.kind_at.Reads as kind-at-reads
-use Rattle.reader.proofs.steps.misfit.Reads as misfit-reads
-use Rattle.reader.proofs.steps.payload_head.Reads as payload-head-reads
+use Rattle.typereader.proofs.steps.kind_at.Reads as kind-at-reads
+use Rattle.typereader.proofs.steps.misfit.Reads as misfit-reads
+use Rattle.typereader.proofs.steps.payload_head.Reads as payload-head-reads
 use Rattle.reader.proofs.processes.read_handler.Reads as read-handler
 use Rattle.reader.proofs.processes.+more_branches+read_bracketed+read_branches+read_cancel+read_handler+read_parts+read_process+read_raise+read_recv+read_rest+read_send+read_sent+read_spawn+read_try+receive_label+receive_one.Lts-read_handler as read-handler-lts
 use Rattle.reader.proofs.processes.receive_label.Reads as receive-label

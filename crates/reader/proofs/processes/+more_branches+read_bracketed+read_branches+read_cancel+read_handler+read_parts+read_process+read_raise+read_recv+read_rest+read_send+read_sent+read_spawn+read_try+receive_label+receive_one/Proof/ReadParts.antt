@@ -4,7 +4,7 @@ use Prim.Native.Nat.{ℕ}
 use native.Mathlib.Omega.{arith}
 use mathlib.Core.Path.{_∙_}
 use Rattle.reader.proofs.ProcessPaths.{parts-no, parts-rest-no, parts-got}
-use Rattle.reader.proofs.store.put_term.Reads as put-term-reads
+use Rattle.typereader.proofs.store.put_term.Reads as put-term-reads
 use Rattle.reader.proofs.processes.read_bracketed.Reads as read-bracketed
 use Rattle.reader.proofs.processes.read_parts.Reads as read-parts
 use Rattle.reader.proofs.processes.+more_branches+read_bracketed+read_branches+read_cancel+read_handler+read_parts+read_process+read_raise+read_recv+read_rest+read_send+read_sent+read_spawn+read_try+receive_label+receive_one.Lts-read_parts as read-parts-lts

@@ -4,7 +4,7 @@ use Prim.Native.Nat.{ℕ}
 use native.Mathlib.Omega.{arith}
 use mathlib.Core.Path.{sym, _∙_}
 use Rattle.reader.proofs.ProcessPaths.{process-empty, process-as}
-use Rattle.reader.proofs.store.lasting.Reads as lasting-reads
+use Rattle.typereader.proofs.store.lasting.Reads as lasting-reads
 use Rattle.notation.proofs.token.next_token.Reads as next-token-reads
 use Rattle.reader.proofs.processes.read_call.Reads as read-call-reads
 use Rattle.reader.proofs.processes.read_cancel.Reads as read-cancel
@@ -16,7 +16,7 @@ use Rattle.reader.proofs.processes.read_recv.Reads as read-recv
 use Rattle.reader.proofs.processes.read_send.Reads as read-send
 use Rattle.reader.proofs.processes.read_spawn.Reads as read-spawn
 use Rattle.reader.proofs.processes.read_try.Reads as read-try
-use Rattle.reader.proofs.steps.term_head.Reads as term-head-reads
+use Rattle.typereader.proofs.steps.term_head.Reads as term-head-reads
 use Rattle.reader.proofs.processes.+more_branches+read_bracketed+read_branches+read_cancel+read_handler+read_parts+read_process+read_raise+read_recv+read_rest+read_send+read_sent+read_spawn+read_try+receive_label+receive_one.Proof.Measures.{read-cancel-below, read-process-at, read-raise-below, read-recv-below, read-send-below, read-spawn-below, read-try-below}
 
 pub read-process-met : {M : Type 1} (t : ℕ) → read-process-lts.Closed (next-token-reads.Asked, next-token-reads.Learnt, term-head-reads.Asked, term-head-reads.Learnt, read-send-below t, read-send.Post, read-recv-below t, read-recv.Post, read-fwd-reads.Asked, read-fwd-reads.Learnt, read-call-reads.Asked, read-call-reads.Learnt, read-cancel-below t, read-cancel.Post, read-raise-below t, read-raise.Post, read-try-below t, read-try.Post, read-spawn-below t, read-spawn.Post, lasting-reads.Asked, lasting-reads.Learnt) (read-process-at t) read-process.Post M

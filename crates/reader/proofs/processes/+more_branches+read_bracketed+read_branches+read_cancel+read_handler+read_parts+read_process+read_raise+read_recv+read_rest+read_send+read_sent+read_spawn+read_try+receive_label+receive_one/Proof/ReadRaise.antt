@@ -3,12 +3,12 @@ use borrow.Author.Needs.{needs}
 use Prim.Native.Nat.{ℕ}
 use native.Mathlib.Omega.{arith}
 use Rattle.reader.proofs.ProcessPaths.{raise-no, raise-inner-no, raise-got}
-use Rattle.reader.proofs.steps.process_term.Reads as process-term-reads
-use Rattle.reader.proofs.store.put_term.Reads as put-term-reads
+use Rattle.typereader.proofs.steps.process_term.Reads as process-term-reads
+use Rattle.typereader.proofs.store.put_term.Reads as put-term-reads
 use Rattle.reader.proofs.processes.read_process.Reads as read-process
 use Rattle.reader.proofs.processes.read_raise.Reads as read-raise
 use Rattle.reader.proofs.processes.+more_branches+read_bracketed+read_branches+read_cancel+read_handler+read_parts+read_process+read_raise+read_recv+read_rest+read_send+read_sent+read_spawn+read_try+receive_label+receive_one.Lts-read_raise as read-raise-lts
-use Rattle.reader.proofs.steps.refusal.Reads as refusal-reads
+use Rattle.typereader.proofs.steps.refusal.Reads as refusal-reads
 use Rattle.reader.proofs.processes.+more_branches+read_bracketed+read_branches+read_cancel+read_handler+read_parts+read_process+read_raise+read_recv+read_rest+read_send+read_sent+read_spawn+read_try+receive_label+receive_one.Proof.Measures.{read-process-below, read-raise-at}
 
 pub read-raise-met : {M : Type 1} (t : ℕ) → read-raise-lts.Closed (process-term-reads.Asked, process-term-reads.Learnt, refusal-reads.Asked, refusal-reads.Learnt, read-process-below t, read-process.Post, put-term-reads.Asked, put-term-reads.Learnt) (read-raise-at t) read-raise.Post M

@@ -3,13 +3,13 @@ use borrow.Author.Needs.{needs}
 use Prim.Native.Nat.{ℕ}
 use native.Mathlib.Omega.{arith}
 use Rattle.reader.proofs.ProcessPaths.{recv-no, recv-name-no, recv-open-no, recv-handler-no, recv-close-no, recv-got}
-use Rattle.reader.proofs.steps.expect.Reads as expect-reads
-use Rattle.reader.proofs.steps.opening.Reads as opening-reads
-use Rattle.reader.proofs.steps.process_term.Reads as process-term-reads
+use Rattle.typereader.proofs.steps.expect.Reads as expect-reads
+use Rattle.typereader.proofs.steps.opening.Reads as opening-reads
+use Rattle.typereader.proofs.steps.process_term.Reads as process-term-reads
 use Rattle.reader.proofs.processes.read_handler.Reads as read-handler
 use Rattle.reader.proofs.processes.read_recv.Reads as read-recv
 use Rattle.reader.proofs.processes.+more_branches+read_bracketed+read_branches+read_cancel+read_handler+read_parts+read_process+read_raise+read_recv+read_rest+read_send+read_sent+read_spawn+read_try+receive_label+receive_one.Lts-read_recv as read-recv-lts
-use Rattle.reader.proofs.steps.refusal.Reads as refusal-reads
+use Rattle.typereader.proofs.steps.refusal.Reads as refusal-reads
 use Rattle.reader.proofs.processes.+more_branches+read_bracketed+read_branches+read_cancel+read_handler+read_parts+read_process+read_raise+read_recv+read_rest+read_send+read_sent+read_spawn+read_try+receive_label+receive_one.Proof.Measures.{read-handler-below, read-recv-at}
 
 pub read-recv-met : {M : Type 1} (t : ℕ) → read-recv-lts.Closed (process-term-reads.Asked, process-term-reads.Learnt, refusal-reads.Asked, refusal-reads.Learnt, expect-reads.Asked, expect-reads.Learnt, opening-reads.Asked, opening-reads.Learnt, read-handler-below t, read-handler.Post) (read-recv-at t) read-recv.Post M

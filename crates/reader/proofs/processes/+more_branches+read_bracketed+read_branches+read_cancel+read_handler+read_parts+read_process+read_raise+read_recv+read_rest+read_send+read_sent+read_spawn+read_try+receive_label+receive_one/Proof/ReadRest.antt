@@ -2,15 +2,14 @@
 use borrow.Author.Needs.{needs}
 use Prim.Native.Nat.{ℕ}
 use native.Mathlib.Omega.{arith}
-use mathlib.Core.Path.{sym, _∙_}
 use Rattle.reader.proofs.ProcessPaths.{rest-none, rest-mark-no, rest-process}
-use Rattle.reader.proofs.steps.expect.Reads as expect-reads
-use Rattle.reader.proofs.store.lasting.Reads as lasting-reads
+use Rattle.typereader.proofs.steps.expect.Reads as expect-reads
+use Rattle.typereader.proofs.store.lasting.Reads as lasting-reads
 use Rattle.notation.proofs.token.next_token.Reads as next-token-reads
 use Rattle.reader.proofs.processes.read_process.Reads as read-process
 use Rattle.reader.proofs.processes.read_rest.Reads as read-rest
 use Rattle.reader.proofs.processes.+more_branches+read_bracketed+read_branches+read_cancel+read_handler+read_parts+read_process+read_raise+read_recv+read_rest+read_send+read_sent+read_spawn+read_try+receive_label+receive_one.Lts-read_rest as read-rest-lts
-use Rattle.reader.proofs.steps.refusal.Reads as refusal-reads
+use Rattle.typereader.proofs.steps.refusal.Reads as refusal-reads
 use Rattle.reader.proofs.processes.+more_branches+read_bracketed+read_branches+read_cancel+read_handler+read_parts+read_process+read_raise+read_recv+read_rest+read_send+read_sent+read_spawn+read_try+receive_label+receive_one.Proof.Measures.{read-process-below, read-rest-at}
 
 pub read-rest-met : {M : Type 1} (t : ℕ) → read-rest-lts.Closed (next-token-reads.Asked, next-token-reads.Learnt, expect-reads.Asked, expect-reads.Learnt, refusal-reads.Asked, refusal-reads.Learnt, read-process-below t, read-process.Post, lasting-reads.Asked, lasting-reads.Learnt) (read-rest-at t) read-rest.Post M

@@ -2,17 +2,15 @@
 use borrow.Author.Needs.{needs}
 use Prim.Native.Nat.{ℕ}
 use native.Mathlib.Omega.{arith}
-use mathlib.Core.Path.{sym, _∙_}
-use Rattle.reader.specs.Processes.{SentRead}
 use Rattle.reader.proofs.ProcessPaths.{send-no, send-name-no, send-got}
-use Rattle.reader.proofs.steps.expect.Reads as expect-reads
-use Rattle.reader.proofs.steps.kind_at.Reads as kind-at-reads
-use Rattle.reader.proofs.steps.payload_head.Reads as payload-head-reads
-use Rattle.reader.proofs.steps.process_term.Reads as process-term-reads
+use Rattle.typereader.proofs.steps.expect.Reads as expect-reads
+use Rattle.typereader.proofs.steps.kind_at.Reads as kind-at-reads
+use Rattle.typereader.proofs.steps.payload_head.Reads as payload-head-reads
+use Rattle.typereader.proofs.steps.process_term.Reads as process-term-reads
 use Rattle.reader.proofs.processes.read_send.Reads as read-send
 use Rattle.reader.proofs.processes.+more_branches+read_bracketed+read_branches+read_cancel+read_handler+read_parts+read_process+read_raise+read_recv+read_rest+read_send+read_sent+read_spawn+read_try+receive_label+receive_one.Lts-read_send as read-send-lts
 use Rattle.reader.proofs.processes.read_sent.Reads as read-sent
-use Rattle.reader.proofs.steps.refusal.Reads as refusal-reads
+use Rattle.typereader.proofs.steps.refusal.Reads as refusal-reads
 use Rattle.reader.proofs.processes.+more_branches+read_bracketed+read_branches+read_cancel+read_handler+read_parts+read_process+read_raise+read_recv+read_rest+read_send+read_sent+read_spawn+read_try+receive_label+receive_one.Proof.Measures.{read-send-at, read-sent-below}
 
 pub read-send-met : {M : Type 1} (t : ℕ) → read-send-lts.Closed (process-term-reads.Asked, process-term-reads.Learnt, refusal-reads.Asked, refusal-reads.Learnt, expect-reads.Asked, expect-reads.Learnt, kind-at-reads.Asked, kind-at-reads.Learnt, payload-head-reads.Asked, payload-head-reads.Learnt, read-sent-below t, read-sent.Post) (read-send-at t) read-send.Post M

@@ -3,13 +3,13 @@ use borrow.Author.Needs.{needs}
 use Prim.Native.Nat.{ℕ}
 use native.Mathlib.Omega.{arith}
 use Rattle.reader.proofs.ProcessPaths.{spawn-no, spawn-type-no, spawn-arrow-no, spawn-got}
-use Rattle.reader.proofs.steps.expect.Reads as expect-reads
+use Rattle.typereader.proofs.steps.expect.Reads as expect-reads
 use Rattle.reader.proofs.processes.name_colon.Reads as name-colon-reads
 use Rattle.reader.proofs.processes.read_parts.Reads as read-parts
 use Rattle.reader.proofs.processes.read_spawn.Reads as read-spawn
 use Rattle.reader.proofs.processes.+more_branches+read_bracketed+read_branches+read_cancel+read_handler+read_parts+read_process+read_raise+read_recv+read_rest+read_send+read_sent+read_spawn+read_try+receive_label+receive_one.Lts-read_spawn as read-spawn-lts
-use Rattle.reader.proofs.types.read_type.Reads as read-type-reads
-use Rattle.reader.proofs.steps.refusal.Reads as refusal-reads
+use Rattle.typereader.proofs.types.read_type.Reads as read-type-reads
+use Rattle.typereader.proofs.steps.refusal.Reads as refusal-reads
 use Rattle.reader.proofs.processes.+more_branches+read_bracketed+read_branches+read_cancel+read_handler+read_parts+read_process+read_raise+read_recv+read_rest+read_send+read_sent+read_spawn+read_try+receive_label+receive_one.Proof.Measures.{read-parts-below, read-spawn-at}
 
 pub read-spawn-met : {M : Type 1} (t : ℕ) → read-spawn-lts.Closed (name-colon-reads.Asked, name-colon-reads.Learnt, refusal-reads.Asked, refusal-reads.Learnt, read-type-reads.Asked, read-type-reads.Learnt, expect-reads.Asked, expect-reads.Learnt, read-parts-below t, read-parts.Post) (read-spawn-at t) read-spawn.Post M

@@ -4,13 +4,13 @@ use Prim.Native.Nat.{ℕ}
 use native.Mathlib.Omega.{arith}
 use mathlib.Core.Path.{_∙_}
 use Rattle.reader.proofs.ProcessPaths.{try-no, try-main-no, try-catch-no, try-handler-no, try-got}
-use Rattle.reader.proofs.steps.expect.Reads as expect-reads
-use Rattle.reader.proofs.steps.process_term.Reads as process-term-reads
-use Rattle.reader.proofs.store.put_term.Reads as put-term-reads
+use Rattle.typereader.proofs.steps.expect.Reads as expect-reads
+use Rattle.typereader.proofs.steps.process_term.Reads as process-term-reads
+use Rattle.typereader.proofs.store.put_term.Reads as put-term-reads
 use Rattle.reader.proofs.processes.read_bracketed.Reads as read-bracketed
 use Rattle.reader.proofs.processes.read_try.Reads as read-try
 use Rattle.reader.proofs.processes.+more_branches+read_bracketed+read_branches+read_cancel+read_handler+read_parts+read_process+read_raise+read_recv+read_rest+read_send+read_sent+read_spawn+read_try+receive_label+receive_one.Lts-read_try as read-try-lts
-use Rattle.reader.proofs.steps.refusal.Reads as refusal-reads
+use Rattle.typereader.proofs.steps.refusal.Reads as refusal-reads
 use Rattle.reader.proofs.processes.+more_branches+read_bracketed+read_branches+read_cancel+read_handler+read_parts+read_process+read_raise+read_recv+read_rest+read_send+read_sent+read_spawn+read_try+receive_label+receive_one.Proof.Measures.{read-bracketed-below, read-try-at}
 
 pub read-try-met : {M : Type 1} (t : ℕ) → read-try-lts.Closed (process-term-reads.Asked, process-term-reads.Learnt, refusal-reads.Asked, refusal-reads.Learnt, read-bracketed-below t, read-bracketed.Post, expect-reads.Asked, expect-reads.Learnt, put-term-reads.Asked, put-term-reads.Learnt) (read-try-at t) read-try.Post M

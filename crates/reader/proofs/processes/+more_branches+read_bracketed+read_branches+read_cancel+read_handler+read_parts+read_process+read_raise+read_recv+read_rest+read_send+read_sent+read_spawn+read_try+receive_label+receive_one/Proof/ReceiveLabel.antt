@@ -3,7 +3,7 @@ use borrow.Author.Needs.{needs}
 use Prim.Native.Nat.{ℕ}
 use native.Mathlib.Omega.{arith}
 use Rattle.reader.proofs.ProcessPaths.{labels-no, labels-got}
-use Rattle.reader.proofs.store.put_term.Reads as put-term-reads
+use Rattle.typereader.proofs.store.put_term.Reads as put-term-reads
 use Rattle.reader.proofs.processes.read_branches.Reads as read-branches
 use Rattle.reader.proofs.processes.receive_label.Reads as receive-label
 use Rattle.reader.proofs.processes.+more_branches+read_bracketed+read_branches+read_cancel+read_handler+read_parts+read_process+read_raise+read_recv+read_rest+read_send+read_sent+read_spawn+read_try+receive_label+receive_one.Lts-receive_label as receive-label-lts

@@ -4,12 +4,12 @@ use Prim.Native.Nat.{ℕ}
 use native.Mathlib.Omega.{arith}
 use Rattle.reader.proofs.ProcessPaths.{one-no, one-inner-no, one-got}
 use Rattle.reader.proofs.processes.payload_then.Reads as payload-then-reads
-use Rattle.reader.proofs.store.put_term.Reads as put-term-reads
+use Rattle.typereader.proofs.store.put_term.Reads as put-term-reads
 use Rattle.reader.proofs.processes.read_process.Reads as read-process
 use Rattle.reader.proofs.processes.receive_one.Reads as receive-one
 use Rattle.reader.proofs.processes.+more_branches+read_bracketed+read_branches+read_cancel+read_handler+read_parts+read_process+read_raise+read_recv+read_rest+read_send+read_sent+read_spawn+read_try+receive_label+receive_one.Lts-receive_one as receive-one-lts
 use Rattle.reader.proofs.processes.received_node.Reads as received-node-reads
-use Rattle.reader.proofs.steps.refusal.Reads as refusal-reads
+use Rattle.typereader.proofs.steps.refusal.Reads as refusal-reads
 use Rattle.reader.proofs.processes.+more_branches+read_bracketed+read_branches+read_cancel+read_handler+read_parts+read_process+read_raise+read_recv+read_rest+read_send+read_sent+read_spawn+read_try+receive_label+receive_one.Proof.Measures.{read-process-below, receive-one-at}
 
 pub receive-one-met : {M : Type 1} (t : ℕ) → receive-one-lts.Closed (payload-then-reads.Asked, payload-then-reads.Learnt, refusal-reads.Asked, refusal-reads.Learnt, read-process-below t, read-process.Post, received-node-reads.Asked, received-node-reads.Learnt, put-term-reads.Asked, put-term-reads.Learnt) (receive-one-at t) receive-one.Post M

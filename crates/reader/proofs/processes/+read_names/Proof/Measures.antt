@@ -1,8 +1,8 @@
 -- What falls at each call of the cycle.
-use Prim.Native.Nat.{ℕ, _+_, _*_, _<_}
+use Prim.Native.Nat.{ℕ, _<_}
 use borrow.Fn.Kinds.{In}
 use borrow.Fn.PlainCycle.{Measures, is, falls, and}
-use Rattle.reader.specs.Filling.{unread}
+use Rattle.typereader.specs.Filling.{unread}
 use Rattle.reader.proofs.processes.read_names.Reads as read-names
 use Rattle.reader.proofs.processes.read_names.Kinds as read-names-kinds
 

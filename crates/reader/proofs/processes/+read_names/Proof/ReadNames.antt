@@ -5,8 +5,8 @@ use native.Mathlib.Omega.{arith}
 use mathlib.Core.Path.{sym, _∙_}
 use borrow.Author.Tests.{eq-eqb, ne-eqb}
 use Rattle.reader.proofs.NamePaths.{names-no, names-comma-no, names-more, names-end}
-use Rattle.reader.proofs.steps.expect.Reads as expect-reads
-use Rattle.reader.proofs.steps.kind_at.Reads as kind-at-reads
+use Rattle.typereader.proofs.steps.expect.Reads as expect-reads
+use Rattle.typereader.proofs.steps.kind_at.Reads as kind-at-reads
 use Rattle.reader.proofs.processes.list_end.Reads as list-end-reads
 use Rattle.reader.proofs.processes.read_names.Reads as read-names
 use Rattle.reader.proofs.processes.+read_names.Lts-read_names as read-names-lts

@@ -1,8 +1,8 @@
 -- What falls at each call of the cycle.
-use Prim.Native.Nat.{ℕ, _+_, _*_, _<_}
+use Prim.Native.Nat.{ℕ, _*_, _<_}
 use borrow.Fn.Kinds.{In}
 use borrow.Fn.PlainCycle.{Measures, is, falls, and}
-use Rattle.reader.specs.Filling.{unread}
+use Rattle.typereader.specs.Filling.{unread}
 use Rattle.reader.proofs.signatures.more_entries.Reads as more-entries
 use Rattle.reader.proofs.signatures.more_entries.Kinds as more-entries-kinds
 use Rattle.reader.proofs.signatures.read_entries.Reads as read-entries

@@ -6,12 +6,12 @@ use mathlib.Core.Path.{sym, _∙_}
 use borrow.Author.Tests.{eq-eqb, ne-eqb}
 use Rattle.reader.proofs.SignaturePaths.{more-comma-no, more-list, more-close}
 use Rattle.reader.proofs.signatures.close_list.Reads as close-list-reads
-use Rattle.reader.proofs.steps.expect.Reads as expect-reads
-use Rattle.reader.proofs.steps.kind_at.Reads as kind-at-reads
+use Rattle.typereader.proofs.steps.expect.Reads as expect-reads
+use Rattle.typereader.proofs.steps.kind_at.Reads as kind-at-reads
 use Rattle.reader.proofs.signatures.more_entries.Reads as more-entries
 use Rattle.reader.proofs.signatures.+more_entries+read_entries.Lts-more_entries as more-entries-lts
 use Rattle.reader.proofs.signatures.read_entries.Reads as read-entries
-use Rattle.reader.proofs.steps.refusal.Reads as refusal-reads
+use Rattle.typereader.proofs.steps.refusal.Reads as refusal-reads
 use Rattle.reader.proofs.signatures.+more_entries+read_entries.Proof.Measures.{more-entries-at, read-entries-below}
 
 pub more-entries-met : {M : Type 1} (t : ℕ) → more-entries-lts.Closed (kind-at-reads.Asked, kind-at-reads.Learnt, expect-reads.Asked, expect-reads.Learnt, refusal-reads.Asked, refusal-reads.Learnt, read-entries-below t, read-entries.Post, close-list-reads.Asked, close-list-reads.Learnt) (more-entries-at t) more-entries.Post M

@@ -6,11 +6,11 @@ use mathlib.Core.Path.{ap, _∙_}
 use Rattle.reader.proofs.SignaturePaths.{entries-no, entries-type-no, entries-more}
 use Rattle.reader.proofs.signatures.entry_name.Reads as entry-name-reads
 use Rattle.reader.proofs.signatures.more_entries.Reads as more-entries
-use Rattle.reader.proofs.store.put_entry.Reads as put-entry-reads
+use Rattle.typereader.proofs.store.put_entry.Reads as put-entry-reads
 use Rattle.reader.proofs.signatures.read_entries.Reads as read-entries
 use Rattle.reader.proofs.signatures.+more_entries+read_entries.Lts-read_entries as read-entries-lts
-use Rattle.reader.proofs.types.read_type.Reads as read-type-reads
-use Rattle.reader.proofs.steps.refusal.Reads as refusal-reads
+use Rattle.typereader.proofs.types.read_type.Reads as read-type-reads
+use Rattle.typereader.proofs.steps.refusal.Reads as refusal-reads
 use Rattle.reader.proofs.signatures.+more_entries+read_entries.Proof.Measures.{more-entries-below, read-entries-at}
 
 pub read-entries-met : {M : Type 1} (t : ℕ) → read-entries-lts.Closed (entry-name-reads.Asked, entry-name-reads.Learnt, refusal-reads.Asked, refusal-reads.Learnt, read-type-reads.Asked, read-type-reads.Learnt, put-entry-reads.Asked, put-entry-reads.Learnt, more-entries-below t, more-entries.Post) (read-entries-at t) read-entries.Post M

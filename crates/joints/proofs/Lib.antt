@@ -1,0 +1,2 @@
+pub mod Handlers
+pub mod Joining

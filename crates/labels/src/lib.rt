@@ -1,0 +1,2 @@
+// The labels of a branch list against those of a type.
+pub mod fit;

@@ -1,0 +1,5 @@
+pub mod Shapes
+pub mod Acting
+pub mod Alternatives
+pub mod Labels
+pub mod Equality
