@@ -1,7 +1,8 @@
+use native.Mathlib.Omega.{arith}
 use borrow.Author.Needs.{needs}
-use Prim.Native.Nat.{_-_}
+use Prim.Native.Nat.{_+_, _-_}
 use mathlib.Core.Path.{refl}
-use Rattle.declared.specs.Names.{nameOf, repeatAt, repeats-numbered}
+use Rattle.declared.specs.Names.{nameOf, repeatAt, repeats-numbered, fits-less}
 use Rattle.declared.specs.Lowest.{Walking, walk-start, walk-on}
 use Rattle.declared.proofs.names.repeated_names.Statement.{statement}
 use Rattle.declared.proofs.names.repeated_names.Tie as tie
@@ -18,7 +19,7 @@ loop-holds c = walk-start
 
 -- src/names.rt:138:9
 repeated-name-requires : tie.Need-repeated-name-requires Inv-loop μ-loop
-repeated-name-requires c κs = search needs
+repeated-name-requires c κs = (c .before .before .before .before .pre .0, fits-less (c .before .before .before .before .args .names) (c .before .loop .j + 1) (c .before .before .before .before .args .count) (omega (arith, c .loop-test .taken)) (c .before .before .before .before .pre .1))
 
 -- src/names.rt:139:9
 add-j : tie.Need-add-j Inv-loop μ-loop
