@@ -1,6 +1,6 @@
 -- Refusals 6 and 7 as one walk: what each pass finds in a type.
 use Prim.Native.Nat.{ℕ, zero, suc, _-_, _<_, _≤_}
-use mathlib.Core.Path.{_≡_, refl, sym, _∙_, ap, subst}
+use mathlib.Core.Path.{_≡_, refl, sym, _∙_, ap}
 use mathlib.Core.List.{List, [], _∷_, _++_}
 use mathlib.Core.Bool.{cond}
 use mathlib.Core.Option.{Option·map}
@@ -17,9 +17,10 @@ use Rattle.tables.specs.declared.access.Labelled.{Labelled}
 use Rattle.tables.specs.Access.{AlternativeOf, NodeOf}
 use Rattle.tables.specs.Decode.{numbered, alternativeAt, typeIn}
 use Rattle.tables.specs.Program.{programIn}
-use Rattle.tables.specs.Roots.{TypeIn, AlternativesIn, alternativesIn, typeCases, atKind}
+use Rattle.tables.specs.Roots.{TypeIn, AlternativesIn, alternativesIn}
 use Rattle.tables.specs.Search.{Sought, placeOf}
 use Rattle.tables.specs.Whole.{Tables}
+use Rattle.declared.specs.Kinds.{Says, says, says-at}
 use Rattle.declared.specs.Listed.{down, by-steps, choice-labels}
 use Rattle.declared.specs.declared.faults.Pass.{Pass}
 use Rattle.declared.specs.declared.faults.Pass.the-variants.{Repeated, Undefined}
@@ -76,9 +77,6 @@ module _ (s w : List ℕ) (pass : Pass) where
   alternative-walked e k o = lowered-as (ap faultsIn (o .holds .number))
 
   module _ (i : ℕ) (n : TypeNode) where
-    abbrev Says : ℕ → Type 0
-    Says k = atKind (typeCases s w i n (typeIn s w i)) k
-
     -- what both passes find in a type A
     adds : (f : Pass → List ℕ) (A : Ty Located) → typeIn s w i ≡ A → f Repeated ≡ typeRepeats A → f Undefined ≡ typeUndefined (programIn s w) A → f pass ≡ faultsIn i
     adds f A e r u = by-pass f (λ q. typeFaults q (programIn s w) A) r u pass ∙ ap (typeFaults pass (programIn s w)) (sym e)
@@ -89,7 +87,7 @@ module _ (s w : List ℕ) (pass : Pass) where
     abbrev pairly : Pass → List ℕ
     pairly q = typeFaults q (programIn s w) (typeIn s w (n .first)) ++ typeFaults q (programIn s w) (typeIn s w (n .second))
 
-    pair-of : (k : ℕ) → 2 ≤ k → k < 5 → Says k → Pair
+    pair-of : (k : ℕ) → 2 ≤ k → k < 5 → Says s w i n k → Pair
     unfolding typeRepeats typeUndefined
     pair-of zero a b c = absurd (omega arith)
     pair-of (suc zero) a b c = absurd (omega arith)
@@ -110,7 +108,7 @@ module _ (s w : List ℕ) (pass : Pass) where
     listed : labelsHere ++ over (alternativeFaults (n .first)) 0 (n .second) ≡ choicely pass
     listed = λ j. labelFaults pass (choice-labels s w (n .first) (n .second) j) ++ alternatives-over (n .first) (n .second) j
 
-    choice-of : (k : ℕ) → 5 ≤ k → Says k → Choice
+    choice-of : (k : ℕ) → 5 ≤ k → Says s w i n k → Choice
     unfolding typeRepeats typeUndefined
     choice-of zero a c = absurd (omega arith)
     choice-of (suc zero) a c = absurd (omega arith)
@@ -123,21 +121,18 @@ module _ (s w : List ℕ) (pass : Pass) where
 
     -- each way through the walk
     module _ (h : Tables s w × TypeIn s w i) (o : NodeOf w i n) where
-      here : (k : ℕ) → n .kind ≡ k → Says k
-      here k e = subst Says e (o .says s (h .0) (h .1) .says)
-
       pub at-unit : {l : Lowest} → n .kind ≡ 0 → Lowered l (faultsIn i) l
       unfolding typeRepeats typeUndefined
-      at-unit e = lowered-as (adds (λ q. []) _ (here 0 e) refl refl) lowered-none
+      at-unit e = lowered-as (adds (λ q. []) _ (says-at s w i n h o 0 e) refl refl) lowered-none
 
       pub at-name : {l k : Lowest} → n .kind ≡ 1 → Lowered l (typeFaults pass (programIn s w) (named (nameIn s (n .second)))) k → Lowered l (faultsIn i) k
-      at-name e = lowered-as (ap (typeFaults pass (programIn s w)) (sym (here 1 e)))
+      at-name e = lowered-as (ap (typeFaults pass (programIn s w)) (sym (says-at s w i n h o 1 e)))
 
       pub pair-there : (n .kind ≡ 0 → ⊥) → (n .kind ≡ 1 → ⊥) → n .kind < 5 → Pair
-      pair-there x y b = pair-of (n .kind) (omega (arith, x, y)) b (o .says s (h .0) (h .1) .says)
+      pair-there x y b = pair-of (n .kind) (omega (arith, x, y)) b (says s w i n h o)
 
       pub choice-there : 5 ≤ n .kind → Choice
-      choice-there b = choice-of (n .kind) b (o .says s (h .0) (h .1) .says)
+      choice-there b = choice-of (n .kind) b (says s w i n h o)
 
 -- ── by the pass
 pub names-repeated : (l : List Located) {pass : Pass} {low k : Lowest} → pass ≡ Repeated → Lowered low (repeats [] l) k → Lowered low (labelFaults pass l) k
