@@ -1,29 +1,29 @@
 -- Refusals 6 and 7: what each pass finds in a declaration.
-use Prim.Native.Nat.{ℕ, zero, suc, _+_, _-_, _<_, _≤_}
-use mathlib.Core.Path.{_≡_, refl, sym, _∙_, ap, subst}
-use mathlib.Core.List.{List, [], _∷_, _++_, append-assoc}
+use Prim.Native.Nat.{ℕ, zero, suc, _+_, _<_, _≤_}
+use mathlib.Core.Path.{_≡_, refl, sym, _∙_, ap}
+use mathlib.Core.List.{List, [], _∷_, _++_}
 use mathlib.Core.Logic.{_⊎_, inl, inr}
 use native.Mathlib.Omega.{arith}
-use Rattle.notation.specs.Tree.{Located, Entry, Declaration, declareType, declareProc, declareExec}
+use Rattle.notation.specs.Tree.{Located, Entry, Declaration}
 use Rattle.notation.specs.Reader.{nameIn}
 use Rattle.calculus.specs.Program.{Program, programOf}
-use Rattle.calculus.specs.Declarations.{gather, typeName, processName, channels, repeats, unless, entriesRepeats, entriesUndefined, ownRepeats, ownUndefined, repeated, undefined}
+use Rattle.calculus.specs.Declarations.{channels, repeats, unless, entriesRepeats, entriesUndefined, ownRepeats, ownUndefined, repeated, undefined}
 use Rattle.tables.specs.declared.access.Labelled.{Labelled}
 use Rattle.tables.specs.declared.access.Declared.{Declared}
 use Rattle.tables.specs.Access.{asEntry, TypeOf, SignatureOf, ExecOf, EntryOf}
 use Rattle.notation.specs.declared.reading.ProcessEntry.{ProcessEntry}
-use Rattle.tables.specs.Decode.{tallyIn, numbered, entryAt, entriesIn, typeAt, typeIn, processIn, procBy, typeDeclaration, procDeclaration, execDeclaration, scriptIn}
+use Rattle.tables.specs.Decode.{tallyIn, numbered, entryAt, entriesIn, typeAt, procBy, typeDeclaration, procDeclaration, execDeclaration, scriptIn}
 use Rattle.tables.specs.Program.{programIn, execIn}
-use Rattle.tables.specs.Whole.{Tables, EntriesIn, SignatureIn}
-use Rattle.declared.specs.Faults.{labelFaults, typeFaults, faultsIn}
+use Rattle.tables.specs.Whole.{Tables, SignatureIn}
+use Rattle.declared.specs.Faults.{labelFaults, faultsIn, by-pass}
 use Rattle.declared.specs.Listed.{up, by-steps, entry-names, entries-fit}
-use Rattle.declared.specs.ProcessFaults.{processFaults, processFaultsIn}
+use Rattle.declared.specs.ProcessFaults.{processFaultsIn}
 use Rattle.declared.specs.Passes.{ofTypes, ofProcesses, ofExecs, gathered-in, without-execs, type-names, process-names}
 use Rattle.declared.specs.declared.faults.Pass.{Pass}
 use Rattle.declared.specs.declared.faults.Pass.the-variants.{Repeated, Undefined}
 use Rattle.declared.specs.declared.lowest.Lowest.{Lowest}
 use Rattle.declared.specs.declared.names.Names.the-variants.{Types, Processes, Entries}
-use Rattle.declared.specs.Lowest.{Lowered, least, lowered-as, lowered-then, over}
+use Rattle.declared.specs.Lowest.{Lowered, lowered-as, over}
 use Rattle.declared.specs.Names.{nameOf}
 
 abbrev pub entriesFaults : Pass → Program → List Entry → List ℕ
@@ -58,15 +58,12 @@ module _ (s w : List ℕ) where
 
     pub entries-over : (i n : ℕ) → over (entryFaults i) 0 n ≡ entriesFaults pass (programIn s w) (entriesIn s w i n)
     unfolding entriesIn
-    entries-over i n = sym (by-steps up _++_ [] (λ x. faultsIn s w pass (entryAt w x .1)) (λ x m. entriesFaults pass (programIn s w) (entriesIn s w x m)) (none pass) (more pass) n i)
-      where
-        none : (q : Pass) (x : ℕ) → entriesFaults q (programIn s w) (entriesIn s w x 0) ≡ []
-        none Repeated x = refl
-        none Undefined x = refl
-
-        more : (q : Pass) (x m : ℕ) → entriesFaults q (programIn s w) (entriesIn s w x (suc m)) ≡ faultsIn s w q (entryAt w x .1) ++ entriesFaults q (programIn s w) (entriesIn s w (x + 1) m)
-        more Repeated x m = refl
-        more Undefined x m = refl
+    entries-over i n =
+        let made : Pass → ℕ → ℕ → List ℕ = λ q x m. entriesFaults q (programIn s w) (entriesIn s w x m) in
+        let one : Pass → ℕ → List ℕ = λ q x. faultsIn s w q (entryAt w x .1) in
+        sym
+        (by-steps up _++_ [] (one pass) (made pass) (λ x. by-pass (λ q. made q x 0) (λ q. []) refl refl pass)
+        (λ x m. by-pass (λ q. made q x (suc m)) (λ q. one q x ++ made q (x + 1) m) refl refl pass) n i)
 
     pub entry-walked : (i k : ℕ) {r : Labelled} {l m : Lowest} → EntryOf w (i + k) r → Lowered l (faultsIn s w pass (r .number)) m → Lowered l (entryFaults i k) m
     entry-walked i k o = lowered-as (ap (faultsIn s w pass) (o .holds .number))
@@ -74,29 +71,24 @@ module _ (s w : List ℕ) where
     -- ── one declaration
     pub type-walked : {i : ℕ} {r : Labelled} {l m : Lowest} → TypeOf w i r → Lowered l (faultsIn s w pass (r .number)) m → Lowered l (declarationFaults pass (programIn s w) (typeDeclaration s w i)) m
     unfolding typeDeclaration
-    type-walked {i} o = lowered-as (ap (faultsIn s w pass) (o .holds .number) ∙ go pass)
-      where
-        go : (q : Pass) → faultsIn s w q (typeAt w i .1) ≡ declarationFaults q (programIn s w) (declareType (nameIn s (typeAt w i .0)) (typeIn s w (typeAt w i .1)))
-        go Repeated = refl
-        go Undefined = refl
+    type-walked {i} o =
+        let own : Pass → List ℕ = λ q. declarationFaults q (programIn s w) (typeDeclaration s w i) in
+        lowered-as (ap (faultsIn s w pass) (o .holds .number) ∙ by-pass (λ q. faultsIn s w q (typeAt w i .1)) own refl refl pass)
 
-    -- what a process's entry adds up
-    abbrev parts : ProcessEntry → List ℕ
-    parts e =
-        labelFaults pass (numbered (nameOf s w (Entries (e .first))) 0 (e .provided + e .used))
-        ++ (entriesFaults pass (programIn s w) (entriesIn s w (e .first) (e .provided))
-        ++ (entriesFaults pass (programIn s w) (entriesIn s w (e .first + e .provided) (e .used))
-        ++ processFaultsIn s w pass (e .body)))
+    -- what a process's entry adds up, after its names l
+    abbrev parts : Pass → ProcessEntry → List Located → List ℕ
+    parts q e l =
+        labelFaults q l
+        ++ (entriesFaults q (programIn s w) (entriesIn s w (e .first) (e .provided))
+        ++ (entriesFaults q (programIn s w) (entriesIn s w (e .first + e .provided) (e .used)) ++ processFaultsIn s w q (e .body)))
 
-    process-parts : (e : ProcessEntry) → parts e ≡ declarationFaults pass (programIn s w) (procBy s w e)
+    process-parts : (e : ProcessEntry) → parts pass e (numbered (nameOf s w (Entries (e .first))) 0 (e .provided + e .used)) ≡ declarationFaults pass (programIn s w) (procBy s w e)
     process-parts e =
-        ap (λ l. labelFaults pass l ++ (entriesFaults pass (programIn s w) (entriesIn s w (e .first) (e .provided)) ++ (entriesFaults pass (programIn s w) (entriesIn s w (e .first + e .provided) (e .used)) ++ processFaultsIn s w pass (e .body)))) (signature-names (e .first) (e .provided) (e .used)) ∙ go pass
-      where
-        go : (q : Pass) → labelFaults q (channels (entriesIn s w (e .first) (e .provided)) ++ channels (entriesIn s w (e .first + e .provided) (e .used))) ++ (entriesFaults q (programIn s w) (entriesIn s w (e .first) (e .provided)) ++ (entriesFaults q (programIn s w) (entriesIn s w (e .first + e .provided) (e .used)) ++ processFaultsIn s w q (e .body))) ≡ declarationFaults q (programIn s w) (procBy s w e)
-        go Repeated = refl
-        go Undefined = refl
+        let names = channels (entriesIn s w (e .first) (e .provided)) ++ channels (entriesIn s w (e .first + e .provided) (e .used)) in
+        ap (parts pass e) (signature-names (e .first) (e .provided) (e .used))
+        ∙ by-pass (λ q. parts q e names) (λ q. declarationFaults q (programIn s w) (procBy s w e)) refl refl pass
 
-    pub process-walked : {i : ℕ} {r : Declared} {l m : Lowest} → SignatureOf w i r → Lowered l (parts (asEntry r)) m → Lowered l (declarationFaults pass (programIn s w) (procDeclaration s w i)) m
+    pub process-walked : {i : ℕ} {r : Declared} {l m : Lowest} → SignatureOf w i r → Lowered l (parts pass (asEntry r) (numbered (nameOf s w (Entries (r .first))) 0 (r .provided + r .used))) m → Lowered l (declarationFaults pass (programIn s w) (procDeclaration s w i)) m
     unfolding procDeclaration
     process-walked o = lowered-as (process-parts (asEntry _) ∙ ap (λ e. declarationFaults pass (programIn s w) (procBy s w e)) (o .holds))
 

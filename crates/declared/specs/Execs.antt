@@ -1,26 +1,25 @@
 -- Refusal 9 by number: the execs whose processes break the rule.
-use Prim.Native.Nat.{ℕ, zero, suc, _+_, _-_, _<_, _≤_}
+use Prim.Native.Nat.{ℕ, zero, suc, _+_}
 use mathlib.Core.Path.{_≡_, refl, sym, _∙_, ap}
 use mathlib.Core.List.{List, [], _∷_, _++_}
 use mathlib.Core.Bool.{Bool, true, false, cond, not, _&&_, _||_}
-use mathlib.Core.Option.{Option, some, none, Option·map}
-use native.Mathlib.Omega.{arith}
-use Rattle.notation.specs.Tree.{Name, Located, Ty, plain}
+use mathlib.Core.Option.{Option, some, Option·map}
+use Rattle.notation.specs.Tree.{Name, Located}
 use Rattle.notation.specs.Reader.{nameIn}
 use Rattle.notation.specs.declared.reading.Found.{Found}
 use Rattle.notation.specs.declared.reading.Found.the-variants.{At, Nothing}
-use Rattle.calculus.specs.Program.{Program, Signature, entries, programOf}
+use Rattle.calculus.specs.Program.{Program, Signature, entries}
 use Rattle.calculus.specs.Declarations.{hasOther, outward, entryTypes, isNil, keepsRule, breaking, wrongExecs}
 use Rattle.calculus.specs.Named.{lookup, all}
 use Rattle.tables.specs.declared.access.Labelled.{Labelled}
 use Rattle.tables.specs.declared.access.Declared.{Declared}
 use Rattle.tables.specs.Access.{asEntry, EntryOf, SignatureOf, ExecOf}
 use Rattle.tables.specs.Decode.{tallyIn, numbered, entryAt, entriesIn, scriptIn}
-use Rattle.tables.specs.Program.{programIn, plainIn, signatureOf, namedProcess, execIn, execs-in}
+use Rattle.tables.specs.Program.{programIn, signatureOf, namedProcess, execIn, execs-in}
 use Rattle.tables.specs.Search.{Sought, placeOf}
 use Rattle.declared.specs.declared.lowest.Lowest.{Lowest}
 use Rattle.declared.specs.Listed.{up, by-steps}
-use Rattle.declared.specs.Lowest.{Lowered, lowered-as, lowered-none, over, Walking, walk-end}
+use Rattle.declared.specs.Lowest.{Lowered, lowered-as, lowered-none, over}
 use Rattle.declared.specs.Other.{otherIn}
 use Rattle.declared.specs.Reach.{marked, anyBelow, Reaches}
 

@@ -2,6 +2,7 @@ pub mod Bare
 pub mod DeclarationFaults
 pub mod Execs
 pub mod Faults
+pub mod Kinds
 pub mod Listed
 pub mod Lowest
 pub mod Names

@@ -1,14 +1,14 @@
 -- Lists that stand in the tables, by number.
 use Prim.Native.Nat.{ℕ, zero, suc, _+_, _-_, _<_, _≤_}
 use mathlib.Core.Path.{_≡_, refl, sym, _∙_, ap, subst}
-use mathlib.Core.List.{List, [], _∷_, _++_}
+use mathlib.Core.List.{List, [], _∷_}
 use native.Mathlib.Omega.{arith}
 use native.Mathlib.Numerals.{add-one}
 use Rattle.calculus.specs.Declarations.{choiceLabels, branchLabels, channels}
 use Rattle.tables.specs.declared.access.Labelled.{Labelled}
 use Rattle.tables.specs.Access.{AlternativeOf, BranchOf, EntryOf}
 use Rattle.tables.specs.Decode.{tallyIn, numbered, alternativeAt, branchAt, entryAt, entriesIn}
-use Rattle.tables.specs.Roots.{AlternativesIn, alternativesIn, FirstAlternative, first-alternative, BranchesIn, branchesIn, FirstBranch, first-branch, TypeIn, ProcessIn}
+use Rattle.tables.specs.Roots.{AlternativesIn, alternativesIn, FirstAlternative, first-alternative, BranchesIn, branchesIn, FirstBranch, first-branch}
 use Rattle.tables.specs.Whole.{EntriesIn, FirstEntry, first-entry, Tables}
 use Rattle.notation.specs.Reader.{nameIn, labelIn}
 

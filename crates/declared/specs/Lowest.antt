@@ -1,17 +1,14 @@
 -- The lowest of a list of offsets, kept while the list is made.
-use Prim.Native.Nat.{ℕ, zero, suc, _+_, _-_, _<_, _≤_}
+use Prim.Native.Nat.{ℕ, suc, _+_, _-_, _<_, _≤_}
 use mathlib.Core.Path.{_≡_, refl, sym, _∙_, ap}
 use mathlib.Core.List.{List, [], _∷_, _++_}
-use mathlib.Core.Bool.{Bool, true, false, cond}
+use mathlib.Core.Bool.{true, false, cond}
 use native.Mathlib.Omega.{arith}
 use lib.Dec.{ltb}
-use Rattle.calculus.specs.Verdict.{fine, refused, lower, lowest, faults}
-use Rattle.calculus.specs.Verdict as calculus
+use Rattle.calculus.specs.Verdict.{Verdict, fine, refused, lower, lowest, faults}
 use Rattle.declared.specs.Listed.{fold}
 use Rattle.declared.specs.declared.lowest.Lowest.{Lowest}
 use Rattle.declared.specs.declared.lowest.Lowest.the-variants.{At, Nothing}
-use Rattle.declared.specs.declared.lowest.Verdict.{Verdict}
-use Rattle.declared.specs.declared.lowest.Verdict.the-variants.{Fine, Refused}
 
 abbrev pub under : Lowest → ℕ → Lowest
 under Nothing j = At j
@@ -30,13 +27,9 @@ pub record Lowered (low : Lowest) (xs : List ℕ) (r : Lowest) : Type 0 where
   pub is : r ≡ lowestWith low xs
 
 -- ── what the lowest offset says
-abbrev pub refusedAt : ℕ → Lowest → calculus.Verdict
+abbrev pub refusedAt : ℕ → Lowest → Verdict
 refusedAt n Nothing = fine
 refusedAt n (At i) = refused n i
-
-abbrev pub verdictOf : Verdict → calculus.Verdict
-verdictOf Fine = fine
-verdictOf (Refused n i) = refused n i
 
 lowest-at : (n i : ℕ) (is : List ℕ) → refused n (lowest i is) ≡ refusedAt n (lowestWith (At i) is)
 unfolding lowestWith

@@ -13,7 +13,7 @@ use Rattle.notation.specs.Reader.{nameIn, labelIn}
 use Rattle.calculus.specs.Declarations.{repeats}
 use Rattle.calculus.specs.Named.{any}
 use Rattle.derivations.specs.Equality.{same-cases}
-use Rattle.tables.specs.Access.{Holds, TypeOf, SignatureOf, EntryOf, AlternativeOf, BranchOf}
+use Rattle.tables.specs.Access.{TypeOf, SignatureOf, EntryOf, AlternativeOf, BranchOf}
 use Rattle.tables.specs.declared.access.Labelled.{Labelled}
 use Rattle.tables.specs.declared.access.Declared.{Declared}
 use Rattle.tables.specs.Decode.{typeAt, processAt, entryAt, alternativeAt, branchAt, numbered}
@@ -131,9 +131,9 @@ module _ {f : ℕ → Located} {x : Name} {j : ℕ} where
     seek-on q = let b = t .upto in record { upto = omega arith; rest = one-less q }
 
 -- ── where the names of a list stand
-module _ {names : Names} {n k : ℕ} (h : k < n) (f : Fits names n) where
-  abbrev fits-as : (m : Names) → names ≡ m → Fits m n
-  fits-as m e = subst (λ (l : Names). Fits l n) e f
+module _ (k : ℕ) {names : Names} (f : Fits names (k + 1)) where
+  abbrev fits-as : (m : Names) → names ≡ m → Fits m (k + 1)
+  fits-as m e = subst (λ (l : Names). Fits l (k + 1)) e f
 
   pub fits-types : names ≡ Types → k < 64
   fits-types e = let g = fits-as Types e in omega arith
@@ -149,6 +149,14 @@ module _ {names : Names} {n k : ℕ} (h : k < n) (f : Fits names n) where
 
   pub fits-branches : {e : ℕ} → names ≡ Branches e → (k ≤ e) × (1 ≤ e - k) × (e - k ≤ 1640)
   fits-branches {e} q = let (a, b) = fits-as (Branches e) q in (omega arith, omega arith, omega arith)
+
+-- a list that fits has fewer names too
+pub fits-less : (names : Names) (m n : ℕ) → m ≤ n → Fits names n → Fits names m
+fits-less Types m n h f = omega arith
+fits-less Processes m n h f = omega arith
+fits-less (Entries i) m n h f = λ p. let g = f (omega arith) in omega arith
+fits-less (Alternatives e) m n h (f, g) = (omega arith, g)
+fits-less (Branches e) m n h (f, g) = (omega arith, g)
 
 module _ {w : List ℕ} {names : Names} {k : ℕ} {r : Place} where
   -- a name or a label at o, whose entry says a

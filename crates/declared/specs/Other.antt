@@ -1,37 +1,32 @@
 -- Refusal 9: whether a type has @, -o or &, or a name among those given, by its node.
-use Prim.Native.Nat.{ℕ, zero, suc, _+_, _-_, _<_, _≤_}
-use mathlib.Core.Path.{_≡_, refl, sym, _∙_, ap, subst}
+use Prim.Native.Nat.{ℕ, zero, suc, _-_, _<_}
+use mathlib.Core.Path.{_≡_, refl, sym, _∙_, ap}
 use mathlib.Core.List.{List}
 use mathlib.Core.Bool.{Bool, true, false, _||_}
 use Rattle.notation.specs.Bytes.{same}
 use Rattle.notation.specs.Token.{nameAt}
-use Rattle.notation.specs.Tree.{Name, Located, Ty, plain, plains}
+use Rattle.notation.specs.Tree.{Name, plain, plains}
 use Rattle.notation.specs.declared.reading.TypeNode.{TypeNode}
 use Rattle.calculus.specs.Declarations.{hasOther, haveOther}
 use Rattle.calculus.specs.Named.{any}
 use Rattle.tables.specs.declared.access.Labelled.{Labelled}
 use Rattle.tables.specs.Access.{AlternativeOf, NodeOf}
-use Rattle.tables.specs.Decode.{alternativeAt, typeIn}
+use Rattle.tables.specs.Decode.{alternativeAt}
 use Rattle.tables.specs.Program.{plainIn}
-use Rattle.tables.specs.Roots.{TypeIn, AlternativesIn, alternativesIn, typeCases, atKind}
+use Rattle.tables.specs.Roots.{TypeIn, AlternativesIn, alternativesIn}
 use Rattle.tables.specs.Whole.{Tables}
+use Rattle.declared.specs.Kinds.{Says, says, says-at}
 use Rattle.declared.specs.Listed.{down, by-steps}
 use Rattle.declared.specs.Reach.{anyBelow}
 
 -- what stands at a node of a kind
 module _ (s w : List ℕ) (i : ℕ) (n : TypeNode) where
-  abbrev Says : ℕ → Type 0
-  Says k = atKind (typeCases s w i n (typeIn s w i)) k
-
   module _ (h : Tables s w × TypeIn s w i) (o : NodeOf w i n) where
-    here : (k : ℕ) → n .kind ≡ k → Says k
-    here k e = subst Says e (o .says s (h .0) (h .1) .says)
-
     pub pair-parts : n .kind ≡ 2 → (n .first < i) × (n .second < i) × TypeIn s w (n .first) × TypeIn s w (n .second)
-    pair-parts e = let (x, y, f, g, q) = here 2 e in (x, y, f, g)
+    pair-parts e = let (x, y, f, g, q) = says-at s w i n h o 2 e in (x, y, f, g)
 
     pub choice-parts : n .kind ≡ 5 → AlternativesIn s w i (n .first) (n .second)
-    choice-parts e = here 5 e .0
+    choice-parts e = says-at s w i n h o 5 e .0
 
 module _ (s w : List ℕ) (bad : List Name) where
   abbrev pub otherIn : ℕ → Bool
@@ -63,22 +58,22 @@ module _ (s w : List ℕ) (bad : List Name) where
     module _ (h : Tables s w × TypeIn s w i) (o : NodeOf w i n) where
       pub other-unit : n .kind ≡ 0 → false ≡ otherIn i
       unfolding hasOther plain
-      other-unit e = rw (here s w i n h o 0 e) refl
+      other-unit e = rw (says-at s w i n h o 0 e) refl
 
       pub other-name : {r : Bool} → n .kind ≡ 1 → r ≡ any (same (nameAt s (n .second))) bad → r ≡ otherIn i
       unfolding hasOther plain
-      other-name e q = rw (here s w i n h o 1 e) q
+      other-name e q = rw (says-at s w i n h o 1 e) q
 
       pub other-pair : n .kind ≡ 2 → (otherIn (n .first) || otherIn (n .second)) ≡ otherIn i
       unfolding hasOther plain
-      other-pair e = let (x, y, f, g, q) = here s w i n h o 2 e in rw q refl
+      other-pair e = let (x, y, f, g, q) = says-at s w i n h o 2 e in rw q refl
 
       pub other-choice : n .kind ≡ 5 → anyBelow (alternativeOther (n .first)) (n .second) ≡ otherIn i
       unfolding hasOther plain
-      other-choice e = let (f, q) = here s w i n h o 5 e in alternatives-other (n .first) (n .second) ∙ rw q refl
+      other-choice e = let (f, q) = says-at s w i n h o 5 e in alternatives-other (n .first) (n .second) ∙ rw q refl
 
       pub other-mark : (n .kind ≡ 0 → ⊥) → (n .kind ≡ 1 → ⊥) → (n .kind ≡ 2 → ⊥) → (n .kind ≡ 5 → ⊥) → true ≡ otherIn i
-      other-mark a b c d = other-of (n .kind) a b c d (o .says s (h .0) (h .1) .says)
+      other-mark a b c d = other-of (n .kind) a b c d (says s w i n h o)
 
 -- one part has it, or the other decides
 pub or-here : {a x r : Bool} (b : Bool) → x ≡ a → x ≡ true → (a || b) ≡ r → true ≡ r

@@ -1,8 +1,8 @@
 -- The passes over the declarations that the tables hold, by number.
-use Prim.Native.Nat.{ℕ, zero, suc, _+_, _-_, _<_, _≤_}
+use Prim.Native.Nat.{ℕ, zero, suc, _+_}
 use mathlib.Core.Path.{_≡_, refl, sym, _∙_, ap}
 use mathlib.Core.List.{List, [], _∷_, _++_, append-assoc, append-nil}
-use Rattle.notation.specs.Tree.{Located, Declaration}
+use Rattle.notation.specs.Tree.{Declaration}
 use Rattle.calculus.specs.Declarations.{gather, typeName, processName}
 use Rattle.tables.specs.Decode.{tallyIn, typeDeclaration, procDeclaration, execDeclaration, numbered, scriptIn}
 use Rattle.declared.specs.declared.names.Names.the-variants.{Types, Processes}

@@ -1,24 +1,24 @@
 -- Refusals 6 and 7: what each pass finds in a process.
 use Prim.Native.Nat.{ℕ, zero, suc, _+_, _-_, _*_, _/_, _<_, _≤_}
 use mathlib.Core.Path.{_≡_, refl, sym, _∙_, ap, subst}
-use mathlib.Core.List.{List, [], _∷_, _++_}
+use mathlib.Core.List.{List, [], _++_}
 use mathlib.Core.Bool.{Bool, true, false, cond}
 use native.Mathlib.Omega.{arith}
 use lib.Dec.{ltb, eqb}
 use borrow.Author.Tests.{ltb-true, ltb-false, ne-eqb}
-use Rattle.notation.specs.Tree.{Located, Proc, empty, sendUnit, sendChannel, sendLabel, cancel, spawn, recvUnit, recvChannel, recvLabel, fwd, call, raise, try, Branches}
-use Rattle.notation.specs.Reader.{nameIn, labelIn}
+use Rattle.notation.specs.Tree.{Located, Proc, empty, call, Branches}
+use Rattle.notation.specs.Reader.{nameIn}
 use Rattle.notation.specs.declared.reading.TermNode.{TermNode}
 use Rattle.calculus.specs.Program.{Program}
-use Rattle.calculus.specs.Declarations.{repeats, unless, branchLabels, typeRepeats, typeUndefined, processRepeats, branchesRepeats, processUndefined, branchesUndefined}
+use Rattle.calculus.specs.Declarations.{unless, branchLabels, processRepeats, branchesRepeats, processUndefined, branchesUndefined}
 use Rattle.tables.specs.declared.access.Labelled.{Labelled}
 use Rattle.tables.specs.Access.{BranchOf, TermOf}
-use Rattle.tables.specs.Decode.{numbered, branchAt, typeIn, processIn}
+use Rattle.tables.specs.Decode.{numbered, branchAt, processIn}
 use Rattle.tables.specs.Program.{programIn}
 use Rattle.tables.specs.Roots.{TypeIn, ProcessIn, BranchesIn, branchesIn, process-root, processCases, atKind}
 use Rattle.tables.specs.Stands.{Smaller}
 use Rattle.tables.specs.Whole.{Tables}
-use Rattle.declared.specs.Faults.{labelFaults, typeFaults, faultsIn}
+use Rattle.declared.specs.Faults.{labelFaults, faultsIn, by-pass}
 use Rattle.declared.specs.Listed.{down, by-steps, branch-labels}
 use Rattle.declared.specs.declared.processes.Parts.{Parts}
 use Rattle.declared.specs.declared.processes.Parts.the-variants.{Leaf, Third, Both, Branches as BranchList}
@@ -60,15 +60,12 @@ module _ (s w : List ℕ) (pass : Pass) where
 
   branches-over : (e n : ℕ) → over (branchFaults e) 0 n ≡ branchesFaults pass (programIn s w) (branchesIn s w e n)
   unfolding processRepeats processUndefined
-  branches-over e n = sym (by-steps down _++_ [] (λ x. processFaultsIn (branchAt w (x - 1) .1)) (λ x m. branchesFaults pass (programIn s w) (branchesIn s w x m)) (none pass) (more pass) n e)
-    where
-      none : (q : Pass) (x : ℕ) → branchesFaults q (programIn s w) (branchesIn s w x 0) ≡ []
-      none Repeated x = refl
-      none Undefined x = refl
-
-      more : (q : Pass) (x m : ℕ) → branchesFaults q (programIn s w) (branchesIn s w x (suc m)) ≡ processFaults q (programIn s w) (processIn s w (branchAt w (x - 1) .1)) ++ branchesFaults q (programIn s w) (branchesIn s w (x - 1) m)
-      more Repeated x m = refl
-      more Undefined x m = refl
+  branches-over e n =
+      let made : Pass → ℕ → ℕ → List ℕ = λ q x m. branchesFaults q (programIn s w) (branchesIn s w x m) in
+      let one : Pass → ℕ → List ℕ = λ q x. processFaults q (programIn s w) (processIn s w (branchAt w (x - 1) .1)) in
+      sym
+      (by-steps down _++_ [] (one pass) (made pass) (λ x. by-pass (λ q. made q x 0) (λ q. []) refl refl pass)
+      (λ x m. by-pass (λ q. made q x (suc m)) (λ q. one q x ++ made q (x - 1) m) refl refl pass) n e)
 
   pub branch-walked : (e k : ℕ) {r : Labelled} {l m : Lowest} → BranchOf w (e - k) r → Lowered l (processFaultsIn (r .number)) m → Lowered l (branchFaults e k) m
   branch-walked e k o = lowered-as (ap processFaultsIn (o .holds .number))
@@ -85,11 +82,7 @@ module _ (s w : List ℕ) (pass : Pass) where
 
   -- what both passes find in a process A
   adds : (p : ℕ) (f : Pass → List ℕ) (A : Proc) → processIn s w p ≡ A → f Repeated ≡ processRepeats A → f Undefined ≡ processUndefined (programIn s w) A → f pass ≡ processFaultsIn p
-  adds p f A e r u = go pass ∙ ap (processFaults pass (programIn s w)) (sym e)
-    where
-      go : (q : Pass) → f q ≡ processFaults q (programIn s w) A
-      go Repeated = r
-      go Undefined = u
+  adds p f A e r u = by-pass f (λ q. processFaults q (programIn s w) A) r u pass ∙ ap (processFaults pass (programIn s w)) (sym e)
 
   pub no-process : Tables s w → (p : ℕ) → 1024 ≤ p → ProcessIn s w p → {l : Lowest} → Lowered l (processFaultsIn p) l
   unfolding processRepeats processUndefined

@@ -1,7 +1,7 @@
 -- Refusal 9: the types that reach @, -o or &, by a mark for each declared type.
 use Prim.Native.Nat.{ℕ, zero, suc, _+_, _-_, _<_, _≤_}
-use mathlib.Core.Path.{_≡_, refl, sym, _∙_, ap, subst}
-use mathlib.Core.List.{List, [], _∷_, _++_}
+use mathlib.Core.Path.{_≡_, refl, sym, _∙_, ap}
+use mathlib.Core.List.{List, [], _∷_}
 use mathlib.Core.Bool.{Bool, true, false, cond, _||_}
 use native.Mathlib.Omega.{arith}
 use native.Mathlib.Numerals.{add-one}
@@ -12,7 +12,7 @@ use native.Mathlib.Nat.{eq-or-lt-of-le}
 use Rattle.notation.specs.Bytes.{same}
 use Rattle.notation.specs.Token.{nameAt}
 use Rattle.notation.specs.Tree.{Name, Ty}
-use Rattle.calculus.specs.Declarations.{hasOther, haveOther, namesWithOther, reachOther}
+use Rattle.calculus.specs.Declarations.{hasOther, namesWithOther, reachOther}
 use Rattle.calculus.specs.Named.{any}
 use Rattle.tables.specs.Decode.{tallyIn, numbered}
 use Rattle.tables.specs.declared.access.Labelled.{Labelled}

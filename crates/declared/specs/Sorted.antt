@@ -1,12 +1,12 @@
 -- How declarations of different kinds are mixed does not matter: what refusals 6 to 15 say of a script they say of it sorted, as the tables hold it.
-use Prim.Native.Nat.{ℕ, _<_, _≤_, min}
+use Prim.Native.Nat.{ℕ, min}
 use mathlib.Core.Path.{_≡_, refl, sym, _∙_, ap}
 use mathlib.Core.List.{List, [], _∷_, _++_, append-nil, append-assoc}
 use mathlib.Core.Bool.{Bool, true, false, cond}
 use native.Mathlib.Omega.{arith}
 use lib.Dec.{ltb}
 use borrow.Author.Tests.{ltb-true, ltb-false}
-use Rattle.notation.specs.Tree.{Located, Declaration, declareType, declareProc, declareExec}
+use Rattle.notation.specs.Tree.{Located, Ty, Proc, Entry, Declaration, declareType, declareProc, declareExec}
 use Rattle.calculus.specs.Program.{Program, programOf}
 use Rattle.calculus.specs.Declarations.{gather, typeName, processName, repeats, ownRepeats, repeated, ownUndefined, undefined, ownBareName, bareNames, breaking, wrongExecs, declared}
 use Rattle.calculus.specs.Checking.{checkDeclaration, checkDeclarations, typed}
@@ -106,47 +106,25 @@ module _ {X : Type 0} where
       gather-append f (scripts.gather ownType ds) (scripts.gather ownProc ds ++ scripts.gather ownExec ds)
       ∙ ap (_++_ (gather f (scripts.gather ownType ds))) (gather-append f (scripts.gather ownProc ds) (scripts.gather ownExec ds))
 
+-- what holds of a declaration of each kind holds of all
+by-kind : (Q : Declaration → Type 0) → ((n : Located) (A : Ty Located) → Q (declareType n A)) → ((n : Located) (xs ys : List Entry) (P : Proc) → Q (declareProc n xs ys P)) → ((n : Located) → Q (declareExec n)) → (a : Declaration) → Q a
+by-kind Q t p e (declareType n A) = t n A
+by-kind Q t p e (declareProc n xs ys P) = p n xs ys P
+by-kind Q t p e (declareExec n) = e n
+
 type-names : (ds : List Declaration) → gather typeName (sorted ds) ≡ gather typeName ds
 type-names ds =
-    in-kinds typeName ds
-    ∙ (λ j. of-kind typeName typeName ownType own ds j ++ ((of-kind typeName nothing ownProc none ds ∙ gather-nothing ds) j ++ (of-kind typeName nothing ownExec none′ ds ∙ gather-nothing ds) j))
-    ∙ append-nil (gather typeName ds)
-  where
-    own : (a : Declaration) → gather typeName (ownType a) ≡ typeName a
-    own (declareType n A) = refl
-    own (declareProc n xs ys P) = refl
-    own (declareExec n) = refl
-
-    none : (a : Declaration) → gather typeName (ownProc a) ≡ []
-    none (declareType n A) = refl
-    none (declareProc n xs ys P) = refl
-    none (declareExec n) = refl
-
-    none′ : (a : Declaration) → gather typeName (ownExec a) ≡ []
-    none′ (declareType n A) = refl
-    none′ (declareProc n xs ys P) = refl
-    none′ (declareExec n) = refl
+    let types = of-kind typeName typeName ownType (by-kind (λ a. gather typeName (ownType a) ≡ typeName a) (λ n A. refl) (λ n xs ys P. refl) (λ n. refl)) ds in
+    let processes = of-kind typeName nothing ownProc (by-kind (λ a. gather typeName (ownProc a) ≡ []) (λ n A. refl) (λ n xs ys P. refl) (λ n. refl)) ds ∙ gather-nothing ds in
+    let execs = of-kind typeName nothing ownExec (by-kind (λ a. gather typeName (ownExec a) ≡ []) (λ n A. refl) (λ n xs ys P. refl) (λ n. refl)) ds ∙ gather-nothing ds in
+    in-kinds typeName ds ∙ (λ j. types j ++ (processes j ++ execs j)) ∙ append-nil (gather typeName ds)
 
 process-names : (ds : List Declaration) → gather processName (sorted ds) ≡ gather processName ds
 process-names ds =
-    in-kinds processName ds
-    ∙ (λ j. (of-kind processName nothing ownType none ds ∙ gather-nothing ds) j ++ (of-kind processName processName ownProc own ds j ++ (of-kind processName nothing ownExec none′ ds ∙ gather-nothing ds) j))
-    ∙ append-nil (gather processName ds)
-  where
-    own : (a : Declaration) → gather processName (ownProc a) ≡ processName a
-    own (declareType n A) = refl
-    own (declareProc n xs ys P) = refl
-    own (declareExec n) = refl
-
-    none : (a : Declaration) → gather processName (ownType a) ≡ []
-    none (declareType n A) = refl
-    none (declareProc n xs ys P) = refl
-    none (declareExec n) = refl
-
-    none′ : (a : Declaration) → gather processName (ownExec a) ≡ []
-    none′ (declareType n A) = refl
-    none′ (declareProc n xs ys P) = refl
-    none′ (declareExec n) = refl
+    let types = of-kind processName nothing ownType (by-kind (λ a. gather processName (ownType a) ≡ []) (λ n A. refl) (λ n xs ys P. refl) (λ n. refl)) ds ∙ gather-nothing ds in
+    let processes = of-kind processName processName ownProc (by-kind (λ a. gather processName (ownProc a) ≡ processName a) (λ n A. refl) (λ n xs ys P. refl) (λ n. refl)) ds in
+    let execs = of-kind processName nothing ownExec (by-kind (λ a. gather processName (ownExec a) ≡ []) (λ n A. refl) (λ n xs ys P. refl) (λ n. refl)) ds ∙ gather-nothing ds in
+    in-kinds processName ds ∙ (λ j. types j ++ (processes j ++ execs j)) ∙ append-nil (gather processName ds)
 
 -- ── the four passes
 repeated-sorted : (ds : List Declaration) → faults 6 (repeated (sorted ds)) ≡ faults 6 (repeated ds)

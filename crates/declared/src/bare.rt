@@ -6,7 +6,7 @@ use tables::access::type_count;
 use tables::access::type_node;
 ghost use Rattle.calculus.specs.Declarations.{bareNames, ownBareName};
 ghost use Rattle.tables.specs.Decode.{scriptIn, typeDeclaration, tallyIn};
-ghost use Prim.Native.Nat.{ℕ, _<_};
+ghost use Prim.Native.Nat.{_<_};
 ghost use Rattle.tables.specs.Whole.{Tables};
 ghost use Rattle.declared.specs.Lowest.{Lowered, least};
 

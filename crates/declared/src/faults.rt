@@ -8,7 +8,7 @@ use tables::access::alternative;
 use tables::access::type_node;
 use tables::search::find_process;
 use tables::search::find_type;
-ghost use Prim.Native.Nat.{ℕ, _<_, _≤_};
+ghost use Prim.Native.Nat.{_<_};
 ghost use Rattle.notation.specs.Tree.{named};
 ghost use Rattle.notation.specs.Reader.{nameIn};
 ghost use Rattle.calculus.specs.Declarations.{unless};

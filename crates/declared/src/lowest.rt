@@ -1,18 +1,11 @@
-// The lowest of the offsets where a refusal applies, and what a check says of it.
-ghost use mathlib.Core.Path.{_≡_};
+// The lowest of the offsets where a refusal applies.
 ghost use mathlib.Core.List.{[], _∷_};
-ghost use Rattle.declared.specs.Lowest.{under, Lowered};
+ghost use Rattle.declared.specs.Lowest.{Lowered};
 
 // The lowest offset so far.
 pub enum Lowest {
     Nothing,
     At(usize),
-}
-
-// What a check says: nothing is at fault, or the refusal's number and its offset.
-pub enum Verdict {
-    Fine,
-    Refused(u32, usize),
 }
 
 // With one offset more.

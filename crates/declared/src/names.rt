@@ -9,7 +9,7 @@ use tables::access::declared_type;
 use tables::access::entry;
 ghost use mathlib.Core.Path.{_≡_};
 ghost use mathlib.Core.List.{[]};
-ghost use Prim.Native.Nat.{ℕ, _+_, _<_, _≤_};
+ghost use Prim.Native.Nat.{_+_, _<_};
 ghost use Rattle.notation.specs.Bytes.{same};
 ghost use Rattle.calculus.specs.Declarations.{repeats};
 ghost use Rattle.typereader.specs.Filling.{Area};
@@ -46,8 +46,8 @@ fn label(at: usize) -> Place
 }
 
 // The name k of a list.
-fn name_at(scratch: &[u32], names: Names, k: usize, count: usize) -> Place
-    requires { ⌜ Area (now scratch) × (k < count) × Fits names count ⌝ }
+fn name_at(scratch: &[u32], names: Names, k: usize) -> Place
+    requires { ⌜ Area (now scratch) × Fits names (k + 1) ⌝ }
     ensures { λ r. ⌜ StandsAt (now (scratch .entry)) names k r ⌝ }
 {
     match names {
@@ -75,24 +75,24 @@ fn name_at(scratch: &[u32], names: Names, k: usize, count: usize) -> Place
 }
 
 // The names j and k of a list are the same.
-fn same_names(text: &[u8], scratch: &[u32], names: Names, j: usize, k: usize, count: usize) -> bool
-    requires { ⌜ Area (now scratch) × (j < count) × (k < count) × Fits names count ⌝ }
+fn same_names(text: &[u8], scratch: &[u32], names: Names, j: usize, k: usize) -> bool
+    requires { ⌜ Area (now scratch) × Fits names (j + 1) × Fits names (k + 1) ⌝ }
     ensures { λ r. ⌜ r ≡ same (nameOf (now (text .entry)) (now (scratch .entry)) names j .name) (nameOf (now (text .entry)) (now (scratch .entry)) names k .name) ⌝ }
 {
-    let a = name_at(scratch, names, j, count);
-    let b = name_at(scratch, names, k, count);
+    let a = name_at(scratch, names, j);
+    let b = name_at(scratch, names, k);
     names_equal(text, a.letter, b.letter)
 }
 
 // The name j comes among those before it.
-fn seen_before(text: &[u8], scratch: &[u32], names: Names, j: usize, count: usize) -> bool
-    requires { ⌜ Area (now scratch) × (j < count) × Fits names count ⌝ }
+fn seen_before(text: &[u8], scratch: &[u32], names: Names, j: usize) -> bool
+    requires { ⌜ Area (now scratch) × Fits names (j + 1) ⌝ }
     ensures { λ r. ⌜ r ≡ seenBelow (nameOf (now (text .entry)) (now (scratch .entry)) names) (nameOf (now (text .entry)) (now (scratch .entry)) names j .name) j ⌝ }
 {
     let mut k = j;
     while 0 < k {
         k -= 1;
-        if same_names(text, scratch, names, j, k, count) {
+        if same_names(text, scratch, names, j, k) {
             return true;
         }
     }
@@ -100,19 +100,12 @@ fn seen_before(text: &[u8], scratch: &[u32], names: Names, j: usize, count: usiz
 }
 
 // The name j where it repeats one before.
-fn repeated_name(
-    text: &[u8],
-    scratch: &[u32],
-    names: Names,
-    j: usize,
-    count: usize,
-    low: Lowest,
-) -> Lowest
-    requires { ⌜ Area (now scratch) × (j < count) × Fits names count ⌝ }
+fn repeated_name(text: &[u8], scratch: &[u32], names: Names, j: usize, low: Lowest) -> Lowest
+    requires { ⌜ Area (now scratch) × Fits names (j + 1) ⌝ }
     ensures { λ r. ⌜ Lowered low (repeatAt (nameOf (now (text .entry)) (now (scratch .entry)) names) j) r ⌝ }
 {
-    if seen_before(text, scratch, names, j, count) {
-        let p = name_at(scratch, names, j, count);
+    if seen_before(text, scratch, names, j) {
+        let p = name_at(scratch, names, j);
         return lowered(low, p.at);
     }
     low
@@ -132,7 +125,7 @@ pub(crate) fn repeated_names(
     let mut l = low;
     let mut j: usize = 0;
     while j < count {
-        l = repeated_name(text, scratch, names, j, count, l);
+        l = repeated_name(text, scratch, names, j, l);
         j += 1;
     }
     l

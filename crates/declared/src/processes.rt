@@ -9,7 +9,7 @@ use notation::reading::TermNode;
 use tables::access::branch;
 use tables::access::term_node;
 ghost use mathlib.Core.Path.{_≡_};
-ghost use Prim.Native.Nat.{ℕ, _<_, _≤_};
+ghost use Prim.Native.Nat.{ℕ, _<_};
 ghost use Rattle.notation.specs.Reader.{nameIn};
 ghost use Rattle.tables.specs.Access.{TermOf};
 ghost use Rattle.tables.specs.Program.{programIn};

@@ -2,14 +2,20 @@
 use crate::bare::bare_names;
 use crate::execs::wrong_execs;
 use crate::lowest::Lowest;
-use crate::lowest::Verdict;
 use crate::passes::repeated_at;
 use crate::passes::undefined_at;
 ghost use mathlib.Core.Path.{_≡_};
 ghost use Rattle.calculus.specs.Declarations.{declared};
 ghost use Rattle.tables.specs.Decode.{scriptIn};
 ghost use Rattle.tables.specs.Whole.{Tables};
-ghost use Rattle.declared.specs.Lowest.{refusedAt, verdictOf};
+ghost use Rattle.declared.specs.Lowest.{refusedAt};
+ghost use Rattle.declared.specs.Verdicts.{verdictOf};
+
+// What a check says: nothing is at fault, or the refusal's number and its offset.
+pub enum Verdict {
+    Fine,
+    Refused(u32, usize),
+}
 
 // Refusal n at the lowest offset, if there is one.
 fn refusal(n: u32, low: Lowest) -> Verdict

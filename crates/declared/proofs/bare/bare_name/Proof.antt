@@ -2,11 +2,6 @@ use Rattle.declared.specs.Bare.{definition-there, bare-named, bare-other
 use borrow.Author.Needs.{needs}
 use Rattle.declared.proofs.bare.bare_name.Statement.{statement}
 use Rattle.declared.proofs.bare.bare_name.Tie as tie
-use Rattle.declared.proofs.bare.bare_name.Reads as reads
-use Rattle.declared.proofs.bare.bare_name.Lts as lts
-use Rattle.declared.proofs.lowest.lowered.Reads as lowered-reads
-use Rattle.tables.proofs.access.declared_type.Reads as declared-type-reads
-use Rattle.tables.proofs.access.type_node.Reads as type-node-reads
 
 -- src/bare.rt:18:9
 declared-type-requires : tie.Need-declared-type-requires

@@ -8,10 +8,6 @@ use Rattle.declared.specs.Lowest.{Walking, walk-start, walk-on, walk-end
 use Rattle.declared.specs.Bare.{bare-names}
 use Rattle.declared.proofs.bare.bare_names.Statement.{statement}
 use Rattle.declared.proofs.bare.bare_names.Tie as tie
-use Rattle.declared.proofs.bare.bare_names.Reads as reads
-use Rattle.declared.proofs.bare.bare_names.Lts as lts
-use Rattle.declared.proofs.bare.bare_name.Reads as bare-name-reads
-use Rattle.tables.proofs.access.type_count.Reads as type-count-reads
 
 abbrev Inv-loop : tie.InvT-loop
 Inv-loop text scratch n low₀ i₀ low i = Walking (λ j. ownBareName (typeDeclaration text scratch j)) least (tallyIn scratch .types) i low

@@ -7,10 +7,6 @@ use Rattle.declared.specs.Reach.{marked, Testing, test-start, test-on, t
 use Rattle.declared.specs.Execs.{entryOther, entry-tested}
 use Rattle.declared.proofs.execs.entries_other.Statement.{statement}
 use Rattle.declared.proofs.execs.entries_other.Tie as tie
-use Rattle.declared.proofs.execs.entries_other.Reads as reads
-use Rattle.declared.proofs.execs.entries_other.Lts as lts
-use Rattle.declared.proofs.reach.has_other.Reads as has-other-reads
-use Rattle.tables.proofs.access.entry.Reads as entry-reads
 
 abbrev Inv-loop : tie.InvT-loop
 Inv-loop text scratch marks i n k₀ k = Testing (entryOther text scratch (marked text scratch marks) i) n k

@@ -3,11 +3,6 @@ use Rattle.declared.specs.Execs.{keeps-none, keeps-uses, keeps-provides}
 use borrow.Author.Needs.{needs}
 use Rattle.declared.proofs.execs.keeps_rule.Statement.{statement}
 use Rattle.declared.proofs.execs.keeps_rule.Tie as tie
-use Rattle.declared.proofs.execs.keeps_rule.Reads as reads
-use Rattle.declared.proofs.execs.keeps_rule.Lts as lts
-use Rattle.declared.proofs.execs.entries_other.Reads as entries-other-reads
-use Rattle.tables.proofs.access.declared_process.Reads as declared-process-reads
-use Rattle.tables.proofs.search.find_process.Reads as find-process-reads
 
 -- src/execs.rt:45:9
 find-process-requires : tie.Need-find-process-requires

@@ -2,11 +2,6 @@ use Rattle.declared.specs.Execs.{exec-keeps, exec-breaks}
 use borrow.Author.Needs.{needs}
 use Rattle.declared.proofs.execs.wrong_exec.Statement.{statement}
 use Rattle.declared.proofs.execs.wrong_exec.Tie as tie
-use Rattle.declared.proofs.execs.wrong_exec.Reads as reads
-use Rattle.declared.proofs.execs.wrong_exec.Lts as lts
-use Rattle.declared.proofs.execs.keeps_rule.Reads as keeps-rule-reads
-use Rattle.declared.proofs.lowest.lowered.Reads as lowered-reads
-use Rattle.tables.proofs.access.exec_at.Reads as exec-at-reads
 
 -- src/execs.rt:68:9
 exec-at-requires : tie.Need-exec-at-requires

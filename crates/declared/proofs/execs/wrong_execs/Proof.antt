@@ -8,11 +8,6 @@ use Rattle.declared.specs.Lowest.{Walking, walk-start, walk-on, walk-end
 use Rattle.declared.specs.Execs.{breakingAt, wrong-execs}
 use Rattle.declared.proofs.execs.wrong_execs.Statement.{statement}
 use Rattle.declared.proofs.execs.wrong_execs.Tie as tie
-use Rattle.declared.proofs.execs.wrong_execs.Reads as reads
-use Rattle.declared.proofs.execs.wrong_execs.Lts as lts
-use Rattle.declared.proofs.execs.wrong_exec.Reads as wrong-exec-reads
-use Rattle.declared.proofs.reach.reach.Reads as reach-reads
-use Rattle.tables.proofs.access.exec_count.Reads as exec-count-reads
 
 abbrev Inv-loop : tie.InvT-loop
 Inv-loop text scratch marks n l₀ i₀ l i = Walking (breakingAt (programIn text scratch) (execIn text scratch)) least (tallyIn scratch .execs) i l

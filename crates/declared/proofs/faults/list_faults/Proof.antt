@@ -2,9 +2,6 @@ use Rattle.declared.specs.Faults.{names-repeated, names-passed}
 use borrow.Author.Needs.{needs}
 use Rattle.declared.proofs.faults.list_faults.Statement.{statement}
 use Rattle.declared.proofs.faults.list_faults.Tie as tie
-use Rattle.declared.proofs.faults.list_faults.Reads as reads
-use Rattle.declared.proofs.faults.list_faults.Lts as lts
-use Rattle.declared.proofs.names.repeated_names.Reads as repeated-names-reads
 
 -- src/faults.rt:77:27
 enum-told : tie.Need-enum-told

@@ -2,9 +2,6 @@ use Rattle.declared.specs.Faults.{name-passed, name-sought}
 use borrow.Author.Needs.{needs}
 use Rattle.declared.proofs.faults.name_faults.Statement.{statement}
 use Rattle.declared.proofs.faults.name_faults.Tie as tie
-use Rattle.declared.proofs.faults.name_faults.Reads as reads
-use Rattle.declared.proofs.faults.name_faults.Lts as lts
-use Rattle.declared.proofs.faults.undefined_type.Reads as undefined-type-reads
 
 -- src/faults.rt:59:27
 enum-told : tie.Need-enum-told

@@ -2,10 +2,6 @@ use Rattle.declared.specs.Faults.{name-defined, name-undefined}
 use borrow.Author.Needs.{needs}
 use Rattle.declared.proofs.faults.undefined_process.Statement.{statement}
 use Rattle.declared.proofs.faults.undefined_process.Tie as tie
-use Rattle.declared.proofs.faults.undefined_process.Reads as reads
-use Rattle.declared.proofs.faults.undefined_process.Lts as lts
-use Rattle.declared.proofs.lowest.lowered.Reads as lowered-reads
-use Rattle.tables.proofs.search.find_process.Reads as find-process-reads
 
 -- src/faults.rt:46:9
 find-process-requires : tie.Need-find-process-requires

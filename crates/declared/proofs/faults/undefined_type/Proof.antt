@@ -2,10 +2,6 @@ use Rattle.declared.specs.Faults.{name-defined, name-undefined}
 use borrow.Author.Needs.{needs}
 use Rattle.declared.proofs.faults.undefined_type.Statement.{statement}
 use Rattle.declared.proofs.faults.undefined_type.Tie as tie
-use Rattle.declared.proofs.faults.undefined_type.Reads as reads
-use Rattle.declared.proofs.faults.undefined_type.Lts as lts
-use Rattle.declared.proofs.lowest.lowered.Reads as lowered-reads
-use Rattle.tables.proofs.search.find_type.Reads as find-type-reads
 
 -- src/faults.rt:34:9
 find-type-requires : tie.Need-find-type-requires

@@ -3,8 +3,6 @@ use borrow.Author.Tests.{lt-ltb, le-ltb}
 use Rattle.declared.specs.Lowest.{under-nothing, under-lower, under-higher}
 use Rattle.declared.proofs.lowest.lowered.Statement.{statement}
 use Rattle.declared.proofs.lowest.lowered.Tie as tie
-use Rattle.declared.proofs.lowest.lowered.Reads as reads
-use Rattle.declared.proofs.lowest.lowered.Lts as lts
 
 -- src/lowest.rt:22:20
 enum-known-low : tie.Need-enum-known-low

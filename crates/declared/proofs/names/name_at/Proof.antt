@@ -3,15 +3,6 @@ use native.Mathlib.Omega.{arith}
 use borrow.Author.Needs.{needs}
 use Rattle.declared.proofs.names.name_at.Statement.{statement}
 use Rattle.declared.proofs.names.name_at.Tie as tie
-use Rattle.declared.proofs.names.name_at.Reads as reads
-use Rattle.declared.proofs.names.name_at.Lts as lts
-use Rattle.declared.proofs.names.label.Reads as label-reads
-use Rattle.declared.proofs.names.name.Reads as name-reads
-use Rattle.tables.proofs.access.alternative.Reads as alternative-reads
-use Rattle.tables.proofs.access.branch.Reads as branch-reads
-use Rattle.tables.proofs.access.declared_process.Reads as declared-process-reads
-use Rattle.tables.proofs.access.declared_type.Reads as declared-type-reads
-use Rattle.tables.proofs.access.entry.Reads as entry-reads
 
 -- src/names.rt:58:17
 enum-told : tie.Need-enum-told
@@ -19,7 +10,7 @@ enum-told c = search needs
 
 -- src/names.rt:58:17
 declared-type-requires : tie.Need-declared-type-requires
-declared-type-requires c κs = (c .before .before .before .pre .0, fits-types (c .before .before .before .pre .1) (c .before .before .before .pre .2) (c .enum-told .given .1))
+declared-type-requires c κs = (c .before .before .before .pre .0, fits-types _ (c .before .before .before .pre .1) (c .enum-told .given .1))
 
 -- src/names.rt:59:13
 name-requires : tie.Need-name-requires
@@ -31,7 +22,7 @@ enum-told-2 c = search needs
 
 -- src/names.rt:62:17
 declared-process-requires : tie.Need-declared-process-requires
-declared-process-requires c κs = (c .before .before .before .pre .0, fits-processes (c .before .before .before .pre .1) (c .before .before .before .pre .2) (c .enum-told2 .given .1))
+declared-process-requires c κs = (c .before .before .before .pre .0, fits-processes _ (c .before .before .before .pre .1) (c .enum-told2 .given .1))
 
 -- src/names.rt:63:13
 name-requires-2 : tie.Need-name-requires-2
@@ -43,11 +34,11 @@ enum-known-names c = search needs
 
 -- src/names.rt:66:36
 add-entry : tie.Need-add-entry
-add-entry c = omega (arith, fits-entries (c .before .before .before .before .pre .1) (c .before .before .before .before .pre .2) (c .before .names .given .1))
+add-entry c = omega (arith, fits-entries _ (c .before .before .before .before .pre .1) (c .before .names .given .1))
 
 -- src/names.rt:66:17
 entry-requires : tie.Need-entry-requires
-entry-requires c κs = (c .before .before .before .before .pre .0, fits-entries (c .before .before .before .before .pre .1) (c .before .before .before .before .pre .2) (c .before .names .given .1))
+entry-requires c κs = (c .before .before .before .before .pre .0, fits-entries _ (c .before .before .before .before .pre .1) (c .before .names .given .1))
 
 -- src/names.rt:67:13
 name-requires-3 : tie.Need-name-requires-3
@@ -59,11 +50,11 @@ enum-known-names-2 c = search needs
 
 -- src/names.rt:70:42
 sub-alternative : tie.Need-sub-alternative
-sub-alternative c = fits-alternatives (c .before .before .before .before .pre .1) (c .before .before .before .before .pre .2) (c .before .names2 .given .1) .0
+sub-alternative c = fits-alternatives _ (c .before .before .before .before .pre .1) (c .before .names2 .given .1) .0
 
 -- src/names.rt:70:17
 alternative-requires : tie.Need-alternative-requires
-alternative-requires c κs = let f = fits-alternatives (c .before .before .before .before .pre .1) (c .before .before .before .before .pre .2) (c .before .names2 .given .1) in (c .before .before .before .before .pre .0, f .1, f .2)
+alternative-requires c κs = let f = fits-alternatives _ (c .before .before .before .before .pre .1) (c .before .names2 .given .1) in (c .before .before .before .before .pre .0, f .1, f .2)
 
 -- src/names.rt:71:13
 label-requires : tie.Need-label-requires
@@ -75,11 +66,11 @@ enum-known-names-3 c = search needs
 
 -- src/names.rt:74:37
 sub-branch : tie.Need-sub-branch
-sub-branch c = fits-branches (c .before .before .before .before .pre .1) (c .before .before .before .before .pre .2) (c .before .names3 .given .1) .0
+sub-branch c = fits-branches _ (c .before .before .before .before .pre .1) (c .before .names3 .given .1) .0
 
 -- src/names.rt:74:17
 branch-requires : tie.Need-branch-requires
-branch-requires c κs = let f = fits-branches (c .before .before .before .before .pre .1) (c .before .before .before .before .pre .2) (c .before .names3 .given .1) in (c .before .before .before .before .pre .0, f .1, f .2)
+branch-requires c κs = let f = fits-branches _ (c .before .before .before .before .pre .1) (c .before .names3 .given .1) in (c .before .before .before .before .pre .0, f .1, f .2)
 
 -- src/names.rt:75:13
 label-requires-2 : tie.Need-label-requires-2

@@ -1,13 +1,8 @@
-use Rattle.declared.specs.Names.{nameOf, repeat-seen, repeat-new}
+use Rattle.declared.specs.Names.{repeat-seen, repeat-new}
 use mathlib.Core.Path.{ap, sym}
 use borrow.Author.Needs.{needs}
 use Rattle.declared.proofs.names.repeated_name.Statement.{statement}
 use Rattle.declared.proofs.names.repeated_name.Tie as tie
-use Rattle.declared.proofs.names.repeated_name.Reads as reads
-use Rattle.declared.proofs.names.repeated_name.Lts as lts
-use Rattle.declared.proofs.lowest.lowered.Reads as lowered-reads
-use Rattle.declared.proofs.names.name_at.Reads as name-at-reads
-use Rattle.declared.proofs.names.seen_before.Reads as seen-before-reads
 
 -- src/names.rt:117:8
 seen-before-requires : tie.Need-seen-before-requires

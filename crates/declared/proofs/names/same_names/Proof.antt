@@ -2,10 +2,6 @@ use Rattle.declared.specs.Names.{compared}
 use borrow.Author.Needs.{needs}
 use Rattle.declared.proofs.names.same_names.Statement.{statement}
 use Rattle.declared.proofs.names.same_names.Tie as tie
-use Rattle.declared.proofs.names.same_names.Reads as reads
-use Rattle.declared.proofs.names.same_names.Lts as lts
-use Rattle.declared.proofs.names.name_at.Reads as name-at-reads
-use Rattle.notation.proofs.token.names_equal.Reads as names-equal-reads
 
 -- src/names.rt:85:9
 name-at-requires : tie.Need-name-at-requires

@@ -1,17 +1,15 @@
-use borrow.Author.Needs.{needs}
-use Rattle.declared.specs.Names.{nameOf, Seeking, seek-start, seek-end, seek-found, seek-on}
+use Prim.Native.Nat.{_+_, _-_}
 use native.Mathlib.Omega.{arith}
+use borrow.Author.Needs.{needs}
+use Rattle.declared.specs.Names.{nameOf, Seeking, seek-start, seek-end, seek-found, seek-on, fits-less}
 use Rattle.declared.proofs.names.seen_before.Statement.{statement}
 use Rattle.declared.proofs.names.seen_before.Tie as tie
-use Rattle.declared.proofs.names.seen_before.Reads as reads
-use Rattle.declared.proofs.names.seen_before.Lts as lts
-use Rattle.declared.proofs.names.same_names.Reads as same-names-reads
 
 abbrev Inv-loop : tie.InvT-loop
-Inv-loop text scratch names j count k₀ k = Seeking (nameOf text scratch names) (nameOf text scratch names j .name) j k
+Inv-loop text scratch names j k₀ k = Seeking (nameOf text scratch names) (nameOf text scratch names j .name) j k
 
 abbrev μ-loop : tie.MeasureT-loop
-μ-loop text scratch names j count k₀ k = k
+μ-loop text scratch names j k₀ k = k
 
 -- src/names.rt:96:5
 loop-holds : tie.Need-loop-holds Inv-loop μ-loop
@@ -23,7 +21,7 @@ sub-k c = search needs
 
 -- src/names.rt:98:12
 same-names-requires : tie.Need-same-names-requires Inv-loop μ-loop
-same-names-requires c κs = search needs
+same-names-requires c κs = (c .before .before .before .before .pre .0, c .before .before .before .before .pre .1, fits-less (c .before .before .before .before .args .names) (c .before .loop .k - 1 + 1) (c .before .before .before .before .args .j + 1) (omega (arith, c .loop-test .taken, c .before .loop .inv .upto)) (c .before .before .before .before .pre .1))
 
 -- src/names.rt:99:13
 returns : tie.Need-returns Inv-loop μ-loop

@@ -7,10 +7,6 @@ use Rattle.declared.specs.Listed.{entries-fit, entry-first}
 use Rattle.declared.specs.DeclarationFaults.{entryFaults, entry-walked, entries-over}
 use Rattle.declared.proofs.passes.entries_faults.Statement.{statement}
 use Rattle.declared.proofs.passes.entries_faults.Tie as tie
-use Rattle.declared.proofs.passes.entries_faults.Reads as reads
-use Rattle.declared.proofs.passes.entries_faults.Lts as lts
-use Rattle.declared.proofs.faults.type_faults.Reads as type-faults-reads
-use Rattle.tables.proofs.access.entry.Reads as entry-reads
 
 abbrev Inv-loop : tie.InvT-loop
 Inv-loop text scratch pass i n l₀ k₀ l k = Walking (entryFaults text scratch pass i) l₀ n k l

@@ -8,10 +8,6 @@ use Rattle.tables.specs.Program.{programIn}
 use Rattle.declared.specs.DeclarationFaults.{declarationFaults}
 use Rattle.declared.proofs.passes.processes_faults.Statement.{statement}
 use Rattle.declared.proofs.passes.processes_faults.Tie as tie
-use Rattle.declared.proofs.passes.processes_faults.Reads as reads
-use Rattle.declared.proofs.passes.processes_faults.Lts as lts
-use Rattle.declared.proofs.passes.signature_faults.Reads as signature-faults-reads
-use Rattle.tables.proofs.access.process_count.Reads as process-count-reads
 
 abbrev Inv-loop : tie.InvT-loop
 Inv-loop text scratch pass n l₀ i₀ l i = Walking (λ j. declarationFaults pass (programIn text scratch) (procDeclaration text scratch j)) l₀ (tallyIn scratch .processes) i l

@@ -3,13 +3,6 @@ use Rattle.declared.specs.DeclarationFaults.{repeated-in}
 use borrow.Author.Needs.{needs}
 use Rattle.declared.proofs.passes.repeated_at.Statement.{statement}
 use Rattle.declared.proofs.passes.repeated_at.Tie as tie
-use Rattle.declared.proofs.passes.repeated_at.Reads as reads
-use Rattle.declared.proofs.passes.repeated_at.Lts as lts
-use Rattle.declared.proofs.names.repeated_names.Reads as repeated-names-reads
-use Rattle.declared.proofs.passes.processes_faults.Reads as processes-faults-reads
-use Rattle.declared.proofs.passes.types_faults.Reads as types-faults-reads
-use Rattle.tables.proofs.access.process_count.Reads as process-count-reads
-use Rattle.tables.proofs.access.type_count.Reads as type-count-reads
 
 -- src/passes.rt:113:9
 type-count-requires : tie.Need-type-count-requires

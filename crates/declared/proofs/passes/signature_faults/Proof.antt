@@ -1,17 +1,10 @@
 use mathlib.Core.Logic.{⊎-elim}
 use native.Mathlib.Omega.{arith}
 use Rattle.declared.specs.Lowest.{lowered-then}
-use Rattle.declared.specs.Listed.{entries-fit}
 use Rattle.declared.specs.DeclarationFaults.{signature-fits, names-room, provided-room, process-walked}
 use borrow.Author.Needs.{needs}
 use Rattle.declared.proofs.passes.signature_faults.Statement.{statement}
 use Rattle.declared.proofs.passes.signature_faults.Tie as tie
-use Rattle.declared.proofs.passes.signature_faults.Reads as reads
-use Rattle.declared.proofs.passes.signature_faults.Lts as lts
-use Rattle.declared.proofs.faults.list_faults.Reads as list-faults-reads
-use Rattle.declared.proofs.passes.entries_faults.Reads as entries-faults-reads
-use Rattle.declared.proofs.processes.process_faults.Reads as process-faults-reads
-use Rattle.tables.proofs.access.declared_process.Reads as declared-process-reads
 
 -- src/passes.rt:53:9
 declared-process-requires : tie.Need-declared-process-requires

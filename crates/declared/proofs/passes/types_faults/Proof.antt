@@ -8,11 +8,6 @@ use Rattle.tables.specs.Program.{programIn}
 use Rattle.declared.specs.DeclarationFaults.{declarationFaults, type-walked}
 use Rattle.declared.proofs.passes.types_faults.Statement.{statement}
 use Rattle.declared.proofs.passes.types_faults.Tie as tie
-use Rattle.declared.proofs.passes.types_faults.Reads as reads
-use Rattle.declared.proofs.passes.types_faults.Lts as lts
-use Rattle.declared.proofs.faults.type_faults.Reads as type-faults-reads
-use Rattle.tables.proofs.access.declared_type.Reads as declared-type-reads
-use Rattle.tables.proofs.access.type_count.Reads as type-count-reads
 
 abbrev Inv-loop : tie.InvT-loop
 Inv-loop text scratch pass n l₀ i₀ l i = Walking (λ j. declarationFaults pass (programIn text scratch) (typeDeclaration text scratch j)) l₀ (tallyIn scratch .types) i l

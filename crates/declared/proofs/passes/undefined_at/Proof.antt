@@ -3,11 +3,6 @@ use Rattle.declared.specs.DeclarationFaults.{undefined-in}
 use borrow.Author.Needs.{needs}
 use Rattle.declared.proofs.passes.undefined_at.Statement.{statement}
 use Rattle.declared.proofs.passes.undefined_at.Tie as tie
-use Rattle.declared.proofs.passes.undefined_at.Reads as reads
-use Rattle.declared.proofs.passes.undefined_at.Lts as lts
-use Rattle.declared.proofs.passes.processes_faults.Reads as processes-faults-reads
-use Rattle.declared.proofs.passes.types_faults.Reads as types-faults-reads
-use Rattle.declared.proofs.passes.undefined_execs.Reads as undefined-execs-reads
 
 -- src/passes.rt:126:9
 types-faults-requires : tie.Need-types-faults-requires

@@ -9,11 +9,6 @@ use Rattle.calculus.specs.Declarations.{ownUndefined}
 use Rattle.declared.specs.DeclarationFaults.{exec-walked}
 use Rattle.declared.proofs.passes.undefined_execs.Statement.{statement}
 use Rattle.declared.proofs.passes.undefined_execs.Tie as tie
-use Rattle.declared.proofs.passes.undefined_execs.Reads as reads
-use Rattle.declared.proofs.passes.undefined_execs.Lts as lts
-use Rattle.declared.proofs.faults.undefined_process.Reads as undefined-process-reads
-use Rattle.tables.proofs.access.exec_at.Reads as exec-at-reads
-use Rattle.tables.proofs.access.exec_count.Reads as exec-count-reads
 
 abbrev Inv-loop : tie.InvT-loop
 Inv-loop text scratch n l₀ i₀ l i = Walking (λ j. ownUndefined (programIn text scratch) (execDeclaration text scratch j)) l₀ (tallyIn scratch .execs) i l

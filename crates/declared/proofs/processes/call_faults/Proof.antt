@@ -2,9 +2,6 @@ use Rattle.declared.specs.ProcessFaults.{call-passed, call-sought}
 use borrow.Author.Needs.{needs}
 use Rattle.declared.proofs.processes.call_faults.Statement.{statement}
 use Rattle.declared.proofs.processes.call_faults.Tie as tie
-use Rattle.declared.proofs.processes.call_faults.Reads as reads
-use Rattle.declared.proofs.processes.call_faults.Lts as lts
-use Rattle.declared.proofs.faults.undefined_process.Reads as undefined-process-reads
 
 -- src/processes.rt:26:27
 enum-told : tie.Need-enum-told

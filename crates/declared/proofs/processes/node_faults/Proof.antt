@@ -3,11 +3,6 @@ use Rattle.declared.specs.ProcessFaults.{spawn-type, recv-branches, own-
 use borrow.Author.Needs.{needs}
 use Rattle.declared.proofs.processes.node_faults.Statement.{statement}
 use Rattle.declared.proofs.processes.node_faults.Tie as tie
-use Rattle.declared.proofs.processes.node_faults.Reads as reads
-use Rattle.declared.proofs.processes.node_faults.Lts as lts
-use Rattle.declared.proofs.faults.list_faults.Reads as list-faults-reads
-use Rattle.declared.proofs.faults.type_faults.Reads as type-faults-reads
-use Rattle.declared.proofs.processes.call_faults.Reads as call-faults-reads
 
 -- src/processes.rt:37:9
 type-faults-requires : tie.Need-type-faults-requires

@@ -3,8 +3,6 @@ use mathlib.Core.Path.{refl}
 use Rattle.declared.specs.ProcessFaults.{partsOf}
 use Rattle.declared.proofs.processes.parts_of.Statement.{statement}
 use Rattle.declared.proofs.processes.parts_of.Tie as tie
-use Rattle.declared.proofs.processes.parts_of.Reads as reads
-use Rattle.declared.proofs.processes.parts_of.Lts as lts
 
 -- src/processes.rt:33:9
 returns : tie.Need-returns

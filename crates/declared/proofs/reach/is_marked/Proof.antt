@@ -7,10 +7,6 @@ use Rattle.tables.specs.Decode.{tallyIn}
 use Rattle.declared.specs.Reach.{isMarked, Testing, test-start, test-on, test-found, test-end, marked-any}
 use Rattle.declared.proofs.reach.is_marked.Statement.{statement}
 use Rattle.declared.proofs.reach.is_marked.Tie as tie
-use Rattle.declared.proofs.reach.is_marked.Reads as reads
-use Rattle.declared.proofs.reach.is_marked.Lts as lts
-use Rattle.declared.proofs.reach.marked_so.Reads as marked-so-reads
-use Rattle.tables.proofs.access.type_count.Reads as type-count-reads
 
 abbrev Inv-loop : tie.InvT-loop
 Inv-loop text scratch marks at n i₀ i = Testing (isMarked text scratch marks (nameAt text at)) (tallyIn scratch .types) i

@@ -2,10 +2,6 @@ use Rattle.declared.specs.Reach.{marked-not, marked-named}
 use borrow.Author.Needs.{needs}
 use Rattle.declared.proofs.reach.marked_so.Statement.{statement}
 use Rattle.declared.proofs.reach.marked_so.Tie as tie
-use Rattle.declared.proofs.reach.marked_so.Reads as reads
-use Rattle.declared.proofs.reach.marked_so.Lts as lts
-use Rattle.notation.proofs.token.names_equal.Reads as names-equal-reads
-use Rattle.tables.proofs.access.declared_type.Reads as declared-type-reads
 
 -- src/reach.rt:25:8
 array-read-if1 : tie.Need-array-read-if1

@@ -2,15 +2,9 @@ use borrow.Author.Needs.{needs}
 use native.Mathlib.Omega.{arith}
 use Prim.Native.Nat.{_-_}
 use mathlib.Core.Path.{refl}
-use Rattle.tables.specs.Decode.{tallyIn}
 use Rattle.declared.specs.Reach.{marked, Marking, mark-start, mark-on, mark-end}
 use Rattle.declared.proofs.reach.next_marks.Statement.{statement}
 use Rattle.declared.proofs.reach.next_marks.Tie as tie
-use Rattle.declared.proofs.reach.next_marks.Reads as reads
-use Rattle.declared.proofs.reach.next_marks.Lts as lts
-use Rattle.declared.proofs.reach.has_other.Reads as has-other-reads
-use Rattle.tables.proofs.access.declared_type.Reads as declared-type-reads
-use Rattle.tables.proofs.access.type_count.Reads as type-count-reads
 
 abbrev Inv-loop : tie.InvT-loop
 Inv-loop text scratch marks n next₀ i₀ next i = Marking text scratch (marked text scratch marks) next i

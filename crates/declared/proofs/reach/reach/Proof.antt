@@ -5,10 +5,6 @@ use mathlib.Core.Path.{refl}
 use Rattle.declared.specs.Reach.{Rounds, rounds-start, rounds-on, rounds-end}
 use Rattle.declared.proofs.reach.reach.Statement.{statement}
 use Rattle.declared.proofs.reach.reach.Tie as tie
-use Rattle.declared.proofs.reach.reach.Reads as reads
-use Rattle.declared.proofs.reach.reach.Lts as lts
-use Rattle.declared.proofs.reach.next_marks.Reads as next-marks-reads
-use Rattle.tables.proofs.access.type_count.Reads as type-count-reads
 
 abbrev Inv-loop : tie.InvT-loop
 Inv-loop text scratch n marks₀ k₀ marks k = Rounds text scratch marks k

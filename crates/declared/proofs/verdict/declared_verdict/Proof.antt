@@ -3,13 +3,6 @@ use Rattle.declared.specs.Verdicts.{pass, stops, goes-on}
 use borrow.Author.Needs.{needs}
 use Rattle.declared.proofs.verdict.declared_verdict.Statement.{statement}
 use Rattle.declared.proofs.verdict.declared_verdict.Tie as tie
-use Rattle.declared.proofs.verdict.declared_verdict.Reads as reads
-use Rattle.declared.proofs.verdict.declared_verdict.Lts as lts
-use Rattle.declared.proofs.bare.bare_names.Reads as bare-names-reads
-use Rattle.declared.proofs.execs.wrong_execs.Reads as wrong-execs-reads
-use Rattle.declared.proofs.passes.repeated_at.Reads as repeated-at-reads
-use Rattle.declared.proofs.passes.undefined_at.Reads as undefined-at-reads
-use Rattle.declared.proofs.verdict.refusal.Reads as refusal-reads
 
 -- src/verdict.rt:29:31
 repeated-at-requires : tie.Need-repeated-at-requires

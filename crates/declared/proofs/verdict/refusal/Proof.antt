@@ -3,8 +3,6 @@ use Rattle.declared.specs.Lowest.{refusedAt}
 use borrow.Author.Needs.{needs}
 use Rattle.declared.proofs.verdict.refusal.Statement.{statement}
 use Rattle.declared.proofs.verdict.refusal.Tie as tie
-use Rattle.declared.proofs.verdict.refusal.Reads as reads
-use Rattle.declared.proofs.verdict.refusal.Lts as lts
 
 -- src/verdict.rt:19:28
 enum-told : tie.Need-enum-told
