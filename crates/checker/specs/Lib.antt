@@ -2,3 +2,5 @@ pub mod Offers
 pub mod Nodes
 pub mod Spawns
 pub mod Process
+pub mod Bodies
+pub mod Texts

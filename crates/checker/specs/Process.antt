@@ -22,9 +22,9 @@ use Rattle.calculus.specs.Checking.{check, checkBranches}
 use Rattle.calculus.specs.Verdict.{fine, refused, andThen, demand, having}
 use Rattle.calculus.specs.Verdict as calculus
 use Rattle.runs.specs.declared.records.Held.{Held}
-use Rattle.declared.specs.Lowest.{verdictOf}
-use Rattle.declared.specs.declared.lowest.Verdict.{Verdict}
-use Rattle.declared.specs.declared.lowest.Verdict.the-variants as verdict
+use Rattle.declared.specs.Verdicts.{verdictOf}
+use Rattle.declared.specs.declared.verdict.Verdict.{Verdict}
+use Rattle.declared.specs.declared.verdict.Verdict.the-variants as verdict
 use Rattle.tables.specs.Access.{TermOf}
 use Rattle.tables.specs.Decode.{processIn}
 use Rattle.tables.specs.Program.{plainIn, programIn}

@@ -19,7 +19,7 @@ pub enum Reading {
 }
 
 // All words are 0.
-fn zero(part: &mut [u32])
+pub fn zero(part: &mut [u32])
     requires { ⌜ length (now part) ≡ scratchWords ⌝ }
     ensures { λ r. ⌜ now (part .exit) ≡ zeros ⌝ }
 {
