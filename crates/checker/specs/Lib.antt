@@ -4,3 +4,4 @@ pub mod Spawns
 pub mod Process
 pub mod Bodies
 pub mod Texts
+pub mod Demand
