@@ -8,7 +8,7 @@ use native.Mathlib.Nat.{le-of-suc-le-suc, not-suc-le-zero, eq-or-lt-of-le, add-z
 use lib.Dec.{T, leb, eqb, eqb→eq, leb→le}
 use lib.ListN.{length, getD, take, drop}
 use Rattle.notation.specs.Bytes.{letter, nameByte, blank, same}
-use Rattle.notation.specs.Token.{symbols}
+use Rattle.notation.specs.Token.{symbols, rows}
 
 and-left : (a b : Bool) → T (a && b) → T a
 and-left true b t = tt
@@ -74,25 +74,28 @@ same→eq (x ∷ xs) (y ∷ ys) t = go (eqb x y) refl (same→eq xs ys) t
         cc
     go false e rest t = absurd t
 
--- ── the symbols' table: for each its length and its bytes, in a row of seven
-abbrev pub pad : ℕ → List ℕ → List ℕ
-pad zero xs = []
-pad (suc n) [] = 0 ∷ pad n []
-pad (suc n) (x ∷ xs) = x ∷ pad n xs
-
-abbrev pub rows : List (List ℕ) → List ℕ
-rows [] = []
-rows (w ∷ ws) = length w ∷ pad 6 w ++ rows ws
-
+-- ── the symbols' table
 abbrev pub rowLength : ℕ → ℕ
 rowLength k = getD (rows symbols) (k * 7) 0
 
 module _ (k : ℕ) (h : k < 30) where
-  pub row-length : rowLength k ≤ 6
+  row-length : rowLength k ≤ 6
   unfolding symbols
   row-length = leb→le (rowLength k) 6 (below-at (λ k. leb (rowLength k) 6) 30 tt k h)
 
-  pub row-symbol : take (rowLength k) (drop (k * 7 + 1) (rows symbols)) ≡ getD symbols k []
+  row-symbol : take (rowLength k) (drop (k * 7 + 1) (rows symbols)) ≡ getD symbols k []
   unfolding symbols same
   row-symbol =
       same→eq _ _ (below-at (λ k. same (take (rowLength k) (drop (k * 7 + 1) (rows symbols))) (getD symbols k [])) 30 tt k h)
+
+-- the same of any bytes that are the table
+module _ (t : List ℕ) (e : t ≡ rows symbols) where
+  pub table-long : length t ≡ 210
+  unfolding symbols
+  table-long = ap length e
+
+  pub table-row : (k : ℕ) → k < 30 → getD t (k * 7) 0 ≤ 6
+  table-row k h = subst (λ l. getD l (k * 7) 0 ≤ 6) (sym e) (row-length k h)
+
+  pub table-symbol : (k : ℕ) → k < 30 → take (getD t (k * 7) 0) (drop (k * 7 + 1) t) ≡ getD symbols k []
+  table-symbol k h = subst (λ l. take (getD l (k * 7) 0) (drop (k * 7 + 1) l) ≡ getD symbols k []) (sym e) (row-symbol k h)

@@ -1,6 +1,6 @@
 -- The token at an offset of a text: total over every text and offset.
-use Prim.Native.Nat.{ℕ, _+_, _-_, _≤_, _<_}
-use mathlib.Core.List.{List, [], _∷_}
+use Prim.Native.Nat.{ℕ, zero, suc, _+_, _-_, _≤_, _<_}
+use mathlib.Core.List.{List, [], _∷_, _++_}
 use mathlib.Core.Bool.{not, cond, _||_}
 use lib.ListN.{length, getD, take, drop}
 use lib.Dec.{leb, ltb, eqb}
@@ -147,6 +147,16 @@ kFault = 32
 
 abbrev pub kEnd : ℕ
 kEnd = 33
+
+-- the table of the code: for each symbol its length and its bytes, in a row of seven
+abbrev pub pad : ℕ → List ℕ → List ℕ
+pad zero xs = []
+pad (suc n) [] = 0 ∷ pad n []
+pad (suc n) (x ∷ xs) = x ∷ pad n xs
+
+abbrev pub rows : List (List ℕ) → List ℕ
+rows [] = []
+rows (w ∷ ws) = length w ∷ pad 6 w ++ rows ws
 
 -- the kind of a word or mark; that of a name where it is none
 unfoldable pub symbol : List ℕ → ℕ

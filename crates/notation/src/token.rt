@@ -5,7 +5,7 @@ ghost use mathlib.Core.Bool.{not};
 ghost use mathlib.Core.List.{[]};
 ghost use lib.ListN.{length, getD, take, drop};
 ghost use Rattle.notation.specs.Bytes.{letter, nameByte, blank, same};
-ghost use Rattle.notation.specs.Token.{symbols, symbol, skip, nameEnd, nameAt, named, wordAt, labelAt, markAt, firstAt, tokenAt, Onward};
+ghost use Rattle.notation.specs.Token.{symbols, rows, symbol, skip, nameEnd, nameAt, named, wordAt, labelAt, markAt, firstAt, tokenAt, Onward};
 use crate::script::Script;
 
 // A token: its kind, where its first byte stands, and where the byte after its last one stands.
@@ -205,24 +205,25 @@ fn same_bytes(a: &[u8], b: &[u8]) -> bool
 }
 
 // The bytes w are the k-th symbol.
-fn is_symbol(w: &[u8], k: usize) -> bool
-    requires { ⌜ k < 30 ⌝ }
+fn is_symbol(w: &[u8], table: &[u8], k: usize) -> bool
+    requires { ⌜ (k < 30) × (now table ≡ rows symbols) ⌝ }
     ensures { λ r. ⌜ r ≡ same (now (w .entry)) (getD symbols k []) ⌝ }
 {
     let row = k * 7;
-    let n = SYMBOLS[row] as usize;
+    let n = table[row] as usize;
     let from = row + 1;
     let to = from + n;
-    same_bytes(w, &SYMBOLS[from..to])
+    same_bytes(w, &table[from..to])
 }
 
 // The kind of the bytes w: a symbol's place in the table, or a name's kind.
 fn symbol(w: &[u8]) -> usize
     ensures { λ r. ⌜ r ≡ symbol (now (w .entry)) ⌝ }
 {
+    let table = SYMBOLS;
     let mut k = 0;
     while k < 30 {
-        if is_symbol(w, k) {
+        if is_symbol(w, &table, k) {
             return k;
         }
         k += 1;
