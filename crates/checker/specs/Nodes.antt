@@ -1,5 +1,5 @@
 -- What the rules ask of one term, by the kind of its node.
-use Prim.Native.Nat.{ℕ, zero, suc, _+_, _<_, _≤_}
+use Prim.Native.Nat.{ℕ, zero, suc, _+_, _-_, _<_, _≤_}
 use mathlib.Core.Path.{_≡_, refl, sym, _∙_, ap, subst}
 use mathlib.Core.List.{List, [], _∷_, _++_}
 use mathlib.Core.Bool.{Bool, true, false, cond, not, _&&_}
@@ -7,7 +7,7 @@ use mathlib.Core.Option.{Option, some, none}
 use native.Mathlib.Omega.{arith}
 use lib.Dec.{eqb}
 use lib.ListN.{length}
-use borrow.Author.Tests.{eq-eqb, ne-eqb}
+use borrow.Author.Tests.{eqb-true, eqb-false}
 use Rattle.notation.specs.Limits.{textLimit, processTermLimit}
 use Rattle.notation.specs.Token.{nameAt}
 use Rattle.notation.specs.Tables.{termNode}
@@ -24,7 +24,7 @@ use Rattle.runs.specs.declared.records.Held.{Held}
 use Rattle.tables.specs.Decode.{argumentsAt, processIn}
 use Rattle.tables.specs.Names.{CallAt}
 use Rattle.tables.specs.Program.{plainIn, programIn}
-use Rattle.tables.specs.Roots.{atKind, Handlers, each-kind, processCases, TypeIn, ProcessIn, BranchesIn, branchesIn}
+use Rattle.tables.specs.Roots.{Cases, _or_, atKind, processCases, TypeIn, ProcessIn, BranchesIn, branchesIn}
 use Rattle.tables.specs.Stands.{Smaller}
 use Rattle.contexts.specs.Held.{HeldIn}
 use Rattle.terms.specs.Next.{Step, stop, go, granted, resume, contextIn, demand-asks}
@@ -77,373 +77,145 @@ pub record SpawnHalf (s w : List ℕ) (h : Held) (n : TermNode) (first : Bool) (
   pub is : contextIn s w r ≡ halfContext s w n (contextIn s w h) first
   pub fits : HeldIn s w r
 
--- ── the check of a process by the kind of its node
-module _ (s w : List ℕ) (p : ℕ) (A : Proc) (at first second third : ℕ) where
-  abbrev node : ℕ → TermNode
-  node k = termNode k at first second third
+-- a number of two neighbours is one of them
+either : (Q : ℕ → Type 0) (j k : ℕ) → (k ≡ j → Q j) → (k ≡ suc j → Q (suc j)) → j ≤ k → k ≤ suc j → Q k
+either Q j k f g l h = go (eqb k j) refl
+  where
+    go : (b : Bool) → eqb k j ≡ b → Q k
+    go true e = subst Q (sym (eqb-true k j e)) (f (eqb-true k j e))
+    go false e = let z = last e in subst Q (sym z) (g z)
+      where
+        last : eqb k j ≡ false → k ≡ suc j
+        last e = omega (arith, l, h, eqb-false k j e)
+
+-- there are no more kinds than cases
+abbrev size : Cases → ℕ
+size Cases.none = 0
+size (C or r) = suc (size r)
+
+within : (cs : Cases) (k : ℕ) → atKind cs k → k < size cs
+within Cases.none k e = absurd e
+within (C or r) zero e = omega arith
+within (C or r) (suc k) e = omega (arith, within r k e)
+
+-- ── the check of the process at a node, by the node's kind
+module _ (s w : List ℕ) (p : ℕ) (n : TermNode) (t : NodeIn s w p n) where
+  abbrev A : Proc
+  A = processIn s w p
 
   abbrev P : Program
   P = programIn s w
+
+  abbrev node : ℕ → TermNode
+  node k = termNode k (n .at) (n .first) (n .second) (n .third)
+
+  abbrev Said : ℕ → Type 0
+  Said k = atKind (processCases s w p n A) k
+
+  -- what the node says, its kind being known
+  said : (k : ℕ) → n .kind ≡ k → Said k
+  said k z = subst Said z (t .says)
 
   abbrev Part : ℕ → Type 0
   Part x = Smaller p x × ProcessIn s w x
 
   -- the rule's step, then the rest
   abbrev Over : Bool → (Context → Step) → Type 0
-  Over link t = (G : Context) → check P G link A ≡ resume at (t G) (λ H. check P H link (processIn s w third))
+  Over link step = (G : Context) → check P G link A ≡ resume (n .at) (step G) (λ H. check P H link (processIn s w (n .third)))
 
   abbrev Sends : ℕ → Type 0
-  Sends k = 1 ≤ k → k ≤ 4 → Part third × ((link : Bool) → Over link (sendStep s w (node k)))
+  Sends k = Part (n .third) × ((link : Bool) → Over link (sendStep s w (node k)))
+
+  sends : (k : ℕ) → Said k → 1 ≤ k → k ≤ 4 → Sends k
+  unfolding sendStep
+  sends zero e l h = absurd e
+  sends (suc zero) (f, e) l h = (f, λ link G. ap (check P G link) e ∙ check-send-unit P G link (n .at) _ _)
+  sends (suc (suc zero)) (f, e) l h = (f, λ link G. ap (check P G link) e ∙ check-send-channel P G link (n .at) _ _ _)
+  sends (suc (suc (suc zero))) (f, e) l h = (f, λ link G. ap (check P G link) e ∙ check-send-label P G link (n .at) _ _ _)
+  sends (suc (suc (suc (suc zero)))) (f, e) l h = (f, λ link G. ap (check P G link) e ∙ check-cancel P G link (n .at) _ _)
+  sends (suc (suc (suc (suc (suc k))))) e l h = absurd (omega (arith, h))
+
+  pub send-at : 1 ≤ n .kind → n .kind ≤ 4 → Sends (n .kind)
+  send-at = sends (n .kind) (t .says)
 
   abbrev Receives : ℕ → Type 0
-  Receives k = 6 ≤ k → k ≤ 7 → Part third × (k ≡ 7 → second < textLimit) × ((link : Bool) → Over link (receiveStep s w (node k)))
+  Receives k = Part (n .third) × (k ≡ 7 → n .second < textLimit) × ((link : Bool) → Over link (receiveStep s w (node k)))
+
+  receives-unit : Said 6 → Receives 6
+  unfolding receiveStep
+  receives-unit (f, e) = (f, λ z. absurd (omega (arith, z)), λ link G. ap (check P G link) e ∙ check-recv-unit P G link (n .at) _ _)
+
+  receives-channel : Said 7 → Receives 7
+  unfolding receiveStep
+  receives-channel (b, (f, e)) = (f, λ _. b, λ link G. ap (check P G link) e ∙ check-recv-channel P G link (n .at) _ _ _)
+
+  pub receive-at : 6 ≤ n .kind → n .kind ≤ 7 → Receives (n .kind)
+  receive-at = either Receives 6 (n .kind) (λ z. receives-unit (said 6 z)) (λ z. receives-channel (said 7 z))
 
   abbrev Ends : ℕ → Type 0
   Ends k =
-      9 ≤ k → k ≤ 10
-      → ((k ≡ 9 → ⊥) → CallAt s second (argumentsAt s second .0) (argumentsAt s second .1)) × ((link : Bool) (G : Context) → check P G link A ≡ resume at (endStep s w (node k) G) (λ _. fine))
+      ((k ≡ 9 → ⊥) → CallAt s (n .second) (argumentsAt s (n .second) .0) (argumentsAt s (n .second) .1))
+      × ((link : Bool) (G : Context) → check P G link A ≡ resume (n .at) (endStep s w (node k) G) (λ _. fine))
 
-  abbrev Raises : ℕ → Type 0
-  Raises k = k ≡ 11 → Part third × ((link : Bool) (G : Context) → check P G link A ≡ demand 14 at link (check P G false (processIn s w third)))
-
-  sends : Handlers (processCases s w p (node 0) A) Sends
-  unfolding sendStep
-  sends = (
-    λ e. absurd e,
-    (
-      λ (f, e) l h. (f, λ link G. ap (check P G link) e ∙ check-send-unit P G link at _ _),
-      (
-        λ (f, e) l h. (f, λ link G. ap (check P G link) e ∙ check-send-channel P G link at _ _ _),
-        (
-          λ (f, e) l h. (f, λ link G. ap (check P G link) e ∙ check-send-label P G link at _ _ _),
-          (
-            λ (f, e) l h. (f, λ link G. ap (check P G link) e ∙ check-cancel P G link at _ _),
-            (
-              λ e l h. absurd (omega arith),
-              (
-                λ e l h. absurd (omega arith),
-                (
-                  λ e l h. absurd (omega arith),
-                  (
-                    λ e l h. absurd (omega arith),
-                    (
-                      λ e l h. absurd (omega arith),
-                      (
-                        λ e l h. absurd (omega arith),
-                        (
-                          λ e l h. absurd (omega arith),
-                          (
-                            λ e l h. absurd (omega arith),
-                            tt,
-                          ),
-                        ),
-                      ),
-                    ),
-                  ),
-                ),
-              ),
-            ),
-          ),
-        ),
-      ),
-    ),
-  )
-
-  receives-one : Handlers (processCases s w p (node 0) A) Receives
-  unfolding receiveStep
-  receives-one = (
-    λ e. absurd e,
-    (
-      λ e l h. absurd (omega arith),
-      (
-        λ e l h. absurd (omega arith),
-        (
-          λ e l h. absurd (omega arith),
-          (
-            λ e l h. absurd (omega arith),
-            (
-              λ e l h. absurd (omega arith),
-              (
-                λ (f, e) l h. (f, λ z. absurd (omega arith), λ link G. ap (check P G link) e ∙ check-recv-unit P G link at _ _),
-                (
-                  λ (b, (f, e)) l h. (f, λ _. b, λ link G. ap (check P G link) e ∙ check-recv-channel P G link at _ _ _),
-                  (
-                    λ e l h. absurd (omega arith),
-                    (
-                      λ e l h. absurd (omega arith),
-                      (
-                        λ e l h. absurd (omega arith),
-                        (
-                          λ e l h. absurd (omega arith),
-                          (
-                            λ e l h. absurd (omega arith),
-                            tt,
-                          ),
-                        ),
-                      ),
-                    ),
-                  ),
-                ),
-              ),
-            ),
-          ),
-        ),
-      ),
-    ),
-  )
-
-  ends : Handlers (processCases s w p (node 0) A) Ends
+  ends-fwd : Said 9 → Ends 9
   unfolding endStep
-  ends = (
-    λ e. absurd e,
-    (
-      λ e l h. absurd (omega arith),
-      (
-        λ e l h. absurd (omega arith),
-        (
-          λ e l h. absurd (omega arith),
-          (
-            λ e l h. absurd (omega arith),
-            (
-              λ e l h. absurd (omega arith),
-              (
-                λ e l h. absurd (omega arith),
-                (
-                  λ e l h. absurd (omega arith),
-                  (
-                    λ e l h. absurd (omega arith),
-                    (
-                      λ e l h. (λ n. absurd (n refl), λ link G. ap (check P G link) e ∙ check-fwd P G link at _ _),
-                      (
-                        λ (c, e) l h. (λ _. c, λ link G. ap (check P G link) e ∙ check-call P G link at _ _ _ _),
-                        (
-                          λ e l h. absurd (omega arith),
-                          (
-                            λ e l h. absurd (omega arith),
-                            tt,
-                          ),
-                        ),
-                      ),
-                    ),
-                  ),
-                ),
-              ),
-            ),
-          ),
-        ),
-      ),
-    ),
-  )
+  ends-fwd e = (λ no. absurd (no refl), λ link G. ap (check P G link) e ∙ check-fwd P G link (n .at) _ _)
 
-  -- a raise, a spawn, a recv with labels, a try
-  raises : Handlers (processCases s w p (node 0) A) Raises
+  ends-call : Said 10 → Ends 10
+  unfolding endStep
+  ends-call (c, e) = (λ _. c, λ link G. ap (check P G link) e ∙ check-call P G link (n .at) _ _ _ _)
+
+  pub end-at : 9 ≤ n .kind → n .kind ≤ 10 → Ends (n .kind)
+  end-at = either Ends 9 (n .kind) (λ z. ends-fwd (said 9 z)) (λ z. ends-call (said 10 z))
+
+  abbrev Raises : Type 0
+  Raises = Part (n .third) × ((link : Bool) (G : Context) → check P G link A ≡ demand 14 (n .at) link (check P G false (processIn s w (n .third))))
+
+  raises : Said 11 → Raises
   unfolding check
-  raises = (
-    λ e. absurd e,
-    (
-      λ e z. absurd (omega arith),
-      (
-        λ e z. absurd (omega arith),
-        (
-          λ e z. absurd (omega arith),
-          (
-            λ e z. absurd (omega arith),
-            (
-              λ e z. absurd (omega arith),
-              (
-                λ e z. absurd (omega arith),
-                (
-                  λ e z. absurd (omega arith),
-                  (
-                    λ e z. absurd (omega arith),
-                    (
-                      λ e z. absurd (omega arith),
-                      (
-                        λ e z. absurd (omega arith),
-                        (
-                          λ (f, e) z. (f, λ link G. ap (check P G link) e),
-                          (
-                            λ e z. absurd (omega arith),
-                            tt,
-                          ),
-                        ),
-                      ),
-                    ),
-                  ),
-                ),
-              ),
-            ),
-          ),
-        ),
-      ),
-    ),
-  )
+  raises (f, e) = (f, λ link G. ap (check P G link) e)
 
-  abbrev spawnRest : ℕ → Bool → Context → Verdict
-  spawnRest k link H = andThen (check P (halfContext s w (node k) H true) false (processIn s w second)) (check P (halfContext s w (node k) H false) link (processIn s w third))
+  pub raise-at : n .kind ≡ 11 → Raises
+  raise-at z = raises (said 11 z)
 
-  abbrev Spawns : ℕ → Type 0
-  Spawns k = k ≡ 5 → TypeIn s w first × Part second × Part third × ((link : Bool) (G : Context) → check P G link A ≡ resume at (spawnStep s w (node k) G) (spawnRest k link))
+  abbrev spawnRest : Bool → Context → Verdict
+  spawnRest link H = andThen (check P (halfContext s w n H true) false (processIn s w (n .second))) (check P (halfContext s w n H false) link (processIn s w (n .third)))
 
-  spawns : Handlers (processCases s w p (node 0) A) Spawns
+  abbrev Spawns : Type 0
+  Spawns =
+      TypeIn s w (n .first) × Part (n .second) × Part (n .third)
+      × ((link : Bool) (G : Context) → check P G link A ≡ resume (n .at) (spawnStep s w n G) (spawnRest link))
+
+  spawns : Said 5 → Spawns
   unfolding check spawnStep
-  spawns = (
-    λ e. absurd e,
-    (
-      λ e z. absurd (omega arith),
-      (
-        λ e z. absurd (omega arith),
-        (
-          λ e z. absurd (omega arith),
-          (
-            λ e z. absurd (omega arith),
-            (
-              λ (t, f, (g, e)) z. (t, f, g, λ link G. ap (check P G link) e ∙ demand-asks 13 at (apart? s w (node 5) G) _ (granted 15 (joins? s w (node 5) G) (go G)) (spawnRest 5 link) (demand-asks 15 at (joins? s w (node 5) G) _ (go G) (spawnRest 5 link) refl)),
-              (
-                λ e z. absurd (omega arith),
-                (
-                  λ e z. absurd (omega arith),
-                  (
-                    λ e z. absurd (omega arith),
-                    (
-                      λ e z. absurd (omega arith),
-                      (
-                        λ e z. absurd (omega arith),
-                        (
-                          λ e z. absurd (omega arith),
-                          (
-                            λ e z. absurd (omega arith),
-                            tt,
-                          ),
-                        ),
-                      ),
-                    ),
-                  ),
-                ),
-              ),
-            ),
-          ),
-        ),
-      ),
-    ),
-  )
+  spawns (y, f, (g, e)) =
+      (y, f, g, λ link G. ap (check P G link) e ∙ demand-asks 13 (n .at) (apart? s w n G) _ (granted 15 (joins? s w n G) (go G)) (spawnRest link) (demand-asks 15 (n .at) (joins? s w n G) _ (go G) (spawnRest link) refl))
 
-  abbrev Chooses : ℕ → Type 0
-  Chooses k = k ≡ 8 → BranchesIn s w p second third × ((link : Bool) (G : Context) → check P G link A ≡ choosing-with at (offeredBy s w (node k) G) (λ r. checkBranches P G link at (nameAt s first) r (branchesIn s w second third)))
+  pub spawn-at : n .kind ≡ 5 → Spawns
+  spawn-at z = spawns (said 5 z)
 
-  choosing-one : Handlers (processCases s w p (node 0) A) Chooses
-  choosing-one = (
-    λ e. absurd e,
-    (
-      λ e z. absurd (omega arith),
-      (
-        λ e z. absurd (omega arith),
-        (
-          λ e z. absurd (omega arith),
-          (
-            λ e z. absurd (omega arith),
-            (
-              λ e z. absurd (omega arith),
-              (
-                λ e z. absurd (omega arith),
-                (
-                  λ e z. absurd (omega arith),
-                  (
-                    λ (f, e) z. (f, λ link G. ap (check P G link) e ∙ check-recv-label P G link at _ _),
-                    (
-                      λ e z. absurd (omega arith),
-                      (
-                        λ e z. absurd (omega arith),
-                        (
-                          λ e z. absurd (omega arith),
-                          (
-                            λ e z. absurd (omega arith),
-                            tt,
-                          ),
-                        ),
-                      ),
-                    ),
-                  ),
-                ),
-              ),
-            ),
-          ),
-        ),
-      ),
-    ),
-  )
+  abbrev Chooses : Type 0
+  Chooses =
+      BranchesIn s w p (n .second) (n .third)
+      × ((link : Bool) (G : Context) → check P G link A ≡ choosing-with (n .at) (offeredBy s w n G) (λ r. checkBranches P G link (n .at) (nameAt s (n .first)) r (branchesIn s w (n .second) (n .third))))
 
-  abbrev Tries : ℕ → Type 0
-  Tries k =
-      12 ≤ k
-      → Part second × Part third
-      × ((link : Bool) (G : Context) → check P G link A ≡ demand 13 at (exactlyOne (processIn s w second) (processIn s w third) (names G)) (andThen (check P (tryTakes (processIn s w second) G) true (processIn s w second)) (check P (tryTakes (processIn s w third) G) link (processIn s w third))))
+  choosing-one : Said 8 → Chooses
+  choosing-one (f, e) = (f, λ link G. ap (check P G link) e ∙ check-recv-label P G link (n .at) _ _)
 
-  tries : Handlers (processCases s w p (node 0) A) Tries
+  pub choose-at : n .kind ≡ 8 → Chooses
+  choose-at z = choosing-one (said 8 z)
+
+  abbrev Tries : Type 0
+  Tries =
+      Part (n .second) × Part (n .third)
+      × ((link : Bool) (G : Context) → check P G link A ≡ demand 13 (n .at) (exactlyOne (processIn s w (n .second)) (processIn s w (n .third)) (names G)) (andThen (check P (tryTakes (processIn s w (n .second)) G) true (processIn s w (n .second))) (check P (tryTakes (processIn s w (n .third)) G) link (processIn s w (n .third)))))
+
+  tries : Said 12 → Tries
   unfolding check
-  tries = (
-    λ e. absurd e,
-    (
-      λ e z. absurd (omega arith),
-      (
-        λ e z. absurd (omega arith),
-        (
-          λ e z. absurd (omega arith),
-          (
-            λ e z. absurd (omega arith),
-            (
-              λ e z. absurd (omega arith),
-              (
-                λ e z. absurd (omega arith),
-                (
-                  λ e z. absurd (omega arith),
-                  (
-                    λ e z. absurd (omega arith),
-                    (
-                      λ e z. absurd (omega arith),
-                      (
-                        λ e z. absurd (omega arith),
-                        (
-                          λ e z. absurd (omega arith),
-                          (
-                            λ (f, (g, e)) z. (f, g, λ link G. ap (check P G link) e),
-                            tt,
-                          ),
-                        ),
-                      ),
-                    ),
-                  ),
-                ),
-              ),
-            ),
-          ),
-        ),
-      ),
-    ),
-  )
+  tries (f, (g, e)) = (f, g, λ link G. ap (check P G link) e)
 
--- ── at a node
-module _ (s w : List ℕ) (p : ℕ) (n : TermNode) (t : NodeIn s w p n) where
-  abbrev A : Proc
-  A = processIn s w p
+  thirteen-kinds : n .kind < 13
+  thirteen-kinds = within (processCases s w p n A) (n .kind) (t .says)
 
-  pub send-at : Sends s w p A (n .at) (n .first) (n .second) (n .third) (n .kind)
-  send-at = each-kind (processCases s w p n A) (Sends s w p A (n .at) (n .first) (n .second) (n .third)) (sends s w p A (n .at) (n .first) (n .second) (n .third)) (n .kind) (t .says)
-
-  pub receive-at : Receives s w p A (n .at) (n .first) (n .second) (n .third) (n .kind)
-  receive-at = each-kind (processCases s w p n A) (Receives s w p A (n .at) (n .first) (n .second) (n .third)) (receives-one s w p A (n .at) (n .first) (n .second) (n .third)) (n .kind) (t .says)
-
-  pub end-at : Ends s w p A (n .at) (n .first) (n .second) (n .third) (n .kind)
-  end-at = each-kind (processCases s w p n A) (Ends s w p A (n .at) (n .first) (n .second) (n .third)) (ends s w p A (n .at) (n .first) (n .second) (n .third)) (n .kind) (t .says)
-
-  pub raise-at : Raises s w p A (n .at) (n .first) (n .second) (n .third) (n .kind)
-  raise-at = each-kind (processCases s w p n A) (Raises s w p A (n .at) (n .first) (n .second) (n .third)) (raises s w p A (n .at) (n .first) (n .second) (n .third)) (n .kind) (t .says)
-
-  pub spawn-at : Spawns s w p A (n .at) (n .first) (n .second) (n .third) (n .kind)
-  spawn-at = each-kind (processCases s w p n A) (Spawns s w p A (n .at) (n .first) (n .second) (n .third)) (spawns s w p A (n .at) (n .first) (n .second) (n .third)) (n .kind) (t .says)
-
-  pub choose-at : Chooses s w p A (n .at) (n .first) (n .second) (n .third) (n .kind)
-  choose-at = each-kind (processCases s w p n A) (Chooses s w p A (n .at) (n .first) (n .second) (n .third)) (choosing-one s w p A (n .at) (n .first) (n .second) (n .third)) (n .kind) (t .says)
-
-  pub try-at : Tries s w p A (n .at) (n .first) (n .second) (n .third) (n .kind)
-  try-at = each-kind (processCases s w p n A) (Tries s w p A (n .at) (n .first) (n .second) (n .third)) (tries s w p A (n .at) (n .first) (n .second) (n .third)) (n .kind) (t .says)
+  pub try-at : 12 ≤ n .kind → Tries
+  try-at l = tries (said 12 (omega (arith, l, thirteen-kinds)))
