@@ -1,0 +1,3 @@
+pub mod Run
+pub mod Changes
+pub mod Handlers

@@ -1,0 +1,3 @@
+// Machine: the step at a place, on the run slice.
+pub mod handlers;
+pub mod outcome;
