@@ -7,7 +7,7 @@ use mathlib.Core.Option.{some}
 use native.Mathlib.Omega.{arith}
 use native.Mathlib.Decide.{decLt}
 use lib.Dec.{eqb}
-use lib.ListN.{length, drop, set, getElem?}
+use lib.ListN.{length-map, length, drop, set, getElem?}
 use Rattle.notation.specs.Limits.{runWords, processTermLimit}
 use Rattle.notation.specs.Token.{nameAt}
 use Rattle.notation.specs.Tree.{empty}
@@ -197,3 +197,10 @@ module _ (s w : List ℕ) where
       past = c .past;
       long = c .long;
     }
+
+-- how many processes there are now
+pub places-after : {s w old new : List ℕ} {D : Config} → Becomes s w old new D → length (rawIn new .processes) ≡ length (D .processes)
+places-after {new = new} b = sym (length-map (rawIn new .processes) _) ∙ ap (λ (C : Config). length (C .processes)) (b .is)
+
+pub places-in : (s w ws : List ℕ) → length (configIn s w ws .processes) ≡ length (rawIn ws .processes)
+places-in s w ws = length-map (rawIn ws .processes) _

@@ -25,7 +25,7 @@ use Rattle.runs.specs.declared.records.Held.{Held}
 use Rattle.contexts.specs.Held.{HeldIn}
 use Rattle.machine.specs.declared.outcome.Outcome.the-variants.{Carried}
 use Rattle.machine.specs.Run.{configIn, doingAs, processAs, RunOf, ProcessOf, StandsAt, Becomes, Carries}
-use Rattle.machine.specs.Changes.{then, stored, left, running-as, runs-on}
+use Rattle.machine.specs.Changes.{then, stored, left, running-as, runs-on, places-after, places-in}
 
 -- ── what becomes of a handler
 abbrev pub handlerKind : Bool → ℕ → ℕ
@@ -118,11 +118,7 @@ module _ (s w : List ℕ) where
     unlinked-still i u = unlinked-raw mid i (subst (λ (C : Config). All (λ (q : Process). q .link ≡ some i → ⊥) (C .processes)) (sym (b .is)) (changed-unlinked raised i (linkOf link) (configIn s w old .processes) (unlinked-as old i u)))
 
     pub as-many : length (rawIn mid .processes) ≡ length (rawIn old .processes)
-    as-many =
-        sym (length-map (rawIn mid .processes) _)
-        ∙ ap (λ (C : Config). length (C .processes)) (b .is)
-        ∙ changed-many raised (linkOf link) (configIn s w old .processes)
-        ∙ length-map (rawIn old .processes) _
+    as-many = places-after b ∙ changed-many raised (linkOf link) (configIn s w old .processes) ∙ places-in s w old
 
   -- ── the rules
   module _ (old mid new : List ℕ) (i : ℕ) (p : ProcessWords) where

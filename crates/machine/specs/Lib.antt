@@ -1,3 +1,4 @@
 pub mod Run
 pub mod Changes
 pub mod Handlers
+pub mod Parting
