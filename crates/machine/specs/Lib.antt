@@ -2,3 +2,5 @@ pub mod Run
 pub mod Changes
 pub mod Handlers
 pub mod Parting
+pub mod Forwarding
+pub mod Making
