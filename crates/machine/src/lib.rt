@@ -2,5 +2,7 @@
 pub mod forwarding;
 pub mod handlers;
 pub mod making;
+pub mod messages;
 pub mod outcome;
 pub mod parting;
+pub mod sending;

@@ -1,0 +1,79 @@
+// A send: to an end given up, to the outside, or to a process that receives.
+ghost use mathlib.Core.Path.{_≡_};
+ghost use Prim.Native.Nat.{ℕ, _≤_, _<_};
+ghost use lib.ListN.{length};
+ghost use Rattle.calculus.specs.Steps.{afterMessage};
+ghost use Rattle.tables.specs.Program.{plainIn, programIn};
+ghost use Rattle.runs.specs.Raw.{rawIn};
+ghost use Rattle.machine.specs.Run.{configIn, processAs, RunOf, ProcessOf, StandsAt, Carries};
+ghost use Rattle.machine.specs.Messages.{message, TypeAfter};
+ghost use Rattle.machine.specs.Sending.{unheardBy, outBy};
+use crate::outcome::Outcome;
+use crate::parting::part;
+use calculus::answers::Seen;
+use contexts::held::Lookup;
+use contexts::held::find_end;
+use notation::reading::TermNode;
+use runs::outside::let_go;
+use runs::outside::retype_outside;
+use runs::processes::store;
+use runs::records::End;
+use runs::records::Process;
+
+// "When the far end was given up: a send goes on, and gives up a channel it would have passed": q is the sender p afterwards.
+fn send_unheard(
+    text: &[u8],
+    scratch: &[u32],
+    run: &mut [u32],
+    place: usize,
+    p: Process,
+    q: Process,
+    n: TermNode,
+) -> Outcome
+    requires { ⌜ RunOf (now text) (now scratch) (now run) ⌝ }
+    requires { ⌜ StandsAt (now text) (now scratch) (now run) place p ⌝ }
+    requires { ⌜ ProcessOf (now text) (now scratch) (length (rawIn (now run) .processes)) q ⌝ }
+    requires { ⌜ (1 ≤ n .kind) × (n .kind ≤ 3) ⌝ }
+    ensures { λ r. ⌜ Carries (now (text .entry)) (now (scratch .entry)) (now (run .entry)) (now (run .exit)) r (unheardBy (now (text .entry)) (now (scratch .entry)) (now (run .entry)) place p q n) ⌝ }
+{
+    if n.kind == 2 {
+        let h = p.held;
+        let f = find_end(text, h, n.second);
+        let Lookup::Found(d) = f else {
+            return Outcome::NotOpen;
+        };
+        return part(text, scratch, run, place, q, d);
+    }
+    store(run, place, q);
+    Outcome::Carried(Seen::Nothing)
+}
+
+// A close or a label goes to the outside, which knows the channel of e by a number; its type is then that of a node.
+fn send_shown(
+    text: &[u8],
+    scratch: &[u32],
+    run: &mut [u32],
+    place: usize,
+    p: Process,
+    q: Process,
+    n: TermNode,
+    e: End,
+    number: u32,
+    node: u32,
+) -> Outcome
+    requires { ⌜ RunOf (now text) (now scratch) (now run) ⌝ }
+    requires { ⌜ StandsAt (now text) (now scratch) (now run) place p ⌝ }
+    requires { ⌜ ProcessOf (now text) (now scratch) (length (rawIn (now run) .processes)) q ⌝ }
+    requires { ⌜ TypeAfter (now text) (now scratch) (afterMessage (programIn (now text) (now scratch)) (message (now text) n) (plainIn (now text) (now scratch) (e .node))) node ⌝ }
+    requires { ⌜ (1 ≤ n .kind) × (n .kind ≤ 3) × (n .second < 16384) ⌝ }
+    requires { ⌜ (n .kind ≡ 2 → ⊥) ⌝ }
+    ensures { λ r. ⌜ Carries (now (text .entry)) (now (scratch .entry)) (now (run .entry)) (now (run .exit)) r (outBy (now (text .entry)) (now (scratch .entry)) (now (run .entry)) place p q n e number) ⌝ }
+{
+    store(run, place, q);
+    if n.kind == 1 {
+        let_go(run, e.channel);
+        return Outcome::Carried(Seen::Close(number));
+    }
+    retype_outside(run, e.channel, node);
+    Outcome::Carried(Seen::Label(number, n.second as u32))
+}
