@@ -3,6 +3,8 @@ pub mod Changes
 pub mod Handlers
 pub mod Parting
 pub mod Messages
+pub mod Receiving
+pub mod Meeting
 pub mod Sending
 pub mod Forwarding
 pub mod Making

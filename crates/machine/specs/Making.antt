@@ -120,7 +120,7 @@ module _ (s w : List ℕ) where
     pub is : channelsOf s w r ≡ kept (λ n. wanted want (takes s w half n)) (channelsOf s w h) ++ (endIs s w (endIn e) ∷ [])
     pub fits : HeldIn s w r
 
-  channels-many : (h : Held) → length (channelsOf s w h) ≡ h .count
+  pub channels-many : (h : Held) → length (channelsOf s w h) ≡ h .count
   unfolding channelsOf
   channels-many h = length-map (heldIn h) (endIs s w) ∙ held-length h
 

@@ -9,7 +9,7 @@ use Rattle.notation.specs.Bytes.{same}
 use Rattle.notation.specs.Limits.{textLimit, processTermLimit}
 use Rattle.notation.specs.Token.{nameAt}
 use Rattle.notation.specs.Reader.{nameIn, labelIn}
-use Rattle.notation.specs.Tree.{Name, Ty, Proc, empty, plains}
+use Rattle.notation.specs.Tree.{Name, Located, Ty, Proc, empty, sendLabel, plains}
 use Rattle.notation.specs.Tables.{termNode}
 use Rattle.notation.specs.declared.reading.TermNode.{TermNode}
 use Rattle.notation.specs.declared.reading.Found.{Found}
@@ -19,9 +19,10 @@ use Rattle.calculus.specs.Program.{Program}
 use Rattle.calculus.specs.Configuration.{End, Doing, running, folding, waiting}
 use Rattle.calculus.specs.Steps.{Message, closing, passes, chooses, Wanted, onClose, onChannel, onLabel, Turn, sends, receives, alone, turn, turnOf, afterPassing, afterChoosing, afterMessage, afterSend, retypedEnd}
 use Rattle.tables.specs.Access.{TermOf}
-use Rattle.tables.specs.Decode.{processIn}
+use Rattle.tables.specs.Decode.{tallyIn, termAt, termNodeOf, processIn}
 use Rattle.tables.specs.Program.{plainIn, programIn}
-use Rattle.tables.specs.Roots.{TypeIn, AlternativesIn, alternativesIn, ProcessIn, BranchesIn, branchesIn, atKind, Handlers, each-kind, processCases, process-root}
+use Rattle.tables.specs.Roots.{TypeIn, AlternativesIn, alternativesIn, ProcessIn, BranchesIn, branchesIn, atKind, Handlers, each-kind, processCases, process-tree, process-root}
+use Rattle.tables.specs.Stands.{ProcessAt}
 use Rattle.tables.specs.Search.{placeOf}
 use Rattle.tables.specs.Whole.{Tables}
 use Rattle.types.specs.Acting.{StandsFor, PassingOf, passingOf, passedIn, ChoosingOf, choosingOf, chosenIn}
@@ -46,6 +47,12 @@ messageBy s second (suc (suc (suc k))) = chooses (labelIn s second)
 
 abbrev pub message : List ℕ → TermNode → Message
 message s n = messageBy s (n .second) (n .kind)
+
+-- the node of a send
+pub record SendNode (n : TermNode) : Type 0 where
+  pub low : 1 ≤ n .kind
+  pub high : n .kind ≤ 3
+  pub label : n .kind ≡ 3 → n .second < 16384
 
 -- ── the type afterwards
 pub record TypeAfter (s w : List ℕ) (A : Ty Name) (r : ℕ) : Type 0 where
@@ -155,7 +162,7 @@ abbrev pub partsBy : List ℕ → List ℕ → TermNode → ℕ → Type 0
 partsBy s w n zero = Unit {0}
 partsBy s w n (suc zero) = ProcessIn s w (n .third)
 partsBy s w n (suc (suc zero)) = ProcessIn s w (n .third)
-partsBy s w n (suc (suc (suc zero))) = ProcessIn s w (n .third)
+partsBy s w n (suc (suc (suc zero))) = (n .second < 16384) × ProcessIn s w (n .third)
 partsBy s w n (suc (suc (suc (suc zero)))) = Unit {0}
 partsBy s w n (suc (suc (suc (suc (suc zero))))) = Unit {0}
 partsBy s w n (suc (suc (suc (suc (suc (suc zero)))))) = ProcessIn s w (n .third)
@@ -173,7 +180,15 @@ pub record Heard (s w : List ℕ) (x : ℕ) (d : Doing) (n : TermNode) : Type 0 
   pub is : heard (nameAt s x) (turnOf d) ≡ turnBy s w n (n .kind)
   pub parts : partsBy s w n (n .kind)
 
-module _ (s w : List ℕ) (p : ℕ) (A : Proc) (at first second third : ℕ) where
+-- where the label of a send stands fits into its bits
+pub label-small : (s w : List ℕ) (p : ℕ) → Tables s w → ProcessIn s w p → (o : ℕ) (c : Located) (k : ℕ) (P : Proc) → processIn s w p ≡ sendLabel o c (labelIn s k) P → k < 16384
+unfolding ProcessAt termAt termNodeOf
+label-small s w p t a o c k P e =
+    let there : ProcessAt w (tallyIn w) p (sendLabel o c (labelIn s k) P) = subst (ProcessAt w (tallyIn w) p) (sym (process-tree s w (t .within) p a) ∙ e) (a .is) in
+    let z : termAt w p .second ≡ k = ap (λ (n : TermNode). n .second) (there .1 .1) in
+    omega (arith, z)
+
+module _ (s w : List ℕ) (p : ℕ) (A : Proc) (small : (o : ℕ) (c : Located) (k : ℕ) (P : Proc) → A ≡ sendLabel o c (labelIn s k) P → k < 16384) (at first second third : ℕ) where
   abbrev node : ℕ → TermNode
   node k = termNode k at first second third
 
@@ -188,7 +203,7 @@ module _ (s w : List ℕ) (p : ℕ) (A : Proc) (at first second third : ℕ) whe
       (
         λ ((m, f), e). (ap turn e, f),
         (
-          λ ((m, f), e). (ap turn e, f),
+          λ ((m, f), e). (ap turn e, (small _ _ _ _ e, f)),
           (
             λ (f, e). (ap turn e, tt),
             (
@@ -238,8 +253,8 @@ module _ (s w : List ℕ) (x : ℕ) where
 
       module _ (b : r .pointer < processTermLimit) (n : TermNode) (f : TermOf w (r .pointer) n) where
         turn-so : (turn (processIn s w (r .pointer)) ≡ turnBy s w n (n .kind)) × partsBy s w n (n .kind)
-        turn-so = each-kind (processCases s w (r .pointer) n (processIn s w (r .pointer))) (Turns s w (r .pointer) (processIn s w (r .pointer)) (n .at) (n .first) (n .second) (n .third))
-            (turns s w (r .pointer) (processIn s w (r .pointer)) (n .at) (n .first) (n .second) (n .third)) (n .kind) (f .says s t runs-term .node b .1)
+        turn-so = each-kind (processCases s w (r .pointer) n (processIn s w (r .pointer))) (Turns s w (r .pointer) (processIn s w (r .pointer)) (label-small s w (r .pointer) t runs-term) (n .at) (n .first) (n .second) (n .third))
+            (turns s w (r .pointer) (processIn s w (r .pointer)) (label-small s w (r .pointer) t runs-term) (n .at) (n .first) (n .second) (n .third)) (n .kind) (f .says s t runs-term .node b .1)
 
         none-either : (c : Bool) → alone ≡ cond c alone alone
         none-either true = refl

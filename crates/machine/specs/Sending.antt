@@ -6,6 +6,7 @@ use mathlib.Core.Bool.{Bool, true, false, cond}
 use mathlib.Core.Option.{Option, some, none}
 use native.Mathlib.Omega.{arith}
 use borrow.Author.Tests.{lt-ltb, le-ltb}
+use lib.Dec.{eqb}
 use lib.ListN.{length, length-set, set, getElem?}
 use Rattle.notation.specs.Limits.{outsideNumbers}
 use Rattle.notation.specs.Token.{nameAt}
@@ -22,7 +23,7 @@ use Rattle.calculus.specs.declared.answers.Seen.the-variants.{Nothing, Label, C
 use Rattle.tables.specs.Decode.{processIn}
 use Rattle.tables.specs.Program.{plainIn, programIn}
 use Rattle.tables.specs.Roots.{TypeIn}
-use Rattle.runs.specs.Raw.{rawIn, sideOf, Bounded}
+use Rattle.runs.specs.Raw.{RawProcess, RawOutside, RawConfig, rawIn, sideOf, Bounded}
 use Rattle.runs.specs.Values.{Changed, outsideIn}
 use Rattle.runs.specs.Values as values
 use Rattle.runs.specs.Operations as raw
@@ -33,6 +34,7 @@ use Rattle.runs.specs.declared.records.Process.{Process as ProcessWords}
 use Rattle.runs.specs.declared.records.Far.{Far}
 use Rattle.runs.specs.declared.records.Far.the-variants as far
 use Rattle.contexts.specs.Held.{channelsOf, Sees}
+use Rattle.contexts.specs.Halves.{append-nil}
 use Rattle.contexts.specs.declared.held.Lookup.{Lookup}
 use Rattle.contexts.specs.declared.held.Lookup.the-variants as lookups
 use Rattle.machine.specs.declared.outcome.Outcome.{Outcome as OutcomeWords}
@@ -109,3 +111,74 @@ given-up-so s w old d f e = go f (far-as s w old d f e)
     go (far.Process j l) (atProcess g h) = refl
     go (far.Outside j) (atOutside g) = refl
     go far.GivenUp givenUp = refl
+
+-- ── a channel is passed out
+-- the outside's channels and the numbers given, once the end d was passed out; the outside lets go at once of one that was given up
+abbrev pub numbered : Config → End → Bool → Config
+numbered C d gone = config (C .processes) (C .outside ++ cond gone [] (record { number = C .given; channel = d .channel; type = d .type } ∷ [])) (suc (C .given))
+
+module _ (s w old : List ℕ) (t : RunOf s w old) (m : ℕ) (e : m ≡ rawIn old .given) (d : EndWords) where
+  module _ (mid : List ℕ) (k : ℕ) (y : k ≡ m + 1) (c : Changed old mid (raw.withGiven (rawIn old) k)) (b : Bounded (rawIn mid)) where
+    pub one-given : Becomes s w old mid (config (configIn s w old .processes) (configIn s w old .outside) (suc (configIn s w old .given)))
+    one-given =
+        let z : k ≡ suc (rawIn old .given) = omega (arith, e) in
+        subst (λ n. Becomes s w old mid (config (configIn s w old .processes) (configIn s w old .outside) n)) z (given s w old mid t k c b)
+
+    pub few-outside : length (rawIn old .outside) < 32 → length (rawIn mid .outside) < 32
+    few-outside h = subst (λ (C : RawConfig). length (C .outside) < 32) (sym (c .is)) h
+
+    pub numbered-gone : (gone : Bool) → gone ≡ true → Becomes s w old mid (numbered (configIn s w old) (endAs s w d) gone)
+    numbered-gone gone z = subst (λ g. Becomes s w old mid (numbered (configIn s w old) (endAs s w d) g)) (sym z)
+        (subst (λ l. Becomes s w old mid (config (configIn s w old .processes) l (suc (configIn s w old .given)))) (sym (append-nil (configIn s w old .outside))) one-given)
+
+    pub numbered-out : (new : List ℕ) (gone : Bool) → gone ≡ false → TypeIn s w (d .node) → Changed mid new (raw.onOutside (λ l. l ++ (outsideIn (record { number = m; node = d .node; channel = d .channel }) ∷ [])) (rawIn mid)) → Bounded (rawIn new)
+        → Becomes s w old new (numbered (configIn s w old) (endAs s w d) gone)
+    numbered-out new gone z u f k = subst (λ g. Becomes s w old new (numbered (configIn s w old) (endAs s w d) g)) (sym z)
+        (subst (λ n. Becomes s w old new (config (configIn s w old .processes) (configIn s w old .outside ++ (record { number = n; channel = d .channel; type = plainIn s w (d .node) } ∷ [])) (suc (configIn s w old .given)))) e
+        (then (λ (D : Config). config (D .processes) (D .outside ++ (record { number = m; channel = d .channel; type = plainIn s w (d .node) } ∷ [])) (D .given)) one-given (passed-out s w mid new (one-given .run) (record { number = m; node = d .node; channel = d .channel }) u f k)))
+
+module _ (s w old : List ℕ) (i : ℕ) (p q : ProcessWords) (n : TermNode) (e : EndWords) (number : ℕ) where
+  abbrev pub passedBy : EndWords → Bool → Outcome
+  passedBy d gone = passedOut (configIn s w old) i (processAs s w q) number (e .channel) (afterMessage (programIn s w) (message s n) (plainIn s w (e .node))) (endAs s w d) gone
+
+  abbrev PassedAt : ℕ → EndWords → Bool → Outcome
+  PassedAt k d gone = passedOut (configIn s w old) i (processAs s w q) number (e .channel) (afterMessage (programIn s w) (message s (withKind s w old i p q n k)) (plainIn s w (e .node))) (endAs s w d) gone
+
+  pub passes-numbered : (mid new : List ℕ) (d : EndWords) (gone : Bool) (m : ℕ) → m ≡ rawIn old .given
+      → Becomes s w old mid (config (set (configIn s w old .processes) i (processAs s w q)) (calculus.retypedOutside (e .channel) (afterMessage (programIn s w) (message s n) (plainIn s w (e .node))) (configIn s w old .outside)) (configIn s w old .given))
+      → Becomes s w mid new (numbered (configIn s w mid) (endAs s w d) gone) → Carries s w old new (Carried (Passed number m gone)) (passedBy d gone)
+  passes-numbered mid new d gone m z a b = record { is = (ap (λ k. Carried (Passed number k gone)) z, then (λ (D : Config). numbered D (endAs s w d) gone) a b) }
+
+  module _ {f : Lookup} (z : n .kind ≡ 2) (a : Sees s (p .held) (n .second) f) where
+    pub passes-none : f ≡ lookups.Nothing → Carries s w old old NotOpen (outBy s w old i p q n e number)
+    passes-none y = subst (λ k. Carries s w old old NotOpen (outAt s w old i p q n e number k)) (sym z) (held-none a _ y)
+
+    module _ {d : EndWords} (y : f ≡ lookups.Found d) where
+      abbrev orLacking : Bool → Outcome
+      orLacking b = cond b (PassedAt 2 d (isGivenUp (farOf s w old d))) lacking
+
+      pub passes-lacking : 32 ≤ rawIn old .given → Carries s w old old Lacking (outBy s w old i p q n e number)
+      passes-lacking h = subst (λ k. Carries s w old old Lacking (outAt s w old i p q n e number k)) (sym z)
+          (held-some a _ y (subst (λ b. Carries s w old old Lacking (orLacking b)) (sym (le-ltb (rawIn old .given) outsideNumbers h)) (record { is = (refl, refl) })))
+
+      pub passes-out : {new : List ℕ} {r : OutcomeWords} (x : Far) (gone : Bool) → rawIn old .given < 32 → x ≡ farRaw s w old d → gone ≡ forwarding.isGivenUp x → Carries s w old new r (passedBy d gone) → Carries s w old new r (outBy s w old i p q n e number)
+      passes-out {new} {r} x gone h v g c = subst (λ k. Carries s w old new r (outAt s w old i p q n e number k)) (sym z)
+          (held-some a _ y (subst (λ b. Carries s w old new r (orLacking b)) (sym (lt-ltb (rawIn old .given) outsideNumbers h))
+          (subst (λ b. Carries s w old new r (PassedAt 2 d b)) (g ∙ given-up-so s w old d x v) (subst (λ k. Carries s w old new r (PassedAt k d gone)) z c))))
+
+-- a process stored and a type changed leave the numbers given, and how many channels the outside has
+changed-length : (k : ℕ) (f : RawOutside → RawOutside) (l : List RawOutside) → length (raw.changedOutside k f l) ≡ length l
+unfolding raw.changedOutside
+changed-length k f [] = refl
+changed-length k f (o ∷ l) = go (eqb k (o .channel)) (changed-length k f l)
+  where
+    go : (t : Bool) → length (raw.changedOutside k f l) ≡ length l → length (cond t (f o ∷ l) (o ∷ raw.changedOutside k f l)) ≡ suc (length l)
+    go true h = refl
+    go false h = ap suc h
+
+module _ {old mid new : List ℕ} (i : ℕ) (p : RawProcess) (k : ℕ) (f : RawOutside → RawOutside) (a : Changed old mid (raw.onProcesses (λ l. set l i p) (rawIn old))) (b : Changed mid new (raw.onOutside (raw.changedOutside k f) (rawIn mid))) where
+  pub given-kept : rawIn new .given ≡ rawIn old .given
+  given-kept = ap (λ (C : RawConfig). C .given) (b .is) ∙ ap (λ (C : RawConfig). C .given) (a .is)
+
+  pub outside-kept : length (rawIn new .outside) ≡ length (rawIn old .outside)
+  outside-kept = ap (λ (C : RawConfig). length (C .outside)) (b .is) ∙ changed-length k f (rawIn mid .outside) ∙ ap (λ (C : RawConfig). length (C .outside)) (a .is)

@@ -118,7 +118,8 @@ fn join(
     }
 }
 
-fn is_given_up(f: Far) -> bool
+// Whether a far end was given up.
+pub(crate) fn is_given_up(f: Far) -> bool
     ensures { λ r. ⌜ r ≡ isGivenUp f ⌝ }
 {
     match f {

@@ -5,4 +5,5 @@ pub mod making;
 pub mod messages;
 pub mod outcome;
 pub mod parting;
+pub mod receiving;
 pub mod sending;
