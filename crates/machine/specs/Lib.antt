@@ -5,6 +5,8 @@ pub mod Parting
 pub mod Messages
 pub mod Receiving
 pub mod Meeting
+pub mod Answering
+pub mod Room
 pub mod Sending
 pub mod Forwarding
 pub mod Making

@@ -182,16 +182,16 @@ module _ (s w old : List ℕ) (i : ℕ) (p q : ProcessWords) (n : TermNode) (e :
   sends-unheard f c = sends-nobody (far-as s w old e far.GivenUp f) c
 
 -- ── the rule
-module _ (s w old : List ℕ) (i : ℕ) (p : ProcessWords) (n : TermNode) {f : Lookup} (a : Sees s (p .held) (n .first) f) where
-  abbrev pub sendBy : Outcome
-  sendBy = send (programIn s w) (configIn s w old) i (processAs s w p) (nameIn s (n .first)) (message s n) (processIn s w (n .third))
+abbrev pub sendBy : List ℕ → List ℕ → List ℕ → ℕ → ProcessWords → TermNode → Outcome
+sendBy s w old i p n = send (programIn s w) (configIn s w old) i (processAs s w p) (nameIn s (n .first)) (message s n) (processIn s w (n .third))
 
-  pub sends-nothing : f ≡ lookups.Nothing → Carries s w old old NotOpen sendBy
+module _ (s w old : List ℕ) (i : ℕ) (p : ProcessWords) (n : TermNode) {f : Lookup} (a : Sees s (p .held) (n .first) f) where
+  pub sends-nothing : f ≡ lookups.Nothing → Carries s w old old NotOpen (sendBy s w old i p n)
   unfolding send
   sends-nothing q = held-none a _ q
 
   pub sends-on : {e : EndWords} {node : ℕ} {h : Held} {new : List ℕ} {o : OutcomeWords} → f ≡ lookups.Found e → TypeAfter s w (afterMessage (programIn s w) (message s n) (plainIn s w (e .node))) node → SentHeld s w (p .held) n node h
-      → Carries s w old new o (sendingBy s w old i p (running-as (n .third) (p .link) h) n e) → Carries s w old new o sendBy
+      → Carries s w old new o (sendingBy s w old i p (running-as (n .third) (p .link) h) n e) → Carries s w old new o (sendBy s w old i p n)
   unfolding send
   sends-on {e} {new = new} {o = o} q u g c =
       held-some a _ q

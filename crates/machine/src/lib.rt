@@ -1,7 +1,9 @@
 // Machine: the step at a place, on the run slice.
+pub mod answering;
 pub mod forwarding;
 pub mod handlers;
 pub mod making;
+pub mod meeting;
 pub mod messages;
 pub mod outcome;
 pub mod parting;

@@ -30,7 +30,7 @@ use runs::records::Outside;
 use runs::records::Process;
 
 // "When the far end was given up: a send goes on, and gives up a channel it would have passed": q is the sender p afterwards.
-fn send_unheard(
+pub fn send_unheard(
     text: &[u8],
     scratch: &[u32],
     run: &mut [u32],
@@ -58,7 +58,7 @@ fn send_unheard(
 }
 
 // A close or a label goes to the outside, which knows the channel of e by a number; its type is then that of a node.
-fn send_shown(
+pub fn send_shown(
     text: &[u8],
     scratch: &[u32],
     run: &mut [u32],
@@ -138,7 +138,7 @@ fn pass_numbered(
 }
 
 // "a channel passed out takes the next outside number".
-fn pass_out(
+pub fn pass_out(
     text: &[u8],
     scratch: &[u32],
     run: &mut [u32],
