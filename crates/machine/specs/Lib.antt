@@ -6,6 +6,7 @@ pub mod Messages
 pub mod Receiving
 pub mod Meeting
 pub mod Answering
+pub mod Calling
 pub mod Room
 pub mod Sending
 pub mod Forwarding

@@ -1,5 +1,6 @@
 // Machine: the step at a place, on the run slice.
 pub mod answering;
+pub mod calling;
 pub mod forwarding;
 pub mod handlers;
 pub mod making;
