@@ -159,7 +159,7 @@ renamed-both (x ∷ xs) ys (g ∷ G) H l e =
     ap (λ m. renamedEnd g (lookup x l) ++ m) (renamed-both xs ys G H l (omega arith))
     ∙ sym (append-assoc (renamedEnd g (lookup x l)) (renamed xs G l) (renamed ys H l))
 
-names-many : (xs : List Located) → length (namesOf xs) ≡ length xs
+pub names-many : (xs : List Located) → length (namesOf xs) ≡ length xs
 names-many [] = refl
 names-many (x ∷ xs) = ap suc (names-many xs)
 

@@ -7,6 +7,7 @@ pub mod Receiving
 pub mod Meeting
 pub mod Answering
 pub mod Calling
+pub mod Dispatch
 pub mod Room
 pub mod Sending
 pub mod Forwarding
