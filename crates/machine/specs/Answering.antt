@@ -1,5 +1,5 @@
 -- A recv: as the send at its far end, or with its far end given up.
-use Prim.Native.Nat.{ℕ, zero, suc, _+_, _≤_, _<_}
+use Prim.Native.Nat.{ℕ, zero, suc, _≤_, _<_}
 use mathlib.Core.Path.{_≡_, refl, sym, _∙_, ap, subst}
 use mathlib.Core.List.{List}
 use mathlib.Core.Logic.{_⊎_, inl, inr}
@@ -7,10 +7,9 @@ use native.Mathlib.Omega.{arith}
 use Rattle.notation.specs.Token.{nameAt}
 use Rattle.notation.specs.Reader.{nameIn}
 use Rattle.notation.specs.declared.reading.TermNode.{TermNode}
-use Rattle.calculus.specs.Named.{without}
-use Rattle.calculus.specs.Configuration.{End, folding, process, Config, Holder, replaced}
+use Rattle.calculus.specs.Configuration.{folding, process, Config, Holder, replaced}
 use Rattle.calculus.specs.Configuration as calculus
-use Rattle.calculus.specs.Steps.{Outcome, carried, notOpen, turnOf, send, answering, receiving, receive}
+use Rattle.calculus.specs.Steps.{Outcome, notOpen, turnOf, send, receiving, receive}
 use Rattle.calculus.specs.declared.answers.Seen.the-variants.{Nothing}
 use Rattle.tables.specs.Decode.{processIn}
 use Rattle.tables.specs.Program.{plainIn, programIn}
@@ -21,15 +20,15 @@ use Rattle.runs.specs.declared.records.End.{End as EndWords}
 use Rattle.runs.specs.declared.records.Held.{Held}
 use Rattle.runs.specs.declared.records.Process.{Process as ProcessWords}
 use Rattle.runs.specs.declared.records.Far.the-variants as far
-use Rattle.contexts.specs.Held.{channelsOf, Sees, Drops}
+use Rattle.contexts.specs.Held.{Sees, Drops}
 use Rattle.contexts.specs.declared.held.Lookup.{Lookup}
 use Rattle.contexts.specs.declared.held.Lookup.the-variants as lookups
 use Rattle.machine.specs.declared.outcome.Outcome.{Outcome as OutcomeWords}
 use Rattle.machine.specs.declared.outcome.Outcome.the-variants.{Carried, NotOpen}
 use Rattle.machine.specs.Run.{configIn, doingAs, processAs, Becomes, Carries}
-use Rattle.machine.specs.Parting.{endAs, folded, held-none, held-some}
+use Rattle.machine.specs.Parting.{folded, held-none, held-some}
 use Rattle.machine.specs.Forwarding.{farRaw, farOf, far-as}
-use Rattle.machine.specs.Messages.{messageBy, SendNode, turnBy, partsBy, heard, Heard}
+use Rattle.machine.specs.Messages.{messageBy, SendNode, turnBy, partsBy, Heard}
 use Rattle.machine.specs.Meeting.{answeredBy, answering-heard, sendBy}
 
 abbrev pub receivingBy : List ℕ → List ℕ → List ℕ → ℕ → ProcessWords → ℕ → EndWords → Outcome

@@ -1,20 +1,18 @@
 -- A call: the channels of its lists under the names of the signature.
 use Prim.Native.Nat.{ℕ, zero, suc, _+_, _-_, _≤_, _<_}
 use mathlib.Core.Path.{_≡_, refl, sym, _∙_, ap, subst}
-use mathlib.Core.List.{List, [], _∷_, _++_, map}
-use mathlib.Core.Bool.{Bool, true, false, cond}
+use mathlib.Core.List.{List, [], _∷_, _++_}
 use mathlib.Core.Option.{Option, some, none, Option·map}
 use native.Mathlib.Omega.{arith}
 use lib.ListN.{length, length-append}
-use Rattle.notation.specs.Limits.{textLimit, heldLimit}
+use Rattle.notation.specs.Limits.{heldLimit}
 use Rattle.notation.specs.Token.{nameAt, tokenAt}
 use Rattle.notation.specs.Reader.{nameIn}
 use Rattle.notation.specs.Tree.{Name, Located}
 use Rattle.calculus.specs.Named.{lookup}
-use Rattle.calculus.specs.Types.{Side}
-use Rattle.calculus.specs.Program.{Slot, slot, Context, Signature, Program, onSide, entries, signatureContext}
+use Rattle.calculus.specs.Program.{slot, Context, Signature, onSide, entries, signatureContext}
 use Rattle.calculus.specs.Typing.{namesOf}
-use Rattle.calculus.specs.Configuration.{End, end, Process, process, running, Config, replaced}
+use Rattle.calculus.specs.Configuration.{End, end, process, running, replaced}
 use Rattle.calculus.specs.Steps.{Outcome, renamedEnd, renamed, entering, calling}
 use Rattle.calculus.specs.declared.answers.Seen.the-variants as Seen
 use Rattle.notation.specs.declared.reading.Found.{Found}
@@ -37,7 +35,7 @@ use Rattle.runs.specs.Lists.{All}
 use Rattle.runs.specs.Values.{heldIn}
 use Rattle.contexts.specs.Held.{channelsOf, EndIn, HeldIn, endFound, Sees, Brings}
 use Rattle.contexts.specs.Halves.{append-nil}
-use Rattle.contexts.specs.Walks.{Ends, Walking, walk-start, walk-on, walk-here, walk-end}
+use Rattle.contexts.specs.Walks.{Ends, Walking, walk-start, walk-on, walk-end}
 use Rattle.contexts.specs.declared.held.Lookup.{Lookup}
 use Rattle.contexts.specs.declared.held.Lookup.the-variants as lookups
 use Rattle.machine.specs.declared.outcome.Outcome.the-variants.{Carried, NotOpen}

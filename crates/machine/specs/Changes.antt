@@ -1,5 +1,5 @@
 -- Changes of a run, as the calculus has them.
-use Prim.Native.Nat.{ℕ, zero, suc, _+_, _-_, _≤_, _<_}
+use Prim.Native.Nat.{ℕ, suc, _+_, _-_, _≤_, _<_}
 use mathlib.Core.Path.{_≡_, refl, sym, _∙_, ap, subst}
 use mathlib.Core.List.{List, [], _∷_, _++_, map}
 use mathlib.Core.Bool.{Bool, true, false, cond}
@@ -7,21 +7,20 @@ use mathlib.Core.Option.{some}
 use native.Mathlib.Omega.{arith}
 use native.Mathlib.Decide.{decLt}
 use lib.Dec.{eqb}
-use lib.ListN.{length-map, length, drop, set, getElem?}
-use Rattle.notation.specs.Limits.{runWords, processTermLimit}
+use lib.ListN.{length-map, length, set, getElem?}
+use Rattle.notation.specs.Limits.{processTermLimit}
 use Rattle.notation.specs.Token.{nameAt}
 use Rattle.notation.specs.Tree.{empty}
-use Rattle.reader.specs.Reading.{Within}
-use Rattle.calculus.specs.Configuration.{Process, process, Outside, Config, config, at, replaced, movedUp, movedDown}
+use Rattle.calculus.specs.Configuration.{Process, Outside, Config, config, replaced, movedUp, movedDown}
 use Rattle.calculus.specs.Configuration as calculus
-use Rattle.tables.specs.Decode.{tallyIn, processIn}
+use Rattle.tables.specs.Decode.{processIn}
 use Rattle.tables.specs.Program.{plainIn}
 use Rattle.tables.specs.Roots.{TypeIn, ProcessIn, process-tree, process-root}
 use Rattle.tables.specs.Stands.{ProcessFrom}
 use Rattle.tables.specs.Whole.{Tables}
 use Rattle.runs.specs.Lists.{All}
 use Rattle.runs.specs.ListLaws.{all-at, all-set, all-append, all-weaken, below-length, all-map, all-insert, all-remove}
-use Rattle.runs.specs.Raw.{RawEnd, RawProcess, RawOutside, RawConfig, BoundedEnd, BoundedProcess, linkOf, linksBelow, rawIn, Bounded}
+use Rattle.runs.specs.Raw.{RawProcess, RawOutside, RawConfig, BoundedEnd, BoundedProcess, linkOf, linksBelow, rawIn, Bounded}
 use Rattle.runs.specs.Values as values
 use Rattle.runs.specs.Values.{Changed, heldIn, held-length}
 use Rattle.runs.specs.Operations as raw
@@ -32,7 +31,7 @@ use Rattle.runs.specs.declared.records.Process.{Process as ProcessWords}
 use Rattle.runs.specs.declared.records.Held.{Held}
 use Rattle.runs.specs.declared.records.Outside.{Outside as OutsideWords}
 use Rattle.contexts.specs.Held.{channelsOf, EndIn, HeldIn}
-use Rattle.machine.specs.Run.{configIn, doingAs, processAs, Fits, RunOf, ProcessOf, StandsAt, Becomes}
+use Rattle.machine.specs.Run.{configIn, processAs, Fits, RunOf, ProcessOf, StandsAt, Becomes}
 
 -- one change after another
 pub then : {s w old mid new : List ℕ} {D : Config} (f : Config → Config) → Becomes s w old mid D → Becomes s w mid new (f (configIn s w mid)) → Becomes s w old new (f D)

@@ -1,15 +1,14 @@
 -- The step at a place: "Which rule applies is decided by the term's kind".
-use Prim.Native.Nat.{ℕ, zero, suc, _+_, _-_, _≤_, _<_}
+use Prim.Native.Nat.{ℕ, zero, suc, _-_, _≤_, _<_}
 use mathlib.Core.Path.{_≡_, refl, sym, _∙_, ap, subst}
-use mathlib.Core.List.{List, [], _∷_, _++_}
-use mathlib.Core.Bool.{Bool, true, false, cond, not, _&&_, and-eq-true-iff, false≢true}
-use mathlib.Core.Option.{Option, some, none, Option·some-injective}
+use mathlib.Core.List.{List, [], _∷_}
+use mathlib.Core.Bool.{Bool, true, false, cond, not, and-eq-true-iff, false≢true}
+use mathlib.Core.Option.{some, none, Option·some-injective}
 use native.Mathlib.Omega.{arith}
 use lib.ListN.{length, getElem?}
 use Rattle.notation.specs.Limits.{textLimit, heldLimit, processTermLimit}
-use Rattle.notation.specs.Token.{nameAt}
 use Rattle.notation.specs.Reader.{nameIn, labelIn}
-use Rattle.notation.specs.Tree.{Name, Located, Ty, Proc, empty, sendUnit, sendChannel, sendLabel, cancel, spawn, recvUnit, recvChannel, recvLabel, fwd, call, raise, try, plain}
+use Rattle.notation.specs.Tree.{Name, Located, Ty, Proc, sendLabel, spawn, call}
 use Rattle.notation.specs.Tables.{termNode}
 use Rattle.notation.specs.declared.reading.TermNode.{TermNode}
 use Rattle.calculus.specs.Named.{lookup, kept, isSome}
@@ -17,18 +16,18 @@ use Rattle.calculus.specs.Types.{Side, provided}
 use Rattle.calculus.specs.Program.{slot, Context, Signature, Program, signatureContext}
 use Rattle.calculus.specs.Mentions.{spawnTakes, spawnLeaves, halfMentions}
 use Rattle.calculus.specs.Typing.{Typed, calls, spawns, entryFits, listFits, namesOf}
-use Rattle.calculus.specs.Configuration.{End, Doing, running, folding, waiting, Process, process, Config, config, at}
-use Rattle.calculus.specs.Steps.{Outcome, notOpen, Message, send, receive, cancelling, spawning, trying, calling, raising, forwarding, leaving, foldingUp, stepTerm, stepDoing, stepOf, step}
-use Rattle.calculus.specs.WellFormed.{contextOf, TypedAs, isWaiting, WellFormed}
+use Rattle.calculus.specs.Configuration.{End, Process, Config, at}
+use Rattle.calculus.specs.Steps.{Outcome, notOpen, send, receive, cancelling, spawning, trying, calling, raising, forwarding, leaving, stepTerm, stepDoing, stepOf, step}
+use Rattle.calculus.specs.WellFormed.{contextOf, TypedAs, WellFormed}
 use Rattle.tables.specs.Access.{TermOf}
 use Rattle.tables.specs.Decode.{typeIn, processIn, argumentsAt}
 use Rattle.tables.specs.Names.{CallAt}
-use Rattle.tables.specs.Program.{plainIn, programIn}
-use Rattle.tables.specs.Roots.{TypeIn, ProcessIn, atKind, Handlers, each-kind, processCases, process-root}
-use Rattle.tables.specs.Whole.{Tables}
+use Rattle.tables.specs.Program.{programIn}
+use Rattle.tables.specs.Roots.{TypeIn, ProcessIn, Handlers, each-kind, processCases, process-root}
 use Rattle.runs.specs.Raw.{rawIn, linkOf}
 use Rattle.runs.specs.declared.records.Process.{Process as ProcessWords}
 use Rattle.contexts.specs.Held.{channelsOf}
+use Rattle.preservation.specs.Stepping.{Bodies}
 use Rattle.machine.specs.declared.outcome.Outcome.{Outcome as OutcomeWords}
 use Rattle.machine.specs.declared.outcome.Outcome.the-variants.{NotOpen}
 use Rattle.machine.specs.Run.{configIn, doingAs, processAs, RunOf, StandsAt, Carries}
@@ -263,3 +262,7 @@ steps-nowhere s w old i h = subst (λ o. Carries s w old old NotOpen (stepOf (pr
     past-end [] i h = refl
     past-end (x ∷ l) zero h = absurd (omega arith)
     past-end (x ∷ l) (suc i) h = past-end l i (omega arith)
+
+-- what an accepted script gives of the processes that it declares
+pub small-signatures : {p : Program} → Bodies p → SmallSignatures p
+small-signatures b = record { small = λ n g e. b .typed n g e .room }

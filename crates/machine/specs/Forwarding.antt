@@ -1,24 +1,23 @@
 -- Forwarding: the two far ends become one channel.
-use Prim.Native.Nat.{ℕ, zero, suc, _+_, _≤_, _<_}
+use Prim.Native.Nat.{ℕ, _<_}
 use mathlib.Core.Path.{_≡_, refl, sym, _∙_, ap, subst}
-use mathlib.Core.List.{List, [], _∷_, map}
-use mathlib.Core.Bool.{Bool, true, false, true≢false, cond, _&&_}
-use mathlib.Core.Option.{Option, some, none}
+use mathlib.Core.List.{List, [], _∷_}
+use mathlib.Core.Bool.{Bool, true, false, true≢false, cond}
+use mathlib.Core.Option.{some}
 use native.Mathlib.Omega.{arith}
 use lib.ListN.{length, set, getElem?, length-set}
 use Rattle.notation.specs.Token.{nameAt}
 use Rattle.notation.specs.Reader.{nameIn}
-use Rattle.notation.specs.Tree.{Name}
 use Rattle.calculus.specs.Types.{Side, other}
 use Rattle.calculus.specs.Configuration.{End, end, folding, Process, process, Config, config, replaced, farEnd}
 use Rattle.calculus.specs.Configuration as calculus
-use Rattle.calculus.specs.Steps.{Outcome, carried, emptied, movedEnd, farMoved, joinedTo, joining, forwarding, parting}
+use Rattle.calculus.specs.Steps.{Outcome, emptied, movedEnd, farMoved, joinedTo, joining, forwarding, parting}
 use Rattle.calculus.specs.declared.answers.Seen.the-variants.{Nothing}
 use Rattle.tables.specs.Decode.{processIn}
 use Rattle.tables.specs.Program.{plainIn}
 use Rattle.runs.specs.Lists.{All}
 use Rattle.runs.specs.ListLaws.{all-at, all-set, map-set}
-use Rattle.runs.specs.Raw.{RawEnd, rawIn, linkOf, sideOf, Bounded, BoundedEnd}
+use Rattle.runs.specs.Raw.{RawEnd, rawIn, linkOf, sideOf, Bounded}
 use Rattle.runs.specs.Values.{Changed, endIn, heldIn, held-length}
 use Rattle.runs.specs.Values as values
 use Rattle.runs.specs.Operations as raw
@@ -37,8 +36,8 @@ use Rattle.contexts.specs.declared.held.Lookup.the-variants as lookups
 use Rattle.machine.specs.declared.outcome.Outcome.{Outcome as OutcomeWords}
 use Rattle.machine.specs.declared.outcome.Outcome.the-variants.{Carried, NotOpen}
 use Rattle.machine.specs.Run.{configIn, processAs, RunOf, ProcessOf, StandsAt, Becomes, Carries}
-use Rattle.machine.specs.Changes.{then, stored, rerouted, stands-at, places-after, places-in}
-use Rattle.machine.specs.Parting.{endAs, folded, folds, held-none, held-some, end-found}
+use Rattle.machine.specs.Changes.{then, stored, rerouted, places-after, places-in}
+use Rattle.machine.specs.Parting.{endAs, folded, folds, held-none, held-some}
 
 -- r is p, empty
 pub record Empties (p r : ProcessWords) : Type 0 where

@@ -1,28 +1,26 @@
 -- A process and its handler.
-use Prim.Native.Nat.{ℕ, zero, suc, _-_, _≤_, _<_}
+use Prim.Native.Nat.{ℕ, zero, suc, _-_, _<_}
 use mathlib.Core.Path.{_≡_, refl, sym, _∙_, ap, subst}
-use mathlib.Core.List.{List, [], _∷_, map}
+use mathlib.Core.List.{List}
 use mathlib.Core.Bool.{Bool, true, false, cond}
 use mathlib.Core.Option.{Option, some, none, Option·map}
 use native.Mathlib.Omega.{arith}
 use lib.Dec.{eqb}
-use lib.ListN.{length, set, getElem?, length-set, length-map}
-use Rattle.calculus.specs.Configuration.{Doing, folding, Process, process, Config, config, at, replaced}
+use lib.ListN.{length, set, getElem?, length-set}
+use Rattle.calculus.specs.Configuration.{Process, process, Config, config, replaced}
 use Rattle.calculus.specs.Configuration as calculus
-use Rattle.calculus.specs.Steps.{startedDoing, startedHandler, foldedHandler, putAt, changedAt, carried, leaving, raising}
+use Rattle.calculus.specs.Steps.{startedDoing, startedHandler, foldedHandler, putAt, changedAt, leaving, raising}
 use Rattle.calculus.specs.declared.answers.Seen.the-variants.{Nothing}
 use Rattle.tables.specs.Roots.{ProcessIn}
 use Rattle.tables.specs.Decode.{processIn}
 use Rattle.runs.specs.Lists.{All}
-use Rattle.runs.specs.ListLaws.{all-set, all-at, all-map, all-of, all-weaken, map-at}
-use Rattle.runs.specs.Raw.{RawProcess, rawIn, linkOf, linksBelow, Bounded}
+use Rattle.runs.specs.ListLaws.{all-set, all-at, all-map, all-of, map-at}
+use Rattle.runs.specs.Raw.{rawIn, linkOf, linksBelow, Bounded}
 use Rattle.runs.specs.Values.{Changed}
 use Rattle.runs.specs.Values as values
 use Rattle.runs.specs.Operations as raw
 use Rattle.runs.specs.Bounds.{Unlinked}
 use Rattle.runs.specs.declared.records.Process.{Process as ProcessWords}
-use Rattle.runs.specs.declared.records.Held.{Held}
-use Rattle.contexts.specs.Held.{HeldIn}
 use Rattle.machine.specs.declared.outcome.Outcome.the-variants.{Carried}
 use Rattle.machine.specs.Run.{configIn, doingAs, processAs, RunOf, ProcessOf, StandsAt, Becomes, Carries}
 use Rattle.machine.specs.Changes.{then, stored, left, running-as, runs-on, places-after, places-in}

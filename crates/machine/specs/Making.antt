@@ -1,25 +1,22 @@
 -- A process comes: try and spawn.
-use Prim.Native.Nat.{ℕ, zero, suc, _+_, _≤_, _<_}
+use Prim.Native.Nat.{ℕ, suc, _+_, _≤_, _<_}
 use mathlib.Core.Path.{_≡_, refl, sym, _∙_, ap, subst}
 use mathlib.Core.List.{List, [], _∷_, _++_, map}
 use mathlib.Core.Bool.{Bool, true, false, cond}
-use mathlib.Core.Option.{Option, some, none, Option·map}
+use mathlib.Core.Option.{Option, some, none}
 use native.Mathlib.Omega.{arith}
 use borrow.Author.Tests.{lt-ltb, le-ltb}
-use lib.Dec.{ltb}
 use lib.ListN.{length, length-set, length-map, set}
 use Rattle.notation.specs.Limits.{textLimit, processPlaces, heldLimit}
 use Rattle.notation.specs.Token.{nameAt}
 use Rattle.notation.specs.Reader.{nameIn}
-use Rattle.notation.specs.Tree.{Name}
 use Rattle.notation.specs.declared.reading.Found.{Found}
 use Rattle.notation.specs.declared.reading.Found.the-variants as found
 use Rattle.calculus.specs.Named.{kept}
-use Rattle.calculus.specs.Types.{provided, used}
 use Rattle.calculus.specs.Mentions.{spawnTakes, spawnLeaves, tryTakes}
-use Rattle.calculus.specs.Configuration.{End, end, running, folding, waiting, Process, process, Config, config, replaced, movedUp}
+use Rattle.calculus.specs.Configuration.{running, waiting, Process, process, Config, config, replaced, movedUp}
 use Rattle.calculus.specs.Configuration as calculus
-use Rattle.calculus.specs.Steps.{Outcome, carried, lacking, placeFor, spawned, spawning, trying}
+use Rattle.calculus.specs.Steps.{Outcome, lacking, placeFor, spawned, spawning, trying}
 use Rattle.calculus.specs.declared.answers.Seen.the-variants.{Nothing}
 use Rattle.holding.specs.Fresh.{fresh-free}
 use Rattle.tables.specs.Roots.{TypeIn, ProcessIn}
@@ -39,11 +36,11 @@ use Rattle.runs.specs.declared.records.Held.{Held}
 use Rattle.runs.specs.declared.records.End.{End as EndWords}
 use Rattle.runs.specs.declared.records.Process.{Process as ProcessWords}
 use Rattle.contexts.specs.Held.{endIs, channelsOf, HeldIn, Brings}
-use Rattle.contexts.specs.Halves.{takes, wanted, Keeps, try-takes, spawn-takes, spawn-leaves}
+use Rattle.contexts.specs.Halves.{takes, wanted, Keeps, try-takes}
 use Rattle.contexts.specs.declared.halves.Half.{Half}
 use Rattle.contexts.specs.declared.halves.Half.the-variants.{OfSpawn, OfTry}
 use Rattle.machine.specs.declared.outcome.Outcome.{Outcome as OutcomeWords}
-use Rattle.machine.specs.declared.outcome.Outcome.the-variants.{Carried, NotOpen, Lacking}
+use Rattle.machine.specs.declared.outcome.Outcome.the-variants.{Carried, Lacking}
 use Rattle.machine.specs.declared.making.SpawnTerm.{SpawnTerm}
 use Rattle.machine.specs.Run.{configIn, processAs, RunOf, ProcessOf, StandsAt, Becomes, Carries}
 use Rattle.machine.specs.Changes.{then, stored, came, running-as, runs-on, pointer-small, places-after, places-in, bounded-of}

@@ -1,21 +1,18 @@
 -- "A matching send and recv on one channel step together": what the node that receives comes to.
-use Prim.Native.Nat.{ℕ, zero, suc, _+_, _≤_, _<_}
+use Prim.Native.Nat.{ℕ, zero, suc, _+_, _≤_}
 use mathlib.Core.Path.{_≡_, refl, sym, _∙_, ap, subst}
-use mathlib.Core.List.{List, [], _∷_}
+use mathlib.Core.List.{List}
 use mathlib.Core.Bool.{Bool, true, false, cond}
-use mathlib.Core.Option.{Option, some, none}
 use native.Mathlib.Omega.{arith}
-use lib.ListN.{length, getElem?}
 use Rattle.notation.specs.Bytes.{same}
 use Rattle.notation.specs.Token.{nameAt}
-use Rattle.notation.specs.Reader.{nameIn, labelIn}
-use Rattle.notation.specs.Tree.{Name, Proc}
+use Rattle.notation.specs.Reader.{nameIn}
 use Rattle.notation.specs.declared.reading.TermNode.{TermNode}
 use Rattle.calculus.specs.Named.{lookup}
 use Rattle.calculus.specs.Program.{Program}
-use Rattle.calculus.specs.Configuration.{End, Process, process, running, Config, Holder, farEnd}
+use Rattle.calculus.specs.Configuration.{End, Process, process, running, Config, Holder}
 use Rattle.calculus.specs.Configuration as calculus
-use Rattle.calculus.specs.Steps.{Outcome, onHeld, carried, notOpen, Message, closing, passes, chooses, Wanted, onClose, onChannel, onLabel, Turn, sends, receives, alone, turnOf, bothTo, meeting, sending, send, answering, receiving, receive, afterReceive, afterMessage, afterSend, passedEnd, takesClose, takesChannel, takesLabel, toOutside, unheard}
+use Rattle.calculus.specs.Steps.{Outcome, notOpen, Message, onClose, onChannel, onLabel, Turn, sends, receives, alone, turnOf, bothTo, meeting, sending, send, answering, afterReceive, afterMessage, passedEnd, takesClose, takesChannel, takesLabel}
 use Rattle.tables.specs.Decode.{processIn}
 use Rattle.tables.specs.Program.{plainIn, programIn}
 use Rattle.tables.specs.Roots.{branchesIn}
@@ -25,7 +22,7 @@ use Rattle.runs.specs.declared.records.End.{End as EndWords}
 use Rattle.runs.specs.declared.records.Held.{Held}
 use Rattle.runs.specs.declared.records.Process.{Process as ProcessWords}
 use Rattle.runs.specs.declared.records.Far.the-variants as far
-use Rattle.contexts.specs.Held.{channelsOf, endFound, Sees}
+use Rattle.contexts.specs.Held.{endFound, Sees}
 use Rattle.contexts.specs.declared.held.Lookup.{Lookup}
 use Rattle.contexts.specs.declared.held.Lookup.the-variants as lookups
 use Rattle.machine.specs.declared.outcome.Outcome.{Outcome as OutcomeWords}

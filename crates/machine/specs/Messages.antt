@@ -1,27 +1,26 @@
 -- What goes over a channel, by the numbers of a term's node.
 use Prim.Native.Nat.{ℕ, zero, suc, _+_, _≤_, _<_}
 use mathlib.Core.Path.{_≡_, refl, sym, _∙_, ap, subst}
-use mathlib.Core.List.{List, [], _∷_, _++_}
+use mathlib.Core.List.{List}
 use mathlib.Core.Bool.{Bool, true, false, cond}
-use mathlib.Core.Option.{Option, some, none, Option·map, Option·getD}
+use mathlib.Core.Option.{Option, none, Option·map, Option·getD}
 use native.Mathlib.Omega.{arith}
 use Rattle.notation.specs.Bytes.{same}
 use Rattle.notation.specs.Limits.{textLimit, processTermLimit}
 use Rattle.notation.specs.Token.{nameAt}
 use Rattle.notation.specs.Reader.{nameIn, labelIn}
-use Rattle.notation.specs.Tree.{Name, Located, Ty, Proc, empty, sendLabel, plains}
+use Rattle.notation.specs.Tree.{Name, Located, Ty, Proc, sendLabel}
 use Rattle.notation.specs.Tables.{termNode}
 use Rattle.notation.specs.declared.reading.TermNode.{TermNode}
 use Rattle.notation.specs.declared.reading.Found.{Found}
 use Rattle.notation.specs.declared.reading.Found.the-variants.{At, Nothing}
-use Rattle.calculus.specs.Types.{standing, passing, choosing, labelled}
-use Rattle.calculus.specs.Program.{Program}
-use Rattle.calculus.specs.Configuration.{End, Doing, running, folding, waiting}
-use Rattle.calculus.specs.Steps.{Message, closing, passes, chooses, Wanted, onClose, onChannel, onLabel, Turn, sends, receives, alone, turn, turnOf, afterPassing, afterChoosing, afterMessage, afterSend, retypedEnd}
+use Rattle.calculus.specs.Types.{standing, passing, choosing}
+use Rattle.calculus.specs.Configuration.{End, Doing, running}
+use Rattle.calculus.specs.Steps.{Message, closing, passes, chooses, onClose, onChannel, onLabel, Turn, sends, receives, alone, turn, turnOf, afterPassing, afterChoosing, afterMessage, afterSend, retypedEnd}
 use Rattle.tables.specs.Access.{TermOf}
 use Rattle.tables.specs.Decode.{tallyIn, termAt, termNodeOf, processIn}
 use Rattle.tables.specs.Program.{plainIn, programIn}
-use Rattle.tables.specs.Roots.{TypeIn, AlternativesIn, alternativesIn, ProcessIn, BranchesIn, branchesIn, atKind, Handlers, each-kind, processCases, process-tree, process-root}
+use Rattle.tables.specs.Roots.{TypeIn, AlternativesIn, ProcessIn, BranchesIn, branchesIn, Handlers, each-kind, processCases, process-tree, process-root}
 use Rattle.tables.specs.Stands.{ProcessAt}
 use Rattle.tables.specs.Search.{placeOf}
 use Rattle.tables.specs.Whole.{Tables}

@@ -1,27 +1,24 @@
 -- An end is given up; a process folds up.
-use Prim.Native.Nat.{ℕ, zero, suc, _+_, _≤_, _<_}
+use Prim.Native.Nat.{ℕ, _+_, _<_}
 use mathlib.Core.Path.{_≡_, refl, sym, _∙_, ap, subst}
 use mathlib.Core.List.{List, [], _∷_, map}
 use mathlib.Core.Bool.{Bool, true, false, false≢true}
-use mathlib.Core.Option.{Option, some, none, Option·some-injective, Option·none-ne-some}
+use mathlib.Core.Option.{Option, some, Option·some-injective, Option·none-ne-some}
 use native.Mathlib.Omega.{arith}
 use lib.ListN.{length, set, getElem?}
 use Rattle.notation.specs.Token.{nameAt}
 use Rattle.notation.specs.Reader.{nameIn}
-use Rattle.notation.specs.Tree.{Name}
-use Rattle.calculus.specs.Named.{lookup, without}
-use Rattle.calculus.specs.Types.{Side}
-use Rattle.calculus.specs.Configuration.{End, end, folding, Process, process, Outside, Config, config, at, replaced, farEnd}
+use Rattle.calculus.specs.Named.{lookup}
+use Rattle.calculus.specs.Configuration.{End, Process, process, Outside, Config, config, at, replaced, farEnd}
 use Rattle.calculus.specs.Configuration as calculus
-use Rattle.calculus.specs.Steps.{Outcome, onHeld, carried, notOpen, seenAt, outsideAfter, parting, cancelling, leaving, foldingUp}
+use Rattle.calculus.specs.Steps.{Outcome, onHeld, seenAt, outsideAfter, parting, cancelling, leaving, foldingUp}
 use Rattle.calculus.specs.declared.answers.Seen.{Seen}
 use Rattle.calculus.specs.declared.answers.Seen.the-variants.{Nothing, Cancelled}
-use Rattle.tables.specs.Roots.{ProcessIn}
 use Rattle.tables.specs.Decode.{processIn}
 use Rattle.tables.specs.Program.{plainIn}
 use Rattle.runs.specs.Lists.{All, removeAt}
-use Rattle.runs.specs.ListLaws.{all-at, all-remove}
-use Rattle.runs.specs.Raw.{RawEnd, RawOutside, RawConfig, rawIn, linkOf, sideOf, Bounded}
+use Rattle.runs.specs.ListLaws.{all-remove}
+use Rattle.runs.specs.Raw.{RawEnd, rawIn, linkOf, sideOf, Bounded}
 use Rattle.runs.specs.Values.{Changed, endIn, heldIn, held-length, outsideIn}
 use Rattle.runs.specs.Values as values
 use Rattle.runs.specs.Operations as raw
@@ -38,7 +35,7 @@ use Rattle.contexts.specs.declared.held.Lookup.{Lookup}
 use Rattle.contexts.specs.declared.held.Lookup.the-variants as lookups
 use Rattle.machine.specs.declared.outcome.Outcome.the-variants.{Carried, NotOpen}
 use Rattle.machine.specs.declared.outcome.Outcome.{Outcome as OutcomeWords}
-use Rattle.machine.specs.Run.{configIn, processAs, RunOf, ProcessOf, StandsAt, Becomes, Carries, CarriesBy}
+use Rattle.machine.specs.Run.{configIn, processAs, RunOf, ProcessOf, Becomes, Carries}
 use Rattle.machine.specs.Changes.{then, stored, let-go, running-as}
 
 -- an end by value

@@ -1,29 +1,25 @@
 -- A process that receives, and what its sender's message does to it.
-use Prim.Native.Nat.{ℕ, zero, suc, _+_, _-_, _≤_, _<_}
+use Prim.Native.Nat.{ℕ, suc, _+_, _-_, _≤_, _<_}
 use mathlib.Core.Path.{_≡_, refl, sym, _∙_, ap, subst}
 use mathlib.Core.List.{List, [], _∷_, _++_}
 use mathlib.Core.Bool.{Bool, true, false, cond}
-use mathlib.Core.Option.{Option, some, none, Option·map}
+use mathlib.Core.Option.{Option, some, Option·map}
 use native.Mathlib.Omega.{arith}
-use lib.ListN.{length, length-set, set, getElem?}
+use lib.ListN.{length, length-set, set}
 use Rattle.notation.specs.Bytes.{same}
-use Rattle.notation.specs.Limits.{textLimit}
 use Rattle.notation.specs.Token.{nameAt}
-use Rattle.notation.specs.Reader.{nameIn, labelIn}
-use Rattle.notation.specs.Tree.{Name, Ty, Proc, branch}
-use Rattle.notation.specs.Tables.{termNode}
-use Rattle.notation.specs.declared.reading.TermNode.{TermNode}
+use Rattle.notation.specs.Reader.{nameIn}
+use Rattle.notation.specs.Tree.{Name, Proc}
 use Rattle.notation.specs.declared.reading.Found.{Found}
 use Rattle.notation.specs.declared.reading.Found.the-variants as found
 use Rattle.reader.specs.Filling.{Area}
-use Rattle.calculus.specs.Configuration.{End, Process, process, running, Config, config, replaced, Holder}
-use Rattle.calculus.specs.Configuration as calculus
-use Rattle.calculus.specs.Steps.{Outcome, carried, notOpen, Message, closing, passes, chooses, Wanted, onClose, onChannel, onLabel, Turn, sends, receives, alone, bothTo, meeting, sending, branchOf, bound, retypedEnd, takesClose, takesChannel, takesLabel, afterReceive, afterMessage, passedEnd}
+use Rattle.calculus.specs.Configuration.{End, Process, process, running, Config, config, replaced}
+use Rattle.calculus.specs.Steps.{Outcome, onClose, onChannel, onLabel, bothTo, branchOf, bound, retypedEnd, takesClose, takesChannel, takesLabel}
 use Rattle.calculus.specs.declared.answers.Seen.the-variants.{Nothing}
 use Rattle.tables.specs.Access.{BranchOf, branch-there}
 use Rattle.tables.specs.Decode.{processIn}
-use Rattle.tables.specs.Program.{plainIn, programIn}
-use Rattle.tables.specs.Roots.{TypeIn, ProcessIn, BranchesIn, branchesIn, FirstBranch}
+use Rattle.tables.specs.Program.{plainIn}
+use Rattle.tables.specs.Roots.{ProcessIn, BranchesIn, branchesIn, FirstBranch}
 use Rattle.tables.specs.Search.{placeOf}
 use Rattle.tables.specs.Whole.{Tables}
 use Rattle.tables.specs.declared.access.Labelled.{Labelled}
@@ -34,19 +30,15 @@ use Rattle.runs.specs.Operations as raw
 use Rattle.runs.specs.declared.records.End.{End as EndWords}
 use Rattle.runs.specs.declared.records.Held.{Held}
 use Rattle.runs.specs.declared.records.Process.{Process as ProcessWords}
-use Rattle.contexts.specs.Held.{channelsOf, HeldIn, endFound, FoundIn, Sees, Drops, Retypes, Brings}
+use Rattle.contexts.specs.Held.{channelsOf, HeldIn, endFound, FoundIn, Drops, Retypes, Brings}
 use Rattle.contexts.specs.Halves.{append-nil}
 use Rattle.contexts.specs.declared.held.Lookup.{Lookup}
 use Rattle.contexts.specs.declared.held.Lookup.the-variants as lookups
-use Rattle.machine.specs.declared.outcome.Outcome.{Outcome as OutcomeWords}
 use Rattle.machine.specs.declared.outcome.Outcome.the-variants.{Carried, NotOpen}
-use Rattle.machine.specs.Run.{configIn, doingAs, processAs, RunOf, ProcessOf, StandsAt, Becomes, Carries}
-use Rattle.machine.specs.Changes.{then, stored, running-as, runs-on, places-after, places-in}
-use Rattle.machine.specs.Parting.{endAs}
-use Rattle.machine.specs.Forwarding.{farRaw, farOf}
+use Rattle.machine.specs.Run.{configIn, processAs, RunOf, ProcessOf, Becomes, Carries}
+use Rattle.machine.specs.Changes.{then, stored, running-as, places-after, places-in}
 use Rattle.machine.specs.Making.{channels-many}
 use Rattle.calculus.specs.Named.{changed}
-use Rattle.machine.specs.Messages.{message, messageBy, TypeAfter, turnBy, partsBy, heard, Heard}
 
 -- ── two processes change
 abbrev pub bothSet : Config → ℕ → Process → ℕ → Process → Config

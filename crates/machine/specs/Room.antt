@@ -1,11 +1,11 @@
 -- What a well-formed configuration gives its steps: nobody links to a process that does not wait, and there is room for what is brought in.
-use Prim.Native.Nat.{ℕ, zero, suc, _+_, _≤_, _<_}
-use mathlib.Core.Path.{_≡_, refl, sym, _∙_, ap, subst}
-use mathlib.Core.List.{List, [], _∷_, map, List·Memᴰ, List·Memᴰ·head, List·Memᴰ·tail}
+use Prim.Native.Nat.{ℕ, suc, _+_, _≤_, _<_}
+use mathlib.Core.Path.{_≡_, refl, sym, _∙_, ap}
+use mathlib.Core.List.{List, [], _∷_, map, List·Memᴰ·head, List·Memᴰ·tail}
 use mathlib.Core.Bool.{Bool, true, false, true≢false, false≢true, cond}
-use mathlib.Core.Option.{Option, some, none, Option·some-injective}
+use mathlib.Core.Option.{Option·some-injective}
 use native.Mathlib.Omega.{arith}
-use lib.ListN.{length, length-map, getElem?}
+use lib.ListN.{length, length-map}
 use Rattle.notation.specs.Bytes.{same}
 use Rattle.notation.specs.Token.{nameAt}
 use Rattle.notation.specs.Tree.{Name, Proc}
@@ -13,12 +13,12 @@ use Rattle.notation.specs.declared.reading.TermNode.{TermNode}
 use Rattle.calculus.specs.Named.{isSome}
 use Rattle.calculus.specs.Program.{Context, Program}
 use Rattle.calculus.specs.Typing.{Typed, sends-unit, recvs-unit, sends-channel, recvs-channel, sends-label, recvs-label, forwards, calls, spawns, tries, raises, cancels, empties}
-use Rattle.calculus.specs.Configuration.{End, Doing, running, folding, waiting, Process, Outside, Config}
-use Rattle.calculus.specs.Steps.{Wanted, onClose, onChannel, onLabel, Turn, sends, receives, alone, turn, turnOf}
+use Rattle.calculus.specs.Configuration.{End, Doing, running, folding, waiting, Process, Outside}
+use Rattle.calculus.specs.Steps.{onClose, onChannel, onLabel, Turn, sends, receives, alone, turn, turnOf}
 use Rattle.calculus.specs.WellFormed.{In, Rising, contextOf, isWaiting, TypedAs, WellFormed}
 use Rattle.tables.specs.Program.{programIn}
 use Rattle.runs.specs.ListLaws.{all-of, map-at}
-use Rattle.runs.specs.Raw.{RawOutside, rawIn, linkOf}
+use Rattle.runs.specs.Raw.{rawIn, linkOf}
 use Rattle.runs.specs.Bounds.{Unlinked}
 use Rattle.runs.specs.declared.records.Process.{Process as ProcessWords}
 use Rattle.contexts.specs.Held.{channelsOf}

@@ -3,29 +3,24 @@ use Prim.Native.Nat.{ℕ, zero, suc, _+_, _≤_, _<_}
 use mathlib.Core.Path.{_≡_, refl, sym, _∙_, ap, subst}
 use mathlib.Core.List.{List, [], _∷_, _++_}
 use mathlib.Core.Bool.{Bool, true, false, cond}
-use mathlib.Core.Option.{Option, some, none}
+use mathlib.Core.Option.{some}
 use native.Mathlib.Omega.{arith}
 use borrow.Author.Tests.{lt-ltb, le-ltb}
 use lib.Dec.{eqb}
-use lib.ListN.{length, length-set, set, getElem?}
+use lib.ListN.{length, set, getElem?}
 use Rattle.notation.specs.Limits.{outsideNumbers}
 use Rattle.notation.specs.Token.{nameAt}
-use Rattle.notation.specs.Reader.{nameIn, labelIn}
-use Rattle.notation.specs.Tree.{Name, Ty}
 use Rattle.notation.specs.Tables.{termNode}
 use Rattle.notation.specs.declared.reading.TermNode.{TermNode}
-use Rattle.calculus.specs.Named.{lookup}
-use Rattle.calculus.specs.Program.{Program}
-use Rattle.calculus.specs.Configuration.{End, Process, process, Config, config, replaced, farEnd}
+use Rattle.calculus.specs.Configuration.{End, Process, Config, config, replaced}
 use Rattle.calculus.specs.Configuration as calculus
-use Rattle.calculus.specs.Steps.{Outcome, onHeld, carried, notOpen, lacking, Message, closing, passes, chooses, unheard, toOutside, passedOut, isGivenUp, parting, afterMessage}
+use Rattle.calculus.specs.Steps.{Outcome, lacking, unheard, toOutside, passedOut, isGivenUp, parting, afterMessage}
 use Rattle.calculus.specs.declared.answers.Seen.the-variants.{Nothing, Label, Close, Passed}
 use Rattle.tables.specs.Decode.{processIn}
 use Rattle.tables.specs.Program.{plainIn, programIn}
 use Rattle.tables.specs.Roots.{TypeIn}
 use Rattle.runs.specs.Raw.{RawProcess, RawOutside, RawConfig, rawIn, sideOf, Bounded}
 use Rattle.runs.specs.Values.{Changed, outsideIn}
-use Rattle.runs.specs.Values as values
 use Rattle.runs.specs.Operations as raw
 use Rattle.runs.specs.DecodeLaws.{FarAs, atProcess, atOutside, givenUp, decoded-far-outside}
 use Rattle.runs.specs.declared.records.End.{End as EndWords}
@@ -33,14 +28,14 @@ use Rattle.runs.specs.declared.records.Outside.{Outside as OutsideWords}
 use Rattle.runs.specs.declared.records.Process.{Process as ProcessWords}
 use Rattle.runs.specs.declared.records.Far.{Far}
 use Rattle.runs.specs.declared.records.Far.the-variants as far
-use Rattle.contexts.specs.Held.{channelsOf, Sees}
+use Rattle.contexts.specs.Held.{Sees}
 use Rattle.contexts.specs.Halves.{append-nil}
 use Rattle.contexts.specs.declared.held.Lookup.{Lookup}
 use Rattle.contexts.specs.declared.held.Lookup.the-variants as lookups
 use Rattle.machine.specs.declared.outcome.Outcome.{Outcome as OutcomeWords}
 use Rattle.machine.specs.declared.outcome.Outcome.the-variants.{Carried, NotOpen, Lacking}
-use Rattle.machine.specs.Run.{configIn, processAs, RunOf, ProcessOf, StandsAt, Becomes, Carries}
-use Rattle.machine.specs.Changes.{then, stored, let-go, retyped, passed-out, given, places-after, places-in}
+use Rattle.machine.specs.Run.{configIn, processAs, RunOf, Becomes, Carries}
+use Rattle.machine.specs.Changes.{then, let-go, retyped, passed-out, given}
 use Rattle.machine.specs.Parting.{endAs, held-none, held-some}
 use Rattle.machine.specs.Forwarding.{farRaw, farOf, far-as}
 use Rattle.machine.specs.Forwarding as forwarding

@@ -1,7 +1,6 @@
 // A recv: as the send at its far end, or with its far end given up.
 ghost use mathlib.Core.Path.{_≡_};
-ghost use Prim.Native.Nat.{ℕ, _<_};
-ghost use lib.ListN.{length};
+ghost use Prim.Native.Nat.{_<_};
 ghost use Rattle.notation.specs.Reader.{nameIn};
 ghost use Rattle.calculus.specs.Steps.{receive};
 ghost use Rattle.calculus.specs.WellFormed.{WellFormed};

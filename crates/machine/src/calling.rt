@@ -1,6 +1,6 @@
 // A call: the channels of its lists under the names of the signature.
 ghost use mathlib.Core.Path.{_≡_};
-ghost use Prim.Native.Nat.{ℕ, _+_, _≤_, _<_};
+ghost use Prim.Native.Nat.{_+_, _≤_, _<_};
 ghost use Rattle.tables.specs.Roots.{TypeIn};
 ghost use Rattle.tables.specs.Access.{asEntry};
 ghost use Rattle.tables.specs.Whole.{EntriesIn, SignatureIn, Tables};

@@ -1,6 +1,6 @@
 // The step at a place: "Which rule applies is decided by the term's kind".
 ghost use mathlib.Core.Path.{_≡_};
-ghost use Prim.Native.Nat.{ℕ, _<_};
+ghost use Prim.Native.Nat.{_<_};
 ghost use Rattle.calculus.specs.Steps.{step};
 ghost use Rattle.calculus.specs.WellFormed.{WellFormed};
 ghost use Rattle.tables.specs.Program.{programIn};

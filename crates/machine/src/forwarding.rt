@@ -1,9 +1,8 @@
 // Forwarding: the two far ends become one channel.
 ghost use mathlib.Core.Path.{_≡_};
-ghost use Prim.Native.Nat.{ℕ, _<_};
+ghost use Prim.Native.Nat.{_<_};
 ghost use lib.ListN.{length};
 ghost use Rattle.notation.specs.Reader.{nameIn};
-ghost use Rattle.calculus.specs.Configuration.{farEnd};
 ghost use Rattle.calculus.specs.Steps.{joinedTo, forwarding};
 ghost use Rattle.runs.specs.Raw.{rawIn};
 ghost use Rattle.runs.specs.declared.records.Far.the-variants as far;

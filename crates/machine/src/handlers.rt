@@ -1,6 +1,5 @@
 // A process and its handler.
 ghost use mathlib.Core.Path.{_≡_};
-ghost use Prim.Native.Nat.{ℕ, _<_};
 ghost use lib.ListN.{length};
 ghost use Rattle.calculus.specs.Steps.{raising, leaving};
 ghost use Rattle.tables.specs.Decode.{processIn};

@@ -1,6 +1,6 @@
 // A send, whoever is at the far end.
 ghost use mathlib.Core.Path.{_≡_};
-ghost use Prim.Native.Nat.{ℕ, _+_, _≤_, _<_};
+ghost use Prim.Native.Nat.{_+_, _<_};
 ghost use lib.ListN.{length};
 ghost use Rattle.calculus.specs.Steps.{afterMessage};
 ghost use Rattle.calculus.specs.WellFormed.{WellFormed};

@@ -1,6 +1,5 @@
 // An end is given up; a process folds up.
-ghost use mathlib.Core.Path.{_≡_};
-ghost use Prim.Native.Nat.{ℕ, _<_};
+ghost use Prim.Native.Nat.{_<_};
 ghost use lib.ListN.{length};
 ghost use Rattle.notation.specs.Reader.{nameIn};
 ghost use Rattle.calculus.specs.Steps.{parting, foldingUp, cancelling};

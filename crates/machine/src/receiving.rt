@@ -1,5 +1,4 @@
 // A process that receives, and what its sender's message does to it.
-ghost use mathlib.Core.Path.{_≡_};
 ghost use Prim.Native.Nat.{ℕ, _+_, _<_};
 ghost use lib.ListN.{length};
 ghost use Rattle.notation.specs.Reader.{nameIn};

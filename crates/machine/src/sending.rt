@@ -1,11 +1,11 @@
 // A send: to an end given up, to the outside, or to a process that receives.
 ghost use mathlib.Core.Path.{_≡_};
-ghost use Prim.Native.Nat.{ℕ, _≤_, _<_};
+ghost use Prim.Native.Nat.{_≤_, _<_};
 ghost use lib.ListN.{length};
 ghost use Rattle.calculus.specs.Steps.{afterMessage};
 ghost use Rattle.tables.specs.Program.{plainIn, programIn};
 ghost use Rattle.runs.specs.Raw.{rawIn};
-ghost use Rattle.machine.specs.Run.{configIn, processAs, RunOf, ProcessOf, StandsAt, Becomes, Carries};
+ghost use Rattle.machine.specs.Run.{configIn, RunOf, ProcessOf, StandsAt, Becomes, Carries};
 ghost use Rattle.contexts.specs.Held.{EndIn};
 ghost use Rattle.runs.specs.Values.{endIn};
 ghost use Rattle.machine.specs.Parting.{endAs};

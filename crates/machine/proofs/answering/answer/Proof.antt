@@ -1,4 +1,3 @@
-use native.Mathlib.Omega.{arith}
 use mathlib.Core.Logic.{inl, inr}
 use Rattle.machine.specs.Answering.{send-parts, answers-not, answers}
 use Rattle.machine.specs.Changes.{stands-at}
@@ -6,20 +5,18 @@ use Rattle.machine.specs.Forwarding.{far-place, far-position, far-holder
 use borrow.Author.Needs.{needs}
 use Rattle.machine.proofs.answering.answer.Statement.{statement}
 use Rattle.machine.proofs.answering.answer.Tie as tie
-use Rattle.machine.proofs.answering.answer.Reads as reads
-use Rattle.machine.proofs.answering.answer.Lts as lts
-use Rattle.machine.proofs.meeting.send.Reads as send-reads
-use Rattle.machine.proofs.messages.turn_on.Reads as turn-on-reads
-use Rattle.runs.proofs.held.end_at.Reads as end-at-reads
-use Rattle.runs.proofs.processes.load.Reads as load-reads
 
 -- src/answering.rt:46:9
 load-requires : tie.Need-load-requires
-load-requires c κs = ((c .before .before .before .before .pre .0 .wide), ((c .before .before .before .before .pre .0 .bounds), far-place (c .before .before .before .before .args .text .now) (c .before .before .before .before .args .scratch .now) (c .before .before .before .before .args .run .now) (c .before .before .before .before .args .e) (c .before .before .before .before .args .j) (c .before .before .before .before .args .k) (c .before .before .before .before .pre .1 .1 .1)))
+load-requires c κs =
+    let s = c .before .before .before .before in
+    ((s .pre .0 .wide), ((s .pre .0 .bounds), far-place (s .args .text .now) (s .args .scratch .now) (s .args .run .now) (s .args .e) (s .args .j) (s .args .k) (s .pre .1 .1 .1)))
 
 -- src/answering.rt:48:9
 end-at-requires : tie.Need-end-at-requires
-end-at-requires c κs = (c .before .load .ensures .1 .1, (far-position (c .before .before .before .before .before .before .args .text .now) (c .before .before .before .before .before .before .args .scratch .now) (c .before .before .before .before .before .before .args .run .now) (c .before .before .before .before .before .before .args .e) (c .before .before .before .before .before .before .args .j) (c .before .before .before .before .before .before .args .k) (c .before .before .before .before .before .before .pre .1 .1 .1) (c .before .load .result) (c .before .load .ensures .0)))
+end-at-requires c κs =
+    let s = c .before .before .before .before .before .before in
+    (c .before .load .ensures .1 .1, (far-position (s .args .text .now) (s .args .scratch .now) (s .args .run .now) (s .args .e) (s .args .j) (s .args .k) (s .pre .1 .1 .1) (c .before .load .result) (c .before .load .ensures .0)))
 
 -- src/answering.rt:49:13
 cast-x : tie.Need-cast-x
@@ -27,7 +24,9 @@ cast-x c = search needs
 
 -- src/answering.rt:50:9
 turn-on-requires : tie.Need-turn-on-requires
-turn-on-requires c κs = (c .before .before .before .before .before .before .before .before .pre .0 .tables, (_, (stands-at (c .before .before .before .before .before .before .before .before .args .text .now) (c .before .before .before .before .before .before .before .before .args .scratch .now) (c .before .before .before .before .before .before .before .before .args .run .now) (c .before .before .before .before .before .before .before .before .args .j) (c .before .before .before .load .result) (c .before .before .before .before .before .before .before .before .pre .0) (c .before .before .before .load .ensures .0) (c .before .before .before .load .ensures .1 .0) (c .before .before .before .load .ensures .1 .1)) .is))
+turn-on-requires c κs =
+    let s = c .before .before .before .before .before .before .before .before in
+    (s .pre .0 .tables, (_, (stands-at (s .args .text .now) (s .args .scratch .now) (s .args .run .now) (s .args .j) (c .before .before .before .load .result) (s .pre .0) (c .before .before .before .load .ensures .0) (c .before .before .before .load .ensures .1 .0) (c .before .before .before .load .ensures .1 .1)) .is))
 
 -- src/answering.rt:52:9
 same-length : tie.Need-same-length
@@ -35,7 +34,9 @@ same-length c = search needs
 
 -- src/answering.rt:52:9
 returns : tie.Need-returns
-returns c = answers-not (c .before .before .before .before .before .before .before .before .before .before .before .args .text .now) (c .before .before .before .before .before .before .before .before .before .before .before .args .scratch .now) (c .before .before .before .before .before .before .before .before .before .before .before .args .run .now) (c .before .before .before .before .before .before .before .before .before .before .before .args .place) (c .before .before .before .before .before .before .before .before .before .before .before .args .p) (c .before .before .before .before .before .before .before .before .before .before .before .args .c) (c .before .before .before .before .before .before .before .before .before .before .before .args .e) (c .before .before .before .before .before .before .before .before .before .before .before .args .j) (c .before .before .before .before .end-at .result .name) (c .before .before .before .before .before .before .load .result) (c .before .before .turn-on .result) (far-holder (c .before .before .before .before .before .before .before .before .before .before .before .args .text .now) (c .before .before .before .before .before .before .before .before .before .before .before .args .scratch .now) (c .before .before .before .before .before .before .before .before .before .before .before .args .run .now) (c .before .before .before .before .before .before .before .before .before .before .before .args .e) (c .before .before .before .before .before .before .before .before .before .before .before .args .j) (c .before .before .before .before .before .before .before .before .before .before .before .args .k) (c .before .before .before .before .before .before .before .before .before .before .before .pre .1 .1 .1) (c .before .before .before .before .before .before .load .result) (c .before .before .before .before .before .before .load .ensures .0) (c .before .before .before .before .end-at .result) (c .before .before .before .before .end-at .ensures .0)) (c .before .before .turn-on .ensures) (inl (c .if1 .taken))
+returns c =
+    let s = c .before .before .before .before .before .before .before .before .before .before .before in
+    answers-not (s .args .text .now) (s .args .scratch .now) (s .args .run .now) (s .args .place) (s .args .p) (s .args .c) (s .args .e) (s .args .j) (c .before .before .before .before .end-at .result .name) (c .before .before .before .before .before .before .load .result) (c .before .before .turn-on .result) (far-holder (s .args .text .now) (s .args .scratch .now) (s .args .run .now) (s .args .e) (s .args .j) (s .args .k) (s .pre .1 .1 .1) (c .before .before .before .before .before .before .load .result) (c .before .before .before .before .before .before .load .ensures .0) (c .before .before .before .before .end-at .result) (c .before .before .before .before .end-at .ensures .0)) (c .before .before .turn-on .ensures) (inl (c .if1 .taken))
 
 -- src/answering.rt:55:9
 same-length-2 : tie.Need-same-length-2
@@ -43,11 +44,15 @@ same-length-2 c = search needs
 
 -- src/answering.rt:55:9
 returns-2 : tie.Need-returns-2
-returns-2 c = answers-not (c .before .before .before .before .before .before .before .before .before .before .before .before .before .args .text .now) (c .before .before .before .before .before .before .before .before .before .before .before .before .before .args .scratch .now) (c .before .before .before .before .before .before .before .before .before .before .before .before .before .args .run .now) (c .before .before .before .before .before .before .before .before .before .before .before .before .before .args .place) (c .before .before .before .before .before .before .before .before .before .before .before .before .before .args .p) (c .before .before .before .before .before .before .before .before .before .before .before .before .before .args .c) (c .before .before .before .before .before .before .before .before .before .before .before .before .before .args .e) (c .before .before .before .before .before .before .before .before .before .before .before .before .before .args .j) (c .before .before .before .before .before .before .end-at .result .name) (c .before .before .before .before .before .before .before .before .load .result) (c .before .before .before .before .turn-on .result) (far-holder (c .before .before .before .before .before .before .before .before .before .before .before .before .before .args .text .now) (c .before .before .before .before .before .before .before .before .before .before .before .before .before .args .scratch .now) (c .before .before .before .before .before .before .before .before .before .before .before .before .before .args .run .now) (c .before .before .before .before .before .before .before .before .before .before .before .before .before .args .e) (c .before .before .before .before .before .before .before .before .before .before .before .before .before .args .j) (c .before .before .before .before .before .before .before .before .before .before .before .before .before .args .k) (c .before .before .before .before .before .before .before .before .before .before .before .before .before .pre .1 .1 .1) (c .before .before .before .before .before .before .before .before .load .result) (c .before .before .before .before .before .before .before .before .load .ensures .0) (c .before .before .before .before .before .before .end-at .result) (c .before .before .before .before .before .before .end-at .ensures .0)) (c .before .before .before .before .turn-on .ensures) (inr (c .if2 .taken))
+returns-2 c =
+    let s = c .before .before .before .before .before .before .before .before .before .before .before .before .before in
+    answers-not (s .args .text .now) (s .args .scratch .now) (s .args .run .now) (s .args .place) (s .args .p) (s .args .c) (s .args .e) (s .args .j) (c .before .before .before .before .before .before .end-at .result .name) (c .before .before .before .before .before .before .before .before .load .result) (c .before .before .before .before .turn-on .result) (far-holder (s .args .text .now) (s .args .scratch .now) (s .args .run .now) (s .args .e) (s .args .j) (s .args .k) (s .pre .1 .1 .1) (c .before .before .before .before .before .before .before .before .load .result) (c .before .before .before .before .before .before .before .before .load .ensures .0) (c .before .before .before .before .before .before .end-at .result) (c .before .before .before .before .before .before .end-at .ensures .0)) (c .before .before .before .before .turn-on .ensures) (inr (c .if2 .taken))
 
 -- src/answering.rt:57:5
 send-requires : tie.Need-send-requires
-send-requires c κs = (c .before .before .before .before .before .before .before .before .before .before .before .before .before .before .pre .0, ((stands-at (c .before .before .before .before .before .before .before .before .before .before .before .before .before .before .args .text .now) (c .before .before .before .before .before .before .before .before .before .before .before .before .before .before .args .scratch .now) (c .before .before .before .before .before .before .before .before .before .before .before .before .before .before .args .run .now) (c .before .before .before .before .before .before .before .before .before .before .before .before .before .before .args .j) (c .before .before .before .before .before .before .before .before .before .load .result) (c .before .before .before .before .before .before .before .before .before .before .before .before .before .before .pre .0) (c .before .before .before .before .before .before .before .before .before .load .ensures .0) (c .before .before .before .before .before .before .before .before .before .load .ensures .1 .0) (c .before .before .before .before .before .before .before .before .before .load .ensures .1 .1)), ((send-parts (c .before .before .before .before .before .before .before .before .before .before .before .before .before .before .args .text .now) (c .before .before .before .before .before .before .before .before .before .before .before .before .before .before .args .scratch .now) (c .before .before .before .before .before .turn-on .result) (c .before .before .before .if1 .left) (c .before .if2 .left) (c .before .before .before .before .before .turn-on .ensures .parts)), c .before .before .before .before .before .before .before .before .before .before .before .before .before .before .pre .1 .1 .0)))
+send-requires c κs =
+    let s = c .before .before .before .before .before .before .before .before .before .before .before .before .before .before in
+    (s .pre .0, ((stands-at (s .args .text .now) (s .args .scratch .now) (s .args .run .now) (s .args .j) (c .before .before .before .before .before .before .before .before .before .load .result) (s .pre .0) (c .before .before .before .before .before .before .before .before .before .load .ensures .0) (c .before .before .before .before .before .before .before .before .before .load .ensures .1 .0) (c .before .before .before .before .before .before .before .before .before .load .ensures .1 .1)), ((send-parts (s .args .text .now) (s .args .scratch .now) (c .before .before .before .before .before .turn-on .result) (c .before .before .before .if1 .left) (c .before .if2 .left) (c .before .before .before .before .before .turn-on .ensures .parts)), s .pre .1 .1 .0)))
 
 -- src/answering.rt:29:1
 same-length-3 : tie.Need-same-length-3
@@ -55,7 +60,9 @@ same-length-3 c = search needs
 
 -- src/answering.rt:29:1
 returns-3 : tie.Need-returns-3
-returns-3 c = answers (c .before .before .before .before .before .before .before .before .before .before .before .before .before .before .before .before .before .args .text .now) (c .before .before .before .before .before .before .before .before .before .before .before .before .before .before .before .before .before .args .scratch .now) (c .before .before .before .before .before .before .before .before .before .before .before .before .before .before .before .before .before .args .run .now) (c .before .before .before .before .before .before .before .before .before .before .before .before .before .before .before .before .before .args .place) (c .before .before .before .before .before .before .before .before .before .before .before .before .before .before .before .before .before .args .p) (c .before .before .before .before .before .before .before .before .before .before .before .before .before .before .before .before .before .args .c) (c .before .before .before .before .before .before .before .before .before .before .before .before .before .before .before .before .before .args .e) (c .before .before .before .before .before .before .before .before .before .before .before .before .before .before .before .before .before .args .j) (c .before .before .before .before .before .before .before .before .before .before .end-at .result .name) (c .before .before .before .before .before .before .before .before .before .before .before .before .load .result) (c .before .before .before .before .before .before .before .before .turn-on .result) (far-holder (c .before .before .before .before .before .before .before .before .before .before .before .before .before .before .before .before .before .args .text .now) (c .before .before .before .before .before .before .before .before .before .before .before .before .before .before .before .before .before .args .scratch .now) (c .before .before .before .before .before .before .before .before .before .before .before .before .before .before .before .before .before .args .run .now) (c .before .before .before .before .before .before .before .before .before .before .before .before .before .before .before .before .before .args .e) (c .before .before .before .before .before .before .before .before .before .before .before .before .before .before .before .before .before .args .j) (c .before .before .before .before .before .before .before .before .before .before .before .before .before .before .before .before .before .args .k) (c .before .before .before .before .before .before .before .before .before .before .before .before .before .before .before .before .before .pre .1 .1 .1) (c .before .before .before .before .before .before .before .before .before .before .before .before .load .result) (c .before .before .before .before .before .before .before .before .before .before .before .before .load .ensures .0) (c .before .before .before .before .before .before .before .before .before .before .end-at .result) (c .before .before .before .before .before .before .before .before .before .before .end-at .ensures .0)) (c .before .before .before .before .before .before .before .before .turn-on .ensures) (c .before .before .before .before .before .before .if1 .left) (c .before .before .before .before .if2 .left) (c .before .before .send .ensures)
+returns-3 c =
+    let s = c .before .before .before .before .before .before .before .before .before .before .before .before .before .before .before .before .before in
+    answers (s .args .text .now) (s .args .scratch .now) (s .args .run .now) (s .args .place) (s .args .p) (s .args .c) (s .args .e) (s .args .j) (c .before .before .before .before .before .before .before .before .before .before .end-at .result .name) (c .before .before .before .before .before .before .before .before .before .before .before .before .load .result) (c .before .before .before .before .before .before .before .before .turn-on .result) (far-holder (s .args .text .now) (s .args .scratch .now) (s .args .run .now) (s .args .e) (s .args .j) (s .args .k) (s .pre .1 .1 .1) (c .before .before .before .before .before .before .before .before .before .before .before .before .load .result) (c .before .before .before .before .before .before .before .before .before .before .before .before .load .ensures .0) (c .before .before .before .before .before .before .before .before .before .before .end-at .result) (c .before .before .before .before .before .before .before .before .before .before .end-at .ensures .0)) (c .before .before .before .before .before .before .before .before .turn-on .ensures) (c .before .before .before .before .before .before .if1 .left) (c .before .before .before .before .if2 .left) (c .before .before .send .ensures)
 
 pub answer-spec : {M : Type 1} → statement M
 answer-spec =

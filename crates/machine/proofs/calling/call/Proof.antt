@@ -4,12 +4,6 @@ use Rattle.machine.specs.Changes.{stored, bounded-of, runs-on, pointer-s
 use borrow.Author.Needs.{needs}
 use Rattle.machine.proofs.calling.call.Statement.{statement}
 use Rattle.machine.proofs.calling.call.Tie as tie
-use Rattle.machine.proofs.calling.call.Reads as reads
-use Rattle.machine.proofs.calling.call.Lts as lts
-use Rattle.machine.proofs.calling.enter_call.Reads as enter-call-reads
-use Rattle.runs.proofs.processes.store.Reads as store-reads
-use Rattle.tables.proofs.access.declared_process.Reads as declared-process-reads
-use Rattle.tables.proofs.search.find_process.Reads as find-process-reads
 
 -- src/calling.rt:127:9
 find-process-requires : tie.Need-find-process-requires
@@ -25,23 +19,33 @@ enum-told c = search needs
 
 -- src/calling.rt:129:9
 returns : tie.Need-returns
-returns c = calls-nothing (c .before .before .before .before .before .before .args .text .now) (c .before .before .before .before .before .before .args .scratch .now) (c .before .before .before .before .before .before .args .run .now) (c .before .before .before .before .before .before .args .place) (c .before .before .before .before .before .before .args .p) (c .before .before .before .before .before .before .args .name) (c .before .before .before .before .before .before .args .bracket) (c .before .before .find-process .ensures) (c .enum-told .given .1)
+returns c =
+    let s = c .before .before .before .before .before .before in
+    calls-nothing (s .args .text .now) (s .args .scratch .now) (s .args .run .now) (s .args .place) (s .args .p) (s .args .name) (s .args .bracket) (c .before .before .find-process .ensures) (c .enum-told .given .1)
 
 -- src/calling.rt:131:9
 declared-process-requires : tie.Need-declared-process-requires
-declared-process-requires c κs = (c .before .before .before .before .before .before .before .pre .0 .tables .area, omega (arith, c .before .before .before .find-process .ensures .below _ (c .before .f .given .1), c .before .before .before .before .before .before .before .pre .0 .tables .within .1))
+declared-process-requires c κs =
+    let s = c .before .before .before .before .before .before .before in
+    (s .pre .0 .tables .area, omega (arith, c .before .before .before .find-process .ensures .below _ (c .before .f .given .1), s .pre .0 .tables .within .1))
 
 -- src/calling.rt:133:9
 enter-call-requires : tie.Need-enter-call-requires
-enter-call-requires c κs = ((c .before .before .before .before .before .before .before .before .before .pre .0 .tables, (signature-in (c .before .before .before .before .before .before .before .before .before .args .text .now) (c .before .before .before .before .before .before .before .before .before .args .scratch .now) (c .before .before .before .before .before .before .before .before .before .args .run .now) (c .before .before .before .before .before .before .before .before .before .args .place) (c .before .before .before .before .before .before .before .before .before .args .p) (c .before .before .before .before .before .before .before .before .before .args .name) (c .before .before .before .before .before .before .before .before .before .args .bracket) (c .before .before .before .before .before .find-process .ensures) _ (c .before .before .before .f .given .1) (c .before .declared-process .result) (c .before .declared-process .ensures) (c .before .before .before .before .before .before .before .before .before .pre .0 .tables) (c .before .before .before .before .before .before .before .before .before .pre .1 .1))), (c .before .before .before .before .before .before .before .before .before .pre .1 .0 .is .held, call-few (c .before .before .before .before .before .before .before .before .before .args .text .now) (c .before .before .before .before .before .before .before .before .before .args .scratch .now) (c .before .before .before .before .before .before .before .before .before .args .run .now) (c .before .before .before .before .before .before .before .before .before .args .place) (c .before .before .before .before .before .before .before .before .before .args .p) (c .before .before .before .before .before .before .before .before .before .args .name) (c .before .before .before .before .before .before .before .before .before .args .bracket) (c .before .before .before .before .before .find-process .ensures) _ (c .before .before .before .f .given .1) (c .before .declared-process .result) (c .before .declared-process .ensures) (c .before .before .before .before .before .before .before .before .before .pre .0 .tables) (c .before .before .before .before .before .before .before .before .before .pre .1 .1)))
+enter-call-requires c κs =
+    let s = c .before .before .before .before .before .before .before .before .before in
+    ((s .pre .0 .tables, (signature-in (s .args .text .now) (s .args .scratch .now) (s .args .run .now) (s .args .place) (s .args .p) (s .args .name) (s .args .bracket) (c .before .before .before .before .before .find-process .ensures) _ (c .before .before .before .f .given .1) (c .before .declared-process .result) (c .before .declared-process .ensures) (s .pre .0 .tables) (s .pre .1 .1))), (s .pre .1 .0 .is .held, call-few (s .args .text .now) (s .args .scratch .now) (s .args .run .now) (s .args .place) (s .args .p) (s .args .name) (s .args .bracket) (c .before .before .before .before .before .find-process .ensures) _ (c .before .before .before .f .given .1) (c .before .declared-process .result) (c .before .declared-process .ensures) (s .pre .0 .tables) (s .pre .1 .1)))
 
 -- src/calling.rt:139:22
 cast-t16 : tie.Need-cast-t16
-cast-t16 c = omega (arith, pointer-small (c .before .before .before .before .before .before .before .before .before .before .before .before .args .text .now) (c .before .before .before .before .before .before .before .before .before .before .before .before .args .scratch .now) _ (c .before .before .before .before .before .before .before .before .before .before .before .before .pre .0 .tables) ((signature-in (c .before .before .before .before .before .before .before .before .before .before .before .before .args .text .now) (c .before .before .before .before .before .before .before .before .before .before .before .before .args .scratch .now) (c .before .before .before .before .before .before .before .before .before .before .before .before .args .run .now) (c .before .before .before .before .before .before .before .before .before .before .before .before .args .place) (c .before .before .before .before .before .before .before .before .before .before .before .before .args .p) (c .before .before .before .before .before .before .before .before .before .before .before .before .args .name) (c .before .before .before .before .before .before .before .before .before .before .before .before .args .bracket) (c .before .before .before .before .before .before .before .before .find-process .ensures) _ (c .before .before .before .before .before .before .f .given .1) (c .before .before .before .before .declared-process .result) (c .before .before .before .before .declared-process .ensures) (c .before .before .before .before .before .before .before .before .before .before .before .before .pre .0 .tables) (c .before .before .before .before .before .before .before .before .before .before .before .before .pre .1 .1)) .body))
+cast-t16 c =
+    let s = c .before .before .before .before .before .before .before .before .before .before .before .before in
+    omega (arith, pointer-small (s .args .text .now) (s .args .scratch .now) _ (s .pre .0 .tables) ((signature-in (s .args .text .now) (s .args .scratch .now) (s .args .run .now) (s .args .place) (s .args .p) (s .args .name) (s .args .bracket) (c .before .before .before .before .before .before .before .before .find-process .ensures) _ (c .before .before .before .before .before .before .f .given .1) (c .before .before .before .before .declared-process .result) (c .before .before .before .before .declared-process .ensures) (s .pre .0 .tables) (s .pre .1 .1)) .body))
 
 -- src/calling.rt:134:5
 store-requires : tie.Need-store-requires
-store-requires c κs = (c .before .before .before .before .before .before .before .before .before .before .before .before .pre .0 .wide, (c .before .before .before .before .before .before .before .before .before .before .before .before .pre .0 .bounds, (c .before .before .before .before .before .before .before .before .before .before .before .before .pre .1 .0 .below, bounded-of (c .before .before .before .before .before .before .before .before .before .before .before .before .args .text .now) (c .before .before .before .before .before .before .before .before .before .before .before .before .args .scratch .now) (runs-on (c .before .before .before .before .before .before .before .before .before .before .before .before .pre .0 .tables) (c .before .before .before .before .declared-process .result .body) (c .before .before .before .before .before .before .before .before .before .before .before .before .args .p .link) (c .before .before .enter-call .result) (c .before .before .before .before .before .before .before .before .before .before .before .before .pre .1 .0 .is .link) ((signature-in (c .before .before .before .before .before .before .before .before .before .before .before .before .args .text .now) (c .before .before .before .before .before .before .before .before .before .before .before .before .args .scratch .now) (c .before .before .before .before .before .before .before .before .before .before .before .before .args .run .now) (c .before .before .before .before .before .before .before .before .before .before .before .before .args .place) (c .before .before .before .before .before .before .before .before .before .before .before .before .args .p) (c .before .before .before .before .before .before .before .before .before .before .before .before .args .name) (c .before .before .before .before .before .before .before .before .before .before .before .before .args .bracket) (c .before .before .before .before .before .before .before .before .find-process .ensures) _ (c .before .before .before .before .before .before .f .given .1) (c .before .before .before .before .declared-process .result) (c .before .before .before .before .declared-process .ensures) (c .before .before .before .before .before .before .before .before .before .before .before .before .pre .0 .tables) (c .before .before .before .before .before .before .before .before .before .before .before .before .pre .1 .1)) .body) (c .before .before .enter-call .ensures .fits)))))
+store-requires c κs =
+    let s = c .before .before .before .before .before .before .before .before .before .before .before .before in
+    (s .pre .0 .wide, (s .pre .0 .bounds, (s .pre .1 .0 .below, bounded-of (s .args .text .now) (s .args .scratch .now) (runs-on (s .pre .0 .tables) (c .before .before .before .before .declared-process .result .body) (s .args .p .link) (c .before .before .enter-call .result) (s .pre .1 .0 .is .link) ((signature-in (s .args .text .now) (s .args .scratch .now) (s .args .run .now) (s .args .place) (s .args .p) (s .args .name) (s .args .bracket) (c .before .before .before .before .before .before .before .before .find-process .ensures) _ (c .before .before .before .before .before .before .f .given .1) (c .before .before .before .before .declared-process .result) (c .before .before .before .before .declared-process .ensures) (s .pre .0 .tables) (s .pre .1 .1)) .body) (c .before .before .enter-call .ensures .fits)))))
 
 -- src/calling.rt:113:1
 same-length : tie.Need-same-length
@@ -49,7 +53,9 @@ same-length c = search needs
 
 -- src/calling.rt:113:1
 returns-2 : tie.Need-returns-2
-returns-2 c = calls-on (c .before .before .before .before .before .before .before .before .before .before .before .before .before .before .before .args .text .now) (c .before .before .before .before .before .before .before .before .before .before .before .before .before .before .before .args .scratch .now) (c .before .before .before .before .before .before .before .before .before .before .before .before .before .before .before .args .run .now) (c .before .before .before .before .before .before .before .before .before .before .before .before .before .before .before .args .place) (c .before .before .before .before .before .before .before .before .before .before .before .before .before .before .before .args .p) (c .before .before .before .before .before .before .before .before .before .before .before .before .before .before .before .args .name) (c .before .before .before .before .before .before .before .before .before .before .before .before .before .before .before .args .bracket) (c .before .before .before .before .before .before .before .before .before .before .before .find-process .ensures) _ (c .before .before .before .before .before .before .before .before .before .f .given .1) (c .before .before .before .before .before .before .before .declared-process .result) (c .before .before .before .before .before .before .before .declared-process .ensures) (c .before .before .before .before .before .before .before .before .before .before .before .before .before .before .before .pre .0 .tables) (c .before .before .before .before .before .before .before .before .before .before .before .before .before .before .before .pre .1 .1) _ (c .before .before .before .before .before .enter-call .result) (c .before .before .before .before .before .enter-call .ensures) (stored (c .before .before .before .before .before .before .before .before .before .before .before .before .before .before .before .args .text .now) (c .before .before .before .before .before .before .before .before .before .before .before .before .before .before .before .args .scratch .now) (c .before .before .before .before .before .before .before .before .before .before .before .before .before .before .before .args .run .now) _ (c .before .before .before .before .before .before .before .before .before .before .before .before .before .before .before .pre .0) (c .before .before .before .before .before .before .before .before .before .before .before .before .before .before .before .args .place) _ (runs-on (c .before .before .before .before .before .before .before .before .before .before .before .before .before .before .before .pre .0 .tables) (c .before .before .before .before .before .before .before .declared-process .result .body) (c .before .before .before .before .before .before .before .before .before .before .before .before .before .before .before .args .p .link) (c .before .before .before .before .before .enter-call .result) (c .before .before .before .before .before .before .before .before .before .before .before .before .before .before .before .pre .1 .0 .is .link) ((signature-in (c .before .before .before .before .before .before .before .before .before .before .before .before .before .before .before .args .text .now) (c .before .before .before .before .before .before .before .before .before .before .before .before .before .before .before .args .scratch .now) (c .before .before .before .before .before .before .before .before .before .before .before .before .before .before .before .args .run .now) (c .before .before .before .before .before .before .before .before .before .before .before .before .before .before .before .args .place) (c .before .before .before .before .before .before .before .before .before .before .before .before .before .before .before .args .p) (c .before .before .before .before .before .before .before .before .before .before .before .before .before .before .before .args .name) (c .before .before .before .before .before .before .before .before .before .before .before .before .before .before .before .args .bracket) (c .before .before .before .before .before .before .before .before .before .before .before .find-process .ensures) _ (c .before .before .before .before .before .before .before .before .before .f .given .1) (c .before .before .before .before .before .before .before .declared-process .result) (c .before .before .before .before .before .before .before .declared-process .ensures) (c .before .before .before .before .before .before .before .before .before .before .before .before .before .before .before .pre .0 .tables) (c .before .before .before .before .before .before .before .before .before .before .before .before .before .before .before .pre .1 .1)) .body) (c .before .before .before .before .before .enter-call .ensures .fits)) (c .before .before .store .ensures .0) (c .before .before .store .ensures .1))
+returns-2 c =
+    let s = c .before .before .before .before .before .before .before .before .before .before .before .before .before .before .before in
+    calls-on (s .args .text .now) (s .args .scratch .now) (s .args .run .now) (s .args .place) (s .args .p) (s .args .name) (s .args .bracket) (c .before .before .before .before .before .before .before .before .before .before .before .find-process .ensures) _ (c .before .before .before .before .before .before .before .before .before .f .given .1) (c .before .before .before .before .before .before .before .declared-process .result) (c .before .before .before .before .before .before .before .declared-process .ensures) (s .pre .0 .tables) (s .pre .1 .1) _ (c .before .before .before .before .before .enter-call .result) (c .before .before .before .before .before .enter-call .ensures) (stored (s .args .text .now) (s .args .scratch .now) (s .args .run .now) _ (s .pre .0) (s .args .place) _ (runs-on (s .pre .0 .tables) (c .before .before .before .before .before .before .before .declared-process .result .body) (s .args .p .link) (c .before .before .before .before .before .enter-call .result) (s .pre .1 .0 .is .link) ((signature-in (s .args .text .now) (s .args .scratch .now) (s .args .run .now) (s .args .place) (s .args .p) (s .args .name) (s .args .bracket) (c .before .before .before .before .before .before .before .before .before .before .before .find-process .ensures) _ (c .before .before .before .before .before .before .before .before .before .f .given .1) (c .before .before .before .before .before .before .before .declared-process .result) (c .before .before .before .before .before .before .before .declared-process .ensures) (s .pre .0 .tables) (s .pre .1 .1)) .body) (c .before .before .before .before .before .enter-call .ensures .fits)) (c .before .before .store .ensures .0) (c .before .before .store .ensures .1))
 
 pub call-spec : {M : Type 1} → statement M
 call-spec =

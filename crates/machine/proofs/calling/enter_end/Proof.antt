@@ -3,10 +3,6 @@ use Rattle.machine.specs.Parting.{end-found}
 use borrow.Author.Needs.{needs}
 use Rattle.machine.proofs.calling.enter_end.Statement.{statement}
 use Rattle.machine.proofs.calling.enter_end.Tie as tie
-use Rattle.machine.proofs.calling.enter_end.Reads as reads
-use Rattle.machine.proofs.calling.enter_end.Lts as lts
-use Rattle.contexts.proofs.held.bring_end.Reads as bring-end-reads
-use Rattle.contexts.proofs.held.find_end.Reads as find-end-reads
 
 -- src/calling.rt:31:9
 find-end-requires : tie.Need-find-end-requires
@@ -22,15 +18,21 @@ enum-told c = search needs
 
 -- src/calling.rt:33:9
 returns : tie.Need-returns
-returns c = enters-none (c .before .before .before .before .before .args .text .now) (c .before .before .before .before .before .args .scratch .now) (c .before .before .before .before .before .args .h) (c .before .before .before .before .before .args .r) (c .before .before .before .before .before .args .a) (c .before .before .before .before .before .args .at) (c .before .before .before .before .before .args .side) (c .before .before .before .before .before .args .node) (c .before .before .find-end .ensures) (c .before .before .before .before .before .pre .0 .1) (c .enum-told .given .1)
+returns c =
+    let s = c .before .before .before .before .before in
+    enters-none (s .args .text .now) (s .args .scratch .now) (s .args .h) (s .args .r) (s .args .a) (s .args .at) (s .args .side) (s .args .node) (c .before .before .find-end .ensures) (s .pre .0 .1) (c .enum-told .given .1)
 
 -- src/calling.rt:35:5
 bring-end-requires : tie.Need-bring-end-requires
-bring-end-requires c κs = (c .before .before .before .before .before .before .pre .1 .0, c .before .before .before .before .before .before .pre .1 .1, c .before .before .before .before .before .before .pre .1 .2, c .before .before .before .before .before .before .pre .1 .3, end-found {w = (c .before .before .before .before .before .before .args .scratch .now)} (c .before .before .before .find-end .ensures) (c .before .f .given .1) (c .before .before .before .before .before .before .pre .0 .0) .0 .bounds .channel)
+bring-end-requires c κs =
+    let s = c .before .before .before .before .before .before in
+    (s .pre .1 .0, s .pre .1 .1, s .pre .1 .2, s .pre .1 .3, end-found {w = (s .args .scratch .now)} (c .before .before .before .find-end .ensures) (c .before .f .given .1) (s .pre .0 .0) .0 .bounds .channel)
 
 -- src/calling.rt:17:1
 returns-2 : tie.Need-returns-2
-returns-2 c = enters-found (c .before .before .before .before .before .before .before .args .text .now) (c .before .before .before .before .before .before .before .args .scratch .now) (c .before .before .before .before .before .before .before .args .h) (c .before .before .before .before .before .before .before .args .r) (c .before .before .before .before .before .before .before .args .a) (c .before .before .before .before .before .before .before .args .at) (c .before .before .before .before .before .before .before .args .side) (c .before .before .before .before .before .before .before .args .node) (c .before .before .before .before .find-end .ensures) (c .before .before .before .before .before .before .before .pre .0 .1) _ _ (c .before .before .f .given .1) (c .before .before .before .before .before .before .before .pre .0 .2) (c .bring-end .ensures)
+returns-2 c =
+    let s = c .before .before .before .before .before .before .before in
+    enters-found (s .args .text .now) (s .args .scratch .now) (s .args .h) (s .args .r) (s .args .a) (s .args .at) (s .args .side) (s .args .node) (c .before .before .before .before .find-end .ensures) (s .pre .0 .1) _ _ (c .before .before .f .given .1) (s .pre .0 .2) (c .bring-end .ensures)
 
 pub enter-end-spec : {M : Type 1} → statement M
 enter-end-spec =

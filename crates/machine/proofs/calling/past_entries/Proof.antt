@@ -2,8 +2,6 @@ use native.Mathlib.Omega.{arith}
 use borrow.Author.Needs.{needs}
 use Rattle.machine.proofs.calling.past_entries.Statement.{statement}
 use Rattle.machine.proofs.calling.past_entries.Tie as tie
-use Rattle.machine.proofs.calling.past_entries.Reads as reads
-use Rattle.machine.proofs.calling.past_entries.Lts as lts
 
 -- src/calling.rt:91:9
 returns : tie.Need-returns
@@ -11,7 +9,9 @@ returns c = search needs
 
 -- src/calling.rt:93:5
 add-result : tie.Need-add-result
-add-result c = omega (arith, c .before .pre .1 (c .if1 .left), c .before .pre .0)
+add-result c =
+    let s = c .before in
+    omega (arith, s .pre .1 (c .if1 .left), s .pre .0)
 
 -- src/calling.rt:86:1
 returns-2 : tie.Need-returns-2

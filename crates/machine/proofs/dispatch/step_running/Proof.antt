@@ -1,4 +1,4 @@
-use mathlib.Core.Path.{refl, ap}
+use mathlib.Core.Path.{ap}
 use Rattle.machine.specs.Dispatch.{node-rules, empty-ruled}
 use Rattle.machine.specs.Room.{unlinked-here}
 use Rattle.calculus.specs.WellFormed.{isWaiting}
@@ -6,11 +6,6 @@ use Rattle.machine.specs.Run.{doingAs}
 use borrow.Author.Needs.{needs}
 use Rattle.machine.proofs.dispatch.step_running.Statement.{statement}
 use Rattle.machine.proofs.dispatch.step_running.Tie as tie
-use Rattle.machine.proofs.dispatch.step_running.Reads as reads
-use Rattle.machine.proofs.dispatch.step_running.Lts as lts
-use Rattle.machine.proofs.dispatch.step_term.Reads as step-term-reads
-use Rattle.machine.proofs.handlers.leave.Reads as leave-reads
-use Rattle.tables.proofs.access.term_node.Reads as term-node-reads
 
 -- src/dispatch.rt:81:14
 cast-at : tie.Need-cast-at
@@ -18,7 +13,9 @@ cast-at c = search needs
 
 -- src/dispatch.rt:83:9
 leave-requires : tie.Need-leave-requires
-leave-requires c κs = (c .before .before .before .before .before .before .pre .0, (c .before .before .before .before .before .before .pre .1 .0, unlinked-here (c .before .before .before .before .before .before .args .text .now) (c .before .before .before .before .before .before .args .scratch .now) (c .before .before .before .before .before .before .args .run .now) (c .before .before .before .before .before .before .pre .1 .1 .0) (c .before .before .before .before .before .before .args .place) (c .before .before .before .before .before .before .args .p) (c .before .before .before .before .before .before .pre .1 .0) (ap (λ k. isWaiting (doingAs (c .before .before .before .before .before .before .args .text .now) (c .before .before .before .before .before .before .args .scratch .now) k (c .before .before .before .before .before .before .args .p .pointer))) (c .before .before .before .before .before .before .pre .1 .1 .1 .1))))
+leave-requires c κs =
+    let s = c .before .before .before .before .before .before in
+    (s .pre .0, (s .pre .1 .0, unlinked-here (s .args .text .now) (s .args .scratch .now) (s .args .run .now) (s .pre .1 .1 .0) (s .args .place) (s .args .p) (s .pre .1 .0) (ap (λ k. isWaiting (doingAs (s .args .text .now) (s .args .scratch .now) k (s .args .p .pointer))) (s .pre .1 .1 .1 .1))))
 
 -- src/dispatch.rt:83:9
 same-length : tie.Need-same-length
@@ -26,7 +23,9 @@ same-length c = search needs
 
 -- src/dispatch.rt:83:9
 returns : tie.Need-returns
-returns c = empty-ruled (c .before .before .before .before .before .before .before .before .before .args .text .now) (c .before .before .before .before .before .before .before .before .before .args .scratch .now) (c .before .before .before .before .before .before .before .before .before .args .run .now) (c .before .before .before .before .before .before .before .before .before .pre .0) (c .before .before .before .before .before .before .before .before .before .pre .1 .1 .0) (c .before .before .before .before .before .before .before .before .before .args .place) (c .before .before .before .before .before .before .before .before .before .args .p) (c .before .before .before .before .before .before .before .before .before .pre .1 .0) (c .before .before .before .before .before .before .before .before .before .pre .1 .1 .1 .1) (c .before .before .before .before .if1 .taken) (c .before .before .leave .ensures)
+returns c =
+    let s = c .before .before .before .before .before .before .before .before .before in
+    empty-ruled (s .args .text .now) (s .args .scratch .now) (s .args .run .now) (s .pre .0) (s .pre .1 .1 .0) (s .args .place) (s .args .p) (s .pre .1 .0) (s .pre .1 .1 .1 .1) (c .before .before .before .before .if1 .taken) (c .before .before .leave .ensures)
 
 -- src/dispatch.rt:85:9
 term-node-requires : tie.Need-term-node-requires
@@ -34,7 +33,9 @@ term-node-requires c κs = (c .before .before .before .before .before .pre .0 .t
 
 -- src/dispatch.rt:86:5
 step-term-requires : tie.Need-step-term-requires
-step-term-requires c κs = (c .before .before .before .before .before .before .before .pre .0, (c .before .before .before .before .before .before .before .pre .1 .0, (c .before .before .before .before .before .before .before .pre .1 .1 .0, (c .before .before .before .before .before .before .before .pre .1 .1 .1 .0, node-rules (c .before .before .before .before .before .before .before .args .text .now) (c .before .before .before .before .before .before .before .args .scratch .now) (c .before .before .before .before .before .before .before .args .run .now) (c .before .before .before .before .before .before .before .pre .0) (c .before .before .before .before .before .before .before .pre .1 .1 .0) (c .before .before .before .before .before .before .before .args .place) (c .before .before .before .before .before .before .before .args .p) (c .before .before .before .before .before .before .before .pre .1 .0) (c .before .term-node .result) (c .before .before .before .before .before .before .before .pre .1 .1 .1 .1) (c .before .before .if1 .left) (c .before .term-node .ensures)))))
+step-term-requires c κs =
+    let s = c .before .before .before .before .before .before .before in
+    (s .pre .0, (s .pre .1 .0, (s .pre .1 .1 .0, (s .pre .1 .1 .1 .0, node-rules (s .args .text .now) (s .args .scratch .now) (s .args .run .now) (s .pre .0) (s .pre .1 .1 .0) (s .args .place) (s .args .p) (s .pre .1 .0) (c .before .term-node .result) (s .pre .1 .1 .1 .1) (c .before .before .if1 .left) (c .before .term-node .ensures)))))
 
 -- src/dispatch.rt:67:1
 same-length-2 : tie.Need-same-length-2

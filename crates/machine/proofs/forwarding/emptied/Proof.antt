@@ -2,9 +2,6 @@ use Rattle.machine.specs.Forwarding.{empties}
 use borrow.Author.Needs.{needs}
 use Rattle.machine.proofs.forwarding.emptied.Statement.{statement}
 use Rattle.machine.proofs.forwarding.emptied.Tie as tie
-use Rattle.machine.proofs.forwarding.emptied.Reads as reads
-use Rattle.machine.proofs.forwarding.emptied.Lts as lts
-use Rattle.runs.proofs.held.no_ends.Reads as no-ends-reads
 
 -- src/forwarding.rt:33:9
 no-ends-requires : tie.Need-no-ends-requires

@@ -1,18 +1,9 @@
-use mathlib.Core.Path.{_≡_, refl, sym, _∙_, ap, subst}
-use native.Mathlib.Omega.{arith}
+use mathlib.Core.Path.{sym, _∙_}
 use Rattle.machine.specs.Forwarding.{no-provided, no-used, forwards-joined, forwards-parted}
 use Rattle.machine.specs.Parting.{end-found}
 use borrow.Author.Needs.{needs}
 use Rattle.machine.proofs.forwarding.forward.Statement.{statement}
 use Rattle.machine.proofs.forwarding.forward.Tie as tie
-use Rattle.machine.proofs.forwarding.forward.Reads as reads
-use Rattle.machine.proofs.forwarding.forward.Lts as lts
-use Rattle.contexts.proofs.held.find_end.Reads as find-end-reads
-use Rattle.machine.proofs.forwarding.emptied.Reads as emptied-reads
-use Rattle.machine.proofs.forwarding.is_given_up.Reads as is-given-up-reads
-use Rattle.machine.proofs.forwarding.join.Reads as join-reads
-use Rattle.machine.proofs.parting.part.Reads as part-reads
-use Rattle.runs.proofs.far.far_end.Reads as far-end-reads
 
 -- src/forwarding.rt:146:9
 find-end-requires : tie.Need-find-end-requires
@@ -28,7 +19,9 @@ enum-told c = search needs
 
 -- src/forwarding.rt:148:9
 returns : tie.Need-returns
-returns c = no-provided (c .before .before .before .before .before .before .before .args .text .now) (c .before .before .before .before .before .before .before .args .scratch .now) (c .before .before .before .before .before .before .before .args .run .now) (c .before .before .before .before .before .before .before .args .place) (c .before .before .before .before .before .before .before .args .p) (c .before .before .before .before .before .before .before .args .x) (c .before .before .before .before .before .before .before .args .c) (c .before .before .find-end .ensures) (c .enum-told .given .1)
+returns c =
+    let s = c .before .before .before .before .before .before .before in
+    no-provided (s .args .text .now) (s .args .scratch .now) (s .args .run .now) (s .args .place) (s .args .p) (s .args .x) (s .args .c) (c .before .before .find-end .ensures) (c .enum-told .given .1)
 
 -- src/forwarding.rt:150:9
 find-end-requires-2 : tie.Need-find-end-requires-2
@@ -44,11 +37,15 @@ enum-told-2 c = search needs
 
 -- src/forwarding.rt:152:9
 returns-2 : tie.Need-returns-2
-returns-2 c = no-used (c .before .before .before .before .before .before .before .before .before .before .before .args .text .now) (c .before .before .before .before .before .before .before .before .before .before .before .args .scratch .now) (c .before .before .before .before .before .before .before .before .before .before .before .args .run .now) (c .before .before .before .before .before .before .before .before .before .before .before .args .place) (c .before .before .before .before .before .before .before .before .before .before .before .args .p) (c .before .before .before .before .before .before .before .before .before .before .before .args .x) (c .before .before .before .before .before .before .before .before .before .before .before .args .c) (c .before .before .before .before .before .before .find-end .ensures) (c .before .before .before .before .f .given .1) (c .before .before .find-end2 .ensures) (c .enum-told2 .given .1)
+returns-2 c =
+    let s = c .before .before .before .before .before .before .before .before .before .before .before in
+    no-used (s .args .text .now) (s .args .scratch .now) (s .args .run .now) (s .args .place) (s .args .p) (s .args .x) (s .args .c) (c .before .before .before .before .before .before .find-end .ensures) (c .before .before .before .before .f .given .1) (c .before .before .find-end2 .ensures) (c .enum-told2 .given .1)
 
 -- src/forwarding.rt:154:9
 far-end-requires : tie.Need-far-end-requires
-far-end-requires c κs = ((c .before .before .before .before .before .before .before .before .before .before .before .before .before .pre .0 .wide), ((c .before .before .before .before .before .before .before .before .before .before .before .before .before .pre .0 .bounds), (end-found {w = (c .before .before .before .before .before .before .before .before .before .before .before .before .before .args .scratch .now)} (c .before .before .before .before .find-end2 .ensures) (c .before .before .g .given .1) (c .before .before .before .before .before .before .before .before .before .before .before .before .before .pre .1 .is .held)) .1))
+far-end-requires c κs =
+    let s = c .before .before .before .before .before .before .before .before .before .before .before .before .before in
+    ((s .pre .0 .wide), ((s .pre .0 .bounds), (end-found {w = (s .args .scratch .now)} (c .before .before .before .before .find-end2 .ensures) (c .before .before .g .given .1) (s .pre .1 .is .held)) .1))
 
 -- src/forwarding.rt:155:8
 is-given-up-requires : tie.Need-is-given-up-requires
@@ -60,7 +57,9 @@ emptied-requires c κs = search needs
 
 -- src/forwarding.rt:157:9
 part-requires : tie.Need-part-requires
-part-requires c κs = (c .before .before .before .before .before .before .before .before .before .before .before .before .before .before .before .before .before .before .pre .0, (c .before .before .before .before .before .before .before .before .before .before .before .before .before .before .before .before .before .before .pre .1 .below, ((c .before .emptied .ensures) .fits (c .before .before .before .before .before .before .before .before .before .before .before .before .before .before .before .before .before .before .args .text .now) (c .before .before .before .before .before .before .before .before .before .before .before .before .before .before .before .before .before .before .args .scratch .now) _ (c .before .before .before .before .before .before .before .before .before .before .before .before .before .before .before .before .before .before .pre .1 .is), (end-found {w = (c .before .before .before .before .before .before .before .before .before .before .before .before .before .before .before .before .before .before .args .scratch .now)} (c .before .before .before .before .before .before .before .before .before .before .before .before .before .find-end .ensures) (c .before .before .before .before .before .before .before .before .before .before .before .f .given .1) (c .before .before .before .before .before .before .before .before .before .before .before .before .before .before .before .before .before .before .pre .1 .is .held)) .1)))
+part-requires c κs =
+    let s = c .before .before .before .before .before .before .before .before .before .before .before .before .before .before .before .before .before .before in
+    (s .pre .0, (s .pre .1 .below, ((c .before .emptied .ensures) .fits (s .args .text .now) (s .args .scratch .now) _ (s .pre .1 .is), (end-found {w = (s .args .scratch .now)} (c .before .before .before .before .before .before .before .before .before .before .before .before .before .find-end .ensures) (c .before .before .before .before .before .before .before .before .before .before .before .f .given .1) (s .pre .1 .is .held)) .1)))
 
 -- src/forwarding.rt:157:9
 same-length : tie.Need-same-length
@@ -68,11 +67,15 @@ same-length c = search needs
 
 -- src/forwarding.rt:157:9
 returns-3 : tie.Need-returns-3
-returns-3 c = forwards-parted (c .before .before .before .before .before .before .before .before .before .before .before .before .before .before .before .before .before .before .before .before .before .args .text .now) (c .before .before .before .before .before .before .before .before .before .before .before .before .before .before .before .before .before .before .before .before .before .args .scratch .now) (c .before .before .before .before .before .before .before .before .before .before .before .before .before .before .before .before .before .before .before .before .before .args .run .now) (c .before .before .before .before .before .before .before .before .before .before .before .before .before .before .before .before .before .before .before .before .before .args .place) (c .before .before .before .before .before .before .before .before .before .before .before .before .before .before .before .before .before .before .before .before .before .args .p) (c .before .before .before .before .before .before .before .before .before .before .before .before .before .before .before .before .before .before .before .before .before .args .x) (c .before .before .before .before .before .before .before .before .before .before .before .before .before .before .before .before .before .before .before .before .before .args .c) (c .before .before .before .before .before .before .before .before .before .before .before .before .before .before .before .before .find-end .ensures) (c .before .before .before .before .before .before .before .before .before .before .before .before .before .before .f .given .1) (c .before .before .before .before .before .before .before .before .before .before .before .before .find-end2 .ensures) (c .before .before .before .before .before .before .before .before .before .before .g .given .1) _ _ (c .before .before .before .before .before .before .before .far-end .ensures) (sym (c .before .before .before .before .before .before .is-given-up .ensures) ∙ c .before .before .before .before .before .if1 .taken) (c .before .before .before .before .emptied .ensures) (c .before .before .part .ensures)
+returns-3 c =
+    let s = c .before .before .before .before .before .before .before .before .before .before .before .before .before .before .before .before .before .before .before .before .before in
+    forwards-parted (s .args .text .now) (s .args .scratch .now) (s .args .run .now) (s .args .place) (s .args .p) (s .args .x) (s .args .c) (c .before .before .before .before .before .before .before .before .before .before .before .before .before .before .before .before .find-end .ensures) (c .before .before .before .before .before .before .before .before .before .before .before .before .before .before .f .given .1) (c .before .before .before .before .before .before .before .before .before .before .before .before .find-end2 .ensures) (c .before .before .before .before .before .before .before .before .before .before .g .given .1) _ _ (c .before .before .before .before .before .before .before .far-end .ensures) (sym (c .before .before .before .before .before .before .is-given-up .ensures) ∙ c .before .before .before .before .before .if1 .taken) (c .before .before .before .before .emptied .ensures) (c .before .before .part .ensures)
 
 -- src/forwarding.rt:159:5
 join-requires : tie.Need-join-requires
-join-requires c κs = (c .before .before .before .before .before .before .before .before .before .before .before .before .before .before .before .before .before .pre .0, (c .before .before .before .before .before .before .before .before .before .before .before .before .before .before .before .before .before .pre .1, ((end-found {w = (c .before .before .before .before .before .before .before .before .before .before .before .before .before .before .before .before .before .args .scratch .now)} (c .before .before .before .before .before .before .before .before .before .before .before .before .find-end .ensures) (c .before .before .before .before .before .before .before .before .before .before .f .given .1) (c .before .before .before .before .before .before .before .before .before .before .before .before .before .before .before .before .before .pre .1 .is .held)) .1, (end-found {w = (c .before .before .before .before .before .before .before .before .before .before .before .before .before .before .before .before .before .args .scratch .now)} (c .before .before .before .before .before .before .before .before .find-end2 .ensures) (c .before .before .before .before .before .before .g .given .1) (c .before .before .before .before .before .before .before .before .before .before .before .before .before .before .before .before .before .pre .1 .is .held)) .0 .bounds .channel)))
+join-requires c κs =
+    let s = c .before .before .before .before .before .before .before .before .before .before .before .before .before .before .before .before .before in
+    (s .pre .0, (s .pre .1, ((end-found {w = (s .args .scratch .now)} (c .before .before .before .before .before .before .before .before .before .before .before .before .find-end .ensures) (c .before .before .before .before .before .before .before .before .before .before .f .given .1) (s .pre .1 .is .held)) .1, (end-found {w = (s .args .scratch .now)} (c .before .before .before .before .before .before .before .before .find-end2 .ensures) (c .before .before .before .before .before .before .g .given .1) (s .pre .1 .is .held)) .0 .bounds .channel)))
 
 -- src/forwarding.rt:132:1
 same-length-2 : tie.Need-same-length-2
@@ -80,7 +83,9 @@ same-length-2 c = search needs
 
 -- src/forwarding.rt:132:1
 returns-4 : tie.Need-returns-4
-returns-4 c = forwards-joined (c .before .before .before .before .before .before .before .before .before .before .before .before .before .before .before .before .before .before .before .before .args .text .now) (c .before .before .before .before .before .before .before .before .before .before .before .before .before .before .before .before .before .before .before .before .args .scratch .now) (c .before .before .before .before .before .before .before .before .before .before .before .before .before .before .before .before .before .before .before .before .args .run .now) (c .before .before .before .before .before .before .before .before .before .before .before .before .before .before .before .before .before .before .before .before .args .place) (c .before .before .before .before .before .before .before .before .before .before .before .before .before .before .before .before .before .before .before .before .args .p) (c .before .before .before .before .before .before .before .before .before .before .before .before .before .before .before .before .before .before .before .before .args .x) (c .before .before .before .before .before .before .before .before .before .before .before .before .before .before .before .before .before .before .before .before .args .c) (c .before .before .before .before .before .before .before .before .before .before .before .before .before .before .before .find-end .ensures) (c .before .before .before .before .before .before .before .before .before .before .before .before .before .f .given .1) (c .before .before .before .before .before .before .before .before .before .before .before .find-end2 .ensures) (c .before .before .before .before .before .before .before .before .before .g .given .1) _ (c .before .before .before .before .before .before .far-end .ensures) (sym (c .before .before .before .before .before .is-given-up .ensures) ∙ c .before .before .before .before .if1 .left) (c .before .before .join .ensures)
+returns-4 c =
+    let s = c .before .before .before .before .before .before .before .before .before .before .before .before .before .before .before .before .before .before .before .before in
+    forwards-joined (s .args .text .now) (s .args .scratch .now) (s .args .run .now) (s .args .place) (s .args .p) (s .args .x) (s .args .c) (c .before .before .before .before .before .before .before .before .before .before .before .before .before .before .before .find-end .ensures) (c .before .before .before .before .before .before .before .before .before .before .before .before .before .f .given .1) (c .before .before .before .before .before .before .before .before .before .before .before .find-end2 .ensures) (c .before .before .before .before .before .before .before .before .before .g .given .1) _ (c .before .before .before .before .before .before .far-end .ensures) (sym (c .before .before .before .before .before .is-given-up .ensures) ∙ c .before .before .before .before .if1 .left) (c .before .before .join .ensures)
 
 pub forward-spec : {M : Type 1} → statement M
 forward-spec =

@@ -1,12 +1,7 @@
-use mathlib.Core.Path.{_≡_, refl, sym, _∙_, ap, subst}
-use native.Mathlib.Omega.{arith}
-use mathlib.Core.Bool.{cond}
+use mathlib.Core.Path.{refl}
 use borrow.Author.Tests.{eq-eqb, ne-eqb}
-use borrow.Author.Needs.{needs}
 use Rattle.machine.proofs.handlers.handler_kind.Statement.{statement}
 use Rattle.machine.proofs.handlers.handler_kind.Tie as tie
-use Rattle.machine.proofs.handlers.handler_kind.Reads as reads
-use Rattle.machine.proofs.handlers.handler_kind.Lts as lts
 
 -- src/handlers.rt:25:13
 returns : tie.Need-returns

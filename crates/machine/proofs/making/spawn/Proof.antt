@@ -1,14 +1,8 @@
-use mathlib.Core.Path.{_≡_, refl, sym, _∙_, ap, subst}
 use native.Mathlib.Omega.{arith}
 use Rattle.machine.specs.Making.{no-room, fresh-small, no-channel, a-channel}
 use borrow.Author.Needs.{needs}
 use Rattle.machine.proofs.making.spawn.Statement.{statement}
 use Rattle.machine.proofs.making.spawn.Tie as tie
-use Rattle.machine.proofs.making.spawn.Reads as reads
-use Rattle.machine.proofs.making.spawn.Lts as lts
-use Rattle.machine.proofs.making.spawn_on.Reads as spawn-on-reads
-use Rattle.runs.proofs.channels.fresh_channel.Reads as fresh-channel-reads
-use Rattle.runs.proofs.processes.count.Reads as count-reads
 
 -- src/making.rt:198:15
 count-requires : tie.Need-count-requires
@@ -20,11 +14,15 @@ same-length c = search needs
 
 -- src/making.rt:199:9
 returns : tie.Need-returns
-returns c = no-room (c .before .before .before .before .before .before .args .text .now) (c .before .before .before .before .before .before .args .scratch .now) (c .before .before .before .before .before .before .args .run .now) (c .before .before .before .before .before .before .args .place) (c .before .before .before .before .before .before .args .p) (c .before .before .before .before .before .before .args .m) (omega (arith, c .if1 .taken, c .before .count .ensures))
+returns c =
+    let s = c .before .before .before .before .before .before in
+    no-room (s .args .text .now) (s .args .scratch .now) (s .args .run .now) (s .args .place) (s .args .p) (s .args .m) (omega (arith, c .if1 .taken, c .before .count .ensures))
 
 -- src/making.rt:201:9
 fresh-channel-requires : tie.Need-fresh-channel-requires
-fresh-channel-requires c κs = (c .before .before .before .before .before .before .before .pre .0 .wide, c .before .before .before .before .before .before .before .pre .0 .bounds)
+fresh-channel-requires c κs =
+    let s = c .before .before .before .before .before .before .before in
+    (s .pre .0 .wide, s .pre .0 .bounds)
 
 -- src/making.rt:202:19
 enum-known-f : tie.Need-enum-known-f
@@ -40,15 +38,21 @@ same-length-2 c = search needs
 
 -- src/making.rt:203:9
 returns-2 : tie.Need-returns-2
-returns-2 c = no-channel (c .before .before .before .before .before .before .before .before .before .before .args .text .now) (c .before .before .before .before .before .before .before .before .before .before .args .scratch .now) (c .before .before .before .before .before .before .before .before .before .before .args .run .now) (c .before .before .before .before .before .before .before .before .before .before .args .place) (c .before .before .before .before .before .before .before .before .before .before .args .p) (c .before .before .before .before .before .before .before .before .before .before .args .m) (c .before .before .fresh-channel .ensures) (omega (arith, c .before .before .before .before .if1 .left, c .before .before .before .before .before .count .ensures)) (c .enum-told .given .1)
+returns-2 c =
+    let s = c .before .before .before .before .before .before .before .before .before .before in
+    no-channel (s .args .text .now) (s .args .scratch .now) (s .args .run .now) (s .args .place) (s .args .p) (s .args .m) (c .before .before .fresh-channel .ensures) (omega (arith, c .before .before .before .before .if1 .left, c .before .before .before .before .before .count .ensures)) (c .enum-told .given .1)
 
 -- src/making.rt:205:47
 cast-spawn-on : tie.Need-cast-spawn-on
-cast-spawn-on c = omega (arith, fresh-small (c .before .before .before .before .before .before .before .before .before .before .before .before .args .text .now) (c .before .before .before .before .before .before .before .before .before .before .before .before .args .scratch .now) (c .before .before .before .before .before .before .before .before .before .before .before .before .args .run .now) (c .before .before .before .before .before .before .before .before .before .before .before .before .args .place) (c .before .before .before .before .before .before .before .before .before .before .before .before .args .p) (c .before .before .before .before .before .before .before .before .before .before .before .before .args .m) (c .before .before .before .before .fresh-channel .ensures) (c .before .before .f .given .1))
+cast-spawn-on c =
+    let s = c .before .before .before .before .before .before .before .before .before .before .before .before in
+    omega (arith, fresh-small (s .args .text .now) (s .args .scratch .now) (s .args .run .now) (s .args .place) (s .args .p) (s .args .m) (c .before .before .before .before .fresh-channel .ensures) (c .before .before .f .given .1))
 
 -- src/making.rt:205:5
 spawn-on-requires : tie.Need-spawn-on-requires
-spawn-on-requires c κs = (c .before .before .before .before .before .before .before .before .before .before .before .before .pre .0, (c .before .before .before .before .before .before .before .before .before .before .before .before .pre .1 .0, (c .before .before .before .before .before .before .before .before .before .before .before .before .pre .1 .1, ((omega (arith, c .before .before .before .before .before .before .if1 .left, c .before .before .before .before .before .before .before .count .ensures)), fresh-small (c .before .before .before .before .before .before .before .before .before .before .before .before .args .text .now) (c .before .before .before .before .before .before .before .before .before .before .before .before .args .scratch .now) (c .before .before .before .before .before .before .before .before .before .before .before .before .args .run .now) (c .before .before .before .before .before .before .before .before .before .before .before .before .args .place) (c .before .before .before .before .before .before .before .before .before .before .before .before .args .p) (c .before .before .before .before .before .before .before .before .before .before .before .before .args .m) (c .before .before .before .before .fresh-channel .ensures) (c .before .before .f .given .1)))))
+spawn-on-requires c κs =
+    let s = c .before .before .before .before .before .before .before .before .before .before .before .before in
+    (s .pre .0, (s .pre .1 .0, (s .pre .1 .1, ((omega (arith, c .before .before .before .before .before .before .if1 .left, c .before .before .before .before .before .before .before .count .ensures)), fresh-small (s .args .text .now) (s .args .scratch .now) (s .args .run .now) (s .args .place) (s .args .p) (s .args .m) (c .before .before .before .before .fresh-channel .ensures) (c .before .before .f .given .1)))))
 
 -- src/making.rt:185:1
 same-length-3 : tie.Need-same-length-3
@@ -56,7 +60,9 @@ same-length-3 c = search needs
 
 -- src/making.rt:185:1
 returns-3 : tie.Need-returns-3
-returns-3 c = a-channel (c .before .before .before .before .before .before .before .before .before .before .before .before .before .before .before .args .text .now) (c .before .before .before .before .before .before .before .before .before .before .before .before .before .before .before .args .scratch .now) (c .before .before .before .before .before .before .before .before .before .before .before .before .before .before .before .args .run .now) (c .before .before .before .before .before .before .before .before .before .before .before .before .before .before .before .args .place) (c .before .before .before .before .before .before .before .before .before .before .before .before .before .before .before .args .p) (c .before .before .before .before .before .before .before .before .before .before .before .before .before .before .before .args .m) (c .before .before .before .before .before .before .before .fresh-channel .ensures) (omega (arith, c .before .before .before .before .before .before .before .before .before .if1 .left, c .before .before .before .before .before .before .before .before .before .before .count .ensures)) (c .before .before .before .before .before .f .given .1) (c .before .before .spawn-on .ensures)
+returns-3 c =
+    let s = c .before .before .before .before .before .before .before .before .before .before .before .before .before .before .before in
+    a-channel (s .args .text .now) (s .args .scratch .now) (s .args .run .now) (s .args .place) (s .args .p) (s .args .m) (c .before .before .before .before .before .before .before .fresh-channel .ensures) (omega (arith, c .before .before .before .before .before .before .before .before .before .if1 .left, c .before .before .before .before .before .before .before .before .before .before .count .ensures)) (c .before .before .before .before .before .f .given .1) (c .before .before .spawn-on .ensures)
 
 pub spawn-spec : {M : Type 1} → statement M
 spawn-spec =

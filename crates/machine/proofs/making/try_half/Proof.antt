@@ -4,10 +4,6 @@ use Rattle.machine.specs.Making.{half-tried}
 use borrow.Author.Needs.{needs}
 use Rattle.machine.proofs.making.try_half.Statement.{statement}
 use Rattle.machine.proofs.making.try_half.Tie as tie
-use Rattle.machine.proofs.making.try_half.Reads as reads
-use Rattle.machine.proofs.making.try_half.Lts as lts
-use Rattle.contexts.proofs.halves.keep.Reads as keep-reads
-use Rattle.machine.proofs.making.wide.Reads as wide-reads
 
 -- src/making.rt:45:9
 wide-requires : tie.Need-wide-requires
@@ -15,7 +11,9 @@ wide-requires c κs = search needs
 
 -- src/making.rt:46:5
 keep-requires : tie.Need-keep-requires
-keep-requires c κs = (c .before .before .before .pre .0, (subst (ProcessIn (c .before .before .before .args .text .now) (c .before .before .before .args .scratch .now)) (sym (c .wide .ensures)) (c .before .before .before .pre .1 .0), c .before .before .before .pre .1 .1))
+keep-requires c κs =
+    let s = c .before .before .before in
+    (s .pre .0, (subst (ProcessIn (s .args .text .now) (s .args .scratch .now)) (sym (c .wide .ensures)) (s .pre .1 .0), s .pre .1 .1))
 
 -- src/making.rt:39:1
 returns : tie.Need-returns

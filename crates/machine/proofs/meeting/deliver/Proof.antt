@@ -3,16 +3,12 @@ use Rattle.machine.specs.Meeting.{sends-unheard}
 use borrow.Author.Needs.{needs}
 use Rattle.machine.proofs.meeting.deliver.Statement.{statement}
 use Rattle.machine.proofs.meeting.deliver.Tie as tie
-use Rattle.machine.proofs.meeting.deliver.Reads as reads
-use Rattle.machine.proofs.meeting.deliver.Lts as lts
-use Rattle.machine.proofs.meeting.meet.Reads as meet-reads
-use Rattle.machine.proofs.meeting.send_out.Reads as send-out-reads
-use Rattle.machine.proofs.sending.send_unheard.Reads as send-unheard-reads
-use Rattle.runs.proofs.far.far_end.Reads as far-end-reads
 
 -- src/meeting.rt:167:9
 far-end-requires : tie.Need-far-end-requires
-far-end-requires c κs = ((c .before .before .before .before .pre .0 .wide), ((c .before .before .before .before .pre .0 .bounds), c .before .before .before .before .pre .1 .1 .1 .1 .0 .1))
+far-end-requires c κs =
+    let s = c .before .before .before .before in
+    ((s .pre .0 .wide), ((s .pre .0 .bounds), s .pre .1 .1 .1 .1 .0 .1))
 
 -- src/meeting.rt:169:22
 enum-known-f : tie.Need-enum-known-f
@@ -20,7 +16,9 @@ enum-known-f c = search needs
 
 -- src/meeting.rt:170:13
 meet-requires : tie.Need-meet-requires
-meet-requires c κs = (c .before .before .before .before .before .before .before .before .before .pre .0, (c .before .before .before .before .before .before .before .before .before .pre .1 .0, (c .before .before .before .before .before .before .before .before .before .pre .1 .1 .0, (c .before .before .before .before .before .before .before .before .before .pre .1 .1 .1 .0, (c .before .before .before .before .before .before .before .before .before .pre .1 .1 .1 .1 .0 .0, (c .before .before .before .before .before .before .before .before .before .pre .1 .1 .1 .1 .1, sym (sym (c .before .before .f .given .1) ∙ c .before .before .before .before .far-end .ensures)))))))
+meet-requires c κs =
+    let s = c .before .before .before .before .before .before .before .before .before in
+    (s .pre .0, (s .pre .1 .0, (s .pre .1 .1 .0, (s .pre .1 .1 .1 .0, (s .pre .1 .1 .1 .1 .0 .0, (s .pre .1 .1 .1 .1 .1, sym (sym (c .before .before .f .given .1) ∙ c .before .before .before .before .far-end .ensures)))))))
 
 -- src/meeting.rt:170:13
 same-length : tie.Need-same-length
@@ -36,7 +34,9 @@ enum-known-f-2 c = search needs
 
 -- src/meeting.rt:172:28
 send-out-requires : tie.Need-send-out-requires
-send-out-requires c κs = (c .before .before .before .before .before .before .before .before .before .pre .0, (c .before .before .before .before .before .before .before .before .before .pre .1 .0, (c .before .before .before .before .before .before .before .before .before .pre .1 .1 .0, (c .before .before .before .before .before .before .before .before .before .pre .1 .1 .1 .0, (c .before .before .before .before .before .before .before .before .before .pre .1 .1 .1 .1 .0 .0, (c .before .before .before .before .before .before .before .before .before .pre .1 .1 .1 .1 .1, sym (sym (c .before .before .f2 .given .1) ∙ c .before .before .before .before .far-end .ensures)))))))
+send-out-requires c κs =
+    let s = c .before .before .before .before .before .before .before .before .before in
+    (s .pre .0, (s .pre .1 .0, (s .pre .1 .1 .0, (s .pre .1 .1 .1 .0, (s .pre .1 .1 .1 .1 .0 .0, (s .pre .1 .1 .1 .1 .1, sym (sym (c .before .before .f2 .given .1) ∙ c .before .before .before .before .far-end .ensures)))))))
 
 -- src/meeting.rt:172:28
 same-length-2 : tie.Need-same-length-2
@@ -52,7 +52,9 @@ enum-told c = search needs
 
 -- src/meeting.rt:173:25
 send-unheard-requires : tie.Need-send-unheard-requires
-send-unheard-requires c κs = (c .before .before .before .before .before .before .before .before .pre .0, (c .before .before .before .before .before .before .before .before .pre .1 .0, (c .before .before .before .before .before .before .before .before .pre .1 .1 .0, (c .before .before .before .before .before .before .before .before .pre .1 .1 .1 .1 .0 .0 .low, c .before .before .before .before .before .before .before .before .pre .1 .1 .1 .1 .0 .0 .high))))
+send-unheard-requires c κs =
+    let s = c .before .before .before .before .before .before .before .before in
+    (s .pre .0, (s .pre .1 .0, (s .pre .1 .1 .0, (s .pre .1 .1 .1 .1 .0 .0 .low, s .pre .1 .1 .1 .1 .0 .0 .high))))
 
 -- src/meeting.rt:173:25
 same-length-3 : tie.Need-same-length-3
@@ -60,7 +62,9 @@ same-length-3 c = search needs
 
 -- src/meeting.rt:173:25
 returns-3 : tie.Need-returns-3
-returns-3 c = sends-unheard (c .before .before .before .before .before .before .before .before .before .before .before .args .text .now) (c .before .before .before .before .before .before .before .before .before .before .before .args .scratch .now) (c .before .before .before .before .before .before .before .before .before .before .before .args .run .now) (c .before .before .before .before .before .before .before .before .before .before .before .args .place) (c .before .before .before .before .before .before .before .before .before .before .before .args .p) (c .before .before .before .before .before .before .before .before .before .before .before .args .q) (c .before .before .before .before .before .before .before .before .before .before .before .args .n) (c .before .before .before .before .before .before .before .before .before .before .before .args .e) (sym (c .before .before .before .before .enum-told .given .1) ∙ c .before .before .before .before .before .before .far-end .ensures) (c .before .before .send-unheard .ensures)
+returns-3 c =
+    let s = c .before .before .before .before .before .before .before .before .before .before .before in
+    sends-unheard (s .args .text .now) (s .args .scratch .now) (s .args .run .now) (s .args .place) (s .args .p) (s .args .q) (s .args .n) (s .args .e) (sym (c .before .before .before .before .enum-told .given .1) ∙ c .before .before .before .before .before .before .far-end .ensures) (c .before .before .send-unheard .ensures)
 
 pub deliver-spec : {M : Type 1} → statement M
 deliver-spec =

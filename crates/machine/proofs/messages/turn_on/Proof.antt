@@ -1,15 +1,9 @@
 use mathlib.Core.Path.{sym, _∙_, subst}
-use native.Mathlib.Omega.{arith}
 use Rattle.machine.specs.Messages.{Heard, heard-idle, heard-empty, heard-there, heard-other}
 use Rattle.machine.specs.Run.{doingAs}
 use borrow.Author.Needs.{needs}
 use Rattle.machine.proofs.messages.turn_on.Statement.{statement}
 use Rattle.machine.proofs.messages.turn_on.Tie as tie
-use Rattle.machine.proofs.messages.turn_on.Reads as reads
-use Rattle.machine.proofs.messages.turn_on.Lts as lts
-use Rattle.machine.proofs.messages.idle.Reads as idle-reads
-use Rattle.notation.proofs.token.names_equal.Reads as names-equal-reads
-use Rattle.tables.proofs.access.term_node.Reads as term-node-reads
 
 -- src/messages.rt:115:9
 idle-requires : tie.Need-idle-requires
@@ -17,7 +11,9 @@ idle-requires c κs = search needs
 
 -- src/messages.rt:115:9
 returns : tie.Need-returns
-returns c = subst (Heard (c .before .before .before .before .before .args .text .now) (c .before .before .before .before .before .args .scratch .now) (c .before .before .before .before .before .args .x) (doingAs (c .before .before .before .before .before .args .text .now) (c .before .before .before .before .before .args .scratch .now) (c .before .before .before .before .before .args .r .kind) (c .before .before .before .before .before .args .r .pointer))) (sym (c .idle .ensures)) (heard-idle (c .before .before .before .before .before .args .text .now) (c .before .before .before .before .before .args .scratch .now) (c .before .before .before .before .before .args .x) (c .before .before .before .before .before .args .r) (c .before .before .before .before .before .pre .1 .1) (c .before .before .before .before .before .pre .0) (c .before .if1 .taken))
+returns c =
+    let s = c .before .before .before .before .before in
+    subst (Heard (s .args .text .now) (s .args .scratch .now) (s .args .x) (doingAs (s .args .text .now) (s .args .scratch .now) (s .args .r .kind) (s .args .r .pointer))) (sym (c .idle .ensures)) (heard-idle (s .args .text .now) (s .args .scratch .now) (s .args .x) (s .args .r) (s .pre .1 .1) (s .pre .0) (c .before .if1 .taken))
 
 -- src/messages.rt:117:13
 cast-p : tie.Need-cast-p
@@ -29,7 +25,9 @@ idle-requires-2 c κs = search needs
 
 -- src/messages.rt:119:9
 returns-2 : tie.Need-returns-2
-returns-2 c = subst (Heard (c .before .before .before .before .before .before .before .args .text .now) (c .before .before .before .before .before .before .before .args .scratch .now) (c .before .before .before .before .before .before .before .args .x) (doingAs (c .before .before .before .before .before .before .before .args .text .now) (c .before .before .before .before .before .before .before .args .scratch .now) (c .before .before .before .before .before .before .before .args .r .kind) (c .before .before .before .before .before .before .before .args .r .pointer))) (sym (c .idle2 .ensures)) (heard-empty (c .before .before .before .before .before .before .before .args .text .now) (c .before .before .before .before .before .before .before .args .scratch .now) (c .before .before .before .before .before .before .before .args .x) (c .before .before .before .before .before .before .before .args .r) (c .before .before .before .before .before .before .before .pre .1 .1) (c .before .before .before .before .before .before .before .pre .0) (c .before .before .before .if1 .left) (c .before .if2 .taken))
+returns-2 c =
+    let s = c .before .before .before .before .before .before .before in
+    subst (Heard (s .args .text .now) (s .args .scratch .now) (s .args .x) (doingAs (s .args .text .now) (s .args .scratch .now) (s .args .r .kind) (s .args .r .pointer))) (sym (c .idle2 .ensures)) (heard-empty (s .args .text .now) (s .args .scratch .now) (s .args .x) (s .args .r) (s .pre .1 .1) (s .pre .0) (c .before .before .before .if1 .left) (c .before .if2 .taken))
 
 -- src/messages.rt:121:9
 term-node-requires : tie.Need-term-node-requires
@@ -41,7 +39,9 @@ names-equal-requires c κs = search needs
 
 -- src/messages.rt:123:9
 returns-3 : tie.Need-returns-3
-returns-3 c = heard-there (c .before .before .before .before .before .before .before .before .before .args .text .now) (c .before .before .before .before .before .before .before .before .before .args .scratch .now) (c .before .before .before .before .before .before .before .before .before .args .x) (c .before .before .before .before .before .before .before .before .before .args .r) (c .before .before .before .before .before .before .before .before .before .pre .1 .1) (c .before .before .before .before .before .before .before .before .before .pre .0) (c .before .before .before .before .before .if1 .left) (c .before .before .before .if2 .left) _ (c .before .before .term-node .ensures) (sym (c .before .names-equal .ensures) ∙ c .if3 .taken)
+returns-3 c =
+    let s = c .before .before .before .before .before .before .before .before .before in
+    heard-there (s .args .text .now) (s .args .scratch .now) (s .args .x) (s .args .r) (s .pre .1 .1) (s .pre .0) (c .before .before .before .before .before .if1 .left) (c .before .before .before .if2 .left) _ (c .before .before .term-node .ensures) (sym (c .before .names-equal .ensures) ∙ c .if3 .taken)
 
 -- src/messages.rt:125:5
 idle-requires-3 : tie.Need-idle-requires-3
@@ -49,7 +49,9 @@ idle-requires-3 c κs = search needs
 
 -- src/messages.rt:109:1
 returns-4 : tie.Need-returns-4
-returns-4 c = subst (Heard (c .before .before .before .before .before .before .before .before .before .before .args .text .now) (c .before .before .before .before .before .before .before .before .before .before .args .scratch .now) (c .before .before .before .before .before .before .before .before .before .before .args .x) (doingAs (c .before .before .before .before .before .before .before .before .before .before .args .text .now) (c .before .before .before .before .before .before .before .before .before .before .args .scratch .now) (c .before .before .before .before .before .before .before .before .before .before .args .r .kind) (c .before .before .before .before .before .before .before .before .before .before .args .r .pointer))) (sym (c .idle3 .ensures)) (heard-other (c .before .before .before .before .before .before .before .before .before .before .args .text .now) (c .before .before .before .before .before .before .before .before .before .before .args .scratch .now) (c .before .before .before .before .before .before .before .before .before .before .args .x) (c .before .before .before .before .before .before .before .before .before .before .args .r) (c .before .before .before .before .before .before .before .before .before .before .pre .1 .1) (c .before .before .before .before .before .before .before .before .before .before .pre .0) (c .before .before .before .before .before .before .if1 .left) (c .before .before .before .before .if2 .left) _ (c .before .before .before .term-node .ensures) (sym (c .before .before .names-equal .ensures) ∙ c .before .if3 .left))
+returns-4 c =
+    let s = c .before .before .before .before .before .before .before .before .before .before in
+    subst (Heard (s .args .text .now) (s .args .scratch .now) (s .args .x) (doingAs (s .args .text .now) (s .args .scratch .now) (s .args .r .kind) (s .args .r .pointer))) (sym (c .idle3 .ensures)) (heard-other (s .args .text .now) (s .args .scratch .now) (s .args .x) (s .args .r) (s .pre .1 .1) (s .pre .0) (c .before .before .before .before .before .before .if1 .left) (c .before .before .before .before .if2 .left) _ (c .before .before .before .term-node .ensures) (sym (c .before .before .names-equal .ensures) ∙ c .before .if3 .left))
 
 pub turn-on-spec : {M : Type 1} → statement M
 turn-on-spec =

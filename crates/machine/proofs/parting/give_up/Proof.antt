@@ -1,18 +1,14 @@
-use mathlib.Core.Path.{_≡_, refl, sym, _∙_, ap, subst}
-use native.Mathlib.Omega.{arith}
+use mathlib.Core.Path.{refl, sym, _∙_}
 use Rattle.machine.specs.Parting.{gives-silently, outside-there-below, gives-outside}
 use borrow.Author.Needs.{needs}
 use Rattle.machine.proofs.parting.give_up.Statement.{statement}
 use Rattle.machine.proofs.parting.give_up.Tie as tie
-use Rattle.machine.proofs.parting.give_up.Reads as reads
-use Rattle.machine.proofs.parting.give_up.Lts as lts
-use Rattle.runs.proofs.far.far_end.Reads as far-end-reads
-use Rattle.runs.proofs.outside.let_go.Reads as let-go-reads
-use Rattle.runs.proofs.outside.outside_at.Reads as outside-at-reads
 
 -- src/parting.rt:36:9
 far-end-requires : tie.Need-far-end-requires
-far-end-requires c κs = (c .before .before .before .before .pre .0 .wide, (c .before .before .before .before .pre .0 .bounds, c .before .before .before .before .pre .1))
+far-end-requires c κs =
+    let s = c .before .before .before .before in
+    (s .pre .0 .wide, (s .pre .0 .bounds, s .pre .1))
 
 -- src/parting.rt:38:22
 enum-known-f : tie.Need-enum-known-f
@@ -24,7 +20,9 @@ same-length c = search needs
 
 -- src/parting.rt:38:31
 returns : tie.Need-returns
-returns c = gives-silently (c .before .before .before .before .before .before .before .before .args .text .now) (c .before .before .before .before .before .before .before .before .args .scratch .now) (c .before .before .before .before .before .before .before .before .args .run .now) (c .before .before .before .before .before .before .before .before .args .e) _ (c .before .before .before .before .before .before .before .before .pre .0) (sym (c .before .f .given .1) ∙ c .before .before .before .far-end .ensures) refl
+returns c =
+    let s = c .before .before .before .before .before .before .before .before in
+    gives-silently (s .args .text .now) (s .args .scratch .now) (s .args .run .now) (s .args .e) _ (s .pre .0) (sym (c .before .f .given .1) ∙ c .before .before .before .far-end .ensures) refl
 
 -- src/parting.rt:39:22
 enum-known-f-2 : tie.Need-enum-known-f-2
@@ -32,11 +30,15 @@ enum-known-f-2 c = search needs
 
 -- src/parting.rt:40:17
 outside-at-requires : tie.Need-outside-at-requires
-outside-at-requires c κs = (c .before .before .before .before .before .before .before .before .before .pre .0 .wide, (c .before .before .before .before .before .before .before .before .before .pre .0 .bounds, outside-there-below (c .before .before .before .before .before .before .before .before .before .args .text .now) (c .before .before .before .before .before .before .before .before .before .args .scratch .now) (c .before .before .before .before .before .before .before .before .before .args .run .now) (c .before .before .before .before .before .before .before .before .before .args .e) _ (sym (c .before .before .before .before .far-end .ensures) ∙ c .before .before .f2 .given .1)))
+outside-at-requires c κs =
+    let s = c .before .before .before .before .before .before .before .before .before in
+    (s .pre .0 .wide, (s .pre .0 .bounds, outside-there-below (s .args .text .now) (s .args .scratch .now) (s .args .run .now) (s .args .e) _ (sym (c .before .before .before .before .far-end .ensures) ∙ c .before .before .f2 .given .1)))
 
 -- src/parting.rt:41:13
 let-go-requires : tie.Need-let-go-requires
-let-go-requires c κs = (c .before .before .before .before .before .before .before .before .before .before .before .pre .0 .wide, c .before .before .before .before .before .before .before .before .before .before .before .pre .0 .bounds)
+let-go-requires c κs =
+    let s = c .before .before .before .before .before .before .before .before .before .before .before in
+    (s .pre .0 .wide, s .pre .0 .bounds)
 
 -- src/parting.rt:42:13
 same-length-2 : tie.Need-same-length-2
@@ -44,7 +46,9 @@ same-length-2 c = search needs
 
 -- src/parting.rt:42:13
 returns-2 : tie.Need-returns-2
-returns-2 c = gives-outside (c .before .before .before .before .before .before .before .before .before .before .before .before .before .before .args .text .now) (c .before .before .before .before .before .before .before .before .before .before .before .before .before .before .args .scratch .now) (c .before .before .before .before .before .before .before .before .before .before .before .before .before .before .args .run .now) (c .before .before .before .before .before .before .before .before .before .before .before .before .before .before .args .e) _ _ (c .before .before .before .before .outside-at .result) (c .before .before .before .before .before .before .before .before .before .before .before .before .before .before .pre .0) (sym (c .before .before .before .before .before .before .before .before .before .far-end .ensures) ∙ c .before .before .before .before .before .before .before .f2 .given .1) (c .before .before .before .before .outside-at .ensures .0) (c .before .before .let-go .ensures .0) (c .before .before .let-go .ensures .1)
+returns-2 c =
+    let s = c .before .before .before .before .before .before .before .before .before .before .before .before .before .before in
+    gives-outside (s .args .text .now) (s .args .scratch .now) (s .args .run .now) (s .args .e) _ _ (c .before .before .before .before .outside-at .result) (s .pre .0) (sym (c .before .before .before .before .before .before .before .before .before .far-end .ensures) ∙ c .before .before .before .before .before .before .before .f2 .given .1) (c .before .before .before .before .outside-at .ensures .0) (c .before .before .let-go .ensures .0) (c .before .before .let-go .ensures .1)
 
 -- src/parting.rt:44:25
 enum-told : tie.Need-enum-told
@@ -56,7 +60,9 @@ same-length-3 c = search needs
 
 -- src/parting.rt:44:25
 returns-3 : tie.Need-returns-3
-returns-3 c = gives-silently (c .before .before .before .before .before .before .before .args .text .now) (c .before .before .before .before .before .before .before .args .scratch .now) (c .before .before .before .before .before .before .before .args .run .now) (c .before .before .before .before .before .before .before .args .e) _ (c .before .before .before .before .before .before .before .pre .0) (sym (c .enum-told .given .1) ∙ c .before .before .far-end .ensures) refl
+returns-3 c =
+    let s = c .before .before .before .before .before .before .before in
+    gives-silently (s .args .text .now) (s .args .scratch .now) (s .args .run .now) (s .args .e) _ (s .pre .0) (sym (c .enum-told .given .1) ∙ c .before .before .far-end .ensures) refl
 
 pub give-up-spec : {M : Type 1} → statement M
 give-up-spec =

@@ -3,10 +3,6 @@ use Rattle.machine.specs.Receiving.{Searching, search-start, search-ther
 use borrow.Author.Needs.{needs}
 use Rattle.machine.proofs.receiving.branch_of.Statement.{statement}
 use Rattle.machine.proofs.receiving.branch_of.Tie as tie
-use Rattle.machine.proofs.receiving.branch_of.Reads as reads
-use Rattle.machine.proofs.receiving.branch_of.Lts as lts
-use Rattle.tables.proofs.access.branch.Reads as branch-reads
-use Rattle.types.proofs.acting.labels_equal.Reads as labels-equal-reads
 
 abbrev Inv-loop : tie.InvT-loop
 Inv-loop text scratch at e n place₀ left₀ place left = Searching text scratch at e n place left

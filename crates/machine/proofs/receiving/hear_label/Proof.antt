@@ -9,15 +9,12 @@ use Rattle.machine.specs.Changes.{runs-on, pointer-small}
 use borrow.Author.Needs.{needs}
 use Rattle.machine.proofs.receiving.hear_label.Statement.{statement}
 use Rattle.machine.proofs.receiving.hear_label.Tie as tie
-use Rattle.machine.proofs.receiving.hear_label.Reads as reads
-use Rattle.machine.proofs.receiving.hear_label.Lts as lts
-use Rattle.contexts.proofs.held.retype_end.Reads as retype-end-reads
-use Rattle.machine.proofs.receiving.branch_of.Reads as branch-of-reads
-use Rattle.machine.proofs.receiving.store_both.Reads as store-both-reads
 
 -- src/receiving.rt:184:9
 branch-of-requires : tie.Need-branch-of-requires
-branch-of-requires c κs = (c .before .before .before .pre .0 .tables, c .before .before .before .pre .1 .1 .1 .1 .1)
+branch-of-requires c κs =
+    let s = c .before .before .before in
+    (s .pre .0 .tables, s .pre .1 .1 .1 .1 .1)
 
 -- src/receiving.rt:185:19
 enum-known-f : tie.Need-enum-known-f
@@ -29,19 +26,27 @@ enum-told c = search needs
 
 -- src/receiving.rt:186:9
 returns : tie.Need-returns
-returns c = hears-nothing (c .before .before .before .before .before .before .args .text .now) (c .before .before .before .before .before .before .args .scratch .now) (c .before .before .before .before .before .before .args .run .now) (c .before .before .before .before .before .before .args .place) (c .before .before .before .before .before .before .args .q) (c .before .before .before .before .before .before .args .j) (c .before .before .before .before .before .before .args .r) (c .before .before .before .before .before .before .args .x) (c .before .before .before .before .before .before .args .node) (c .before .before .before .before .before .before .args .at) _ _ _ (c .before .before .branch-of .ensures) (c .enum-told .given .1)
+returns c =
+    let s = c .before .before .before .before .before .before in
+    hears-nothing (s .args .text .now) (s .args .scratch .now) (s .args .run .now) (s .args .place) (s .args .q) (s .args .j) (s .args .r) (s .args .x) (s .args .node) (s .args .at) _ _ _ (c .before .before .branch-of .ensures) (c .enum-told .given .1)
 
 -- src/receiving.rt:189:9
 retype-end-requires : tie.Need-retype-end-requires
-retype-end-requires c κs = ((c .before .before .before .before .before .before .before .before .pre .1 .1 .1 .0 .is .held .many, node-there (c .before .before .before .before .before .before .before .before .args .text .now) (c .before .before .before .before .before .before .before .before .args .scratch .now) (c .before .before .before .before .before .before .before .before .pre .0 .tables) (c .before .before .before .before .before .before .before .before .args .node) (c .before .before .before .before .before .before .before .before .pre .1 .1 .1 .1 .0)), (all-weaken (EndIn (c .before .before .before .before .before .before .before .before .args .text .now) (c .before .before .before .before .before .before .before .before .args .scratch .now)) BoundedEnd (λ e b. b .bounds) (heldIn (c .before .before .before .before .before .before .before .before .args .r .held)) (c .before .before .before .before .before .before .before .before .pre .1 .1 .1 .0 .is .held .each)))
+retype-end-requires c κs =
+    let s = c .before .before .before .before .before .before .before .before in
+    ((s .pre .1 .1 .1 .0 .is .held .many, node-there (s .args .text .now) (s .args .scratch .now) (s .pre .0 .tables) (s .args .node) (s .pre .1 .1 .1 .1 .0)), (all-weaken (EndIn (s .args .text .now) (s .args .scratch .now)) BoundedEnd (λ e b. b .bounds) (heldIn (s .args .r .held)) (s .pre .1 .1 .1 .0 .is .held .each)))
 
 -- src/receiving.rt:199:22
 cast-t19 : tie.Need-cast-t19
-cast-t19 c = omega (arith, pointer-small (c .before .before .before .before .before .before .before .before .before .before .args .text .now) (c .before .before .before .before .before .before .before .before .before .before .args .scratch .now) _ (c .before .before .before .before .before .before .before .before .before .before .pre .0 .tables) ((c .before .before .before .before .before .before .branch-of .ensures) .process _ (c .before .before .before .before .f .given .1)))
+cast-t19 c =
+    let s = c .before .before .before .before .before .before .before .before .before .before in
+    omega (arith, pointer-small (s .args .text .now) (s .args .scratch .now) _ (s .pre .0 .tables) ((c .before .before .before .before .before .before .branch-of .ensures) .process _ (c .before .before .before .before .f .given .1)))
 
 -- src/receiving.rt:190:5
 store-both-requires : tie.Need-store-both-requires
-store-both-requires c κs = (c .before .before .before .before .before .before .before .before .before .before .pre .0, ((c .before .before .before .before .before .before .before .before .before .before .pre .1 .0, c .before .before .before .before .before .before .before .before .before .before .pre .1 .1 .1 .0 .below), (c .before .before .before .before .before .before .before .before .before .before .pre .1 .1 .0, runs-on (c .before .before .before .before .before .before .before .before .before .before .pre .0 .tables) _ (c .before .before .before .before .before .before .before .before .before .before .args .r .link) (c .before .retype-end .result) (c .before .before .before .before .before .before .before .before .before .before .pre .1 .1 .1 .0 .is .link) ((c .before .before .before .before .before .before .branch-of .ensures) .process _ (c .before .before .before .before .f .given .1)) (c .before .retype-end .ensures .fits (c .before .before .before .before .before .before .before .before .before .before .args .scratch .now) (c .before .before .before .before .before .before .before .before .before .before .pre .1 .1 .1 .1 .0) (c .before .before .before .before .before .before .before .before .before .before .pre .1 .1 .1 .0 .is .held)))))
+store-both-requires c κs =
+    let s = c .before .before .before .before .before .before .before .before .before .before in
+    (s .pre .0, ((s .pre .1 .0, s .pre .1 .1 .1 .0 .below), (s .pre .1 .1 .0, runs-on (s .pre .0 .tables) _ (s .args .r .link) (c .before .retype-end .result) (s .pre .1 .1 .1 .0 .is .link) ((c .before .before .before .before .before .before .branch-of .ensures) .process _ (c .before .before .before .before .f .given .1)) (c .before .retype-end .ensures .fits (s .args .scratch .now) (s .pre .1 .1 .1 .1 .0) (s .pre .1 .1 .1 .0 .is .held)))))
 
 -- src/receiving.rt:164:1
 same-length : tie.Need-same-length
@@ -49,7 +54,9 @@ same-length c = search needs
 
 -- src/receiving.rt:164:1
 returns-2 : tie.Need-returns-2
-returns-2 c = hears-label (c .before .before .before .before .before .before .before .before .before .before .before .before .before .args .text .now) (c .before .before .before .before .before .before .before .before .before .before .before .before .before .args .scratch .now) (c .before .before .before .before .before .before .before .before .before .before .before .before .before .args .run .now) (c .before .before .before .before .before .before .before .before .before .before .before .before .before .args .place) (c .before .before .before .before .before .before .before .before .before .before .before .before .before .args .q) (c .before .before .before .before .before .before .before .before .before .before .before .before .before .args .j) (c .before .before .before .before .before .before .before .before .before .before .before .before .before .args .r) (c .before .before .before .before .before .before .before .before .before .before .before .before .before .args .x) (c .before .before .before .before .retype-end .result) _ (c .before .before .store-both .ensures) (c .before .before .before .before .before .before .before .before .before .before .before .before .before .args .node) (c .before .before .before .before .before .before .before .before .before .before .before .before .before .args .at) _ _ _ (c .before .before .before .before .before .before .before .before .before .branch-of .ensures) (c .before .before .before .before .before .before .before .f .given .1) (c .before .before .before .before .retype-end .ensures)
+returns-2 c =
+    let s = c .before .before .before .before .before .before .before .before .before .before .before .before .before in
+    hears-label (s .args .text .now) (s .args .scratch .now) (s .args .run .now) (s .args .place) (s .args .q) (s .args .j) (s .args .r) (s .args .x) (c .before .before .before .before .retype-end .result) _ (c .before .before .store-both .ensures) (s .args .node) (s .args .at) _ _ _ (c .before .before .before .before .before .before .before .before .before .branch-of .ensures) (c .before .before .before .before .before .before .before .f .given .1) (c .before .before .before .before .retype-end .ensures)
 
 pub hear-label-spec : {M : Type 1} → statement M
 hear-label-spec =

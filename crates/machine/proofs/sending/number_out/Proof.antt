@@ -4,10 +4,6 @@ use Rattle.machine.specs.Sending.{one-given, few-outside, numbered-gone,
 use borrow.Author.Needs.{needs}
 use Rattle.machine.proofs.sending.number_out.Statement.{statement}
 use Rattle.machine.proofs.sending.number_out.Tie as tie
-use Rattle.machine.proofs.sending.number_out.Reads as reads
-use Rattle.machine.proofs.sending.number_out.Lts as lts
-use Rattle.runs.proofs.outside.append_outside.Reads as append-outside-reads
-use Rattle.runs.proofs.outside.set_given.Reads as set-given-reads
 
 -- src/sending.rt:104:20
 add-set-given : tie.Need-add-set-given
@@ -15,7 +11,9 @@ add-set-given c = omega (arith, c .before .before .before .before .pre .1 .0 .1)
 
 -- src/sending.rt:104:5
 set-given-requires : tie.Need-set-given-requires
-set-given-requires c κs = ((c .before .before .before .before .pre .0 .wide), ((c .before .before .before .before .pre .0 .bounds), omega (arith, c .before .before .before .before .pre .1 .0 .1)))
+set-given-requires c κs =
+    let s = c .before .before .before .before in
+    ((s .pre .0 .wide), ((s .pre .0 .bounds), omega (arith, s .pre .1 .0 .1)))
 
 -- src/sending.rt:106:9
 same-length : tie.Need-same-length
@@ -23,11 +21,15 @@ same-length c = search needs
 
 -- src/sending.rt:106:9
 returns : tie.Need-returns
-returns c = numbered-gone (c .before .before .before .before .before .before .before .before .args .text .now) (c .before .before .before .before .before .before .before .before .args .scratch .now) (c .before .before .before .before .before .before .before .before .args .run .now) (c .before .before .before .before .before .before .before .before .pre .0) (c .before .before .before .before .before .before .before .before .args .m) (c .before .before .before .before .before .before .before .before .pre .1 .0 .0) (c .before .before .before .before .before .before .before .before .args .d) _ _ refl (c .before .before .before .set-given .ensures .0) (c .before .before .before .set-given .ensures .1) _ (c .if1 .taken)
+returns c =
+    let s = c .before .before .before .before .before .before .before .before in
+    numbered-gone (s .args .text .now) (s .args .scratch .now) (s .args .run .now) (s .pre .0) (s .args .m) (s .pre .1 .0 .0) (s .args .d) _ _ refl (c .before .before .before .set-given .ensures .0) (c .before .before .before .set-given .ensures .1) _ (c .if1 .taken)
 
 -- src/sending.rt:108:5
 append-outside-requires : tie.Need-append-outside-requires
-append-outside-requires c κs = (one-given (c .before .before .before .before .before .before .before .before .before .args .text .now) (c .before .before .before .before .before .before .before .before .before .args .scratch .now) (c .before .before .before .before .before .before .before .before .before .args .run .now) (c .before .before .before .before .before .before .before .before .before .pre .0) (c .before .before .before .before .before .before .before .before .before .args .m) (c .before .before .before .before .before .before .before .before .before .pre .1 .0 .0) (c .before .before .before .before .before .before .before .before .before .args .d) _ _ refl (c .before .before .before .before .set-given .ensures .0) (c .before .before .before .before .set-given .ensures .1) .run .wide, (c .before .before .before .before .set-given .ensures .1, (few-outside (c .before .before .before .before .before .before .before .before .before .args .text .now) (c .before .before .before .before .before .before .before .before .before .args .scratch .now) (c .before .before .before .before .before .before .before .before .before .args .run .now) (c .before .before .before .before .before .before .before .before .before .pre .0) (c .before .before .before .before .before .before .before .before .before .args .m) (c .before .before .before .before .before .before .before .before .before .pre .1 .0 .0) (c .before .before .before .before .before .before .before .before .before .args .d) _ _ refl (c .before .before .before .before .set-given .ensures .0) (c .before .before .before .before .set-given .ensures .1) (c .before .before .before .before .before .before .before .before .before .pre .1 .0 .2), record { number = c .before .before .before .before .before .before .before .before .before .pre .1 .0 .1; node = c .before .before .before .before .before .before .before .before .before .pre .1 .1 .bounds .node; channel = c .before .before .before .before .before .before .before .before .before .pre .1 .1 .bounds .channel })))
+append-outside-requires c κs =
+    let s = c .before .before .before .before .before .before .before .before .before in
+    (one-given (s .args .text .now) (s .args .scratch .now) (s .args .run .now) (s .pre .0) (s .args .m) (s .pre .1 .0 .0) (s .args .d) _ _ refl (c .before .before .before .before .set-given .ensures .0) (c .before .before .before .before .set-given .ensures .1) .run .wide, (c .before .before .before .before .set-given .ensures .1, (few-outside (s .args .text .now) (s .args .scratch .now) (s .args .run .now) (s .pre .0) (s .args .m) (s .pre .1 .0 .0) (s .args .d) _ _ refl (c .before .before .before .before .set-given .ensures .0) (c .before .before .before .before .set-given .ensures .1) (s .pre .1 .0 .2), record { number = s .pre .1 .0 .1; node = s .pre .1 .1 .bounds .node; channel = s .pre .1 .1 .bounds .channel })))
 
 -- src/sending.rt:91:1
 same-length-2 : tie.Need-same-length-2
@@ -35,7 +37,9 @@ same-length-2 c = search needs
 
 -- src/sending.rt:91:1
 returns-2 : tie.Need-returns-2
-returns-2 c = numbered-out (c .before .before .before .before .before .before .before .before .before .before .before .before .args .text .now) (c .before .before .before .before .before .before .before .before .before .before .before .before .args .scratch .now) (c .before .before .before .before .before .before .before .before .before .before .before .before .args .run .now) (c .before .before .before .before .before .before .before .before .before .before .before .before .pre .0) (c .before .before .before .before .before .before .before .before .before .before .before .before .args .m) (c .before .before .before .before .before .before .before .before .before .before .before .before .pre .1 .0 .0) (c .before .before .before .before .before .before .before .before .before .before .before .before .args .d) _ _ refl (c .before .before .before .before .before .before .before .set-given .ensures .0) (c .before .before .before .before .before .before .before .set-given .ensures .1) _ _ (c .before .before .before .before .if1 .left) (c .before .before .before .before .before .before .before .before .before .before .before .before .pre .1 .1 .type) (c .before .before .append-outside .ensures .0) (c .before .before .append-outside .ensures .1)
+returns-2 c =
+    let s = c .before .before .before .before .before .before .before .before .before .before .before .before in
+    numbered-out (s .args .text .now) (s .args .scratch .now) (s .args .run .now) (s .pre .0) (s .args .m) (s .pre .1 .0 .0) (s .args .d) _ _ refl (c .before .before .before .before .before .before .before .set-given .ensures .0) (c .before .before .before .before .before .before .before .set-given .ensures .1) _ _ (c .before .before .before .before .if1 .left) (s .pre .1 .1 .type) (c .before .before .append-outside .ensures .0) (c .before .before .append-outside .ensures .1)
 
 pub number-out-spec : {M : Type 1} → statement M
 number-out-spec =

@@ -4,11 +4,6 @@ use Rattle.machine.specs.Parting.{end-found}
 use borrow.Author.Needs.{needs}
 use Rattle.machine.proofs.sending.send_unheard.Statement.{statement}
 use Rattle.machine.proofs.sending.send_unheard.Tie as tie
-use Rattle.machine.proofs.sending.send_unheard.Reads as reads
-use Rattle.machine.proofs.sending.send_unheard.Lts as lts
-use Rattle.contexts.proofs.held.find_end.Reads as find-end-reads
-use Rattle.machine.proofs.parting.part.Reads as part-reads
-use Rattle.runs.proofs.processes.store.Reads as store-reads
 
 -- src/sending.rt:41:13
 find-end-requires : tie.Need-find-end-requires
@@ -24,11 +19,15 @@ enum-told c = search needs
 
 -- src/sending.rt:43:13
 returns : tie.Need-returns
-returns c = unheard-none (c .before .before .before .before .before .before .before .before .before .args .text .now) (c .before .before .before .before .before .before .before .before .before .args .scratch .now) (c .before .before .before .before .before .before .before .before .before .args .run .now) (c .before .before .before .before .before .before .before .before .before .args .place) (c .before .before .before .before .before .before .before .before .before .args .p) (c .before .before .before .before .before .before .before .before .before .args .q) (c .before .before .before .before .before .before .before .before .before .args .n) (c .before .before .before .before .if1 .taken) (c .before .before .find-end .ensures) (c .enum-told .given .1)
+returns c =
+    let s = c .before .before .before .before .before .before .before .before .before in
+    unheard-none (s .args .text .now) (s .args .scratch .now) (s .args .run .now) (s .args .place) (s .args .p) (s .args .q) (s .args .n) (c .before .before .before .before .if1 .taken) (c .before .before .find-end .ensures) (c .enum-told .given .1)
 
 -- src/sending.rt:45:9
 part-requires : tie.Need-part-requires
-part-requires c κs = (c .before .before .before .before .before .before .before .before .before .before .before .pre .0, (c .before .before .before .before .before .before .before .before .before .before .before .pre .1 .0 .below, (c .before .before .before .before .before .before .before .before .before .before .before .pre .1 .1 .0, end-found {w = (c .before .before .before .before .before .before .before .before .before .before .before .args .scratch .now)} (c .before .before .before .before .find-end .ensures) (c .before .before .f .given .1) (c .before .before .before .before .before .before .before .before .before .before .before .pre .1 .0 .is .held) .1)))
+part-requires c κs =
+    let s = c .before .before .before .before .before .before .before .before .before .before .before in
+    (s .pre .0, (s .pre .1 .0 .below, (s .pre .1 .1 .0, end-found {w = (s .args .scratch .now)} (c .before .before .before .before .find-end .ensures) (c .before .before .f .given .1) (s .pre .1 .0 .is .held) .1)))
 
 -- src/sending.rt:45:9
 same-length : tie.Need-same-length
@@ -36,11 +35,15 @@ same-length c = search needs
 
 -- src/sending.rt:45:9
 returns-2 : tie.Need-returns-2
-returns-2 c = unheard-parts (c .before .before .before .before .before .before .before .before .before .before .before .before .before .before .args .text .now) (c .before .before .before .before .before .before .before .before .before .before .before .before .before .before .args .scratch .now) (c .before .before .before .before .before .before .before .before .before .before .before .before .before .before .args .run .now) (c .before .before .before .before .before .before .before .before .before .before .before .before .before .before .args .place) (c .before .before .before .before .before .before .before .before .before .before .before .before .before .before .args .p) (c .before .before .before .before .before .before .before .before .before .before .before .before .before .before .args .q) (c .before .before .before .before .before .before .before .before .before .before .before .before .before .before .args .n) (c .before .before .before .before .before .before .before .before .before .if1 .taken) (c .before .before .before .before .before .before .before .find-end .ensures) (c .before .before .before .before .before .f .given .1) (c .before .before .part .ensures)
+returns-2 c =
+    let s = c .before .before .before .before .before .before .before .before .before .before .before .before .before .before in
+    unheard-parts (s .args .text .now) (s .args .scratch .now) (s .args .run .now) (s .args .place) (s .args .p) (s .args .q) (s .args .n) (c .before .before .before .before .before .before .before .before .before .if1 .taken) (c .before .before .before .before .before .before .before .find-end .ensures) (c .before .before .before .before .before .f .given .1) (c .before .before .part .ensures)
 
 -- src/sending.rt:47:5
 store-requires : tie.Need-store-requires
-store-requires c κs = ((c .before .before .before .before .before .before .pre .0 .wide), ((c .before .before .before .before .before .before .pre .0 .bounds), (c .before .before .before .before .before .before .pre .1 .0 .below, bounded-of (c .before .before .before .before .before .before .args .text .now) (c .before .before .before .before .before .before .args .scratch .now) (c .before .before .before .before .before .before .pre .1 .1 .0))))
+store-requires c κs =
+    let s = c .before .before .before .before .before .before in
+    ((s .pre .0 .wide), ((s .pre .0 .bounds), (s .pre .1 .0 .below, bounded-of (s .args .text .now) (s .args .scratch .now) (s .pre .1 .1 .0))))
 
 -- src/sending.rt:24:1
 same-length-2 : tie.Need-same-length-2
@@ -48,7 +51,9 @@ same-length-2 c = search needs
 
 -- src/sending.rt:24:1
 returns-3 : tie.Need-returns-3
-returns-3 c = unheard-goes (c .before .before .before .before .before .before .before .before .before .args .text .now) (c .before .before .before .before .before .before .before .before .before .args .scratch .now) (c .before .before .before .before .before .before .before .before .before .args .run .now) (c .before .before .before .before .before .before .before .before .before .args .place) (c .before .before .before .before .before .before .before .before .before .args .p) (c .before .before .before .before .before .before .before .before .before .args .q) (c .before .before .before .before .before .before .before .before .before .args .n) (c .before .before .before .before .before .before .before .before .before .pre .1 .1 .1 .0) (c .before .before .before .before .before .before .before .before .before .pre .1 .1 .1 .1) (c .before .before .before .before .if1 .left) (stored (c .before .before .before .before .before .before .before .before .before .args .text .now) (c .before .before .before .before .before .before .before .before .before .args .scratch .now) (c .before .before .before .before .before .before .before .before .before .args .run .now) _ (c .before .before .before .before .before .before .before .before .before .pre .0) (c .before .before .before .before .before .before .before .before .before .args .place) (c .before .before .before .before .before .before .before .before .before .args .q) (c .before .before .before .before .before .before .before .before .before .pre .1 .1 .0) (c .before .before .store .ensures .0) (c .before .before .store .ensures .1))
+returns-3 c =
+    let s = c .before .before .before .before .before .before .before .before .before in
+    unheard-goes (s .args .text .now) (s .args .scratch .now) (s .args .run .now) (s .args .place) (s .args .p) (s .args .q) (s .args .n) (s .pre .1 .1 .1 .0) (s .pre .1 .1 .1 .1) (c .before .before .before .before .if1 .left) (stored (s .args .text .now) (s .args .scratch .now) (s .args .run .now) _ (s .pre .0) (s .args .place) (s .args .q) (s .pre .1 .1 .0) (c .before .before .store .ensures .0) (c .before .before .store .ensures .1))
 
 pub send-unheard-spec : {M : Type 1} → statement M
 send-unheard-spec =
