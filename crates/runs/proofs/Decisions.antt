@@ -13,7 +13,7 @@ use Rattle.runs.specs.ListLaws.{all-at, length-tab}
 use Rattle.runs.specs.Raw.{RawConfig, linkOf, linksBelow, endOf, processOf, BoundedEnd, BoundedProcess, BoundedOutside, Bounded}
 use Rattle.runs.specs.Values.{heldIn, held-length, processIn, Decided}
 use Rattle.runs.specs.declared.records.Process.{Process}
-use Rattle.runs.proofs.Shifts.{link-word}
+use Rattle.runs.specs.Bounds.{link-word}
 
 pub accepted : {P : Type 0} → P → Decided true P
 accepted p = record { yes = λ _. p; no = λ e _. let z : _≡_ {A = ℕ} 0 1 = cc in omega arith }

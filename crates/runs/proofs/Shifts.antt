@@ -16,31 +16,11 @@ use Rattle.runs.specs.ListLaws.{tab-same, map-tab, all-map, all-at}
 use Rattle.runs.specs.Raw.{RawProcess, RawConfig, linkOf, linksBelow, rows, processOf, rawIn, Bounded}
 use Rattle.runs.specs.Values.{Changed, Moved, Written}
 use Rattle.runs.specs.Operations.{withProcesses, moved, movedWord, relinked, inserted, removed}
-use Rattle.runs.specs.Bounds.{after}
+use Rattle.runs.specs.Bounds.{after, link-moved, link-word}
 use Rattle.runs.proofs.Rows.{rows-insert, rows-remove}
 use Rattle.runs.proofs.Slices.{word, counted, processRow, process-at, process-linked, Sixteen, sixteen, processes-local, held-few, processes-changed}
 
 -- ── links
-link-moved : (up : Bool) (i l : ℕ) → linkOf (movedWord up i l) ≡ Option·map (moved up i) (linkOf l)
-link-moved up i zero = rw (le-ltb (i + 1) 0 (omega arith))
-link-moved up i (suc h) = go up (decLt i h)
-  where
-    go : (up : Bool) → Dec (i < h) → linkOf (movedWord up i (suc h)) ≡ some (moved up i h)
-    go true (yes p) =
-        let t : ltb (i + 1) (suc h) ≡ true = lt-ltb (i + 1) (suc h) (omega arith) in
-        let e : suc h + 1 ≡ suc (suc h) = omega arith in
-        rw (t, lt-ltb i h p) (ap linkOf e)
-    go false (yes p) =
-        let t : ltb (i + 1) (suc h) ≡ true = lt-ltb (i + 1) (suc h) (omega arith) in
-        let e : suc h - 1 ≡ suc (h - 1) = omega arith in
-        rw (t, lt-ltb i h p) (ap linkOf e)
-    go true (no p) = rw (le-ltb (i + 1) (suc h) (omega arith), le-ltb i h (omega arith))
-    go false (no p) = rw (le-ltb (i + 1) (suc h) (omega arith), le-ltb i h (omega arith))
-
-pub link-word : (n l : ℕ) → linksBelow n (linkOf l) → l ≤ n
-link-word n zero h = omega arith
-link-word n (suc l) h = h
-
 pub link-few : (ws : List ℕ) (j : ℕ) → Bounded (rawIn ws) → j < length (rawIn ws .processes) → processRow ws j 1 ≤ 128
 link-few ws j b h =
     let l = link-word (length (rawIn ws .processes)) (processRow ws j 1) (all-at _ (rawIn ws .processes) j (b .processes) (process-at ws j h) .link) in

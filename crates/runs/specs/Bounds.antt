@@ -1,5 +1,5 @@
 -- Changes of a run, and that they keep the bounds.
-use Prim.Native.Nat.{ℕ, suc, _+_, _-_, _≤_, _<_}
+use Prim.Native.Nat.{ℕ, zero, suc, _+_, _-_, _≤_, _<_}
 use mathlib.Core.List.{List, [], _∷_, _++_, map}
 use mathlib.Core.Path.{_≡_, sym, subst, ap, _∙_}
 use mathlib.Core.Bool.{Bool, true, false, cond}
@@ -7,14 +7,14 @@ use mathlib.Core.Option.{Option, some, none, Option·map}
 use native.Mathlib.Omega.{arith}
 use borrow.Author.Tests.{lt-ltb, le-ltb}
 use native.Mathlib.Decide.{decLt}
-use lib.Dec.{eqb}
+use lib.Dec.{ltb, eqb}
 use lib.ListN.{length, set, length-set, length-map, length-append}
 use Rattle.calculus.specs.Configuration.{movedUp, movedDown}
 use Rattle.runs.specs.Lists.{All, removeAt}
 use Rattle.runs.specs.ListLaws.{all-set, all-append, all-insert, all-remove, all-map, length-insert, length-remove}
-use Rattle.runs.specs.Raw.{rawIn, RawProcess, RawOutside, RawConfig, linksBelow, BoundedProcess, BoundedOutside, Bounded}
+use Rattle.runs.specs.Raw.{rawIn, RawProcess, RawOutside, RawConfig, linkOf, linksBelow, BoundedProcess, BoundedOutside, Bounded}
 use Rattle.runs.specs.Values.{Changed}
-use Rattle.runs.specs.Operations.{single, withProcesses, withOutside, withGiven, relinked, inserted, removed, letGo}
+use Rattle.runs.specs.Operations.{moved, movedWord, single, withProcesses, withOutside, withGiven, relinked, inserted, removed, letGo}
 
 -- a change to a bounded configuration
 pub keeps : {old new : List ℕ} {C : RawConfig} → Changed old new C → Bounded C → Changed old new C × Bounded (rawIn new)
@@ -55,6 +55,26 @@ pub bounded-single : (p : RawProcess) → BoundedProcess 1 p → Bounded (single
 bounded-single p b = record { places = omega arith; processes = (b, tt); channels = omega arith; outside = tt; given = omega arith }
 
 -- links move with the places
+pub link-moved : (up : Bool) (i l : ℕ) → linkOf (movedWord up i l) ≡ Option·map (moved up i) (linkOf l)
+link-moved up i zero = rw (le-ltb (i + 1) 0 (omega arith))
+link-moved up i (suc h) = go up (decLt i h)
+  where
+    go : (up : Bool) → Dec (i < h) → linkOf (movedWord up i (suc h)) ≡ some (moved up i h)
+    go true (yes p) =
+        let t : ltb (i + 1) (suc h) ≡ true = lt-ltb (i + 1) (suc h) (omega arith) in
+        let e : suc h + 1 ≡ suc (suc h) = omega arith in
+        rw (t, lt-ltb i h p) (ap linkOf e)
+    go false (yes p) =
+        let t : ltb (i + 1) (suc h) ≡ true = lt-ltb (i + 1) (suc h) (omega arith) in
+        let e : suc h - 1 ≡ suc (h - 1) = omega arith in
+        rw (t, lt-ltb i h p) (ap linkOf e)
+    go true (no p) = rw (le-ltb (i + 1) (suc h) (omega arith), le-ltb i h (omega arith))
+    go false (no p) = rw (le-ltb (i + 1) (suc h) (omega arith), le-ltb i h (omega arith))
+
+pub link-word : (n l : ℕ) → linksBelow n (linkOf l) → l ≤ n
+link-word n zero h = omega arith
+link-word n (suc l) h = h
+
 moved-up-below : (i n h : ℕ) → h < n → movedUp i h < suc n
 moved-up-below i n h l = go (decLt i h)
   where

@@ -16,7 +16,7 @@ use crate::words::move_up;
 use crate::words::wide;
 
 // A link's word once the places after `i` have moved.
-fn moved_link(link: u32, i: usize, up: bool) -> u32
+pub fn moved_link(link: u32, i: usize, up: bool) -> u32
     requires { ⌜ (link ≤ 128) × (i < 128) ⌝ }
     ensures { λ r. ⌜ r ≡ movedWord up i link ⌝ }
 {

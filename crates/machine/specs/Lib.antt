@@ -1,0 +1,14 @@
+pub mod Run
+pub mod Changes
+pub mod Handlers
+pub mod Parting
+pub mod Messages
+pub mod Receiving
+pub mod Meeting
+pub mod Answering
+pub mod Calling
+pub mod Dispatch
+pub mod Room
+pub mod Sending
+pub mod Forwarding
+pub mod Making

@@ -1,0 +1,196 @@
+-- "A matching send and recv on one channel step together": what the node that receives comes to.
+use Prim.Native.Nat.{ℕ, zero, suc, _+_, _≤_}
+use mathlib.Core.Path.{_≡_, refl, sym, _∙_, ap, subst}
+use mathlib.Core.List.{List}
+use mathlib.Core.Bool.{Bool, true, false, cond}
+use native.Mathlib.Omega.{arith}
+use Rattle.notation.specs.Bytes.{same}
+use Rattle.notation.specs.Token.{nameAt}
+use Rattle.notation.specs.Reader.{nameIn}
+use Rattle.notation.specs.declared.reading.TermNode.{TermNode}
+use Rattle.calculus.specs.Named.{lookup}
+use Rattle.calculus.specs.Program.{Program}
+use Rattle.calculus.specs.Configuration.{End, Process, process, running, Config, Holder}
+use Rattle.calculus.specs.Configuration as calculus
+use Rattle.calculus.specs.Steps.{Outcome, notOpen, Message, onClose, onChannel, onLabel, Turn, sends, receives, alone, turnOf, bothTo, meeting, sending, send, answering, afterReceive, afterMessage, passedEnd, takesClose, takesChannel, takesLabel}
+use Rattle.tables.specs.Decode.{processIn}
+use Rattle.tables.specs.Program.{plainIn, programIn}
+use Rattle.tables.specs.Roots.{branchesIn}
+use Rattle.runs.specs.Raw.{rawIn, linkOf}
+use Rattle.runs.specs.DecodeLaws.{FarAs, givenUp}
+use Rattle.runs.specs.declared.records.End.{End as EndWords}
+use Rattle.runs.specs.declared.records.Held.{Held}
+use Rattle.runs.specs.declared.records.Process.{Process as ProcessWords}
+use Rattle.runs.specs.declared.records.Far.the-variants as far
+use Rattle.contexts.specs.Held.{endFound, Sees}
+use Rattle.contexts.specs.declared.held.Lookup.{Lookup}
+use Rattle.contexts.specs.declared.held.Lookup.the-variants as lookups
+use Rattle.machine.specs.declared.outcome.Outcome.{Outcome as OutcomeWords}
+use Rattle.machine.specs.declared.outcome.Outcome.the-variants.{NotOpen}
+use Rattle.machine.specs.Run.{configIn, doingAs, processAs, Carries}
+use Rattle.machine.specs.Changes.{running-as}
+use Rattle.machine.specs.Parting.{endAs, held-none, held-some}
+use Rattle.machine.specs.Forwarding.{farRaw, farOf, far-as}
+use Rattle.machine.specs.Messages.{message, messageBy, SendNode, TypeAfter, SentHeld, turnBy, heard, Heard}
+use Rattle.machine.specs.Sending.{unheardBy, outBy}
+use Rattle.machine.specs.Receiving.{bothBy}
+
+-- a process that receives on the channel of the message, whatever its name for it
+abbrev pub metBy : Program → Config → ℕ → Process → Process → Message → End → Holder → Turn → Outcome
+metBy p C i q q′ m e h (sends c m′ P) = notOpen
+metBy p C i q q′ m e h (receives c v) = bothTo C i q′ (h .place) (afterReceive p m v (h .name) e (passedEnd m (q .held)) (h .process))
+metBy p C i q q′ m e h alone = notOpen
+
+module _ (p : Program) (C : Config) (i : ℕ) (q q′ : Process) (m : Message) (e : End) (h : Holder) where
+  pub meeting-heard : (T : Turn) → meeting p C i q q′ m e h T ≡ metBy p C i q q′ m e h (heard (h .name) T)
+  meeting-heard (sends c m′ P) = go (same (c .name) (h .name))
+    where
+      go : (b : Bool) → notOpen ≡ metBy p C i q q′ m e h (cond b (sends c m′ P) alone)
+      go true = refl
+      go false = refl
+  meeting-heard (receives c v) = go (same (c .name) (h .name))
+    where
+      go : (b : Bool) → cond b (bothTo C i q′ (h .place) (afterReceive p m v (h .name) e (passedEnd m (q .held)) (h .process))) notOpen ≡ metBy p C i q q′ m e h (cond b (receives c v) alone)
+      go true = refl
+      go false = refl
+  meeting-heard alone = refl
+
+-- a process that sends, whatever its name for the channel
+abbrev pub answeredBy : Program → Config → Holder → Turn → Outcome
+answeredBy p C h (sends c m P) = send p C (h .place) (h .process) c m P
+answeredBy p C h (receives c v) = notOpen
+answeredBy p C h alone = notOpen
+
+pub answering-heard : (p : Program) (C : Config) (h : Holder) (T : Turn) → answering p C h T ≡ answeredBy p C h (heard (h .name) T)
+answering-heard p C h (sends c m P) = go (same (c .name) (h .name))
+  where
+    go : (b : Bool) → cond b (send p C (h .place) (h .process) c m P) notOpen ≡ answeredBy p C h (cond b (sends c m P) alone)
+    go true = refl
+    go false = refl
+answering-heard p C h (receives c v) = go (same (c .name) (h .name))
+  where
+    go : (b : Bool) → notOpen ≡ answeredBy p C h (cond b (receives c v) alone)
+    go true = refl
+    go false = refl
+answering-heard p C h alone = refl
+
+-- ── by the kinds of the two nodes
+module _ (s w : List ℕ) (C : Config) (i : ℕ) (q q′ : Process) (e : End) (h : Holder) (n t : TermNode) where
+  abbrev metKinds : ℕ → ℕ → Outcome
+  metKinds k l = metBy (programIn s w) C i q q′ (messageBy s (n .second) k) e h (turnBy s w t l)
+
+  -- a recv of another kind
+  pub met-other : (k l : ℕ) → 1 ≤ k → k ≤ 3 → (l ≡ k + 5 → ⊥) → metKinds k l ≡ notOpen
+  unfolding afterReceive
+  met-other k zero a b z = refl
+  met-other k (suc zero) a b z = refl
+  met-other k (suc (suc zero)) a b z = refl
+  met-other k (suc (suc (suc zero))) a b z = refl
+  met-other k (suc (suc (suc (suc zero)))) a b z = refl
+  met-other k (suc (suc (suc (suc (suc zero))))) a b z = refl
+  met-other zero (suc (suc (suc (suc (suc (suc zero)))))) a b z = absurd (omega arith)
+  met-other (suc zero) (suc (suc (suc (suc (suc (suc zero)))))) a b z = absurd (z refl)
+  met-other (suc (suc zero)) (suc (suc (suc (suc (suc (suc zero)))))) a b z = refl
+  met-other (suc (suc (suc k))) (suc (suc (suc (suc (suc (suc zero)))))) a b z = refl
+  met-other zero (suc (suc (suc (suc (suc (suc (suc zero))))))) a b z = absurd (omega arith)
+  met-other (suc zero) (suc (suc (suc (suc (suc (suc (suc zero))))))) a b z = refl
+  met-other (suc (suc zero)) (suc (suc (suc (suc (suc (suc (suc zero))))))) a b z = absurd (z refl)
+  met-other (suc (suc (suc k))) (suc (suc (suc (suc (suc (suc (suc zero))))))) a b z = refl
+  met-other zero (suc (suc (suc (suc (suc (suc (suc (suc zero)))))))) a b z = absurd (omega arith)
+  met-other (suc zero) (suc (suc (suc (suc (suc (suc (suc (suc zero)))))))) a b z = refl
+  met-other (suc (suc zero)) (suc (suc (suc (suc (suc (suc (suc (suc zero)))))))) a b z = refl
+  met-other (suc (suc (suc k))) (suc (suc (suc (suc (suc (suc (suc (suc zero)))))))) a b z = let y : k ≡ 0 = omega arith in absurd (z (omega arith))
+  met-other k (suc (suc (suc (suc (suc (suc (suc (suc (suc l))))))))) a b z = refl
+
+  -- the recv of the same kind
+  pub met-close : metKinds 1 6 ≡ bothTo C i q′ (h .place) (takesClose (onClose (processIn s w (t .third))) (h .name) (h .process))
+  unfolding afterReceive
+  met-close = refl
+
+  pub met-channel : metKinds 2 7 ≡ bothTo C i q′ (h .place) (takesChannel (onChannel (nameIn s (t .second)) (processIn s w (t .third))) (h .name) (afterMessage (programIn s w) (messageBy s (n .second) 2) (e .type)) (lookup (nameAt s (n .second)) (q .held)) (h .process))
+  unfolding afterReceive
+  met-channel = refl
+
+  pub met-label : metKinds 3 8 ≡ bothTo C i q′ (h .place) (takesLabel (onLabel (branchesIn s w (t .second) (t .third))) (h .name) (afterMessage (programIn s w) (messageBy s (n .second) 3) (e .type)) (nameAt s (n .second + 1)) (h .process))
+  unfolding afterReceive
+  met-label = refl
+
+-- ── what the sender's step comes to, by where the far end is
+module _ (s w old : List ℕ) (i : ℕ) (p q : ProcessWords) (n : TermNode) (e : EndWords) where
+  abbrev pub sendingBy : Outcome
+  sendingBy = sending (programIn s w) (configIn s w old) i (processAs s w p) (processAs s w q) (message s n) (endAs s w e) (farOf s w old e)
+
+  abbrev pub holderBy : ℕ → ProcessWords → ℕ → Holder
+  holderBy j r x = record { place = j; process = processAs s w r; name = nameAt s x }
+
+  abbrev pub heardBy : ℕ → ProcessWords → ℕ → TermNode → Outcome
+  heardBy j r x t = metBy (programIn s w) (configIn s w old) i (processAs s w p) (processAs s w q) (message s n) (endAs s w e) (holderBy j r x) (turnBy s w t (t .kind))
+
+  abbrev kindsBy : ℕ → ProcessWords → ℕ → TermNode → ℕ → ℕ → Outcome
+  kindsBy j r x t k l = metBy (programIn s w) (configIn s w old) i (processAs s w p) (processAs s w q) (messageBy s (n .second) k) (endAs s w e) (holderBy j r x) (turnBy s w t l)
+
+  module _ (j x : ℕ) (r : ProcessWords) (t : TermNode) (f : farOf s w old e ≡ calculus.atProcess (holderBy j r x)) (g : Heard s w x (doingAs s w (r .kind) (r .pointer)) t) where
+    meets-as : sendingBy ≡ heardBy j r x t
+    meets-as =
+        ap (sending (programIn s w) (configIn s w old) i (processAs s w p) (processAs s w q) (message s n) (endAs s w e)) f
+        ∙ meeting-heard (programIn s w) (configIn s w old) i (processAs s w p) (processAs s w q) (message s n) (endAs s w e) (holderBy j r x) (turnOf (doingAs s w (r .kind) (r .pointer)))
+        ∙ ap (metBy (programIn s w) (configIn s w old) i (processAs s w p) (processAs s w q) (message s n) (endAs s w e) (holderBy j r x)) (g .is)
+
+    pub meets-other : SendNode n → (t .kind ≡ n .kind + 5 → ⊥) → Carries s w old old NotOpen sendingBy
+    meets-other a z = subst (Carries s w old old NotOpen) (sym (meets-as ∙ met-other s w (configIn s w old) i (processAs s w p) (processAs s w q) (endAs s w e) (holderBy j r x) n t (n .kind) (t .kind) (a .low) (a .high) z)) (record { is = (refl, refl) })
+
+    pub meets : {new : List ℕ} {o : OutcomeWords} → Carries s w old new o (heardBy j r x t) → Carries s w old new o sendingBy
+    meets {new} {o} c = subst (Carries s w old new o) (sym meets-as) c
+
+  -- the receiver's node is of the kind that the message wants
+  module _ (j : ℕ) (r : ProcessWords) (x : ℕ) (t : TermNode) {new : List ℕ} {o : OutcomeWords} where
+    kinds : (k l : ℕ) → n .kind ≡ k → t .kind ≡ l → Carries s w old new o (kindsBy j r x t k l) → Carries s w old new o (heardBy j r x t)
+    kinds k l a b c = subst (λ m. Carries s w old new o (kindsBy j r x t m (t .kind))) (sym a) (subst (λ m. Carries s w old new o (kindsBy j r x t k m)) (sym b) c)
+
+    pub hears-kind-close : n .kind ≡ 1 → t .kind ≡ n .kind + 5 → Carries s w old new o (bothBy s w old i q j r x (takesClose (onClose (processIn s w (t .third))) (nameAt s x) (processAs s w r))) → Carries s w old new o (heardBy j r x t)
+    unfolding afterReceive
+    hears-kind-close a b c = kinds 1 6 a (omega (arith, a, b)) c
+
+    module _ {node : ℕ} (u : TypeAfter s w (afterMessage (programIn s w) (message s n) (plainIn s w (e .node))) node) where
+      pub hears-kind-channel : {f : Lookup} → n .kind ≡ 2 → t .kind ≡ n .kind + 5 → Sees s (p .held) (n .second) f
+          → Carries s w old new o (bothBy s w old i q j r x (takesChannel (onChannel (nameIn s (t .second)) (processIn s w (t .third))) (nameAt s x) (plainIn s w node) (endFound s w f) (processAs s w r))) → Carries s w old new o (heardBy j r x t)
+      unfolding afterReceive
+      hears-kind-channel {f} a b g c =
+          kinds 2 7 a (omega (arith, a, b))
+          (subst (λ d. Carries s w old new o (bothBy s w old i q j r x (takesChannel (onChannel (nameIn s (t .second)) (processIn s w (t .third))) (nameAt s x) (afterMessage (programIn s w) (messageBy s (n .second) 2) (plainIn s w (e .node))) d (processAs s w r)))) (sym (g .is w))
+          (subst (λ A. Carries s w old new o (bothBy s w old i q j r x (takesChannel (onChannel (nameIn s (t .second)) (processIn s w (t .third))) (nameAt s x) A (endFound s w f) (processAs s w r)))) (u .is ∙ ap (λ k. afterMessage (programIn s w) (messageBy s (n .second) k) (plainIn s w (e .node))) a) c))
+
+      pub hears-kind-label : n .kind ≡ 3 → t .kind ≡ n .kind + 5
+          → Carries s w old new o (bothBy s w old i q j r x (takesLabel (onLabel (branchesIn s w (t .second) (t .third))) (nameAt s x) (plainIn s w node) (nameAt s (n .second + 1)) (processAs s w r))) → Carries s w old new o (heardBy j r x t)
+      unfolding afterReceive
+      hears-kind-label a b c =
+          kinds 3 8 a (omega (arith, a, b))
+          (subst (λ A. Carries s w old new o (bothBy s w old i q j r x (takesLabel (onLabel (branchesIn s w (t .second) (t .third))) (nameAt s x) A (nameAt s (n .second + 1)) (processAs s w r)))) (u .is ∙ ap (λ k. afterMessage (programIn s w) (messageBy s (n .second) k) (plainIn s w (e .node))) a) c)
+
+  -- the outside; nobody
+  pub sends-out : {new : List ℕ} {o : OutcomeWords} (number : ℕ) → farOf s w old e ≡ calculus.atOutside number → Carries s w old new o (outBy s w old i p q n e number) → Carries s w old new o sendingBy
+  sends-out {new} {o} number f c = subst (λ F. Carries s w old new o (sending (programIn s w) (configIn s w old) i (processAs s w p) (processAs s w q) (message s n) (endAs s w e) F)) (sym f) c
+
+  sends-nobody : {new : List ℕ} {o : OutcomeWords} {F : calculus.Far} → FarAs (nameAt s) (plainIn s w) (processIn s w) (rawIn old) far.GivenUp F → Carries s w old new o (unheardBy s w old i p q n)
+      → Carries s w old new o (sending (programIn s w) (configIn s w old) i (processAs s w p) (processAs s w q) (message s n) (endAs s w e) F)
+  sends-nobody givenUp c = c
+
+  pub sends-unheard : {new : List ℕ} {o : OutcomeWords} → far.GivenUp ≡ farRaw s w old e → Carries s w old new o (unheardBy s w old i p q n) → Carries s w old new o sendingBy
+  sends-unheard f c = sends-nobody (far-as s w old e far.GivenUp f) c
+
+-- ── the rule
+abbrev pub sendBy : List ℕ → List ℕ → List ℕ → ℕ → ProcessWords → TermNode → Outcome
+sendBy s w old i p n = send (programIn s w) (configIn s w old) i (processAs s w p) (nameIn s (n .first)) (message s n) (processIn s w (n .third))
+
+module _ (s w old : List ℕ) (i : ℕ) (p : ProcessWords) (n : TermNode) {f : Lookup} (a : Sees s (p .held) (n .first) f) where
+  pub sends-nothing : f ≡ lookups.Nothing → Carries s w old old NotOpen (sendBy s w old i p n)
+  unfolding send
+  sends-nothing q = held-none a _ q
+
+  pub sends-on : {e : EndWords} {node : ℕ} {h : Held} {new : List ℕ} {o : OutcomeWords} → f ≡ lookups.Found e → TypeAfter s w (afterMessage (programIn s w) (message s n) (plainIn s w (e .node))) node → SentHeld s w (p .held) n node h
+      → Carries s w old new o (sendingBy s w old i p (running-as (n .third) (p .link) h) n e) → Carries s w old new o (sendBy s w old i p n)
+  unfolding send
+  sends-on {e} {new = new} {o = o} q u g c =
+      held-some a _ q
+      (subst (λ l. Carries s w old new o (sending (programIn s w) (configIn s w old) i (processAs s w p) (process (running (processIn s w (n .third))) l (linkOf (p .link))) (message s n) (endAs s w e) (farOf s w old e)))
+      (g .is (endAs s w e) (u .is)) c)

@@ -1,0 +1,13 @@
+// Machine: the step at a place, on the run slice.
+pub mod answering;
+pub mod calling;
+pub mod dispatch;
+pub mod forwarding;
+pub mod handlers;
+pub mod making;
+pub mod meeting;
+pub mod messages;
+pub mod outcome;
+pub mod parting;
+pub mod receiving;
+pub mod sending;

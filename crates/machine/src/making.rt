@@ -1,0 +1,206 @@
+// A process comes: try and spawn.
+ghost use mathlib.Core.Path.{_≡_};
+ghost use Prim.Native.Nat.{_<_};
+ghost use mathlib.Core.Bool.{true, false};
+ghost use mathlib.Core.Option.{some};
+ghost use lib.ListN.{length};
+ghost use Rattle.calculus.specs.Named.{kept};
+ghost use Rattle.calculus.specs.Steps.{trying};
+ghost use Rattle.tables.specs.Decode.{processIn};
+ghost use Rattle.tables.specs.Roots.{TypeIn, ProcessIn};
+ghost use Rattle.tables.specs.Whole.{Tables};
+ghost use Rattle.runs.specs.Raw.{rawIn, BoundedEnd};
+ghost use Rattle.runs.specs.Values.{endIn};
+ghost use Rattle.contexts.specs.Held.{channelsOf, HeldIn};
+ghost use Rattle.contexts.specs.Halves.{HalfIn, takes, wanted};
+ghost use Rattle.machine.specs.Run.{configIn, processAs, RunOf, StandsAt, Carries};
+ghost use Rattle.machine.specs.Making.{TryHalf, SpawnHalf, SpawnIn, spawnedBy, spawningBy};
+use crate::outcome::Outcome;
+use calculus::answers::Seen;
+use contexts::halves::Half;
+use contexts::halves::keep;
+use contexts::held::bring_end;
+use notation::reading::Found;
+use runs::channels::fresh_channel;
+use runs::places::insert;
+use runs::places::moved_link;
+use runs::processes::count;
+use runs::processes::store;
+use runs::records::End;
+use runs::records::Held;
+use runs::records::Process;
+
+// A spawn: where the new name stands, the node of its type, the pointers of its halves.
+pub struct SpawnTerm {
+    pub name: u32,
+    pub node: u32,
+    pub first: u32,
+    pub second: u32,
+}
+
+fn wide(x: u32) -> usize
+    ensures { λ r. ⌜ r ≡ x ⌝ }
+{
+    x as usize
+}
+
+// What a half of a try takes.
+fn try_half(text: &[u8], scratch: &[u32], h: Held, pointer: u32) -> Held
+    requires { ⌜ Tables (now text) (now scratch) ⌝ }
+    requires { ⌜ ProcessIn (now text) (now scratch) pointer ⌝ }
+    requires { ⌜ HeldIn (now text) (now scratch) h ⌝ }
+    ensures { λ r. ⌜ TryHalf (now (text .entry)) (now (scratch .entry)) h pointer r ⌝ }
+{
+    let p = wide(pointer);
+    keep(text, scratch, h, Half::OfTry(p), true)
+}
+
+// Try: the first half goes on with a new link, and the second waits as its handler, with the old one.
+pub fn try_both(
+    text: &[u8],
+    scratch: &[u32],
+    run: &mut [u32],
+    place: usize,
+    p: Process,
+    first: u32,
+    second: u32,
+) -> Outcome
+    requires { ⌜ RunOf (now text) (now scratch) (now run) ⌝ }
+    requires { ⌜ StandsAt (now text) (now scratch) (now run) place p ⌝ }
+    requires { ⌜ ProcessIn (now text) (now scratch) first ⌝ }
+    requires { ⌜ ProcessIn (now text) (now scratch) second ⌝ }
+    ensures { λ r. ⌜ Carries (now (text .entry)) (now (scratch .entry)) (now (run .entry)) (now (run .exit)) r (trying (configIn (now (text .entry)) (now (scratch .entry)) (now (run .entry))) place (processAs (now (text .entry)) (now (scratch .entry)) p) (processIn (now (text .entry)) (now (scratch .entry)) first) (processIn (now (text .entry)) (now (scratch .entry)) second)) ⌝ }
+{
+    if 128 <= count(run) {
+        return Outcome::Lacking;
+    }
+    let h = p.held;
+    let ours = try_half(text, scratch, h, first);
+    let theirs = try_half(text, scratch, h, second);
+    let link = moved_link(p.link, place, true);
+    insert(
+        run,
+        place,
+        Process {
+            kind: 2,
+            pointer: second,
+            link,
+            held: theirs,
+        },
+    );
+    store(
+        run,
+        place,
+        Process {
+            kind: 0,
+            pointer: first,
+            link: (place + 2) as u32,
+            held: ours,
+        },
+    );
+    Outcome::Carried(Seen::Nothing)
+}
+
+// What a half of a spawn takes, or leaves, with its end of the new channel.
+fn spawn_half(text: &[u8], scratch: &[u32], h: Held, half: Half, want: bool, e: End) -> Held
+    requires { ⌜ Tables (now text) (now scratch) ⌝ }
+    requires { ⌜ HalfIn (now text) (now scratch) half ⌝ }
+    requires { ⌜ HeldIn (now text) (now scratch) h ⌝ }
+    requires { ⌜ length (kept (λ n. wanted want (takes (now text) (now scratch) half n)) (channelsOf (now text) (now scratch) h)) < 16 ⌝ }
+    requires { ⌜ BoundedEnd (endIn e) × (e .side < 2) × TypeIn (now text) (now scratch) (e .node) ⌝ }
+    ensures { λ r. ⌜ SpawnHalf (now (text .entry)) (now (scratch .entry)) h half want e r ⌝ }
+{
+    let r = keep(text, scratch, h, half, want);
+    bring_end(r, e.name, e.side, e.node, e.channel)
+}
+
+// The halves of a spawn stand side by side, with the new channel between them.
+fn spawn_on(
+    text: &[u8],
+    scratch: &[u32],
+    run: &mut [u32],
+    place: usize,
+    p: Process,
+    m: SpawnTerm,
+    channel: u32,
+) -> Outcome
+    requires { ⌜ RunOf (now text) (now scratch) (now run) ⌝ }
+    requires { ⌜ StandsAt (now text) (now scratch) (now run) place p ⌝ }
+    requires { ⌜ SpawnIn (now text) (now scratch) m (p .held) ⌝ }
+    requires { ⌜ (length (rawIn (now run) .processes) < 128) × (channel < 512) ⌝ }
+    ensures { λ r. ⌜ Carries (now (text .entry)) (now (scratch .entry)) (now (run .entry)) (now (run .exit)) r (spawnedBy (now (text .entry)) (now (scratch .entry)) (now (run .entry)) place p m (some channel)) ⌝ }
+{
+    let h = p.held;
+    let half = Half::OfSpawn(m.name as usize, m.first as usize);
+    let ours = spawn_half(
+        text,
+        scratch,
+        h,
+        half,
+        true,
+        End {
+            name: m.name,
+            side: 0,
+            node: m.node,
+            channel,
+        },
+    );
+    let theirs = spawn_half(
+        text,
+        scratch,
+        h,
+        half,
+        false,
+        End {
+            name: m.name,
+            side: 1,
+            node: m.node,
+            channel,
+        },
+    );
+    store(
+        run,
+        place,
+        Process {
+            kind: 0,
+            pointer: m.second,
+            link: p.link,
+            held: theirs,
+        },
+    );
+    insert(
+        run,
+        place,
+        Process {
+            kind: 0,
+            pointer: m.first,
+            link: 0,
+            held: ours,
+        },
+    );
+    Outcome::Carried(Seen::Nothing)
+}
+
+// Spawn: "A spawn's new process is P".
+pub fn spawn(
+    text: &[u8],
+    scratch: &[u32],
+    run: &mut [u32],
+    place: usize,
+    p: Process,
+    m: SpawnTerm,
+) -> Outcome
+    requires { ⌜ RunOf (now text) (now scratch) (now run) ⌝ }
+    requires { ⌜ StandsAt (now text) (now scratch) (now run) place p ⌝ }
+    requires { ⌜ SpawnIn (now text) (now scratch) m (p .held) ⌝ }
+    ensures { λ r. ⌜ Carries (now (text .entry)) (now (scratch .entry)) (now (run .entry)) (now (run .exit)) r (spawningBy (now (text .entry)) (now (scratch .entry)) (now (run .entry)) place p m) ⌝ }
+{
+    if 128 <= count(run) {
+        return Outcome::Lacking;
+    }
+    let f = fresh_channel(run);
+    let Found::At(k) = f else {
+        return Outcome::Lacking;
+    };
+    spawn_on(text, scratch, run, place, p, m, k as u32)
+}

@@ -1,0 +1,215 @@
+// A send, whoever is at the far end.
+ghost use mathlib.Core.Path.{_≡_};
+ghost use Prim.Native.Nat.{_+_, _<_};
+ghost use lib.ListN.{length};
+ghost use Rattle.calculus.specs.Steps.{afterMessage};
+ghost use Rattle.calculus.specs.WellFormed.{WellFormed};
+ghost use Rattle.tables.specs.Program.{plainIn, programIn};
+ghost use Rattle.tables.specs.Roots.{ProcessIn};
+ghost use Rattle.runs.specs.Raw.{rawIn};
+ghost use Rattle.runs.specs.declared.records.Far.the-variants as far;
+ghost use Rattle.machine.specs.Run.{configIn, RunOf, ProcessOf, StandsAt, Carries};
+ghost use Rattle.machine.specs.Forwarding.{farRaw};
+ghost use Rattle.machine.specs.Messages.{message, SendNode, TypeAfter, partsBy};
+ghost use Rattle.machine.specs.Meeting.{sendingBy, heardBy, sendBy};
+use crate::messages::after_message;
+use crate::messages::after_send;
+use crate::messages::turn_on;
+use crate::outcome::Outcome;
+use crate::receiving::hear_channel;
+use crate::receiving::hear_close;
+use crate::receiving::hear_label;
+use crate::sending::pass_out;
+use crate::sending::send_shown;
+use crate::sending::send_unheard;
+use contexts::held::Lookup;
+use contexts::held::find_end;
+use notation::reading::TermNode;
+use runs::far::far_end;
+use runs::held::end_at;
+use runs::outside::outside_at;
+use runs::processes::load;
+use runs::records::End;
+use runs::records::Far;
+use runs::records::Process;
+
+// The process r at place j, which knows the channel by the name at `x`, takes the message of n with its term t.
+fn hear(
+    text: &[u8],
+    scratch: &[u32],
+    run: &mut [u32],
+    place: usize,
+    p: Process,
+    q: Process,
+    n: TermNode,
+    e: End,
+    node: u32,
+    j: usize,
+    r: Process,
+    x: usize,
+    t: TermNode,
+) -> Outcome
+    requires { ⌜ RunOf (now text) (now scratch) (now run) ⌝ }
+    requires { ⌜ StandsAt (now text) (now scratch) (now run) place p × StandsAt (now text) (now scratch) (now run) j r ⌝ }
+    requires { ⌜ ProcessOf (now text) (now scratch) (length (rawIn (now run) .processes)) q ⌝ }
+    requires { ⌜ TypeAfter (now text) (now scratch) (afterMessage (programIn (now text) (now scratch)) (message (now text) n) (plainIn (now text) (now scratch) (e .node))) node ⌝ }
+    requires { ⌜ SendNode n × (t .kind ≡ n .kind + 5) × partsBy (now text) (now scratch) t (t .kind) ⌝ }
+    requires { ⌜ (t .kind ≡ 7 → r .held .count < 16) ⌝ }
+    ensures { λ o. ⌜ Carries (now (text .entry)) (now (scratch .entry)) (now (run .entry)) (now (run .exit)) o (heardBy (now (text .entry)) (now (scratch .entry)) (now (run .entry)) place p q n e j r x t) ⌝ }
+{
+    if n.kind == 1 {
+        return hear_close(text, scratch, run, place, q, j, r, x, t.third as u32);
+    }
+    if n.kind == 3 {
+        return hear_label(text, scratch, run, place, q, j, r, x, node, n.second, t);
+    }
+    let h = p.held;
+    let f = find_end(text, h, n.second);
+    hear_channel(
+        text,
+        scratch,
+        run,
+        place,
+        q,
+        j,
+        r,
+        x,
+        node,
+        f,
+        t.second as u32,
+        t.third as u32,
+    )
+}
+
+// The far end is at position k of what the process at place j holds.
+fn meet(
+    text: &[u8],
+    scratch: &[u32],
+    run: &mut [u32],
+    place: usize,
+    p: Process,
+    q: Process,
+    n: TermNode,
+    e: End,
+    node: u32,
+    j: usize,
+    k: usize,
+) -> Outcome
+    requires { ⌜ RunOf (now text) (now scratch) (now run) ⌝ }
+    requires { ⌜ StandsAt (now text) (now scratch) (now run) place p ⌝ }
+    requires { ⌜ ProcessOf (now text) (now scratch) (length (rawIn (now run) .processes)) q ⌝ }
+    requires { ⌜ TypeAfter (now text) (now scratch) (afterMessage (programIn (now text) (now scratch)) (message (now text) n) (plainIn (now text) (now scratch) (e .node))) node ⌝ }
+    requires { ⌜ SendNode n ⌝ }
+    requires { ⌜ WellFormed (programIn (now text) (now scratch)) (configIn (now text) (now scratch) (now run)) ⌝ }
+    requires { ⌜ farRaw (now text) (now scratch) (now run) e ≡ far.Process j k ⌝ }
+    ensures { λ o. ⌜ Carries (now (text .entry)) (now (scratch .entry)) (now (run .entry)) (now (run .exit)) o (sendingBy (now (text .entry)) (now (scratch .entry)) (now (run .entry)) place p q n e) ⌝ }
+{
+    let r = load(run, j);
+    let h = r.held;
+    let y = end_at(h, k);
+    let x = y.name as usize;
+    let t = turn_on(text, scratch, r, x);
+    if t.kind != n.kind + 5 {
+        return Outcome::NotOpen;
+    }
+    hear(text, scratch, run, place, p, q, n, e, node, j, r, x, t)
+}
+
+// The far end is the outside's, at position k of its channels.
+fn send_out(
+    text: &[u8],
+    scratch: &[u32],
+    run: &mut [u32],
+    place: usize,
+    p: Process,
+    q: Process,
+    n: TermNode,
+    e: End,
+    node: u32,
+    k: usize,
+) -> Outcome
+    requires { ⌜ RunOf (now text) (now scratch) (now run) ⌝ }
+    requires { ⌜ StandsAt (now text) (now scratch) (now run) place p ⌝ }
+    requires { ⌜ ProcessOf (now text) (now scratch) (length (rawIn (now run) .processes)) q ⌝ }
+    requires { ⌜ TypeAfter (now text) (now scratch) (afterMessage (programIn (now text) (now scratch)) (message (now text) n) (plainIn (now text) (now scratch) (e .node))) node ⌝ }
+    requires { ⌜ SendNode n ⌝ }
+    requires { ⌜ WellFormed (programIn (now text) (now scratch)) (configIn (now text) (now scratch) (now run)) ⌝ }
+    requires { ⌜ farRaw (now text) (now scratch) (now run) e ≡ far.Outside k ⌝ }
+    ensures { λ o. ⌜ Carries (now (text .entry)) (now (scratch .entry)) (now (run .entry)) (now (run .exit)) o (sendingBy (now (text .entry)) (now (scratch .entry)) (now (run .entry)) place p q n e) ⌝ }
+{
+    let o = outside_at(run, k);
+    if n.kind == 2 {
+        return pass_out(text, scratch, run, place, p, q, n, e, o.number, node);
+    }
+    send_shown(text, scratch, run, place, p, q, n, e, o.number, node)
+}
+
+// The sender p has sent over its end e, and stands as q; who is at the far end?
+fn deliver(
+    text: &[u8],
+    scratch: &[u32],
+    run: &mut [u32],
+    place: usize,
+    p: Process,
+    q: Process,
+    n: TermNode,
+    e: End,
+    node: u32,
+) -> Outcome
+    requires { ⌜ RunOf (now text) (now scratch) (now run) ⌝ }
+    requires { ⌜ StandsAt (now text) (now scratch) (now run) place p ⌝ }
+    requires { ⌜ ProcessOf (now text) (now scratch) (length (rawIn (now run) .processes)) q ⌝ }
+    requires { ⌜ TypeAfter (now text) (now scratch) (afterMessage (programIn (now text) (now scratch)) (message (now text) n) (plainIn (now text) (now scratch) (e .node))) node ⌝ }
+    requires { ⌜ SendNode n × (e .side < 2) ⌝ }
+    requires { ⌜ WellFormed (programIn (now text) (now scratch)) (configIn (now text) (now scratch) (now run)) ⌝ }
+    ensures { λ o. ⌜ Carries (now (text .entry)) (now (scratch .entry)) (now (run .entry)) (now (run .exit)) o (sendingBy (now (text .entry)) (now (scratch .entry)) (now (run .entry)) place p q n e) ⌝ }
+{
+    let f = far_end(run, e.channel, e.side);
+    match f {
+        Far::Process(j, k) => {
+            return meet(text, scratch, run, place, p, q, n, e, node, j, k);
+        }
+        Far::Outside(k) => return send_out(text, scratch, run, place, p, q, n, e, node, k),
+        Far::GivenUp => return send_unheard(text, scratch, run, place, p, q, n),
+    }
+}
+
+// The send n of the process p at a place.
+pub fn send(
+    text: &[u8],
+    scratch: &[u32],
+    run: &mut [u32],
+    place: usize,
+    p: Process,
+    n: TermNode,
+) -> Outcome
+    requires { ⌜ RunOf (now text) (now scratch) (now run) ⌝ }
+    requires { ⌜ StandsAt (now text) (now scratch) (now run) place p ⌝ }
+    requires { ⌜ SendNode n × ProcessIn (now text) (now scratch) (n .third) ⌝ }
+    requires { ⌜ WellFormed (programIn (now text) (now scratch)) (configIn (now text) (now scratch) (now run)) ⌝ }
+    ensures { λ o. ⌜ Carries (now (text .entry)) (now (scratch .entry)) (now (run .entry)) (now (run .exit)) o (sendBy (now (text .entry)) (now (scratch .entry)) (now (run .entry)) place p n) ⌝ }
+{
+    let h = p.held;
+    let f = find_end(text, h, n.first);
+    let Lookup::Found(e) = f else {
+        return Outcome::NotOpen;
+    };
+    let node = after_message(text, scratch, n, e.node as usize);
+    let held = after_send(text, scratch, h, n, node as u32);
+    deliver(
+        text,
+        scratch,
+        run,
+        place,
+        p,
+        Process {
+            kind: 0,
+            pointer: n.third as u32,
+            link: p.link,
+            held,
+        },
+        n,
+        e,
+        node as u32,
+    )
+}

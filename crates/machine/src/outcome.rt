@@ -1,0 +1,9 @@
+// What the step at a place comes to.
+use calculus::answers::Seen;
+
+// Carried out, with what was seen; not open; open, but without a free place or number.
+pub enum Outcome {
+    Carried(Seen),
+    NotOpen,
+    Lacking,
+}
