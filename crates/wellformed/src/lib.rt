@@ -1,0 +1,3 @@
+// Well-formed: the test of refusal 18, for any words whatever.
+pub mod numbers;
+mod words;
