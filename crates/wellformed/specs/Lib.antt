@@ -1,1 +1,2 @@
 pub mod OfText
+pub mod Typing

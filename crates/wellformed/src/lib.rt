@@ -1,3 +1,4 @@
 // Well-formed: the test of refusal 18, for any words whatever.
 pub mod numbers;
+pub mod typing;
 mod words;
