@@ -1,2 +1,3 @@
 pub mod OfText
 pub mod Typing
+pub mod Outward

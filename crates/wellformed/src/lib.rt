@@ -1,4 +1,6 @@
 // Well-formed: the test of refusal 18, for any words whatever.
 pub mod numbers;
+pub mod outwards;
+mod reach;
 pub mod typing;
 mod words;
