@@ -1,3 +1,5 @@
 pub mod OfText
 pub mod Typing
 pub mod Outward
+pub mod Kept
+pub mod Entering
