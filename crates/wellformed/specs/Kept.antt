@@ -37,7 +37,7 @@ abbrev pub rawEnds : RawConfig → List RawEnd
 rawEnds C = processEnds (C .processes) ++ map outsideEnd (C .outside)
 
 module _ (s w : List ℕ) where
-  abbrev asEnd : RawEnd → End
+  abbrev pub asEnd : RawEnd → End
   asEnd e = end (e .side) (e .channel) (plainIn s w (e .node))
 
   abbrev pub besideIn : RawEnd → RawEnd → Bool
@@ -57,9 +57,12 @@ module _ (s w : List ℕ) where
       append-assoc (heldEnds (map (decodedEnd (nameAt s) (plainIn s w) (processIn s w)) (p .held))) (calculus.processEnds (map (decodedProcess (nameAt s) (plainIn s w) (processIn s w)) l)) k
       ∙ held-ends (p .held) (processEnds l ++ m) (process-ends l m q) ∙ ap (map asEnd) (sym (append-assoc (p .held) (processEnds l) m))
 
+  pub ends-in : (C : RawConfig) → ends (decoded (nameAt s) (plainIn s w) (processIn s w) C) ≡ map asEnd (rawEnds C)
+  ends-in C = process-ends (C .processes) (map outsideEnd (C .outside)) (outside-ends (C .outside))
+
   pub ends-decoded : (C : RawConfig) → endsFit (ends (decoded (nameAt s) (plainIn s w) (processIn s w) C)) ≡ pairwise besideIn [] (rawEnds C)
   unfolding endsFit
-  ends-decoded C = ap (pairwise beside []) (process-ends (C .processes) (map outsideEnd (C .outside)) (outside-ends (C .outside))) ∙ pairwise-map asEnd beside [] (rawEnds C)
+  ends-decoded C = ap (pairwise beside []) (ends-in C) ∙ pairwise-map asEnd beside [] (rawEnds C)
 
 -- ── a word for each key: 0 for an end that none has, else 1 + the node of its type
 abbrev sideWord : Side → ℕ

@@ -3,3 +3,4 @@ pub mod Typing
 pub mod Outward
 pub mod Kept
 pub mod Entering
+pub mod Formed
