@@ -8,7 +8,7 @@ use native.Mathlib.Omega.{arith}
 use native.Mathlib.Numerals.{add-one}
 use borrow.Author.Tests.{eq-eqb, ne-eqb}
 use lib.ListN.{length, getD, getElem?, set, drop}
-use Rattle.calculus.specs.Types.{Side, other, sameType}
+use Rattle.calculus.specs.Types.{other, sameType}
 use Rattle.tables.specs.Program.{plainIn}
 use Rattle.runs.specs.ListLaws.{drop-at}
 use Rattle.runs.specs.Raw.{RawEnd, RawProcess, RawOutside, sideOf}

@@ -1,9 +1,9 @@
 -- A run of this text that is well formed: what the tests of its parts say together.
-use Prim.Native.Nat.{ℕ, _≤_, _<_}
-use mathlib.Core.Path.{_≡_, refl, sym, _∙_, ap, subst}
+use Prim.Native.Nat.{ℕ, _<_}
+use mathlib.Core.Path.{_≡_, refl, sym, _∙_, ap}
 use mathlib.Core.Logic.{_↔_, Iff·trans}
-use mathlib.Core.List.{List, [], _∷_, _++_, map}
-use mathlib.Core.Bool.{Bool, true, false, So, true≢false, _&&_}
+use mathlib.Core.List.{List, [], _∷_, map}
+use mathlib.Core.Bool.{Bool, So, true≢false, _&&_}
 use native.Mathlib.Omega.{arith}
 use borrow.Author.Tests.{le-leb, lt-ltb}
 use lib.Dec.{leb, ltb}
@@ -28,7 +28,7 @@ use Rattle.tables.specs.Program.{plainIn, programIn}
 use Rattle.runs.specs.Lists.{All}
 use Rattle.runs.specs.ListLaws.{all-append, all-weaken}
 use Rattle.runs.specs.ListLaws as laws
-use Rattle.runs.specs.Raw.{RawEnd, RawProcess, RawOutside, RawConfig, BoundedProcess, BoundedOutside, Bounded}
+use Rattle.runs.specs.Raw.{RawEnd, RawProcess, RawConfig, BoundedProcess, BoundedOutside, Bounded}
 use Rattle.runs.specs.Decode.{decodedEnd, decodedProcess, decodedOutside, decoded}
 use Rattle.runs.specs.Values.{Decided}
 use Rattle.joints.specs.Answers.{Answers}

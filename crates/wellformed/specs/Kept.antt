@@ -105,7 +105,7 @@ module _ (s w : List ℕ) where
     pub misfit : fits ws (e .channel) (e .side) (e .node) ≡ false → Entered ws ws (e ∷ []) false
     misfit q = record { is = λ seen k. (seen, k, entering q seen k) }
 
-    module _ (long : e .channel < channelPlaces) (kept : length ws ≡ 1024) (free : getD ws (placeOf (e .channel) (e .side)) 0 ≡ 0) where
+    module _ (short : e .channel < channelPlaces) (long : length ws ≡ 1024) (free : getD ws (placeOf (e .channel) (e .side)) 0 ≡ 0) where
       abbrev new : List ℕ
       new = set ws (placeOf (e .channel) (e .side)) (suc (e .node))
 
@@ -134,9 +134,16 @@ module _ (s w : List ℕ) where
           ap (λ b. cond (implies b (not (sameSide x (e .side)) && sameType (plainIn s w n) (plainIn s w (e .node)))) (fits ws c x n) false) (ne-eqb c (e .channel) d)
           ∙ (λ i. cond (eqb (sym (away _ (elsewhere c x (e .side) d)) i) 0) (farSame n (sym (away _ (elsewhere c (other x) (e .side) d)) i)) false)
 
-      -- the same channel: the same end again
-      again : (x : Side) (n : ℕ) → sameSide x x ≡ true → getD new (placeOf (e .channel) x) 0 ≡ suc (e .node)
-          → cond (beside (end x (e .channel) (plainIn s w n)) (end x (e .channel) (plainIn s w (e .node)))) (fits ws (e .channel) x n) false ≡ fits new (e .channel) x n
+      -- the same channel
+      abbrev Meeting : ℕ → Side → Side → Type 0
+      Meeting n x y = cond (beside (end x (e .channel) (plainIn s w n)) (end y (e .channel) (plainIn s w (e .node)))) (fits ws (e .channel) x n) false ≡ fits new (e .channel) x n
+
+      -- what became of the words, if y is the side
+      abbrev Put : Side → Type 0
+      Put y = (getD ws (placeOf (e .channel) y) 0 ≡ 0) × (getD new (placeOf (e .channel) y) 0 ≡ suc (e .node)) × ((k : ℕ) → (k ≡ placeOf (e .channel) y → ⊥) → getD new k 0 ≡ getD ws k 0)
+
+      -- the same end again
+      again : (x : Side) (n : ℕ) → sameSide x x ≡ true → getD new (placeOf (e .channel) x) 0 ≡ suc (e .node) → Meeting n x x
       again x n z h =
           let far = farSame n (getD new (placeOf (e .channel) (other x)) 0) in
           (λ i. cond (implies (eq-eqb (e .channel) (e .channel) refl i) (not (z i) && sameType (plainIn s w n) (plainIn s w (e .node)))) (fits ws (e .channel) x n) false)
@@ -149,11 +156,8 @@ module _ (s w : List ℕ) where
       swap false false = refl
 
       -- the far end
-      facing : (x y : Side) (n : ℕ) → sameSide x y ≡ false → other x ≡ y → (placeOf (e .channel) x ≡ placeOf (e .channel) y → ⊥)
-          → getD ws (placeOf (e .channel) y) 0 ≡ 0 → getD new (placeOf (e .channel) y) 0 ≡ suc (e .node)
-          → ((k : ℕ) → (k ≡ placeOf (e .channel) y → ⊥) → getD new k 0 ≡ getD ws k 0)
-          → cond (beside (end x (e .channel) (plainIn s w n)) (end y (e .channel) (plainIn s w (e .node)))) (fits ws (e .channel) x n) false ≡ fits new (e .channel) x n
-      facing x y n z o d f h a =
+      facing : (x y : Side) (n : ℕ) → sameSide x y ≡ false → other x ≡ y → (placeOf (e .channel) x ≡ placeOf (e .channel) y → ⊥) → Put y → Meeting n x y
+      facing x y n z o d (f, h, a) =
           let one = sameType (plainIn s w n) (plainIn s w (e .node)) in
           let there = eqb (getD ws (placeOf (e .channel) x) 0) 0 in
           (λ i. cond (implies (eq-eqb (e .channel) (e .channel) refl i) (not (z i) && one)) (cond there (farSame n (getD ws (placeOf (e .channel) (o i)) 0)) false) false)
@@ -161,19 +165,17 @@ module _ (s w : List ℕ) where
           ∙ (λ i. cond (eqb (sym (a (placeOf (e .channel) x) d) i) 0) (farSame n (sym h i)) false)
           ∙ (λ i. cond (eqb (getD new (placeOf (e .channel) x) 0) 0) (farSame n (getD new (placeOf (e .channel) (sym o i)) 0)) false)
 
-      together : (n : ℕ) (x y : Side) → getD ws (placeOf (e .channel) y) 0 ≡ 0 → getD new (placeOf (e .channel) y) 0 ≡ suc (e .node)
-          → ((k : ℕ) → (k ≡ placeOf (e .channel) y → ⊥) → getD new k 0 ≡ getD ws k 0)
-          → cond (beside (end x (e .channel) (plainIn s w n)) (end y (e .channel) (plainIn s w (e .node)))) (fits ws (e .channel) x n) false ≡ fits new (e .channel) x n
-      together n provided provided f h a = again provided n refl h
-      together n provided used f h a = facing provided used n refl refl (λ q. omega (arith, q)) f h a
-      together n used provided f h a = facing used provided n refl refl (λ q. omega (arith, q)) f h a
-      together n used used f h a = again used n refl h
+      together : (n : ℕ) (x y : Side) → Put y → Meeting n x y
+      together n provided provided p = again provided n refl (p .1)
+      together n provided used p = facing provided used n refl refl (λ q. omega (arith, q)) p
+      together n used provided p = facing used provided n refl refl (λ q. omega (arith, q)) p
+      together n used used p = again used n refl (p .1)
 
       turn : (d : RawEnd) → Turn (d .channel) (d .side) (d .node)
       turn d = go (decides-cases eqb-decides (d .channel) (e .channel))
         where
           go : (So (eqb (d .channel) (e .channel)) × (d .channel ≡ e .channel)) ⊎ ((eqb (d .channel) (e .channel) ≡ false) × (d .channel ≢ e .channel)) → Turn (d .channel) (d .side) (d .node)
-          go (inl h) = subst (λ k. Turn k (d .side) (d .node)) (sym (h .1)) (together (d .node) (d .side) (e .side) free here away)
+          go (inl h) = subst (λ k. Turn k (d .side) (d .node)) (sym (h .1)) (together (d .node) (d .side) (e .side) (free, here, away))
           go (inr h) = apart (d .channel) (d .side) (d .node) (h .1)
 
       pub added : fits ws (e .channel) (e .side) (e .node) ≡ true → Entered ws new (e ∷ []) true

@@ -8,10 +8,9 @@ use Rattle.notation.specs.Limits.{processTermLimit, textLimit}
 use Rattle.notation.specs.Tree.{empty}
 use Rattle.tables.specs.Decode.{tallyIn}
 use Rattle.tables.specs.Everywhere.{Everywhere}
-use Rattle.tables.specs.Roots.{TypeIn, ProcessIn}
+use Rattle.tables.specs.Roots.{ProcessIn}
 use Rattle.tables.specs.Stands.{ProcessAt, ProcessFrom}
 use Rattle.runs.specs.Lists.{All}
-use Rattle.runs.specs.ListLaws.{all-weaken}
 use Rattle.runs.specs.Raw.{RawEnd, RawProcess, RawOutside, RawConfig, BoundedEnd, BoundedProcess}
 use Rattle.runs.specs.Values.{heldIn, processIn}
 use Rattle.runs.specs.declared.records.Process.{Process}

@@ -1,9 +1,9 @@
 -- Typing of processes: the names that one holds are distinct, and the check finds nothing at fault.
-use Prim.Native.Nat.{ℕ, zero, suc, _+_, _≤_, _<_}
-use mathlib.Core.Path.{_≡_, refl, sym, _∙_, ap, subst}
-use mathlib.Core.List.{List, [], _∷_, map}
+use Prim.Native.Nat.{ℕ, zero, suc, _≤_}
+use mathlib.Core.Path.{_≡_, refl, sym, _∙_, ap}
+use mathlib.Core.List.{List, [], _∷_}
 use mathlib.Core.Bool.{Bool, true, false, cond, not, _&&_}
-use mathlib.Core.Option.{Option, some, none}
+use mathlib.Core.Option.{Option, some}
 use native.Mathlib.Omega.{arith}
 use borrow.Author.Tests.{ne-eqb}
 use lib.Dec.{eqb}
@@ -13,7 +13,7 @@ use Rattle.notation.specs.Token.{nameAt}
 use Rattle.notation.specs.Tree.{Name, Proc}
 use Rattle.calculus.specs.Named.{lookup, names, distinct, isSome, any}
 use Rattle.calculus.specs.Program.{Program}
-use Rattle.calculus.specs.Configuration.{End, Doing, running, folding, waiting, Process}
+use Rattle.calculus.specs.Configuration.{End, Process}
 use Rattle.calculus.specs.Checking.{check}
 use Rattle.calculus.specs.WellFormed.{contextOf}
 use Rattle.decision.specs.Decide.{isFine, typed?, typedAs?}

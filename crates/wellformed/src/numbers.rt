@@ -1,5 +1,4 @@
 // Whether the numbers of a run are of this text: its types are nodes of the tables, its processes terms of the tables or empty.
-ghost use mathlib.Core.Path.{_≡_};
 ghost use Prim.Native.Nat.{_≤_, _<_};
 ghost use lib.ListN.{length};
 ghost use Rattle.notation.specs.Limits.{runWords};

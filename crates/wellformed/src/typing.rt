@@ -1,10 +1,9 @@
 // Whether each process is typed: its names are distinct, and the check finds nothing at fault.
 ghost use mathlib.Core.Path.{_≡_};
 ghost use Prim.Native.Nat.{ℕ, _≤_, _<_};
-ghost use mathlib.Core.Bool.{Bool};
 ghost use lib.ListN.{length};
 ghost use Rattle.notation.specs.Limits.{runWords};
-ghost use Rattle.calculus.specs.Named.{all, names, distinct, isSome};
+ghost use Rattle.calculus.specs.Named.{all, isSome};
 ghost use Rattle.decision.specs.Decide.{isFine, typed?};
 ghost use Rattle.tables.specs.Decode.{processIn};
 ghost use Rattle.tables.specs.Everywhere.{Everywhere};
@@ -12,7 +11,6 @@ ghost use Rattle.tables.specs.Program.{programIn};
 ghost use Rattle.tables.specs.Roots.{ProcessIn};
 ghost use Rattle.tables.specs.Whole.{Tables};
 ghost use Rattle.runs.specs.Raw.{rawIn, linkOf, BoundedProcess, Bounded};
-ghost use Rattle.runs.specs.Values.{heldIn};
 ghost use Rattle.runs.specs.Values as runs;
 ghost use Rattle.contexts.specs.Held.{HeldIn};
 ghost use Rattle.declared.specs.Verdicts.{verdictOf};

@@ -4,7 +4,6 @@ use mathlib.Core.Path.{ap}
 use Prim.Native.Nat.{_-_, _≤_}
 use denote.Ref.{now}
 use Rattle.wellformed.specs.Entering.{far-none, far-kept}
-use Rattle.tables.specs.Roots.{TypeIn}
 use Rattle.wellformed.proofs.fitting.far_same.Statement.{statement}
 use Rattle.wellformed.proofs.fitting.far_same.Tie as tie
 

@@ -2,7 +2,7 @@ use borrow.Author.Needs.{needs}
 use mathlib.Core.Path.{sym, subst}
 use denote.Ref.{now}
 use Rattle.runs.proofs.Decisions.{accepted, decided-by}
-use Rattle.wellformed.specs.OfText.{TermOf, Pointer}
+use Rattle.wellformed.specs.OfText.{Pointer}
 use Rattle.wellformed.proofs.numbers.term_stands.Statement.{statement}
 use Rattle.wellformed.proofs.numbers.term_stands.Tie as tie
 

@@ -5,7 +5,6 @@ use mathlib.Core.Path.{sym, _∙_}
 use Prim.Native.Nat.{_-_}
 use denote.Ref.{now}
 use Rattle.wellformed.specs.Typing.{typedIn}
-use mathlib.Core.Bool.{Bool}
 use Rattle.runs.specs.Raw.{rawIn}
 use Rattle.runs.specs.ListLaws.{all-at}
 use Rattle.wellformed.specs.OfText.{ProcessOf}
