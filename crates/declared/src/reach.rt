@@ -46,7 +46,7 @@ fn is_marked(text: &[u8], scratch: &[u32], marks: [bool; 64], at: usize) -> bool
 }
 
 // The type i has @, -o or &, or a marked name.
-pub(crate) fn has_other(text: &[u8], scratch: &[u32], marks: [bool; 64], i: usize) -> bool
+pub fn has_other(text: &[u8], scratch: &[u32], marks: [bool; 64], i: usize) -> bool
     requires { ⌜ Tables (now text) (now scratch) × TypeIn (now text) (now scratch) i ⌝ }
     ensures { λ r. ⌜ r ≡ hasOther (marked (now (text .entry)) (now (scratch .entry)) marks) (plainIn (now (text .entry)) (now (scratch .entry)) i) ⌝ }
 {
@@ -96,7 +96,7 @@ fn next_marks(text: &[u8], scratch: &[u32], marks: [bool; 64]) -> [bool; 64]
 }
 
 // The marks after as many rounds as there are types.
-pub(crate) fn reach(text: &[u8], scratch: &[u32]) -> [bool; 64]
+pub fn reach(text: &[u8], scratch: &[u32]) -> [bool; 64]
     requires { ⌜ Tables (now text) (now scratch) ⌝ }
     ensures { λ r. ⌜ Reaches (now (text .entry)) (now (scratch .entry)) r ⌝ }
 {

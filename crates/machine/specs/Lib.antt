@@ -12,3 +12,4 @@ pub mod Room
 pub mod Sending
 pub mod Forwarding
 pub mod Making
+pub mod Choosing

@@ -1,6 +1,7 @@
 // Machine: the step at a place, on the run slice.
 pub mod answering;
 pub mod calling;
+pub mod choosing;
 pub mod dispatch;
 pub mod forwarding;
 pub mod handlers;

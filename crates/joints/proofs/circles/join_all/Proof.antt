@@ -5,7 +5,7 @@ use borrow.Author.Tests.{not-true, not-false}
 use mathlib.Core.Path.{_≡_, ap}
 use lib.ListN.{length, drop}
 use Rattle.runs.specs.Raw.{rawIn}
-use Rattle.runs.proofs.Shifts.{link-word}
+use Rattle.runs.specs.Bounds.{link-word}
 use Rattle.joints.specs.Tests.{nothing-left}
 use Rattle.joints.specs.Circles.{jointsFrom}
 use Rattle.joints.proofs.Joining.{Left, left-start, left-next, left-stop, left-end, process-turn}

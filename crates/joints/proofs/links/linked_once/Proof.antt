@@ -5,7 +5,7 @@ use borrow.Author.Tests.{not-true, not-false}
 use mathlib.Core.Path.{_∙_}
 use lib.ListN.{length}
 use Rattle.runs.specs.Raw.{rawIn}
-use Rattle.runs.proofs.Shifts.{link-word}
+use Rattle.runs.specs.Bounds.{link-word}
 use Rattle.joints.specs.Tests.{Pairs, pairs-start, pairs-passed, pairs-failed, pairs-end}
 use Rattle.joints.specs.Links.{apart, answers-once}
 use Rattle.joints.proofs.links.linked_once.Statement.{statement}

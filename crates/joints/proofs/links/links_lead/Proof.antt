@@ -4,7 +4,7 @@ use Prim.Native.Nat.{_-_}
 use borrow.Author.Tests.{not-true, not-false}
 use mathlib.Core.Path.{_∙_}
 use Rattle.runs.specs.Raw.{rawIn}
-use Rattle.runs.proofs.Shifts.{link-word}
+use Rattle.runs.specs.Bounds.{link-word}
 use Rattle.joints.specs.Tests.{Each, each-start, each-passed, each-failed, each-end}
 use Rattle.joints.specs.Links.{leading, answers-lead}
 use Rattle.joints.proofs.links.links_lead.Statement.{statement}

@@ -1,0 +1,6 @@
+pub mod OfText
+pub mod Typing
+pub mod Outward
+pub mod Kept
+pub mod Entering
+pub mod Formed
