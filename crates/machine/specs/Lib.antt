@@ -13,3 +13,5 @@ pub mod Sending
 pub mod Forwarding
 pub mod Making
 pub mod Choosing
+pub mod Running
+pub mod Within

@@ -11,4 +11,5 @@ pub mod messages;
 pub mod outcome;
 pub mod parting;
 pub mod receiving;
+pub mod running;
 pub mod sending;

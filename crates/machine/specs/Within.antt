@@ -1,0 +1,16 @@
+-- How the steps of a budget end.
+use Prim.Native.Nat.{ℕ}
+use mathlib.Core.List.{List}
+use Rattle.calculus.specs.Runs.{runOn}
+use Rattle.tables.specs.Program.{programIn}
+use Rattle.machine.specs.declared.running.Within.{Within}
+use Rattle.machine.specs.declared.running.Within.the-variants.{Ended, Spent}
+use Rattle.machine.specs.Run.{configIn}
+use Rattle.machine.specs.Running.{RunsOn, Running}
+
+abbrev pub RunsBy : List ℕ → List ℕ → List ℕ → List ℕ → ℕ → Within → Type 0
+RunsBy s w old new budget (Ended a) = RunsOn s w old new a (runOn (programIn s w) (configIn s w old) budget)
+RunsBy s w old new budget Spent = Running s w old new budget budget
+
+pub record RunsWithin (s w old new : List ℕ) (budget : ℕ) (r : Within) : Type 0 where
+  pub is : RunsBy s w old new budget r
