@@ -53,7 +53,7 @@ pub becomes-on : {s w old mid new : List ℕ} {C D : Config} → Becomes s w old
 becomes-on a b = record { is = b .is; run = b .run; past = b .past ∙ a .past; long = b .long ∙ a .long }
 
 module _ (p : Program) (C : Config) (b taken : ℕ) where
-  -- a chosen place's step is carried out, so the other two cannot be
+  -- what run-on comes to after a step with this outcome
   abbrev next : Outcome → Ran
   next o = afterStep o (λ s D. runFrom p b (suc taken) s D) (ran (Full taken) C)
 
