@@ -15,3 +15,4 @@ pub mod Making
 pub mod Choosing
 pub mod Running
 pub mod Within
+pub mod Starting
