@@ -6,3 +6,5 @@ pub mod Stepping
 pub mod RunningOn
 pub mod Starting
 pub mod Calls
+pub mod Unread
+pub mod Demand

@@ -16,7 +16,7 @@ use Rattle.tables.specs.Roots.{TypeIn}
 use Rattle.tables.specs.Whole.{Tables}
 use Rattle.tables.specs.Everywhere.{Everywhere}
 use Rattle.runs.specs.Lists.{All}
-use Rattle.runs.specs.Raw.{RawEnd, RawProcess, RawOutside, RawConfig, rawIn, BoundedProcess}
+use Rattle.runs.specs.Raw.{RawEnd, RawProcess, RawOutside, rawIn, BoundedProcess}
 use Rattle.machine.specs.Run.{configIn, Fits, RunOf, Becomes}
 use Rattle.wellformed.specs.OfText.{EndOf, ProcessOf, OutsideOf, OfText, pointer-in, ends-in, pointer-of}
 use Rattle.wellformed.specs.Formed.{Formed}
