@@ -62,18 +62,18 @@ fn use_channels(scratch: &[u32], run: &mut [u32], first: usize, n: usize)
     ensures { λ r. ⌜ Changed (now (run .entry)) (now (run .exit)) (onOutside (λ l. l ++ tab (startChannel (now (scratch .entry)) first) n) (rawIn (now (run .entry)))) ⌝ }
     ensures { λ r. ⌜ Bounded (rawIn (now (run .exit))) ⌝ }
 {
-    let mut k: usize = 0;
-    while k < n {
-        let e = entry(scratch, first + k);
+    let mut number: usize = 0;
+    while number < n {
+        let e = entry(scratch, first + number);
         append_outside(
             run,
             Outside {
-                number: k as u32,
+                number: number as u32,
                 node: e.number as u32,
-                channel: k as u32,
+                channel: number as u32,
             },
         );
-        k += 1;
+        number += 1;
     }
 }
 
