@@ -1,0 +1,11 @@
+use Rattle.interpreter.proofs.reports.no_report.Statement.{statement}
+use Rattle.interpreter.proofs.reports.no_report.Tie as tie
+use Rattle.interpreter.proofs.reports.no_report.Reads as reads
+use Rattle.interpreter.proofs.reports.no_report.Lts as lts
+
+-- src/reports.rt:33:1
+returns : tie.Need-returns
+returns c = ?
+
+pub no-report-spec : {M : Type 1} → statement M
+no-report-spec = tie.close (tie.spec returns)
