@@ -1,3 +1,9 @@
+use mathlib.Core.Path.{_≡_}
+use Prim.Native.Nat.{_≤_}
+use native.Mathlib.Omega.{arith}
+use lib.ListN.{length}
+use Rattle.interpreter.specs.Texts.{scratch-enough, text-accepted}
+use Rattle.interpreter.specs.Inside.{names-accepted, names-refused}
 use borrow.Author.Needs.{needs}
 use Rattle.interpreter.proofs.entries.exec_name.Statement.{statement}
 use Rattle.interpreter.proofs.entries.exec_name.Tie as tie
@@ -28,11 +34,11 @@ part-name-in-start c = search needs
 
 -- src/entries.rt:72:30
 part-name-in-end : tie.Need-part-name-in-end
-part-name-in-end c = ?
+part-name-in-end c = let l : length (c .before .before .before .before .before .check .last .1 .0) ≡ length (c .before .before .before .before .before .before .before .before .before .args .scratch .now) = search needs in let h : 8192 ≤ length (c .before .before .before .before .before .check .last .1 .0) = omega (arith, l, scratch-enough (c .before .before .before .before .before .before .before .before .before .args .text .now) (c .before .before .before .before .before .before .before .before .before .args .scratch .now) (c .before .before .before .before .before .check .last .1 .0) _ (c .before .before .before .before .before .check .ensures) (c .before .enum-told .given .1)) in search needs
 
 -- src/entries.rt:72:9
 name-in-requires : tie.Need-name-in-requires
-name-in-requires c κs = ?
+name-in-requires c κs = let l : length (c .before .before .before .before .before .before .before .before .check .last .1 .0) ≡ length (c .before .before .before .before .before .before .before .before .before .before .before .before .args .scratch .now) = search needs in text-accepted (c .before .before .before .before .before .before .before .before .before .before .before .before .args .text .now) (c .before .before .before .before .before .before .before .before .before .before .before .before .args .scratch .now) (c .before .before .before .before .before .before .before .before .check .last .1 .0) _ (c .before .before .before .before .before .before .before .before .check .ensures) (c .before .before .before .before .enum-told .given .1) l
 
 -- src/entries.rt:72:9
 same-length : tie.Need-same-length
@@ -40,7 +46,7 @@ same-length c = search needs
 
 -- src/entries.rt:72:9
 returns : tie.Need-returns
-returns c = ?
+returns c = names-accepted (c .before .before .before .before .before .before .before .before .before .before .before .before .before .args .text .now) (c .before .before .before .before .before .before .before .before .before .before .before .before .before .args .scratch .now) (c .before .before .before .before .before .before .before .before .before .check .last .1 .0) _ (c .before .before .before .before .before .before .before .before .before .check .ensures) (c .before .before .before .before .before .enum-told .given .1) (c .name-in .ensures)
 
 -- src/entries.rt:76:5
 sub-result : tie.Need-sub-result
@@ -60,7 +66,7 @@ same-length-2 c = search needs
 
 -- src/entries.rt:61:1
 returns-2 : tie.Need-returns-2
-returns-2 c = ?
+returns-2 c = names-refused (c .before .before .before .before .before .before .before .before .before .before .args .text .now) (c .before .before .before .before .before .before .before .before .before .before .args .scratch .now) (c .before .before .before .before .before .before .check .last .1 .0) _ (c .before .before .before .before .before .before .check .ensures) (c .before .before .before .before .before .before .before .before .before .before .args .line) (c .before .before .v .given .0 .0) (c .before .before .v .given .0 .1 .0) (c .before .before .v .given .1)
 
 pub exec-name-spec : {M : Type 1} → statement M
 exec-name-spec =

@@ -1,3 +1,9 @@
+use mathlib.Core.Path.{_≡_}
+use Prim.Native.Nat.{_≤_}
+use native.Mathlib.Omega.{arith}
+use lib.ListN.{length}
+use Rattle.interpreter.specs.Texts.{scratch-enough, text-accepted}
+use Rattle.interpreter.specs.Inside.{starts-accepted, starts-refused}
 use borrow.Author.Needs.{needs}
 use Rattle.interpreter.proofs.entries.start.Statement.{statement}
 use Rattle.interpreter.proofs.entries.start.Tie as tie
@@ -28,11 +34,11 @@ part-start-in-start c = search needs
 
 -- src/entries.rt:22:31
 part-start-in-end : tie.Need-part-start-in-end
-part-start-in-end c = ?
+part-start-in-end c = let l : length (c .before .before .before .before .before .check .last .1 .0) ≡ length (c .before .before .before .before .before .before .before .before .before .before .args .scratch .now) = search needs in let h : 8192 ≤ length (c .before .before .before .before .before .check .last .1 .0) = omega (arith, l, scratch-enough (c .before .before .before .before .before .before .before .before .before .before .args .text .now) (c .before .before .before .before .before .before .before .before .before .before .args .scratch .now) (c .before .before .before .before .before .check .last .1 .0) _ (c .before .before .before .before .before .check .ensures) (c .before .enum-told .given .1)) in search needs
 
 -- src/entries.rt:22:9
 start-in-requires : tie.Need-start-in-requires
-start-in-requires c κs = ?
+start-in-requires c κs = let l : length (c .before .before .before .before .before .before .before .check .last .1 .0) ≡ length (c .before .before .before .before .before .before .before .before .before .before .before .before .args .scratch .now) = search needs in text-accepted (c .before .before .before .before .before .before .before .before .before .before .before .before .args .text .now) (c .before .before .before .before .before .before .before .before .before .before .before .before .args .scratch .now) (c .before .before .before .before .before .before .before .check .last .1 .0) _ (c .before .before .before .before .before .before .before .check .ensures) (c .before .before .before .enum-told .given .1) l
 
 -- src/entries.rt:22:9
 same-length : tie.Need-same-length
@@ -44,7 +50,7 @@ same-length-2 c = search needs
 
 -- src/entries.rt:22:9
 returns : tie.Need-returns
-returns c = ?
+returns c = starts-accepted (c .before .before .before .before .before .before .before .before .before .before .before .before .before .before .before .args .text .now) (c .before .before .before .before .before .before .before .before .before .before .before .before .before .before .before .args .scratch .now) (c .before .before .before .before .before .before .before .before .before .before .check .last .1 .0) _ (c .before .before .before .before .before .before .before .before .before .before .check .ensures) (c .before .before .before .before .before .before .enum-told .given .1) (c .before .before .start-in .ensures)
 
 -- src/entries.rt:17:1
 same-length-3 : tie.Need-same-length-3
@@ -52,7 +58,7 @@ same-length-3 c = search needs
 
 -- src/entries.rt:17:1
 returns-2 : tie.Need-returns-2
-returns-2 c = ?
+returns-2 c = starts-refused (c .before .before .before .before .before .before .before .before .before .before .args .text .now) (c .before .before .before .before .before .before .before .before .before .before .args .scratch .now) (c .before .before .before .before .before .check .last .1 .0) _ (c .before .before .before .before .before .check .ensures) (c .before .before .before .before .before .before .before .before .before .before .args .run .now) (c .before .before .before .before .before .before .before .before .before .before .args .line) (c .before .v .given .0 .0) (c .before .v .given .0 .1 .0) (c .before .v .given .1)
 
 pub start-spec : {M : Type 1} → statement M
 start-spec =

@@ -1,3 +1,11 @@
+use mathlib.Core.Path.{_≡_}
+use Prim.Native.Nat.{_≤_}
+use native.Mathlib.Omega.{arith}
+use lib.ListN.{length}
+use Rattle.interpreter.specs.Texts.{scratch-enough, text-accepted}
+use Rattle.interpreter.specs.Inside.{answers-accepted, answers-refused}
+use Rattle.calculus.specs.Machine.{callStep}
+use Rattle.interpreter.specs.Stepping.{step-refusing}
 use borrow.Author.Needs.{needs}
 use Rattle.interpreter.proofs.entries.step.Statement.{statement}
 use Rattle.interpreter.proofs.entries.step.Tie as tie
@@ -28,11 +36,11 @@ part-step-in-start c = search needs
 
 -- src/entries.rt:33:30
 part-step-in-end : tie.Need-part-step-in-end
-part-step-in-end c = ?
+part-step-in-end c = let l : length (c .before .before .before .before .before .check .last .1 .0) ≡ length (c .before .before .before .before .before .before .before .before .before .before .args .scratch .now) = search needs in let h : 8192 ≤ length (c .before .before .before .before .before .check .last .1 .0) = omega (arith, l, scratch-enough (c .before .before .before .before .before .before .before .before .before .before .args .text .now) (c .before .before .before .before .before .before .before .before .before .before .args .scratch .now) (c .before .before .before .before .before .check .last .1 .0) _ (c .before .before .before .before .before .check .ensures) (c .before .enum-told .given .1)) in search needs
 
 -- src/entries.rt:33:9
 step-in-requires : tie.Need-step-in-requires
-step-in-requires c κs = ?
+step-in-requires c κs = let l : length (c .before .before .before .before .before .before .before .check .last .1 .0) ≡ length (c .before .before .before .before .before .before .before .before .before .before .before .before .args .scratch .now) = search needs in text-accepted (c .before .before .before .before .before .before .before .before .before .before .before .before .args .text .now) (c .before .before .before .before .before .before .before .before .before .before .before .before .args .scratch .now) (c .before .before .before .before .before .before .before .check .last .1 .0) _ (c .before .before .before .before .before .before .before .check .ensures) (c .before .before .before .enum-told .given .1) l
 
 -- src/entries.rt:33:9
 same-length : tie.Need-same-length
@@ -44,7 +52,7 @@ same-length-2 c = search needs
 
 -- src/entries.rt:33:9
 returns : tie.Need-returns
-returns c = ?
+returns c = answers-accepted (c .before .before .before .before .before .before .before .before .before .before .before .before .before .before .before .args .text .now) (c .before .before .before .before .before .before .before .before .before .before .before .before .before .before .before .args .scratch .now) (c .before .before .before .before .before .before .before .before .before .before .check .last .1 .0) _ (c .before .before .before .before .before .before .before .before .before .before .check .ensures) (c .before .before .before .before .before .before .before .before .before .before .before .before .before .before .before .args .run .now) (λ n. callStep n (length (c .before .before .before .before .before .before .before .before .before .before .before .before .before .before .before .args .run .now)) (c .before .before .before .before .before .before .before .before .before .before .before .before .before .before .before .args .place)) (c .before .before .before .before .before .before .enum-told .given .1) (c .before .before .step-in .ensures)
 
 -- src/entries.rt:28:1
 same-length-3 : tie.Need-same-length-3
@@ -52,7 +60,7 @@ same-length-3 c = search needs
 
 -- src/entries.rt:28:1
 returns-2 : tie.Need-returns-2
-returns-2 c = ?
+returns-2 c = answers-refused (c .before .before .before .before .before .before .before .before .before .before .args .text .now) (c .before .before .before .before .before .before .before .before .before .before .args .scratch .now) (c .before .before .before .before .before .check .last .1 .0) _ (c .before .before .before .before .before .check .ensures) (c .before .before .before .before .before .before .before .before .before .before .args .run .now) (λ n. callStep n (length (c .before .before .before .before .before .before .before .before .before .before .args .run .now)) (c .before .before .before .before .before .before .before .before .before .before .args .place)) _ (step-refusing (length (c .before .before .before .before .before .before .before .before .before .before .args .run .now)) (c .before .before .before .before .before .before .before .before .before .before .args .place)) (c .before .v .given .0 .0) (c .before .v .given .0 .1 .0) (c .before .v .given .1)
 
 pub step-spec : {M : Type 1} → statement M
 step-spec =

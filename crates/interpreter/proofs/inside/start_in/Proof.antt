@@ -1,3 +1,4 @@
+use Rattle.interpreter.specs.Told.{tables-in, small-in, start-short, start-told}
 use borrow.Author.Needs.{needs}
 use Rattle.interpreter.proofs.inside.start_in.Statement.{statement}
 use Rattle.interpreter.proofs.inside.start_in.Tie as tie
@@ -7,11 +8,11 @@ use Rattle.machine.proofs.starting.begin_line.Reads as begin-line-reads
 
 -- src/inside.rt:28:9
 returns : tie.Need-returns
-returns c = ?
+returns c = start-short (c .before .before .before .before .pre) (c .if1 .taken)
 
 -- src/inside.rt:30:8
 begin-line-requires : tie.Need-begin-line-requires
-begin-line-requires c κs = ?
+begin-line-requires c κs = (tables-in (c .before .before .before .before .before .pre), (c .before .if1 .left, small-in (c .before .before .before .before .before .pre)))
 
 -- src/inside.rt:31:9
 same-length : tie.Need-same-length
@@ -19,7 +20,7 @@ same-length c = search needs
 
 -- src/inside.rt:31:9
 returns-2 : tie.Need-returns-2
-returns-2 c = ?
+returns-2 c = start-told (c .before .before .before .before .before .before .before .before .before .pre) (c .before .before .before .before .before .if1 .left) (c .before .before .before .begin-line .ensures) (c .if2 .taken)
 
 -- src/inside.rt:23:1
 same-length-2 : tie.Need-same-length-2
@@ -27,7 +28,7 @@ same-length-2 c = search needs
 
 -- src/inside.rt:23:1
 returns-3 : tie.Need-returns-3
-returns-3 c = ?
+returns-3 c = start-told (c .before .before .before .before .before .before .before .before .before .pre) (c .before .before .before .before .before .if1 .left) (c .before .before .before .begin-line .ensures) (c .if2 .left)
 
 pub start-in-spec : {M : Type 1} → statement M
 start-in-spec =
