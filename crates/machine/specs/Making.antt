@@ -35,7 +35,6 @@ use Rattle.runs.specs.declared.records.Held.{Held}
 use Rattle.runs.specs.declared.records.Process.{Process as ProcessWords}
 use Rattle.contexts.specs.Held.{endIs, channelsOf, HeldIn, Brings}
 use Rattle.contexts.specs.Halves.{takes, wanted, Keeps, try-takes}
-use Rattle.contexts.specs.declared.halves.Half.{Half}
 use Rattle.contexts.specs.declared.halves.Half.the-variants.{OfSpawn, OfTry}
 use Rattle.machine.specs.declared.outcome.Outcome.{Outcome as OutcomeWords}
 use Rattle.machine.specs.declared.outcome.Outcome.the-variants.{Carried, Lacking}
