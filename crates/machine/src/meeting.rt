@@ -7,9 +7,11 @@ ghost use Rattle.tables.specs.Roots.{ProcessIn};
 ghost use Rattle.runs.specs.declared.records.Far.the-variants as far;
 ghost use Rattle.machine.specs.Run.{configIn, RunOf, StandsAt, Carries};
 ghost use Rattle.machine.specs.Forwarding.{farRaw};
-ghost use Rattle.machine.specs.Messages.{SendNode, partsBy};
+ghost use Rattle.machine.specs.Messages.{SendNode};
 ghost use Rattle.machine.specs.Sending.{SendingIn};
+ghost use Rattle.machine.specs.Receiving.{ReceiverIn};
 ghost use Rattle.machine.specs.Meeting.{sendingBy, heardBy, sendBy};
+use crate::messages::Receiver;
 use crate::messages::Sending;
 use crate::messages::after_message;
 use crate::messages::after_send;
@@ -31,61 +33,23 @@ use runs::processes::load;
 use runs::records::Far;
 use runs::records::Process;
 
-// The process r at place j, which knows the channel by the name at `x`, takes the message with its term t.
-fn hear(
-    text: &[u8],
-    scratch: &[u32],
-    run: &mut [u32],
-    sent: Sending,
-    j: usize,
-    r: Process,
-    x: usize,
-    t: TermNode,
-) -> Outcome
+// The receiver takes the message.
+fn hear(text: &[u8], scratch: &[u32], run: &mut [u32], sent: Sending, to: Receiver) -> Outcome
     requires { ⌜ RunOf (now text) (now scratch) (now run) ⌝ }
     requires { ⌜ SendingIn (now text) (now scratch) (now run) sent ⌝ }
-    requires { ⌜ StandsAt (now text) (now scratch) (now run) j r ⌝ }
-    requires { ⌜ (t .kind ≡ sent .term .kind + 5) × partsBy (now text) (now scratch) t (t .kind) ⌝ }
-    requires { ⌜ (t .kind ≡ 7 → r .held .count < 16) ⌝ }
-    ensures { λ o. ⌜ Carries (now (text .entry)) (now (scratch .entry)) (now (run .entry)) (now (run .exit)) o (heardBy (now (text .entry)) (now (scratch .entry)) (now (run .entry)) sent j r x t) ⌝ }
+    requires { ⌜ ReceiverIn (now text) (now scratch) (now run) to ⌝ }
+    requires { ⌜ to .term .kind ≡ sent .term .kind + 5 ⌝ }
+    requires { ⌜ (to .term .kind ≡ 7 → to .process .held .count < 16) ⌝ }
+    ensures { λ o. ⌜ Carries (now (text .entry)) (now (scratch .entry)) (now (run .entry)) (now (run .exit)) o (heardBy (now (text .entry)) (now (scratch .entry)) (now (run .entry)) sent to) ⌝ }
 {
     let n = sent.term;
-    let q = sent.after;
     if n.kind == 1 {
-        return hear_close(text, scratch, run, sent.place, q, j, r, x, t.third as u32);
+        return hear_close(text, scratch, run, sent, to);
     }
     if n.kind == 3 {
-        return hear_label(
-            text,
-            scratch,
-            run,
-            sent.place,
-            q,
-            j,
-            r,
-            x,
-            sent.node,
-            n.second,
-            t,
-        );
+        return hear_label(text, scratch, run, sent, to);
     }
-    let p = sent.before;
-    let h = p.held;
-    let f = find_end(text, h, n.second);
-    hear_channel(
-        text,
-        scratch,
-        run,
-        sent.place,
-        q,
-        j,
-        r,
-        x,
-        sent.node,
-        f,
-        t.second as u32,
-        t.third as u32,
-    )
+    hear_channel(text, scratch, run, sent, to)
 }
 
 // The far end is at position k of what the process at place j holds.
@@ -105,7 +69,13 @@ fn meet(text: &[u8], scratch: &[u32], run: &mut [u32], sent: Sending, j: usize, 
     if t.kind != n.kind + 5 {
         return Outcome::NotOpen;
     }
-    hear(text, scratch, run, sent, j, r, x, t)
+    let to = Receiver {
+        place: j,
+        process: r,
+        name: x,
+        term: t,
+    };
+    hear(text, scratch, run, sent, to)
 }
 
 // The far end is the outside's, at position k of its channels.

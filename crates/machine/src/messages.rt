@@ -39,6 +39,14 @@ pub struct Sending {
     pub node: u32,
 }
 
+// A process that receives: its place, where its name for the channel stands, and its term.
+pub struct Receiver {
+    pub place: usize,
+    pub process: Process,
+    pub name: usize,
+    pub term: TermNode,
+}
+
 // The type of a channel of the type i, once a channel was passed over it.
 fn after_passing(text: &[u8], scratch: &[u32], i: usize) -> usize
     requires { ⌜ Tables (now text) (now scratch) ⌝ }

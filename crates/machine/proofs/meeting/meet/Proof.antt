@@ -34,13 +34,13 @@ same-length c = search needs
 returns : tie.Need-returns
 returns c =
     let s = c .before .before .before .before .before .before .before .before .before .before .before .before .before in
-    meets-other (s .args .text .now) (s .args .scratch .now) (s .args .run .now) (s .args .sent) (s .args .j) (c .before .before .before .before .before .before .end-at .result .name) (c .before .before .before .before .before .before .before .before .load .result) (c .before .before .before .before .turn-on .result) (far-holder (s .args .text .now) (s .args .scratch .now) (s .args .run .now) (s .args .sent .over) (s .args .j) (s .args .k) (s .pre .1 .1 .1) (c .before .before .before .before .before .before .before .before .load .result) (c .before .before .before .before .before .before .before .before .load .ensures .0) (c .before .before .before .before .before .before .end-at .result) (c .before .before .before .before .before .before .end-at .ensures .0)) (c .before .before .before .before .turn-on .ensures) (s .pre .1 .0 .node) (c .if1 .taken)
+    meets-other (s .args .text .now) (s .args .scratch .now) (s .args .run .now) (s .args .sent) (record { place = s .args .j; process = c .before .before .before .before .before .before .before .before .load .result; name = c .before .before .before .before .before .before .end-at .result .name; term = c .before .before .before .before .turn-on .result }) (far-holder (s .args .text .now) (s .args .scratch .now) (s .args .run .now) (s .args .sent .over) (s .args .j) (s .args .k) (s .pre .1 .1 .1) (c .before .before .before .before .before .before .before .before .load .result) (c .before .before .before .before .before .before .before .before .load .ensures .0) (c .before .before .before .before .before .before .end-at .result) (c .before .before .before .before .before .before .end-at .ensures .0)) (c .before .before .before .before .turn-on .ensures) (s .pre .1 .0 .node) (c .if1 .taken)
 
 hear-requires : tie.Need-hear-requires
 hear-requires c κs =
     let s = c .before .before .before .before .before .before .before .before .before .before .before .before .before .before in
     let r = stands-at (s .args .text .now) (s .args .scratch .now) (s .args .run .now) (s .args .j) (c .before .before .before .before .before .before .before .before .before .load .result) (s .pre .0) (c .before .before .before .before .before .before .before .before .before .load .ensures .0) (c .before .before .before .before .before .before .before .before .before .load .ensures .1 .0) (c .before .before .before .before .before .before .before .before .before .load .ensures .1 .1) in
-    (s .pre .0, (s .pre .1 .0, (r, ((c .before .if1 .left, c .before .before .before .before .before .turn-on .ensures .parts), room-to-hear (s .args .text .now) (s .args .scratch .now) (s .args .run .now) (s .pre .1 .1 .0) (s .args .j) (c .before .before .before .before .before .before .before .before .before .load .result) _ (c .before .before .before .before .before .turn-on .result) r (c .before .before .before .before .before .turn-on .ensures)))))
+    (s .pre .0, (s .pre .1 .0, (record { stands = r; parts = c .before .before .before .before .before .turn-on .ensures .parts }, (c .before .if1 .left, room-to-hear (s .args .text .now) (s .args .scratch .now) (s .args .run .now) (s .pre .1 .1 .0) (s .args .j) (c .before .before .before .before .before .before .before .before .before .load .result) _ (c .before .before .before .before .before .turn-on .result) r (c .before .before .before .before .before .turn-on .ensures)))))
 
 same-length-2 : tie.Need-same-length-2
 same-length-2 c = search needs
@@ -48,7 +48,7 @@ same-length-2 c = search needs
 returns-2 : tie.Need-returns-2
 returns-2 c =
     let s = c .before .before .before .before .before .before .before .before .before .before .before .before .before .before .before .before .before in
-    meets (s .args .text .now) (s .args .scratch .now) (s .args .run .now) (s .args .sent) (s .args .j) (c .before .before .before .before .before .before .before .before .before .before .end-at .result .name) (c .before .before .before .before .before .before .before .before .before .before .before .before .load .result) (c .before .before .before .before .before .before .before .before .turn-on .result) (far-holder (s .args .text .now) (s .args .scratch .now) (s .args .run .now) (s .args .sent .over) (s .args .j) (s .args .k) (s .pre .1 .1 .1) (c .before .before .before .before .before .before .before .before .before .before .before .before .load .result) (c .before .before .before .before .before .before .before .before .before .before .before .before .load .ensures .0) (c .before .before .before .before .before .before .before .before .before .before .end-at .result) (c .before .before .before .before .before .before .before .before .before .before .end-at .ensures .0)) (c .before .before .before .before .before .before .before .before .turn-on .ensures) (c .before .before .hear .ensures)
+    meets (s .args .text .now) (s .args .scratch .now) (s .args .run .now) (s .args .sent) (record { place = s .args .j; process = c .before .before .before .before .before .before .before .before .before .before .before .before .load .result; name = c .before .before .before .before .before .before .before .before .before .before .end-at .result .name; term = c .before .before .before .before .before .before .before .before .turn-on .result }) (far-holder (s .args .text .now) (s .args .scratch .now) (s .args .run .now) (s .args .sent .over) (s .args .j) (s .args .k) (s .pre .1 .1 .1) (c .before .before .before .before .before .before .before .before .before .before .before .before .load .result) (c .before .before .before .before .before .before .before .before .before .before .before .before .load .ensures .0) (c .before .before .before .before .before .before .before .before .before .before .end-at .result) (c .before .before .before .before .before .before .before .before .before .before .end-at .ensures .0)) (c .before .before .before .before .before .before .before .before .turn-on .ensures) (c .before .before .hear .ensures)
 
 pub meet-spec : {M : Type 1} → statement M
 meet-spec =
