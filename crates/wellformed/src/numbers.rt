@@ -31,7 +31,7 @@ fn pointer_stands(scratch: &[u32], p: usize) -> bool
     if p < Script::PROCESS_TERMS {
         return false;
     }
-    p <= 9216
+    p <= Script::PROCESS_TERMS + Script::TEXT
 }
 
 // A process's pointer, which does not matter where it folds up.
