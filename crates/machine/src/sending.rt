@@ -18,6 +18,7 @@ use calculus::answers::Seen;
 use contexts::held::Lookup;
 use contexts::held::find_end;
 use notation::reading::TermNode;
+use notation::script::Script;
 use runs::far::far_end;
 use runs::outside::append_outside;
 use runs::outside::given;
@@ -164,7 +165,7 @@ pub fn pass_out(
         return Outcome::NotOpen;
     };
     let m = given(run);
-    if 32 <= m {
+    if Script::OUTSIDE_NUMBERS as u32 <= m {
         return Outcome::Lacking;
     }
     let far = far_end(run, d.channel, d.side);
