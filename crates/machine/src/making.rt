@@ -31,6 +31,7 @@ use runs::processes::store;
 use runs::records::End;
 use runs::records::Held;
 use runs::records::Process;
+use runs::words::wide;
 
 // A spawn: where the new name stands, the node of its type, the pointers of its halves.
 pub struct SpawnTerm {
@@ -38,12 +39,6 @@ pub struct SpawnTerm {
     pub node: u32,
     pub first: u32,
     pub second: u32,
-}
-
-fn wide(x: u32) -> usize
-    ensures { λ r. ⌜ r ≡ x ⌝ }
-{
-    x as usize
 }
 
 // What a half of a try takes.
