@@ -18,7 +18,6 @@ use calculus::answers::Seen;
 use contexts::held::Lookup;
 use contexts::held::find_end;
 use notation::reading::TermNode;
-use notation::script::Script;
 use runs::far::far_end;
 use runs::outside::append_outside;
 use runs::outside::given;
@@ -165,7 +164,7 @@ pub fn pass_out(
         return Outcome::NotOpen;
     };
     let m = given(run);
-    if Script::OUTSIDE_NUMBERS as u32 <= m {
+    if 32 <= m {
         return Outcome::Lacking;
     }
     let far = far_end(run, d.channel, d.side);

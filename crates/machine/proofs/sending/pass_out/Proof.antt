@@ -27,10 +27,6 @@ returns c =
 given-requires : tie.Need-given-requires
 given-requires c κs = (c .before .before .before .before .before .before .before .before .before .pre .0 .wide)
 
--- src/sending.rt:174:8
-cast-if1 : tie.Need-cast-if1
-cast-if1 c = search needs
-
 -- src/sending.rt:175:9
 same-length : tie.Need-same-length
 same-length c = search needs
@@ -76,7 +72,6 @@ pass-out-spec =
     enum-told
     returns
     given-requires
-    cast-if1
     same-length
     returns-2
     far-end-requires
