@@ -4,6 +4,7 @@ ghost use Prim.Native.Nat.{_<_};
 ghost use mathlib.Core.Option.{some};
 ghost use lib.ListN.{length};
 ghost use Rattle.calculus.specs.Steps.{trying};
+ghost use Rattle.notation.specs.Limits.{processPlaces, channelPlaces};
 ghost use Rattle.tables.specs.Decode.{processIn};
 ghost use Rattle.tables.specs.Roots.{ProcessIn};
 ghost use Rattle.tables.specs.Whole.{Tables};
@@ -17,6 +18,7 @@ use contexts::halves::Half;
 use contexts::halves::keep;
 use contexts::held::bring_end;
 use notation::reading::Found;
+use notation::script::Script;
 use runs::channels::fresh_channel;
 use runs::places::insert;
 use runs::places::moved_link;
@@ -24,6 +26,7 @@ use runs::processes::count;
 use runs::processes::store;
 use runs::records::Held;
 use runs::records::Process;
+use runs::words::wide;
 
 // A spawn: where the new name stands, the node of its type, the pointers of its halves.
 pub struct SpawnTerm {
@@ -31,12 +34,6 @@ pub struct SpawnTerm {
     pub node: u32,
     pub first: u32,
     pub second: u32,
-}
-
-fn wide(x: u32) -> usize
-    ensures { λ r. ⌜ r ≡ x ⌝ }
-{
-    x as usize
 }
 
 // What a half of a try takes.
@@ -66,7 +63,7 @@ pub fn try_both(
     requires { ⌜ ProcessIn (now text) (now scratch) second ⌝ }
     ensures { λ r. ⌜ Carries (now (text .entry)) (now (scratch .entry)) (now (run .entry)) (now (run .exit)) r (trying (configIn (now (text .entry)) (now (scratch .entry)) (now (run .entry))) place (processAs (now (text .entry)) (now (scratch .entry)) p) (processIn (now (text .entry)) (now (scratch .entry)) first) (processIn (now (text .entry)) (now (scratch .entry)) second)) ⌝ }
 {
-    if 128 <= count(run) {
+    if Script::PROCESS_PLACES <= count(run) {
         return Outcome::Lacking;
     }
     let h = p.held;
@@ -141,7 +138,7 @@ fn spawn_on(
     requires { ⌜ RunOf (now text) (now scratch) (now run) ⌝ }
     requires { ⌜ StandsAt (now text) (now scratch) (now run) place p ⌝ }
     requires { ⌜ SpawnIn (now text) (now scratch) m (p .held) ⌝ }
-    requires { ⌜ (length (rawIn (now run) .processes) < 128) × (channel < 512) ⌝ }
+    requires { ⌜ (length (rawIn (now run) .processes) < processPlaces) × (channel < channelPlaces) ⌝ }
     ensures { λ r. ⌜ Carries (now (text .entry)) (now (scratch .entry)) (now (run .entry)) (now (run .exit)) r (spawnedBy (now (text .entry)) (now (scratch .entry)) (now (run .entry)) place p m (some channel)) ⌝ }
 {
     let h = p.held;
@@ -176,7 +173,7 @@ pub fn spawn(
     requires { ⌜ SpawnIn (now text) (now scratch) m (p .held) ⌝ }
     ensures { λ r. ⌜ Carries (now (text .entry)) (now (scratch .entry)) (now (run .entry)) (now (run .exit)) r (spawningBy (now (text .entry)) (now (scratch .entry)) (now (run .entry)) place p m) ⌝ }
 {
-    if 128 <= count(run) {
+    if Script::PROCESS_PLACES <= count(run) {
         return Outcome::Lacking;
     }
     let f = fresh_channel(run);
