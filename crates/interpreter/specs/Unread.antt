@@ -24,6 +24,7 @@ use Rattle.calculus.specs.declared.answers.RanOn.{RanOn}
 use Rattle.calculus.specs.declared.answers.RanOn.the-variants as runs
 use Rattle.calculus.specs.declared.answers.Started.the-variants as begins
 use Rattle.calculus.specs.declared.answers.Stepped.the-variants as steps
+use Rattle.calculus.specs.declared.answers.Reported.the-variants as reports
 use Rattle.safety.specs.Replies.{refusal-config, run-never-refused}
 use Rattle.interpreter.specs.Calls.{refusalOf}
 
@@ -121,8 +122,8 @@ module _ (s : List ℕ) where
     name-anew C D = name-on C D (textChecked s n)
 
 -- ── 18 is no reply of the plain machine to an accepted text
-abbrev Other : Answer → Type 0
-Other a = refusalOf a ≢ 18
+record Other (y : Reply) : Type 0 where
+  number : refusalOf (y .answer) ≢ 18
 
 given-none : (a : RanOn) → isRefused (ranOn a) ≡ false → refusalOf (ranOn a) ≡ 0
 unfolding ranOnAs
@@ -144,47 +145,65 @@ module _ (c : Call) (C : Config) where
       go (callReport n m) = refl
       go (callExecName n line) = refl
 
-  other : (k i : ℕ) → (k ≢ 18) → Other (refusal C c k i .answer)
-  other k i d e = d (sym (refusal-number k i) ∙ e)
+  other : (k i : ℕ) → (k ≢ 18) → Other (refusal C c k i)
+  other k i d = record { number = λ e. d (sym (refusal-number k i) ∙ e) }
 
-  other-run : (m : ℕ) {y : Reply} → Other (y .answer) → Other (onRun m (refusal C c) y .answer)
+  other-run : (m : ℕ) {y : Reply} → Other y → Other (onRun m (refusal C c) y)
   other-run m {y} h = go (leb runWords m)
     where
-      go : (b : Bool) → Other (cond b y (refusal C c 16 0) .answer)
+      go : (b : Bool) → Other (cond b y (refusal C c 16 0))
       go true = h
       go false = other 16 0 (λ e. absurd (omega (arith, e)))
 
-  other-line : {X : Type 0} (o : Option X) {k : X → Reply} → ((x : X) → Other (k x .answer)) → Other (onLine o (refusal C c) k .answer)
+  other-line : {X : Type 0} (o : Option X) {k : X → Reply} → ((x : X) → Other (k x)) → Other (onLine o (refusal C c) k)
   other-line none h = other 17 0 (λ e. absurd (omega (arith, e)))
   other-line (some x) h = h x
 
-  other-place : (o : Option Process) {y : Reply} → Other (y .answer) → Other (onPlace o (refusal C c) y .answer)
+  other-place : (o : Option Process) {y : Reply} → Other y → Other (onPlace o (refusal C c) y)
   other-place none h = other 19 0 (λ e. absurd (omega (arith, e)))
   other-place (some q) h = h
 
-  other-step : (o : Outcome) {k : Seen → Config → Reply} → ((seen : Seen) (D : Config) → Other (k seen D .answer)) → Other (onStep o (refusal C c) k .answer)
+  other-step : (o : Outcome) {k : Seen → Config → Reply} → ((seen : Seen) (D : Config) → Other (k seen D)) → Other (onStep o (refusal C c) k)
   other-step (carried seen D) h = h seen D
   other-step notOpen h = other 20 0 (λ e. absurd (omega (arith, e)))
   other-step lacking h = other 21 0 (λ e. absurd (omega (arith, e)))
 
-  other-text : (s : List ℕ) (ds : List Declaration) → checked s ≡ accepted ds → (n : ℕ) (f : Program → Reply) → Other (f (programOf ds) .answer) → Other (onProgram (textChecked s n) (refusal C c) f .answer)
+  other-text : (s : List ℕ) (ds : List Declaration) → checked s ≡ accepted ds → (n : ℕ) (f : Program → Reply) → Other (f (programOf ds)) → Other (onProgram (textChecked s n) (refusal C c) f)
   unfolding textChecked
   other-text s ds ok n f h = go (leb scratchWords n)
     where
-      go : (b : Bool) → Other (onProgram (cond b (checked s) (faulty 1 0)) (refusal C c) f .answer)
+      go : (b : Bool) → Other (onProgram (cond b (checked s) (faulty 1 0)) (refusal C c) f)
       go true = rw ok h
       go false = other 1 0 (λ e. absurd (omega (arith, e)))
 
-carried-other : (k : ℕ) → k ≡ 0 → k ≢ 18
-carried-other k e z = absurd (omega (arith, e, z))
+carried-other : (y : Reply) → refusalOf (y .answer) ≡ 0 → Other y
+carried-other y e = record { number = λ z. absurd (omega (arith, e, z)) }
+
+other-reply : (s : List ℕ) (ds : List Declaration) → checked s ≡ accepted ds → (C : Config) (c : Call) → Other (respond s C c)
+unfolding respond startedAs steppedAs reportedAs
+other-reply s ds ok C (callStart n m line) =
+    let c = callStart n m line in
+    let begun : Signature → Reply = λ g. reply (started begins.Begun) (startConfig g) in
+    other-text c C s ds ok n (λ p. onRun m (refusal C c) (onLine (execOf p line) (refusal C c) begun))
+    (other-run c C m (other-line c C (execOf (programOf ds) line) (λ g. carried-other (begun g) refl)))
+other-reply s ds ok C (callStep n m place) =
+    let c = callStep n m place in
+    let done : Seen → Config → Reply = λ seen D. reply (stepped (steps.Carried seen)) D in
+    other-text c C s ds ok n (λ p. onRun m (refusal C c) (onPlace (at C place) (refusal C c) (onStep (step p C place) (refusal C c) done)))
+    (other-run c C m (other-place c C (at C place) (other-step c C (step (programOf ds) C place) (λ seen D. carried-other (done seen D) refl))))
+other-reply s ds ok C (callRunOn n m budget) =
+    let c = callRunOn n m budget in
+    let ran : Program → Reply = λ p. reply (ranOn (runOn p C budget .answer)) (runOn p C budget .config) in
+    other-text c C s ds ok n (λ p. onRun m (refusal C c) (ran p))
+    (other-run c C m (carried-other (ran (programOf ds)) (given-none (runOn (programOf ds) C budget .answer) (run-never-refused (programOf ds) C budget))))
+other-reply s ds ok C (callReport n m) =
+    let c = callReport n m in
+    let told = reply (reported (reports.Open (length (report C))) (report C)) C in
+    other-text c C s ds ok n (λ p. onRun m (refusal C c) told) (other-run c C m (carried-other told refl))
+other-reply s ds ok C (callExecName n line) =
+    let c = callExecName n line in
+    let name : Located → Reply = λ x. reply (named (x .name) 0 0) C in
+    other-text c C s ds ok n (λ p. onLine (getElem? (p .execs) line) (refusal C c) name) (other-line c C (getElem? (programOf ds .execs) line) (λ x. carried-other (name x) refl))
 
 pub never-18 : (s : List ℕ) (ds : List Declaration) → checked s ≡ accepted ds → (C : Config) (c : Call) → refusalOf (respond s C c .answer) ≢ 18
-unfolding respond startedAs steppedAs reportedAs
-never-18 s ds ok C (callStart n m line) =
-    other-text _ C s ds ok n _ (other-run _ C m (other-line _ C (execOf (programOf ds) line) (λ g. carried-other _ refl)))
-never-18 s ds ok C (callStep n m place) =
-    other-text _ C s ds ok n _ (other-run _ C m (other-place _ C (at C place) (other-step _ C (step (programOf ds) C place) (λ seen D. carried-other _ refl))))
-never-18 s ds ok C (callRunOn n m budget) =
-    other-text _ C s ds ok n _ (other-run _ C m (carried-other _ (given-none (runOn (programOf ds) C budget .answer) (run-never-refused (programOf ds) C budget))))
-never-18 s ds ok C (callReport n m) = other-text _ C s ds ok n _ (other-run _ C m (carried-other _ refl))
-never-18 s ds ok C (callExecName n line) = other-text _ C s ds ok n _ (other-line _ C (getElem? (programOf ds .execs) line) (λ x. carried-other _ refl))
+never-18 s ds ok C c = other-reply s ds ok C c .number
