@@ -1,0 +1,2 @@
+// The lines that the program prints.
+ghost use mathlib.Core.Path.{_≡_};
