@@ -1,2 +1,1 @@
 // The lines that the program prints.
-ghost use mathlib.Core.Path.{_≡_};
