@@ -6,6 +6,7 @@ use mathlib.Core.Bool.{Bool, true, false, cond, true≢false}
 use mathlib.Core.Option.{Option, some, none}
 use native.Mathlib.Omega.{arith}
 use lib.ListN.{length, drop}
+use Rattle.calculus.specs.Named.{isSome}
 use Rattle.calculus.specs.Program.{Program}
 use Rattle.calculus.specs.Configuration.{Process, Config}
 use Rattle.calculus.specs.Steps.{Outcome, carried, notOpen, lacking, step}
@@ -60,6 +61,21 @@ module _ (p : Program) (C : Config) where
   none-left : {i : ℕ} → Skipped p C i → length (C .processes) ≤ i → choosePlace p C ≡ none
   none-left {i} k h = k .left ∙ ended (C .processes) i i h
 
+  -- a place that is chosen is one whose step is carried out
+  chosen-carried : (i : ℕ) (l : List Process) → isCarried (stepChosen p C (firstFrom p C i l)) ≡ isSome (firstFrom p C i l)
+  unfolding firstFrom
+  chosen-carried i [] = refl
+  chosen-carried i (q ∷ l) = go (isCarried (step p C i)) refl (chosen-carried (suc i) l)
+    where
+      go : (b : Bool) → isCarried (step p C i) ≡ b → isCarried (stepChosen p C (firstFrom p C (suc i) l)) ≡ isSome (firstFrom p C (suc i) l)
+          → isCarried (stepChosen p C (cond b (some i) (firstFrom p C (suc i) l))) ≡ isSome (cond b (some i) (firstFrom p C (suc i) l))
+      go true e r = e
+      go false e r = r
+
+  pub first-carried : isCarried (stepFirst p C) ≡ isSome (choosePlace p C)
+  unfolding choosePlace
+  first-carried = chosen-carried 0 (C .processes)
+
 -- ── the code's answers by the calculus' own
 module _ (s w old : List ℕ) where
   abbrev P : Program
@@ -68,7 +84,7 @@ module _ (s w old : List ℕ) where
   abbrev C : Config
   C = configIn s w old
 
-  answers-so : {new : List ℕ} {r : OutcomeWords} (o : Outcome) → Carries s w old new r o → isCarried o ≡ wasCarried r
+  pub answers-so : {new : List ℕ} {r : OutcomeWords} (o : Outcome) → Carries s w old new r o → isCarried o ≡ wasCarried r
   answers-so (carried seen D) c = sym (ap wasCarried (c .is .0))
   answers-so notOpen c = sym (ap wasCarried (c .is .0))
   answers-so lacking c = sym (ap wasCarried (c .is .0))

@@ -13,5 +13,6 @@ pub mod Sending
 pub mod Forwarding
 pub mod Making
 pub mod Choosing
+pub mod Trying
 pub mod Running
 pub mod Within

@@ -6,6 +6,7 @@ use mathlib.Core.Bool.{Bool, true, false, cond, true≢false}
 use mathlib.Core.Option.{Option, some, none}
 use native.Mathlib.Omega.{arith}
 use lib.ListN.{length, drop}
+use Rattle.calculus.specs.Named.{isSome}
 use Rattle.calculus.specs.Program.{Program}
 use Rattle.calculus.specs.Configuration.{Process, Config}
 use Rattle.calculus.specs.Steps.{Outcome, carried, notOpen, lacking, step}
@@ -86,15 +87,61 @@ shown-ends p (suc b) taken (Passed n m g) D e = refl
 shown-ends p zero taken (Cancelled n) D e = refl
 shown-ends p (suc b) taken (Cancelled n) D e = refl
 
+-- ── the budget is spent: the tests before a step, and no step
+module _ (p : Program) (taken : ℕ) (C : Config) where
+  abbrev stops : Option ℕ → Ran
+  stops o = orFull taken C o (λ i. ran (Stopped taken) C)
+
+  stops-same : (o : Option ℕ) → stops o .config ≡ C
+  stops-same none = refl
+  stops-same (some i) = refl
+
+  spent-same : runFrom p 0 taken Nothing C .config ≡ C
+  unfolding runFrom
+  spent-same = go (C .processes)
+    where
+      go : (l : List Process) → orDone p taken C l (λ i. ran (Stopped taken) C) .config ≡ C
+      go [] = refl
+      go (q ∷ l) = stops-same (choosePlace p C)
+
+  spent-stops : 0 < length (C .processes) → runFrom p 0 taken Nothing C ≡ stops (choosePlace p C)
+  unfolding runFrom
+  spent-stops h = some-left p C 0 taken (C .processes) (λ i. ran (Stopped taken) C) h
+
+  stops-here : (o : Option ℕ) → isSome o ≡ true → Stopped taken ≡ stops o .answer
+  stops-here none e = absurd (true≢false (sym e))
+  stops-here (some i) e = refl
+
+  stops-full : (o : Option ℕ) → isSome o ≡ false → Full taken ≡ stops o .answer
+  stops-full none e = refl
+  stops-full (some i) e = absurd (true≢false e)
+
+none-of : (l : List Process) → length l ≡ 0 → l ≡ []
+none-of [] e = refl
+none-of (q ∷ l) e = absurd (omega (arith, e))
+
+module _ (s w ws : List ℕ) (taken : ℕ) where
+  abbrev spent-answer : RanOn
+  spent-answer = runFrom (programIn s w) 0 taken Nothing (configIn s w ws) .answer
+
+  pub spent-done : length (rawIn ws .processes) ≡ 0 → Done taken ≡ spent-answer
+  spent-done z = sym (ap (λ (t : Ran). t .answer) (turn-empty (programIn s w) (configIn s w ws) 0 taken (none-of (configIn s w ws .processes) (places-in s w ws ∙ z)) 0))
+
+  module _ (peopled : 0 < length (rawIn ws .processes)) where
+    as-chosen : stops (programIn s w) taken (configIn s w ws) (choosePlace (programIn s w) (configIn s w ws)) .answer ≡ spent-answer
+    as-chosen = sym (ap (λ (t : Ran). t .answer) (spent-stops (programIn s w) taken (configIn s w ws) (omega (arith, peopled, places-in s w ws))))
+
+    pub spent-stopped : isSome (choosePlace (programIn s w) (configIn s w ws)) ≡ true → Stopped taken ≡ spent-answer
+    spent-stopped e = stops-here (programIn s w) taken (configIn s w ws) (choosePlace (programIn s w) (configIn s w ws)) e ∙ as-chosen
+
+    pub spent-full : isSome (choosePlace (programIn s w) (configIn s w ws)) ≡ false → Full taken ≡ spent-answer
+    spent-full e = stops-full (programIn s w) taken (configIn s w ws) (choosePlace (programIn s w) (configIn s w ws)) e ∙ as-chosen
+
 -- ── the loop: with `taken` steps taken, none of which showed anything, the words are ws
 pub record Running (s w old ws : List ℕ) (budget taken : ℕ) : Type 0 where
   pub becomes : Becomes s w old ws (configIn s w ws)
   pub formed : WellFormed (programIn s w) (configIn s w ws)
   pub left : runOn (programIn s w) (configIn s w old) budget ≡ runFrom (programIn s w) (budget - taken) taken Nothing (configIn s w ws)
-
-none-of : (l : List Process) → length l ≡ 0 → l ≡ []
-none-of [] e = refl
-none-of (q ∷ l) e = absurd (omega (arith, e))
 
 module _ (s w old : List ℕ) (budget : ℕ) where
   abbrev P : Program
@@ -112,6 +159,12 @@ module _ (s w old : List ℕ) (budget : ℕ) where
   ends-done taken {ws} r z =
       let e = r .left ∙ turn-empty P (configIn s w ws) budget taken (none-of (configIn s w ws .processes) (places-in s w ws ∙ z)) (budget - taken) in
       subst (RunsOn s w old ws (Done taken)) (sym e) (record { answer = refl; becomes = r .becomes })
+
+  pub ends-spent : {ws : List ℕ} {a : RanOn} → Running s w old ws budget budget → a ≡ runFrom P 0 budget Nothing (configIn s w ws) .answer → RunsOn s w old ws a (runOn P (configIn s w old) budget)
+  ends-spent {ws} {a} r e =
+      let z : budget - budget ≡ 0 = omega arith in
+      subst (RunsOn s w old ws a) (sym (r .left ∙ ap (λ b. runFrom P b budget Nothing (configIn s w ws)) z))
+      (record { answer = e; becomes = subst (Becomes s w old ws) (sym (spent-same P budget (configIn s w ws))) (r .becomes) })
 
   module _ (taken : ℕ) {ws : List ℕ} (r : Running s w old ws budget taken) (below : taken < budget) (peopled : 0 < length (rawIn ws .processes)) where
     abbrev C : Config

@@ -9,7 +9,7 @@ use crate::dispatch::step_at;
 use crate::outcome::Outcome;
 use runs::processes::count;
 
-fn was_carried(r: Outcome) -> bool
+pub(crate) fn was_carried(r: Outcome) -> bool
     ensures { λ b. ⌜ b ≡ wasCarried r ⌝ }
 {
     match r {

@@ -13,3 +13,4 @@ pub mod parting;
 pub mod receiving;
 pub mod running;
 pub mod sending;
+pub mod trying;

@@ -12,7 +12,7 @@ use Rattle.runs.specs.Lists.{removeAt}
 use Rattle.runs.specs.ListLaws.{at-tab}
 use Rattle.runs.specs.Raw.{RawEnd, sideOf, rows, endOf}
 use Rattle.runs.specs.Values.{Moved, Written}
-use Rattle.runs.proofs.Rows.{end-of, end-local, rows-set, rows-append, rows-remove}
+use Rattle.runs.specs.RowLaws.{end-of, end-local, rows-set, rows-append, rows-remove}
 
 -- the ends that words have, from their start
 abbrev pub ends : List ℕ → ℕ → List RawEnd

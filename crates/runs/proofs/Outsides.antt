@@ -16,8 +16,9 @@ use Rattle.runs.specs.Values.{Changed, Written}
 use Rattle.runs.specs.Operations.{withOutside, withGiven, onChannel, outsideAt, letGo, changedOutside}
 use Rattle.notation.specs.declared.reading.Found.the-variants as found
 use Rattle.runs.specs.Bounds.{changed-as}
-use Rattle.runs.proofs.Rows.{outside-local, rows-same, rows-set, rows-append}
-use Rattle.runs.proofs.Slices.{word, counted-outside, numbered, outside-changed}
+use Rattle.runs.specs.RowLaws.{outside-local, rows-same, rows-set, rows-append}
+use Rattle.runs.specs.SliceLaws.{word, counted-outside, numbered}
+use Rattle.runs.proofs.Slices.{outside-changed}
 use Rattle.runs.specs.Lists.{All}
 
 abbrev pub outsideRow : List ℕ → ℕ → ℕ → ℕ

@@ -17,8 +17,9 @@ use Rattle.runs.specs.Raw.{RawProcess, RawConfig, linkOf, linksBelow, ro
 use Rattle.runs.specs.Values.{Changed, Moved, Written}
 use Rattle.runs.specs.Operations.{withProcesses, moved, movedWord, relinked, inserted, removed}
 use Rattle.runs.specs.Bounds.{after, link-moved, link-word}
-use Rattle.runs.proofs.Rows.{rows-insert, rows-remove}
-use Rattle.runs.proofs.Slices.{word, counted, processRow, process-at, process-linked, Sixteen, sixteen, processes-local, held-few, processes-changed}
+use Rattle.runs.specs.RowLaws.{rows-insert, rows-remove}
+use Rattle.runs.specs.SliceLaws.{word, counted, processRow, process-at, process-linked, Sixteen, sixteen, processes-local, held-few}
+use Rattle.runs.proofs.Slices.{processes-changed}
 
 -- ── links
 pub link-few : (ws : List ℕ) (j : ℕ) → Bounded (rawIn ws) → j < length (rawIn ws .processes) → processRow ws j 1 ≤ 128

@@ -1,85 +1,27 @@
--- From the words of a slice to its configuration.
+-- The words of a slice, stored, and its configuration.
 use Prim.Native.Nat.{ℕ, _+_, _-_, _*_, _/_, _%_, _≤_, _<_}
 use mathlib.Core.List.{List, [], _∷_}
 use mathlib.Core.Path.{_≡_, refl, ap, _∙_}
-use mathlib.Core.Option.{Option, some}
+use mathlib.Core.Option.{some}
 use native.Mathlib.Omega.{arith}
 use lib.ListN.{length, getD, getElem?, set, length-set}
 use lib.Seq.{getD-set-same, getD-set-other}
-use Rattle.runs.specs.Lists.{All}
-use Rattle.runs.specs.ListLaws.{length-tab, at-tab, tab-same, all-at, all-weaken}
+use Rattle.runs.specs.ListLaws.{all-at}
 use Rattle.runs.specs.Raw.{RawProcess, RawOutside, linkOf, rows, endOf, processOf, outsideOf, rawIn, BoundedProcess, Bounded}
 use Rattle.runs.specs.Values.{Changed, Moved, Written}
 use Rattle.runs.specs.Operations.{single, withProcesses, withOutside, withGiven}
-use Rattle.runs.proofs.Rows.{Local, end-of, outside-local, rows-same, rows-set, drop-same}
+use Rattle.runs.specs.RowLaws.{outside-local, rows-same, rows-set}
+use Rattle.runs.specs.SliceLaws.{word, ends-moved, counted, counted-outside, processRow, process-at, processes-local, sixteen}
+use Rattle.runs.proofs.Rows.{drop-same}
 use Rattle.runs.proofs.Ends.{ends}
 
-abbrev pub word : List ℕ → ℕ → ℕ
-word ws k = getD ws k 0
-
 -- ── a process from its words
-ends-moved : (a b n : ℕ) (v w : ℕ → ℕ) → n ≤ 16 → ((k : ℕ) → k < 32 → v (a + k) ≡ w (b + k)) → rows endOf 2 a n v ≡ rows endOf 2 b n w
-ends-moved a b n v w h e = tab-same _ _ n (λ k l. end-of (λ t. v (a + 2 * k + t)) (here k 0 (omega arith)) (here k 1 (omega arith)))
-  where
-    here : (k t : ℕ) → 2 * k + t < 32 → v (a + 2 * k + t) ≡ w (b + 2 * k + t)
-    here k t l =
-        let x : a + 2 * k + t ≡ a + (2 * k + t) = omega arith in
-        let y : b + (2 * k + t) ≡ b + 2 * k + t = omega arith in
-        ap v x ∙ e (2 * k + t) l ∙ ap w y
-
 pub process-of : (w : ℕ → ℕ) (doing link n : ℕ) (hs : List ℕ) → w 0 ≡ doing → w 1 ≡ link → w 2 ≡ n → n ≤ 16 → ((k : ℕ) → k < 32 → w (3 + k) ≡ getD hs k 0)
     → processOf w ≡ record { kind = doing % 4; pointer = doing / 4; held = ends hs n; link = linkOf link }
 process-of w doing link n hs p q r h e =
     let held : rows endOf 2 3 (w 2) w ≡ ends hs n =
     ap (λ m. rows endOf 2 3 m w) r ∙ ends-moved 3 0 n w (word hs) h (λ k l. e k l ∙ let z : k ≡ 0 + k = omega arith in ap (word hs) z) in
     λ i. record { kind = p i % 4; pointer = p i / 4; held = held i; link = linkOf (q i) }
-
--- words that agree but for the link
-pub process-linked : (v w : ℕ → ℕ) (o : Option ℕ) → w 2 ≤ 16 → ((t : ℕ) → t < 40 → (t ≡ 1 → ⊥) → v t ≡ w t) → linkOf (v 1) ≡ o
-    → processOf v ≡ record { kind = w 0 % 4; pointer = w 0 / 4; held = rows endOf 2 3 (w 2) w; link = o }
-process-linked v w o h e q =
-    let p = e 0 (omega arith) (λ z. omega arith) in
-    let r = e 2 (omega arith) (λ z. omega arith) in
-    let held : rows endOf 2 3 (v 2) v ≡ rows endOf 2 3 (w 2) w = ap (λ m. rows endOf 2 3 m v) r ∙ ends-moved 3 3 (w 2) v w h (λ k l. e (3 + k) (omega arith) (λ z. omega arith)) in
-    λ i. record { kind = p i % 4; pointer = p i / 4; held = held i; link = q i }
-
-process-local : (w : ℕ → ℕ) → w 2 ≤ 16 → Local processOf 40 w
-process-local w h = record { same = λ v e. process-linked v w (linkOf (w 1)) h (λ t l q. e t l) (ap linkOf (e 1 (omega arith))) }
-
--- ── the configuration of a slice
-pub counted : (ws : List ℕ) → length (rawIn ws .processes) ≡ getD ws 0 0
-unfolding rawIn
-counted ws = length-tab _ (getD ws 0 0)
-
-pub counted-outside : (ws : List ℕ) → length (rawIn ws .outside) ≡ getD ws 2 0
-unfolding rawIn
-counted-outside ws = length-tab _ (getD ws 2 0)
-
-pub numbered : (ws : List ℕ) → rawIn ws .given ≡ getD ws 1 0
-unfolding rawIn
-numbered ws = refl
-
-abbrev pub processRow : List ℕ → ℕ → ℕ → ℕ
-processRow ws i t = getD ws (80 + 40 * i + t) 0
-
-pub process-at : (ws : List ℕ) (i : ℕ) → i < length (rawIn ws .processes) → getElem? (rawIn ws .processes) i ≡ some (processOf (processRow ws i))
-unfolding rawIn
-process-at ws i h = at-tab _ (getD ws 0 0) i (omega (arith, counted ws))
-
--- a process holds as many as its count says
-held-count : (ws : List ℕ) (i : ℕ) (n : ℕ) → All (λ p. length (p .held) ≤ n) (rawIn ws .processes) → i < getD ws 0 0 → processRow ws i 2 ≤ n
-held-count ws i n a h =
-    let b = all-at _ (rawIn ws .processes) i a (process-at ws i (omega (arith, counted ws))) in
-    omega (arith, b, length-tab (λ k. endOf (λ t. processRow ws i (3 + 2 * k + t))) (processRow ws i 2))
-
-pub record Sixteen (ws : List ℕ) : Type 0 where
-  pub each : All (λ p. length (p .held) ≤ 16) (rawIn ws .processes)
-
-pub processes-local : (ws : List ℕ) → Sixteen ws → (j : ℕ) → j < getD ws 0 0 → Local processOf 40 (processRow ws j)
-processes-local ws s j h = process-local (processRow ws j) (held-count ws j 16 (s .each) h)
-
-pub sixteen : (ws : List ℕ) → Bounded (rawIn ws) → Sixteen ws
-sixteen ws b = record { each = all-weaken _ _ (λ p q. q .many) (rawIn ws .processes) (b .processes) }
 
 -- ── the words of a process, stored
 pub written : (old : List ℕ) (b kind pointer link n : ℕ) (hs new : List ℕ) → b + 40 ≤ length old → kind < 4 → n ≤ 16
@@ -141,9 +83,6 @@ stored old new i p l b h w =
     processes-changed old new (w .long) _ (b .channels) (λ k p q. w .below k (omega arith)) (λ k q. w .above k (omega (arith, b .places)))
     (ap (λ m. rows processOf 40 80 m (word new)) (w .below 0 (omega arith))
     ∙ rows-set processOf 40 80 (word old) (word new) (getD old 0 0) (processes-local old (sixteen old b)) i (λ k a c. w .below k c) p (omega arith) (w .row) (λ k a c. w .above k a))
-
-pub held-few : (ws : List ℕ) (i : ℕ) → Bounded (rawIn ws) → i < length (rawIn ws .processes) → processRow ws i 2 ≤ 16
-held-few ws i b h = held-count ws i 16 (sixteen ws b .each) (omega (arith, counted ws))
 
 pub loaded : (ws : List ℕ) (i : ℕ) (p : RawProcess) → Bounded (rawIn ws) → i < length (rawIn ws .processes) → processOf (processRow ws i) ≡ p
     → (getElem? (rawIn ws .processes) i ≡ some p) × BoundedProcess (length (rawIn ws .processes)) p

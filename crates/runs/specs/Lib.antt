@@ -3,6 +3,8 @@ pub mod ListLaws
 pub mod Raw
 pub mod Values
 pub mod Operations
+pub mod RowLaws
+pub mod SliceLaws
 pub mod SearchLaws
 pub mod Bounds
 pub mod Decode

@@ -2,7 +2,7 @@ use borrow.Author.Needs.{needs}
 use native.Mathlib.Omega.{arith}
 use borrow.Author.Tests.{not-true, not-false}
 use Rattle.runs.specs.Raw.{rawIn}
-use Rattle.runs.proofs.Slices.{counted, counted-outside, numbered}
+use Rattle.runs.specs.SliceLaws.{counted, counted-outside, numbered}
 use Rattle.runs.proofs.Decisions.{refused, config-decided}
 use Rattle.runs.proofs.bounded.bounded.Statement.{statement}
 use Rattle.runs.proofs.bounded.bounded.Tie as tie

@@ -1,6 +1,6 @@
 use borrow.Author.Needs.{needs}
 use native.Mathlib.Omega.{arith}
-use Rattle.runs.proofs.Slices.{processRow}
+use Rattle.runs.specs.SliceLaws.{processRow}
 use Rattle.runs.proofs.Decisions.{refused, many-words, process-refused, link-refused, process-decided}
 use Rattle.runs.proofs.bounded.process_bounded.Statement.{statement}
 use Rattle.runs.proofs.bounded.process_bounded.Tie as tie

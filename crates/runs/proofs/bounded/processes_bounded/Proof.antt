@@ -6,7 +6,7 @@ use mathlib.Core.Path.{_≡_, sym, subst}
 use lib.ListN.{length, take}
 use Rattle.runs.specs.Lists.{All}
 use Rattle.runs.specs.Raw.{rawIn, processOf, BoundedProcess}
-use Rattle.runs.proofs.Slices.{processRow, process-at}
+use Rattle.runs.specs.SliceLaws.{processRow, process-at}
 use Rattle.runs.proofs.Decisions.{so-far, whole, refused-at}
 use Rattle.runs.proofs.bounded.processes_bounded.Statement.{statement}
 use Rattle.runs.proofs.bounded.processes_bounded.Tie as tie

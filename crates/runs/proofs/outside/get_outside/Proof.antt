@@ -3,7 +3,7 @@ use native.Mathlib.Omega.{arith}
 use Prim.Native.Nat.{_+_, _*_}
 use mathlib.Core.Path.{_≡_, refl, sym, ap}
 use lib.ListN.{getD}
-use Rattle.runs.proofs.Rows.{outside-of}
+use Rattle.runs.specs.RowLaws.{outside-of}
 use Rattle.runs.proofs.Outsides.{outsideRow}
 use Rattle.runs.proofs.outside.get_outside.Statement.{statement}
 use Rattle.runs.proofs.outside.get_outside.Tie as tie

@@ -1,6 +1,6 @@
 use borrow.Author.Needs.{needs}
 use mathlib.Core.Path.{sym}
-use Rattle.runs.proofs.Slices.{numbered}
+use Rattle.runs.specs.SliceLaws.{numbered}
 use Rattle.runs.proofs.outside.given.Statement.{statement}
 use Rattle.runs.proofs.outside.given.Tie as tie
 

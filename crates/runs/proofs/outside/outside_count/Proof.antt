@@ -1,6 +1,6 @@
 use borrow.Author.Needs.{needs}
 use mathlib.Core.Path.{sym, _∙_}
-use Rattle.runs.proofs.Slices.{counted-outside}
+use Rattle.runs.specs.SliceLaws.{counted-outside}
 use Rattle.runs.proofs.outside.outside_count.Statement.{statement}
 use Rattle.runs.proofs.outside.outside_count.Tie as tie
 

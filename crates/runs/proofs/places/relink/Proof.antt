@@ -7,7 +7,7 @@ use Rattle.runs.specs.Raw.{rawIn}
 use Rattle.runs.specs.Values.{Moved}
 use Rattle.runs.specs.Operations.{movedWord}
 use Rattle.runs.proofs.Rows.{moved-none, moved-store, moved-at}
-use Rattle.runs.proofs.Slices.{counted}
+use Rattle.runs.specs.SliceLaws.{counted}
 use Rattle.runs.proofs.Shifts.{link-few, relinkedWord, link-turned, link-kept, relinked-words}
 use Rattle.runs.proofs.places.relink.Statement.{statement}
 use Rattle.runs.proofs.places.relink.Tie as tie

@@ -1,6 +1,6 @@
 use borrow.Author.Needs.{needs}
 use mathlib.Core.Path.{sym, _∙_}
-use Rattle.runs.proofs.Slices.{counted}
+use Rattle.runs.specs.SliceLaws.{counted}
 use Rattle.runs.proofs.processes.count.Statement.{statement}
 use Rattle.runs.proofs.processes.count.Tie as tie
 

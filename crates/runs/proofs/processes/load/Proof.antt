@@ -1,5 +1,6 @@
 use native.Mathlib.Omega.{arith}
-use Rattle.runs.proofs.Slices.{held-few, loaded}
+use Rattle.runs.specs.SliceLaws.{held-few}
+use Rattle.runs.proofs.Slices.{loaded}
 use Rattle.runs.proofs.processes.load.Statement.{statement}
 use Rattle.runs.proofs.processes.load.Tie as tie
 
