@@ -8,15 +8,15 @@ pub enum Seen {
     Cancelled(u32),
 }
 
-// Each answer is a refusal, with its number and offset, or what was carried out.
+// Each answer is a refusal, with its number and its offset in the text, or what was carried out.
 pub enum Started {
     Begun,
-    Refused(u32, u32),
+    Refused(u32, usize),
 }
 
 pub enum Stepped {
     Carried(Seen),
-    Refused(u32, u32),
+    Refused(u32, usize),
 }
 
 // A run-on's end, each with the steps taken.
@@ -25,13 +25,13 @@ pub enum RanOn {
     Done(u32),
     Full(u32),
     Stopped(u32),
-    Refused(u32, u32),
+    Refused(u32, usize),
 }
 
 // How many outside channels are open; their numbers stand beside it in Report.
 pub enum Reported {
     Open(u32),
-    Refused(u32, u32),
+    Refused(u32, usize),
 }
 
 pub struct Report {

@@ -40,17 +40,18 @@ wordsIn s (faulty n i) = zeros
 pub record PartChecked (s : List ℕ) (r : Verdict) (v : List ℕ) : Type 0 where
   pub is : verdictOf r ≡ verdictIn (checked s)
   pub words : v ≡ wordsIn s (checked s)
+  pub fits : FitsTables s
 
 -- "After 1 no lent slice is touched; after 2 to 15 the first 8,192 scratch words are zero; otherwise they hold the checked tables"
 pub record TextChecked (s w : List ℕ) (r : Verdict) (v : List ℕ) : Type 0 where
   pub short : length w < scratchWords → (r ≡ verdict.Refused 1 0) × (v ≡ w)
-  pub enough : scratchWords ≤ length w → (verdictOf r ≡ verdictIn (checked s)) × (v ≡ wordsIn s (checked s) ++ drop scratchWords w)
+  pub enough : scratchWords ≤ length w → (verdictOf r ≡ verdictIn (checked s)) × (v ≡ wordsIn s (checked s) ++ drop scratchWords w) × FitsTables s
 
 pub checked-short : (s w : List ℕ) → length w < scratchWords → TextChecked s w (verdict.Refused 1 0) w
 checked-short s w l = record { short = λ _. (refl, refl); enough = λ h. absurd (omega arith) }
 
 pub checked-enough : (s w : List ℕ) (r : Verdict) (v : List ℕ) → scratchWords ≤ length w → PartChecked s r v → TextChecked s w r (v ++ drop 8192 w)
-checked-enough s w r v l p = record { short = λ h. absurd (omega arith); enough = λ _. (p .is, ap (λ x. x ++ drop scratchWords w) (p .words)) }
+checked-enough s w r v l p = record { short = λ h. absurd (omega arith); enough = λ _. (p .is, ap (λ x. x ++ drop scratchWords w) (p .words), p .fits) }
 
 -- ── what `read` left
 -- the tables of a text that was read
@@ -91,7 +92,7 @@ module _ (s w v : List ℕ) (r : Reading) (n : length w ≡ scratchWords) (kept 
     where
       go : (o : Result (List Declaration)) → readText s ≡ o → reading.Refused m i ≡ answerOf o → PartChecked s (verdict.Refused m i) v
       go (got ds c) q z = absurd (subst isRefused z tt)
-      go (refused k j) q z = record { is = ap refusalOf z ∙ sym (ap (λ x. verdictIn (checkedRead x)) q); words = words-so ∙ ap tablesRead q ∙ sym (ap (λ x. wordsIn s (checkedRead x)) q) }
+      go (refused k j) q z = record { is = ap refusalOf z ∙ sym (ap (λ x. verdictIn (checkedRead x)) q); words = words-so ∙ ap tablesRead q ∙ sym (ap (λ x. wordsIn s (checkedRead x)) q); fits = enough .2 }
 
   pub part-read : (c : Script) → r ≡ reading.Read c → TablesOf s v
   part-read c e = go (readText s) refl (sym e ∙ enough .0)
@@ -126,7 +127,7 @@ module _ (s v : List ℕ) (t : TablesOf s v) where
     judged-by x q = checked-by ∙ ap (judged (t .script)) (sym both ∙ sym e ∙ ap verdictOf q)
 
     pub part-fine : u ≡ verdict.Fine → PartChecked s verdict.Fine v
-    part-fine q = record { is = sym (ap verdictIn (judged-by verdict.Fine q)); words = t .words ∙ sym (ap (wordsIn s) (judged-by verdict.Fine q)) }
+    part-fine q = record { is = sym (ap verdictIn (judged-by verdict.Fine q)); words = t .words ∙ sym (ap (wordsIn s) (judged-by verdict.Fine q)); fits = t .fits }
 
     pub part-faulty : (n i : ℕ) → u ≡ verdict.Refused n i → (z : List ℕ) → z ≡ zeros → PartChecked s (verdict.Refused n i) z
-    part-faulty n i q z o = record { is = sym (ap verdictIn (judged-by (verdict.Refused n i) q)); words = o ∙ sym (ap (wordsIn s) (judged-by (verdict.Refused n i) q)) }
+    part-faulty n i q z o = record { is = sym (ap verdictIn (judged-by (verdict.Refused n i) q)); words = o ∙ sym (ap (wordsIn s) (judged-by (verdict.Refused n i) q)); fits = t .fits }

@@ -43,7 +43,7 @@ use Rattle.machine.specs.Run.{configIn, processAs, Becomes, Carries}
 use Rattle.machine.specs.Changes.{running-as}
 use Rattle.machine.specs.Making.{channels-many}
 
-append-assoc : {A : Type 0} (a b c : List A) → (a ++ b) ++ c ≡ a ++ (b ++ c)
+pub append-assoc : {A : Type 0} (a b c : List A) → (a ++ b) ++ c ≡ a ++ (b ++ c)
 append-assoc [] b c = refl
 append-assoc (x ∷ a) b c = ap (_∷_ x) (append-assoc a b c)
 
@@ -161,12 +161,12 @@ pub names-many : (xs : List Located) → length (namesOf xs) ≡ length xs
 names-many [] = refl
 names-many (x ∷ xs) = ap suc (names-many xs)
 
-entries-many : (s w : List ℕ) (i n : ℕ) → length (entries (entriesIn s w i n)) ≡ n
+pub entries-many : (s w : List ℕ) (i n : ℕ) → length (entries (entriesIn s w i n)) ≡ n
 unfolding entriesIn
 entries-many s w i zero = refl
 entries-many s w i (suc n) = ap suc (entries-many s w (i + 1) n)
 
-context-many : (s w : List ℕ) (side i n : ℕ) → length (contextIn s w side i n) ≡ n
+pub context-many : (s w : List ℕ) (side i n : ℕ) → length (contextIn s w side i n) ≡ n
 unfolding entriesIn
 context-many s w side i zero = refl
 context-many s w side i (suc n) = ap suc (context-many s w side (i + 1) n)

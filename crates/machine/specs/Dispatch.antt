@@ -254,14 +254,14 @@ module _ (s w old : List ℕ) (t : RunOf s w old) (F : WellFormed (programIn s w
   unfolding step
   steps-as {new} {r} k e c = subst (λ o. Carries s w old new r (stepOf (programIn s w) (configIn s w old) i o)) (sym (u .there)) (subst (λ m. Carries s w old new r (doingBy m)) (sym e) c)
 
+pub past-end : {A : Type 0} (l : List A) (i : ℕ) → length l ≤ i → getElem? l i ≡ none
+past-end [] i h = refl
+past-end (x ∷ l) zero h = absurd (omega arith)
+past-end (x ∷ l) (suc i) h = past-end l i (omega arith)
+
 pub steps-nowhere : (s w old : List ℕ) (i : ℕ) → length (rawIn old .processes) ≤ i → Carries s w old old NotOpen (step (programIn s w) (configIn s w old) i)
 unfolding step
 steps-nowhere s w old i h = subst (λ o. Carries s w old old NotOpen (stepOf (programIn s w) (configIn s w old) i o)) (sym (past-end (configIn s w old .processes) i (omega (arith, h, places-in s w old)))) (record { is = (refl, refl) })
-  where
-    past-end : (l : List Process) (i : ℕ) → length l ≤ i → getElem? l i ≡ none
-    past-end [] i h = refl
-    past-end (x ∷ l) zero h = absurd (omega arith)
-    past-end (x ∷ l) (suc i) h = past-end l i (omega arith)
 
 -- what an accepted script gives of the processes that it declares
 pub small-signatures : {p : Program} → Bodies p → SmallSignatures p

@@ -16,3 +16,4 @@ pub mod Choosing
 pub mod Trying
 pub mod Running
 pub mod Within
+pub mod Starting

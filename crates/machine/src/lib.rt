@@ -14,3 +14,4 @@ pub mod receiving;
 pub mod running;
 pub mod sending;
 pub mod trying;
+pub mod starting;

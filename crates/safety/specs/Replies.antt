@@ -82,7 +82,7 @@ refusal-config C (callRunOn scratch run budget) n i = refl
 refusal-config C (callReport scratch run) n i = refl
 refusal-config C (callExecName scratch line) n i = refl
 
-run-never-refused : (p : Program) (C : Config) (budget : ℕ) → isRefused (ranOn (runOn p C budget .answer)) ≡ false
+pub run-never-refused : (p : Program) (C : Config) (budget : ℕ) → isRefused (ranOn (runOn p C budget .answer)) ≡ false
 run-never-refused p C budget = go _ _ (runOn p C budget .answer) (run-on-ends p C budget)
   where
     go : (n : ℕ) (D : Config) (a : RanOn) → Ended p budget n C a D → isRefused (ranOn a) ≡ false

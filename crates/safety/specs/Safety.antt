@@ -24,7 +24,7 @@ use Rattle.safety.specs.Replies.{Replied, refuses, begins, carries-out, 
 pub safe : {p : Program} {C : Config} → WellFormed p C → Safe p C
 safe {p} {C} v = record { wellFormed = v; fewer = joints-fewer p C v; someOpen = some-open p C v }
 
-abbrev has-begun : Answer → Bool
+abbrev pub has-begun : Answer → Bool
 has-begun (started Starts.Begun) = true
 has-begun (started (Starts.Refused n i)) = false
 has-begun (stepped a) = false
@@ -47,7 +47,7 @@ module _ (text : List ℕ) (ds : List Declaration) (ok : checked text ≡ accept
   pub run-keeps : (C : Config) → WellFormed p C → (budget : ℕ) → WellFormed p (runOn p C budget .config)
   run-keeps C v budget = steps-keep (given (runOn p C budget .answer)) C _ v (run-on-steps p C budget)
 
-  reply-keeps : {C : Config} {c : Call} {r : Reply} → WellFormed p C → Replied p C c r → WellFormed p (r .config)
+  pub reply-keeps : {C : Config} {c : Call} {r : Reply} → WellFormed p C → Replied p C c r → WellFormed p (r .config)
   reply-keeps {C} v (refuses {c} n i) = subst (WellFormed p) (sym (refusal-config C c n i)) v
   reply-keeps v (begins {line = line} g e) = accepted-start text ds ok line g e
   reply-keeps {C} v (carries-out {place = i} seen D e) = step-keeps C D i seen v e
@@ -55,7 +55,7 @@ module _ (text : List ℕ) (ds : List Declaration) (ok : checked text ≡ accept
   reply-keeps v reports = v
   reply-keeps v (names n) = v
 
-  begun-well-formed : {C : Config} {scratch run line : ℕ} {r : Reply} → Replied p C (callStart scratch run line) r → has-begun (r .answer) ≡ true
+  pub begun-well-formed : {C : Config} {scratch run line : ℕ} {r : Reply} → Replied p C (callStart scratch run line) r → has-begun (r .answer) ≡ true
       → WellFormed p (r .config)
   begun-well-formed (refuses n i) e = absurd (false≢true e)
   begun-well-formed (begins {line = line} g h) e = accepted-start text ds ok line g h
@@ -72,13 +72,13 @@ module _ (text : List ℕ) (ds : List Declaration) (ok : checked text ≡ accept
   moment C c = record { before = C; call = c; after = respond text C c }
 
   -- a call that meets a well-formed configuration
-  moment-kept : (C : Config) → WellFormed p C → (c : Call) → Kept p (moment C c)
+  pub moment-kept : (C : Config) → WellFormed p C → (c : Call) → Kept p (moment C c)
   moment-kept C v c =
       let r = replied text ds ok C c in
       record { safe = safe (reply-keeps v r); between = safe-between C v c; refusals = refused-where text ds ok C v c; unchanged = unchanged-by r }
 
   -- a start that is carried out, whatever it meets
-  start-kept : (C : Config) (scratch run line : ℕ) → WellFormed p (respond text C (callStart scratch run line) .config)
+  pub start-kept : (C : Config) (scratch run line : ℕ) → WellFormed p (respond text C (callStart scratch run line) .config)
       → Kept p (moment C (callStart scratch run line))
   start-kept C scratch run line v =
       record {

@@ -49,7 +49,7 @@ module _ (s w : List ℕ) (t : Everywhere s w) where
   pointer-in (inl h) = t .terms _ h
   pointer-in {p} (inr (l, h)) = record { tree = empty (p - processTermLimit); from = omega arith; is = omega arith }
 
-  ends-in : (l : List RawEnd) → All BoundedEnd l → All (EndOf w) l → All (EndIn s w) l
+  pub ends-in : (l : List RawEnd) → All BoundedEnd l → All (EndOf w) l → All (EndIn s w) l
   ends-in [] b a = tt
   ends-in (e ∷ l) b a = (record { bounds = b .0; type = t .nodes (e .node) (a .0) }, ends-in l (b .1) (a .1))
 

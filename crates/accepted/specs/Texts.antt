@@ -1,0 +1,47 @@
+-- An accepted text: its script stands in its tables, and the program that they hold is the script's own.
+use Prim.Native.Nat.{ℕ}
+use mathlib.Core.Path.{_≡_, refl, sym, _∙_, ap, subst}
+use mathlib.Core.List.{List}
+use native.Mathlib.Omega.{arith}
+use lib.ListN.{length, length-replicate}
+use Rattle.notation.specs.Limits.{scratchWords}
+use Rattle.notation.specs.Tree.{Declaration}
+use Rattle.notation.specs.Reader.{got}
+use Rattle.notation.specs.Scripts.{readText}
+use Rattle.notation.specs.Tables.{nothing, zeros, tables, tablesOf, tablesRead, afterScript}
+use Rattle.notation.specs.declared.reading.Cursor.{Cursor}
+use Rattle.calculus.specs.Program.{programOf}
+use Rattle.calculus.specs.Accepted.{accepted, checked}
+use Rattle.calculus.specs.Demands.{Derivable}
+use Rattle.derivations.specs.Accepts.{accepts}
+use Rattle.preservation.specs.Stepping.{Bodies}
+use Rattle.preservation.specs.Accepted.{accepted-bodies}
+use Rattle.reader.specs.Reading.{Within, FitsTables}
+use Rattle.tables.specs.Program.{programIn, program-sorted}
+use Rattle.tables.specs.Scripts.{sorted}
+use Rattle.tables.specs.Decode.{scriptIn}
+use Rattle.tables.specs.Whole.{Tables, text-decoded}
+use Rattle.tables.specs.Everywhere.{Everywhere, text-everywhere}
+
+module _ (s : List ℕ) (ds : List Declaration) (ok : checked s ≡ accepted ds) (fits : FitsTables s) where
+  derivable : Derivable s ds
+  derivable = accepts s ds .0 ok
+
+  within : Within (afterScript ds nothing)
+  within = fits ds (derivable .cursor) (derivable .read)
+
+  decoded : (scriptIn s (tables s) ≡ sorted ds) × Tables s (tables s)
+  decoded = text-decoded s ds (derivable .cursor) (derivable .read) within
+
+  pub tables-stand : Tables s (tables s)
+  tables-stand = decoded .1
+
+  pub tables-everywhere : Everywhere s (tables s)
+  tables-everywhere = text-everywhere s ds (derivable .cursor) (derivable .read) within
+
+  pub program-is : programIn s (tables s) ≡ programOf ds
+  unfolding programIn
+  program-is = ap programOf (decoded .0) ∙ program-sorted ds
+
+  pub bodies-typed : Bodies (programIn s (tables s))
+  bodies-typed = subst Bodies (sym program-is) (accepted-bodies s ds ok)

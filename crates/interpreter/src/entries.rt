@@ -1,0 +1,77 @@
+// The entries: each checks the text first, refusals 1 to 15, and then asks what the accepted text comes to.
+ghost use Rattle.interpreter.specs.Entries.{Starts, Steps, RunsOn, Reports, Names};
+use crate::accepted::name_in;
+use crate::accepted::report_in;
+use crate::accepted::run_on_in;
+use crate::accepted::start_in;
+use crate::accepted::step_in;
+use calculus::answers::RanOn;
+use calculus::answers::Report;
+use calculus::answers::Reported;
+use calculus::answers::Started;
+use calculus::answers::Stepped;
+use checker::check::check;
+use declared::verdict::Verdict;
+
+// Begins the run of an exec line anew.
+pub fn start(text: &[u8], scratch: &mut [u32], run: &mut [u32], line: u32) -> Started
+    ensures { λ r. ⌜ Starts (now (text .entry)) (now (scratch .entry)) (now (run .entry)) line r (now (scratch .exit)) (now (run .exit)) ⌝ }
+{
+    let v = check(text, scratch);
+    let Verdict::Refused(n, at) = v else {
+        return start_in(text, &scratch[0..8192], run, line);
+    };
+    Started::Refused(n, at)
+}
+
+// Carries out the step at a place.
+pub fn step(text: &[u8], scratch: &mut [u32], run: &mut [u32], place: u32) -> Stepped
+    ensures { λ r. ⌜ Steps (now (text .entry)) (now (scratch .entry)) (now (run .entry)) place r (now (scratch .exit)) (now (run .exit)) ⌝ }
+{
+    let v = check(text, scratch);
+    let Verdict::Refused(n, at) = v else {
+        return step_in(text, &scratch[0..8192], run, place);
+    };
+    Stepped::Refused(n, at)
+}
+
+// Steps until one shows something, no process is left, none can be carried out, or the budget is spent.
+pub fn run_on(text: &[u8], scratch: &mut [u32], run: &mut [u32], budget: u32) -> RanOn
+    ensures { λ r. ⌜ RunsOn (now (text .entry)) (now (scratch .entry)) (now (run .entry)) budget r (now (scratch .exit)) (now (run .exit)) ⌝ }
+{
+    let v = check(text, scratch);
+    let Verdict::Refused(n, at) = v else {
+        return run_on_in(text, &scratch[0..8192], run, budget);
+    };
+    RanOn::Refused(n, at)
+}
+
+// The numbers of the outside channels still open.
+pub fn report(text: &[u8], scratch: &mut [u32], run: &[u32]) -> Report
+    ensures { λ r. ⌜ Reports (now (text .entry)) (now (scratch .entry)) (now (run .entry)) r (now (scratch .exit)) ⌝ }
+{
+    let v = check(text, scratch);
+    let Verdict::Refused(n, at) = v else {
+        return report_in(text, &scratch[0..8192], run);
+    };
+    no_report(n, at)
+}
+
+// The name of an exec line's process, as the part of the text that holds it: empty where it is refused, and the refusal stands in the lent numbers.
+pub fn exec_name<'a>(
+    text: &'a [u8],
+    scratch: &mut [u32],
+    line: u32,
+    number: &mut u32,
+    at: &mut usize,
+) -> &'a [u8]
+    ensures { λ r. ⌜ Names (now (text .entry)) (now (scratch .entry)) line (now r) (now (number .exit)) (now (at .exit)) (now (scratch .exit)) ⌝ }
+{
+    let v = check(text, scratch);
+    let Verdict::Refused(n, i) = v else {
+        return name_in(text, &scratch[0..8192], line, number, at);
+    };
+    *number = n;
+    *at = i;
+    &text[0..0]
+}

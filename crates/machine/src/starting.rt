@@ -1,0 +1,119 @@
+// "Start makes one process, the exec process's body with its signature's channels."
+ghost use mathlib.Core.Path.{_≡_};
+ghost use mathlib.Core.List.{_++_};
+ghost use Prim.Native.Nat.{_+_, _≤_, _<_};
+ghost use lib.ListN.{length};
+ghost use Rattle.notation.specs.Limits.{runWords};
+ghost use Rattle.calculus.specs.Runs.{execOf};
+ghost use Rattle.typereader.specs.Filling.{Area};
+ghost use Rattle.tables.specs.Program.{programIn};
+ghost use Rattle.tables.specs.Whole.{Tables};
+ghost use Rattle.runs.specs.Lists.{tab};
+ghost use Rattle.runs.specs.Raw.{rawIn, Bounded};
+ghost use Rattle.runs.specs.Operations.{onOutside};
+ghost use Rattle.runs.specs.Values.{heldIn, Changed};
+ghost use Rattle.machine.specs.Dispatch.{SmallSignatures};
+ghost use Rattle.machine.specs.Starting.{startEnd, startChannel, EntriesFit, startRaw, Begins};
+use notation::reading::Found;
+use runs::held::no_ends;
+use runs::held::with;
+use runs::outside::append_outside;
+use runs::outside::set_given;
+use runs::places::begin;
+use runs::records::End;
+use runs::records::Held;
+use runs::records::Outside;
+use runs::records::Process;
+use tables::access::Declared;
+use tables::access::declared_process;
+use tables::access::entry;
+use tables::access::exec_at;
+use tables::access::exec_count;
+use tables::search::find_process;
+
+// The ends that a process provides at start: those of n signature entries, on the channels from 0 on.
+fn start_ends(scratch: &[u32], first: usize, n: usize) -> Held
+    requires { ⌜ Area (now scratch) × EntriesFit (now scratch) first n × (n ≤ 16) ⌝ }
+    ensures { λ r. ⌜ heldIn r ≡ tab (startEnd (now (scratch .entry)) first) n ⌝ }
+{
+    let none = no_ends();
+    let mut q = none;
+    let mut k: usize = 0;
+    while k < n {
+        let e = entry(scratch, first + k);
+        q = with(
+            q,
+            End {
+                name: e.at as u32,
+                side: 0,
+                node: e.number as u32,
+                channel: k as u32,
+            },
+        );
+        k += 1;
+    }
+    q
+}
+
+// "The outside uses these channels, numbered from 0 in list order."
+fn use_channels(scratch: &[u32], run: &mut [u32], first: usize, n: usize)
+    requires { ⌜ Area (now scratch) × EntriesFit (now scratch) first n ⌝ }
+    requires { ⌜ (runWords ≤ length (now run)) × Bounded (rawIn (now run)) × (length (rawIn (now run) .outside) + n ≤ 32) ⌝ }
+    ensures { λ r. ⌜ Changed (now (run .entry)) (now (run .exit)) (onOutside (λ l. l ++ tab (startChannel (now (scratch .entry)) first) n) (rawIn (now (run .entry)))) ⌝ }
+    ensures { λ r. ⌜ Bounded (rawIn (now (run .exit))) ⌝ }
+{
+    let mut k: usize = 0;
+    while k < n {
+        let e = entry(scratch, first + k);
+        append_outside(
+            run,
+            Outside {
+                number: k as u32,
+                node: e.number as u32,
+                channel: k as u32,
+            },
+        );
+        k += 1;
+    }
+}
+
+// The run of a process alone, with what it provides, which the outside uses.
+fn begin_process(scratch: &[u32], run: &mut [u32], d: Declared)
+    requires { ⌜ Area (now scratch) × EntriesFit (now scratch) (d .first) (d .provided) × (d .provided ≤ 16) × (d .body < 16384) ⌝ }
+    requires { ⌜ runWords ≤ length (now run) ⌝ }
+    ensures { λ r. ⌜ Changed (now (run .entry)) (now (run .exit)) (startRaw (now (scratch .entry)) (d .first) (d .provided) (d .body)) ⌝ }
+    ensures { λ r. ⌜ Bounded (rawIn (now (run .exit))) ⌝ }
+{
+    let held = start_ends(scratch, d.first, d.provided);
+    begin(
+        run,
+        Process {
+            kind: 0,
+            pointer: d.body as u32,
+            link: 0,
+            held,
+        },
+    );
+    use_channels(scratch, run, d.first, d.provided);
+    set_given(run, d.provided as u32);
+}
+
+// Writes the run of an exec line; false, and nothing written, where the line has no process.
+pub fn begin_line(text: &[u8], scratch: &[u32], run: &mut [u32], line: usize) -> bool
+    requires { ⌜ Tables (now text) (now scratch) ⌝ }
+    requires { ⌜ runWords ≤ length (now run) ⌝ }
+    requires { ⌜ SmallSignatures (programIn (now text) (now scratch)) ⌝ }
+    ensures { λ r. ⌜ Begins (now (text .entry)) (now (scratch .entry)) (now (run .entry)) (now (run .exit)) r (execOf (programIn (now (text .entry)) (now (scratch .entry))) line) ⌝ }
+{
+    if exec_count(scratch) <= line {
+        return false;
+    }
+    let at = exec_at(scratch, line);
+    let f = find_process(text, scratch, at);
+    let Found::At(k) = f else {
+        return false;
+    };
+    let d = declared_process(scratch, k);
+    begin_process(scratch, run, d);
+    true
+}
