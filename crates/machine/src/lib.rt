@@ -13,5 +13,5 @@ pub mod parting;
 pub mod receiving;
 pub mod running;
 pub mod sending;
-pub mod trying;
 pub mod starting;
+pub mod trying;
