@@ -2,34 +2,15 @@
 use libc::STDOUT_FILENO;
 use printing::pieces::Stage;
 use printing::pieces::first_piece;
+use printing::pieces::is_left;
 use printing::pieces::next_piece;
-ghost use mathlib.Core.Path.{_≡_};
-ghost use mathlib.Core.Bool.{true};
-ghost use Prim.Native.Nat.{ℕ, _≤_, _<_};
+ghost use Prim.Native.Nat.{_≤_};
 ghost use lib.ListN.{length};
 ghost use Rattle.notation.specs.Limits.{runWords};
-ghost use Rattle.calculus.specs.Program.{Program};
-ghost use Rattle.printing.specs.Pieces.{Going, turns};
-
-// Something is left to print.
-fn is_left(stage: Stage) -> bool
-    ensures { λ r. ⌜ ((p : Program) → r ≡ true → 0 < turns p stage) ⌝ }
-{
-    match stage {
-        Stage::Exec(_) => return true,
-        Stage::Running(_, _) => return true,
-        Stage::Finished => return false,
-    }
-}
+ghost use Rattle.printing.specs.Pieces.{Going};
 
 // All that is left at a stage; answers whether it was written.
-fn print_rest(
-    text: &[u8],
-    scratch: &[u32],
-    run: &mut [u32],
-    out: &mut [u8],
-    from: Stage,
-) -> bool
+fn print_rest(text: &[u8], scratch: &[u32], run: &mut [u32], out: &mut [u8], from: Stage) -> bool
     requires { ⌜ Going (now text) (now scratch) (now run) from ⌝ }
     requires { ⌜ (runWords ≤ length (now run)) × (8320 ≤ length (now out)) ⌝ }
 {

@@ -3,6 +3,7 @@
 use Prim.Native.Nat.{ℕ, zero, suc, _+_, _-_, _*_, _≤_, _<_}
 use mathlib.Core.Path.{_≡_, refl, sym, _∙_, ap, subst}
 use mathlib.Core.List.{List, [], _∷_, _++_}
+use mathlib.Core.Bool.{Bool, true, false}
 use lib.ListN.{length, take, drop}
 use Rattle.notation.specs.Bytes.{bytes}
 use Rattle.notation.specs.Tables.{tables}
@@ -58,6 +59,11 @@ abbrev pub turns : Program → Stage → ℕ
 turns p (Exec line) = 10003 * (length (p .execs) - line) + 1
 turns p (Running line taken) = 10003 * (length (p .execs) - (line + 1)) + (stepLimit - taken) + 2
 turns p Finished = 0
+
+abbrev pub isLeft : Stage → Bool
+isLeft (Exec line) = true
+isLeft (Running line taken) = true
+isLeft Finished = false
 
 -- the first piece of a text, whatever the words of the run are
 pub record First (s w out : List ℕ) (r : Piece) : Type 0 where

@@ -47,7 +47,7 @@ use Rattle.machine.specs.Dispatch.{SmallSignatures, small-signatures}
 use Rattle.accepted.specs.Texts.{tables-stand, program-is, bodies-typed}
 use Rattle.printing.specs.Writing.{Appended}
 use Rattle.printing.specs.RunLines.{given-within, shown-steps, fuel-enough}
-use Rattle.printing.specs.Pieces.{left, leftIn, TextIn, RunningIn, GoingBy, Going, turns, First, Next, Wrote, toldLines, toldStage, Turn, Linked, written, PiecesPrinted}
+use Rattle.printing.specs.Pieces.{left, leftIn, TextIn, RunningIn, GoingBy, Going, turns, isLeft, First, Next, Wrote, toldLines, toldStage, Turn, Linked, written, PiecesPrinted}
 use Rattle.printing.specs.declared.pieces.Stage.{Stage}
 use Rattle.printing.specs.declared.pieces.Stage.the-variants.{Exec, Running, Finished}
 use Rattle.printing.specs.declared.pieces.Piece.{Piece}
@@ -332,6 +332,15 @@ going-running {s} {w} {ws} line taken e g = subst (GoingBy s w ws) e (g .is)
 
 pub next-none : (s w ws out : List ℕ) {a : Stage} → a ≡ Finished → Next s w ws ws out a (record { length = 0; stage = Finished })
 next-none s w ws out e = next-as e (record { is = refl; within = omega arith; going = record { is = tt }; falls = λ h. h })
+
+-- while something is left, a turn is
+left-turns : (p : Program) (a : Stage) → isLeft a ≡ true → 0 < turns p a
+left-turns p (Exec line) e = omega arith
+left-turns p (Running line taken) e = omega arith
+left-turns p Finished e = absurd (false≢true e)
+
+pub next-falls : {s w ws vs out : List ℕ} {a : Stage} {r : Piece} {b : Bool} → Next s w ws vs out a r → b ≡ isLeft a → b ≡ true → turns (programIn s w) (r .stage) < turns (programIn s w) a
+next-falls {s} {w} {a = a} n e q = n .falls (left-turns (programIn s w) a (sym e ∙ q))
 
 -- ── every list of pieces
 linked-written : (s w ws : List ℕ) (stage : Stage) (ts : List Turn) → Linked s w ws stage ts → written ts ≡ leftIn s w ws stage

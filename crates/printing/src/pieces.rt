@@ -17,7 +17,7 @@ ghost use lib.ListN.{length};
 ghost use Rattle.notation.specs.Limits.{scratchWords, runWords};
 ghost use Rattle.calculus.specs.Printed.{stepLimit, ending};
 ghost use Rattle.progress.specs.RunOn.{given};
-ghost use Rattle.printing.specs.Pieces.{TextIn, RunningIn, Going, First, Next, Wrote, toldLines, toldStage};
+ghost use Rattle.printing.specs.Pieces.{TextIn, RunningIn, Going, isLeft, First, Next, Wrote, toldLines, toldStage};
 ghost use Rattle.printing.specs.declared.pieces.Stage.the-variants.{Exec, Running};
 
 // What is left to print: all from an exec line on; what is left of that line, of which so many steps were taken, and all after it; nothing.
@@ -25,6 +25,16 @@ pub enum Stage {
     Exec(usize),
     Running(usize, u32),
     Finished,
+}
+
+pub fn is_left(stage: Stage) -> bool
+    ensures { λ r. ⌜ r ≡ isLeft stage ⌝ }
+{
+    match stage {
+        Stage::Exec(_) => return true,
+        Stage::Running(_, _) => return true,
+        Stage::Finished => return false,
+    }
 }
 
 // How many bytes stand in the buffer, and what is left after them.
