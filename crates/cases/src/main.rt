@@ -1,4 +1,4 @@
-// For each file that an argument names: a line with the name, and what the program prints for the script in it.
+// For each file that an argument names: a line with the name, and what `epass` prints for the script in it.
 use libc::STDOUT_FILENO;
 use output::text::print_text;
 
@@ -17,12 +17,17 @@ fn print_file(path: &[u8]) {
     print_text(&text[..n]);
 }
 
-fn main() {
+fn print_argument(i: usize) {
     let mut path = io::buffer();
+    let n = os::arg(i, &mut path);
+    print_file(&path[..n]);
+}
+
+fn main() {
+    let count = os::arg_count();
     let mut i = 1;
-    while i < os::arg_count() {
-        let n = os::arg(i, &mut path);
-        print_file(&path[..n]);
+    while i < count {
+        print_argument(i);
         i += 1;
     }
 }
