@@ -7,12 +7,12 @@ use printing::pieces::next_piece;
 ghost use Prim.Native.Nat.{_≤_};
 ghost use lib.ListN.{length};
 ghost use Rattle.notation.specs.Limits.{runWords};
-ghost use Rattle.printing.specs.Pieces.{Going};
+ghost use Rattle.printing.specs.Pieces.{pieceBytes, Going};
 
 // All that is left at a stage; answers whether it was written.
 fn print_rest(text: &[u8], scratch: &[u32], run: &mut [u32], out: &mut [u8], from: Stage) -> bool
     requires { ⌜ Going (now text) (now scratch) (now run) from ⌝ }
-    requires { ⌜ (runWords ≤ length (now run)) × (8320 ≤ length (now out)) ⌝ }
+    requires { ⌜ (runWords ≤ length (now run)) × (pieceBytes ≤ length (now out)) ⌝ }
 {
     let mut stage = from;
     while is_left(stage) {

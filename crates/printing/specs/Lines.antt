@@ -1,10 +1,10 @@
 -- The lines that the program prints, as their parts are put one after another.
-use Prim.Native.Nat.{ℕ, zero, suc, _+_, _-_, _≤_, _<_}
+use Prim.Native.Nat.{ℕ, _+_, _-_, _≤_}
 use mathlib.Core.Path.{_≡_, refl, sym, _∙_, ap}
 use mathlib.Core.List.{List, [], _∷_, _++_, append-assoc}
 use mathlib.Core.Bool.{Bool, true, false}
 use native.Mathlib.Omega.{arith}
-use lib.ListN.{length, take, drop, length-take, length-drop}
+use lib.ListN.{length, drop, length-take, length-drop}
 use Rattle.notation.specs.Bytes.{bytes}
 use Rattle.notation.specs.Token.{nameEnd, nameAt}
 use Rattle.calculus.specs.Printed.{decimal, line, shows, secondLine, sighting, ending}
@@ -35,7 +35,7 @@ label-put n {name} p q e u v = shows-put n (bytes "'" ++ name) p (appended-on q 
 pub passed-put : (n m : ℕ) {o a b c d : List ℕ} {at i j k r : ℕ} → Appended o a at i (channel n) × (i ≤ at + 15) → Appended a b i j (bytes "#") → Appended b c j k (decimal m) × (k ≤ j + 10) → Appended c d k r (10 ∷ []) → Appended o d at r (shows n (bytes "#" ++ decimal m)) × (r ≤ at + 27)
 passed-put n m (p, x) q (u, y) v = (shows-put n (bytes "#" ++ decimal m) p (appended-on q u) v, omega (arith, x, q .ends, y, v .ends))
 
-append-nil : (l : List ℕ) → l ++ [] ≡ l
+pub append-nil : (l : List ℕ) → l ++ [] ≡ l
 append-nil [] = refl
 append-nil (x ∷ l) = ap (_∷_ x) (append-nil l)
 

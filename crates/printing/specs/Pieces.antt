@@ -1,7 +1,7 @@
 -- What is left to print of a text at a stage, and what a piece of it is.
 -- s is the text, w its tables, ws the words of the run.
-use Prim.Native.Nat.{ℕ, zero, suc, _+_, _-_, _*_, _≤_, _<_}
-use mathlib.Core.Path.{_≡_, refl, sym, _∙_, ap, subst}
+use Prim.Native.Nat.{ℕ, suc, _+_, _-_, _*_, _≤_, _<_}
+use mathlib.Core.Path.{_≡_}
 use mathlib.Core.List.{List, [], _∷_, _++_}
 use mathlib.Core.Bool.{Bool, true, false}
 use lib.ListN.{length, take, drop}
@@ -21,6 +21,10 @@ use Rattle.machine.specs.Run.{configIn, RunOf}
 use Rattle.printing.specs.declared.pieces.Stage.{Stage}
 use Rattle.printing.specs.declared.pieces.Stage.the-variants.{Exec, Running, Finished}
 use Rattle.printing.specs.declared.pieces.Piece.{Piece}
+
+-- bytes of the buffer that a piece is put into: a name may be as long as its text, 8,192 bytes, and fewer than 128 stand beside it
+abbrev pub pieceBytes : ℕ
+pieceBytes = 8320
 
 -- all from an exec line on; what is left of that line, of which so many steps were taken, and all after it; nothing
 abbrev pub left : List ℕ → Program → Config → Stage → List ℕ

@@ -1,11 +1,11 @@
 -- The lines of a run, asked for piece by piece: the steps that run-on counts, and the fuel of `runLines`, which never runs out.
 use Prim.Native.Nat.{ℕ, zero, suc, _+_, _-_, _≤_, _<_}
-use mathlib.Core.Path.{_≡_, refl, sym, _∙_, ap, subst}
-use mathlib.Core.List.{List, [], _∷_, _++_}
+use mathlib.Core.Path.{_≡_, refl, ap, subst}
+use mathlib.Core.List.{List}
 use native.Mathlib.Omega.{arith}
 use Rattle.calculus.specs.Program.{Program}
 use Rattle.calculus.specs.Configuration.{Config}
-use Rattle.calculus.specs.Runs.{Ran, runOn}
+use Rattle.calculus.specs.Runs.{runOn}
 use Rattle.calculus.specs.Printed.{stepLimit, showing, runLines}
 use Rattle.calculus.specs.declared.answers.Seen.{Seen}
 use Rattle.calculus.specs.declared.answers.RanOn.{RanOn}

@@ -1,8 +1,8 @@
 -- How each piece follows from what was done for it.
-use Prim.Native.Nat.{ℕ, zero, suc, _+_, _-_, _*_, _≤_, _<_}
+use Prim.Native.Nat.{ℕ, zero, suc, _+_, _-_, _≤_, _<_}
 use mathlib.Core.Path.{_≡_, refl, sym, _∙_, ap, subst}
 use mathlib.Core.List.{List, [], _∷_, _++_, append-assoc}
-use mathlib.Core.Bool.{Bool, true, false, cond, false≢true}
+use mathlib.Core.Bool.{Bool, true, false, false≢true}
 use mathlib.Core.Option.{Option, some, none, Option·none-ne-some}
 use native.Mathlib.Numerals.{add-one}
 use native.Mathlib.Omega.{arith}
@@ -10,16 +10,16 @@ use borrow.Author.Tests.{leb-true}
 use lib.Dec.{leb}
 use lib.ListN.{length, take, drop, getElem?, length-take, drop-of-length-le}
 use Rattle.notation.specs.Bytes.{bytes}
-use Rattle.notation.specs.Limits.{textLimit, scratchWords, runWords}
-use Rattle.notation.specs.Reader.{nameIn, got, refused}
+use Rattle.notation.specs.Limits.{textLimit, scratchWords}
+use Rattle.notation.specs.Reader.{nameIn}
 use Rattle.notation.specs.Scripts.{readText}
 use Rattle.notation.specs.Tables.{tables}
 use Rattle.notation.specs.Token.{nameAt}
-use Rattle.notation.specs.Tree.{Name, Located, Declaration}
-use Rattle.calculus.specs.Accepted.{Checked, accepted, faulty, checked, checkedRead}
+use Rattle.notation.specs.Tree.{Declaration}
+use Rattle.calculus.specs.Accepted.{Checked, accepted, faulty, checked}
 use Rattle.calculus.specs.Configuration.{Config}
 use Rattle.calculus.specs.Printed
-use Rattle.calculus.specs.Printed.{stepLimit, decimal, sighting, ending, showing, runLines, execLines, allExecs, printedOf, printed}
+use Rattle.calculus.specs.Printed.{stepLimit, decimal, sighting, showing, runLines, execLines, allExecs, printedOf, printed}
 use Rattle.calculus.specs.Program.{Signature, Program, programOf}
 use Rattle.calculus.specs.Runs.{startConfig, lineSignature, execOf, runOn}
 use Rattle.calculus.specs.Verdict.{fine}
@@ -40,12 +40,13 @@ use Rattle.tables.specs.Access.{ExecOf, exec-of}
 use Rattle.tables.specs.Decode.{tallyIn, execAt}
 use Rattle.tables.specs.Program.{programIn}
 use Rattle.tables.specs.Whole.{Tables}
-use Rattle.machine.specs.Run.{configIn, RunOf, Becomes}
+use Rattle.machine.specs.Run.{configIn, Becomes}
 use Rattle.machine.specs.Running.{RunsOn}
 use Rattle.machine.specs.Starting.{BeginsBy, Begins, execs-many, exec-name}
 use Rattle.machine.specs.Dispatch.{SmallSignatures, small-signatures}
 use Rattle.accepted.specs.Texts.{tables-stand, program-is, bodies-typed}
 use Rattle.printing.specs.Writing.{Appended}
+use Rattle.printing.specs.Lines.{append-nil}
 use Rattle.printing.specs.RunLines.{given-within, shown-steps, fuel-enough}
 use Rattle.printing.specs.Pieces.{left, leftIn, TextIn, RunningIn, GoingBy, Going, turns, isLeft, First, Next, Wrote, toldLines, toldStage, Turn, Linked, written, PiecesPrinted}
 use Rattle.printing.specs.declared.pieces.Stage.{Stage}
@@ -129,10 +130,6 @@ refused-so (faulty m j) n i e = λ k. faulty (numberOf (sym e k)) (offsetOf (sym
 fine-so : (c : Checked) → fine ≡ verdictIn c → (ds : List Declaration) × (c ≡ accepted ds)
 fine-so (accepted ds) e = (ds, refl)
 fine-so (faulty n i) e = absurd (subst IsFine e tt)
-
-append-nil : (l : List ℕ) → l ++ [] ≡ l
-append-nil [] = refl
-append-nil (x ∷ l) = ap (_∷_ x) (append-nil l)
 
 printed-by : (s : List ℕ) (c : Checked) → checked s ≡ c → printed s ≡ printedOf s c
 unfolding printed

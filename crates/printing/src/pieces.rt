@@ -11,13 +11,12 @@ use machine::starting::begin_line;
 use tables::access::exec_at;
 use tables::access::exec_count;
 ghost use mathlib.Core.Path.{_≡_};
-ghost use mathlib.Core.List.{[]};
-ghost use Prim.Native.Nat.{ℕ, _+_, _≤_, _<_};
+ghost use Prim.Native.Nat.{_+_, _≤_, _<_};
 ghost use lib.ListN.{length};
 ghost use Rattle.notation.specs.Limits.{scratchWords, runWords};
 ghost use Rattle.calculus.specs.Printed.{stepLimit, ending};
 ghost use Rattle.progress.specs.RunOn.{given};
-ghost use Rattle.printing.specs.Pieces.{TextIn, RunningIn, Going, isLeft, First, Next, Wrote, toldLines, toldStage};
+ghost use Rattle.printing.specs.Pieces.{pieceBytes, TextIn, RunningIn, Going, isLeft, First, Next, Wrote, toldLines, toldStage};
 ghost use Rattle.printing.specs.declared.pieces.Stage.the-variants.{Exec, Running};
 
 // What is left to print: all from an exec line on; what is left of that line, of which so many steps were taken, and all after it; nothing.
@@ -45,7 +44,7 @@ pub struct Piece {
 
 // The text is checked: its refusal, or nothing yet.
 pub fn first_piece(text: &[u8], scratch: &mut [u32], out: &mut [u8]) -> Piece
-    requires { ⌜ (length (now scratch) ≡ scratchWords) × (33 ≤ length (now out)) ⌝ }
+    requires { ⌜ (length (now scratch) ≡ scratchWords) × (pieceBytes ≤ length (now out)) ⌝ }
     ensures { λ r. ⌜ First (now (text .entry)) (now (scratch .exit)) (now (out .exit)) r ⌝ }
 {
     let v = check(text, scratch);
@@ -71,7 +70,7 @@ pub fn next_piece(
     stage: Stage,
 ) -> Piece
     requires { ⌜ Going (now text) (now scratch) (now run) stage ⌝ }
-    requires { ⌜ (runWords ≤ length (now run)) × (8320 ≤ length (now out)) ⌝ }
+    requires { ⌜ (runWords ≤ length (now run)) × (pieceBytes ≤ length (now out)) ⌝ }
     ensures { λ r. ⌜ Next (now (text .entry)) (now (scratch .entry)) (now (run .entry)) (now (run .exit)) (now (out .exit)) stage r ⌝ }
 {
     match stage {
@@ -87,7 +86,7 @@ pub fn next_piece(
 // An exec line begins with its header.
 fn exec_piece(text: &[u8], scratch: &[u32], run: &mut [u32], out: &mut [u8], line: usize) -> Piece
     requires { ⌜ TextIn (now text) (now scratch) ⌝ }
-    requires { ⌜ (runWords ≤ length (now run)) × (8320 ≤ length (now out)) ⌝ }
+    requires { ⌜ (runWords ≤ length (now run)) × (pieceBytes ≤ length (now out)) ⌝ }
     ensures { λ r. ⌜ Next (now (text .entry)) (now (scratch .entry)) (now (run .entry)) (now (run .exit)) (now (out .exit)) (Exec line) r ⌝ }
 {
     if exec_count(scratch) <= line {
@@ -120,7 +119,7 @@ fn running_piece(
     taken: u32,
 ) -> Piece
     requires { ⌜ RunningIn (now text) (now scratch) (now run) line taken ⌝ }
-    requires { ⌜ 8320 ≤ length (now out) ⌝ }
+    requires { ⌜ pieceBytes ≤ length (now out) ⌝ }
     ensures { λ r. ⌜ Next (now (text .entry)) (now (scratch .entry)) (now (run .entry)) (now (run .exit)) (now (out .exit)) (Running line taken) r ⌝ }
 {
     let r = steps_until(text, scratch, run, 10000 - taken);

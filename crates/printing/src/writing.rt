@@ -1,6 +1,6 @@
 // Bytes put into a buffer, one text after another: each function puts its text from `at` on and answers where it ends.
 ghost use mathlib.Core.Path.{_≡_};
-ghost use Prim.Native.Nat.{ℕ, _+_, _%_, _≤_};
+ghost use Prim.Native.Nat.{_+_, _%_, _≤_};
 ghost use lib.ListN.{length};
 ghost use Rattle.calculus.specs.Printed.{decimal};
 ghost use Rattle.printing.specs.Writing.{Appended};
