@@ -3,10 +3,10 @@ use contexts::held::Lookup;
 use labels::fit::labels_fit;
 use notation::reading::TermNode;
 use runs::records::Held;
+use runs::words::wide;
 use terms::acting::acting;
 use types::acting::choosing;
 use types::messages::Choosing;
-ghost use mathlib.Core.Path.{_≡_};
 ghost use Prim.Native.Nat.{ℕ};
 ghost use Rattle.contexts.specs.Held.{HeldIn};
 ghost use Rattle.tables.specs.Roots.{BranchesIn};
@@ -17,12 +17,6 @@ ghost use Rattle.checker.specs.Offers.{Offers};
 pub enum Offer {
     Refused(u32),
     Labels(usize, usize),
-}
-
-fn wide(x: u32) -> usize
-    ensures { λ r. ⌜ r ≡ x ⌝ }
-{
-    x as usize
 }
 
 pub(crate) fn labels_offered(text: &[u8], scratch: &[u32], h: Held, n: TermNode) -> Offer

@@ -6,6 +6,7 @@ use runs::held::no_ends;
 use runs::held::with;
 use runs::records::End;
 use runs::records::Held;
+use runs::words::wide;
 ghost use mathlib.Core.Path.{_≡_};
 ghost use Prim.Native.Nat.{ℕ, _+_, _≤_, _<_};
 ghost use mathlib.Core.List.{[], _∷_, _++_};
@@ -21,12 +22,6 @@ ghost use Rattle.contexts.specs.Halves.{HalfIn, takes, wanted, Keeps, fa
 pub enum Half {
     OfSpawn(usize, usize),
     OfTry(usize),
-}
-
-fn wide(x: u32) -> usize
-    ensures { λ r. ⌜ r ≡ x ⌝ }
-{
-    x as usize
 }
 
 // The half takes the held channel whose name is the one at `at`.

@@ -7,6 +7,7 @@ use runs::held::with;
 use runs::held::without;
 use runs::records::End;
 use runs::records::Held;
+use runs::words::wide;
 ghost use mathlib.Core.Path.{_≡_};
 ghost use Prim.Native.Nat.{ℕ, _<_, _≤_};
 ghost use Rattle.contexts.specs.Held.{isNamed, Sees, Drops, Retypes, Brings};
@@ -19,12 +20,6 @@ ghost use Rattle.runs.specs.Values.{heldIn};
 pub enum Lookup {
     Found(End),
     Nothing,
-}
-
-fn wide(x: u32) -> usize
-    ensures { λ r. ⌜ r ≡ x ⌝ }
-{
-    x as usize
 }
 
 // The first position that has the name at `at`.

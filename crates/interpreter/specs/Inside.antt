@@ -56,11 +56,15 @@ abbrev isFaulty : Checked → Bool
 isFaulty (accepted ds) = false
 isFaulty (faulty n i) = true
 
--- a kind of call that is lent a run: c n is the call with n scratch words, r its refusals, y its reply past 16
-pub record Kind (s ws : List ℕ) (c : ℕ → Call) (r : ℕ → ℕ → Answer) (y : Config → Reply) : Type 0 where
+-- a kind of call that is lent a run: c n is the call with n scratch words, r its refusals
+pub record Refusing (c : ℕ → Call) (r : ℕ → ℕ → Answer) : Type 0 where
   pub scratch : (n : ℕ) → scratchOf (c n) ≡ n
   pub refuses : (C : Config) (n k i : ℕ) → refusal C (c n) k i ≡ reply (r k i) C
   pub refused : (k i : ℕ) → isRefused (r k i) ≡ true
+
+-- with an accepted text, y is its reply past 16
+pub record Kind (s ws : List ℕ) (c : ℕ → Call) (r : ℕ → ℕ → Answer) (y : Config → Reply) : Type 0 where
+  pub refusing : Refusing c r
   pub beyond : (C : Config) (n : ℕ) → scratchWords ≤ n → respond s C (c n) ≡ onRun (length ws) (λ k i. reply (r k i) C) (y C)
 
 untouched : {s ws : List ℕ} (C : Config) (a : Answer) → isRefused a ≡ true → RunAfter s ws ws (reply a C)
@@ -73,11 +77,11 @@ module _ (s ws : List ℕ) (c : ℕ → Call) (r : ℕ → ℕ → Answer) (y : 
     stranger = λ h. absurd (omega arith);
     known = λ _ n h.
         let e : reply (r 16 0) (configOf s ws) ≡ respond s (configOf s ws) (c n) = sym (K .beyond (configOf s ws) n h ∙ ap (λ b. cond b (y (configOf s ws)) (reply (r 16 0) (configOf s ws))) (lt-leb runWords (length ws) l)) in
-        (ap (λ (z : Reply). z .answer) e, subst (RunAfter s ws ws) e (untouched (configOf s ws) (r 16 0) (K .refused 16 0)));
+        (ap (λ (z : Reply). z .answer) e, subst (RunAfter s ws ws) e (untouched (configOf s ws) (r 16 0) (K .refusing .refused 16 0)));
   }
 
   pub answers-stranger : runWords ≤ length ws → ¬ HoldsRun s ws → AnswersIn s ws c (r 18 0) ws
-  answers-stranger l d = record { stranger = λ _ _ n. (ap (λ (z : Reply). z .answer) (sym (K .refuses idle n 18 0)), refl); known = λ k. absurd (d (k l)) }
+  answers-stranger l d = record { stranger = λ _ _ n. (ap (λ (z : Reply). z .answer) (sym (K .refusing .refuses idle n 18 0)), refl); known = λ k. absurd (d (k l)) }
 
   -- past them
   pub answers-known : {a : Answer} {vs : List ℕ} → runWords ≤ length ws → HoldsRun s ws → a ≡ y (configOf s ws) .answer → RunAfter s ws vs (y (configOf s ws)) → AnswersIn s ws c a vs
@@ -88,27 +92,26 @@ module _ (s ws : List ℕ) (c : ℕ → Call) (r : ℕ → ℕ → Answer) (y : 
         (e ∙ ap (λ (z : Reply). z .answer) z, subst (RunAfter s ws vs) z f);
   }
 
-  -- ── with the text's own verdict
-  module _ (w x : List ℕ) (v : Verdict) (t : TextChecked s w v x) where
-    pub answers-refused : (n i : ℕ) → v ≡ verdict.Refused n i → Answers s w ws (c (length w)) (r n i) x ws
-    answers-refused n i q = record {
-      scratch = scratch-is s w x v t;
-      stranger = λ h. absurd (true≢false (ap isFaulty (sym (text-refused s w x v t n i q) ∙ enough-text s (h .script) (h .accepts) (length w) (h .scratch))));
-      known = λ _.
-          let e : reply (r n i) (configOf s ws) ≡ respond s (configOf s ws) (c (length w)) =
-          sym (reply-refused s (configOf s ws) (c (length w)) n i (ap (textChecked s) (K .scratch (length w)) ∙ text-refused s w x v t n i q) ∙ K .refuses (configOf s ws) (length w) n i) in
-          (ap (λ (z : Reply). z .answer) e, subst (RunAfter s ws ws) e (untouched (configOf s ws) (r n i) (K .refused n i)));
-    }
+-- ── with the text's own verdict
+module _ (s w x : List ℕ) (v : Verdict) (t : TextChecked s w v x) (ws : List ℕ) (c : ℕ → Call) where
+  pub answers-refused : (r : ℕ → ℕ → Answer) → Refusing c r → (n i : ℕ) → v ≡ verdict.Refused n i → Answers s w ws (c (length w)) (r n i) x ws
+  answers-refused r K n i q = record {
+    scratch = scratch-is s w x v t;
+    stranger = λ h. absurd (true≢false (ap isFaulty (sym (text-refused s w x v t n i q) ∙ enough-text s (h .script) (h .accepts) (length w) (h .scratch))));
+    known = λ _.
+        let e : reply (r n i) (configOf s ws) ≡ respond s (configOf s ws) (c (length w)) =
+        sym (reply-refused s (configOf s ws) (c (length w)) n i (ap (textChecked s) (K .scratch (length w)) ∙ text-refused s w x v t n i q) ∙ K .refuses (configOf s ws) (length w) n i) in
+        (ap (λ (z : Reply). z .answer) e, subst (RunAfter s ws ws) e (untouched (configOf s ws) (r n i) (K .refused n i)));
+  }
 
-    pub answers-accepted : v ≡ verdict.Fine → {a : Answer} {vs : List ℕ} → AnswersIn s ws c a vs → Answers s w ws (c (length w)) a x vs
-    answers-accepted q A = record {
-      scratch = scratch-is s w x v t;
-      stranger = λ h d. A .stranger (h .run) d (length w);
-      known = λ k. A .known (λ l. k (record { script = script-of s w x v t q .0; accepts = script-of s w x v t q .1; scratch = enough; run = l })) (length w) enough;
-    }
-      where
-        enough : scratchWords ≤ length w
-        enough = scratch-enough s w x v t q
+  pub answers-accepted : v ≡ verdict.Fine → {a : Answer} {vs : List ℕ} → AnswersIn s ws c a vs → Answers s w ws (c (length w)) a x vs
+  answers-accepted q A =
+      let enough = scratch-enough s w x v t q in
+      record {
+        scratch = scratch-is s w x v t;
+        stranger = λ h d. A .stranger (h .run) d (length w);
+        known = λ k. A .known (λ l. k (record { script = script-of s w x v t q .0; accepts = script-of s w x v t q .1; scratch = enough; run = l })) (length w) enough;
+      }
 
 -- ── start and the name of an exec line
 module _ (s w x : List ℕ) (v : Verdict) (t : TextChecked s w v x) where

@@ -4,5 +4,9 @@ pub mod Inside
 pub mod Runs
 pub mod Stepping
 pub mod RunningOn
+pub mod Reporting
 pub mod Starting
+pub mod Told
 pub mod Calls
+pub mod Unread
+pub mod Demand

@@ -26,7 +26,7 @@ use Rattle.machine.specs.Run.{configIn, Becomes}
 use Rattle.machine.specs.Running as machine
 use Rattle.accepted.specs.Texts.{program-is}
 use Rattle.interpreter.specs.Entries.{HoldsRun, configOf, Leaves, runAfter, RunAfter}
-use Rattle.interpreter.specs.Inside.{AnswersIn, Kind, enough-text, answers-known}
+use Rattle.interpreter.specs.Inside.{AnswersIn, Refusing, Kind, enough-text, answers-known}
 use Rattle.interpreter.specs.Runs.{leaves}
 
 abbrev runReply : Program → ℕ → Config → Reply
@@ -34,6 +34,12 @@ runReply p budget C = reply (ranOn (runOn p C budget .answer)) (runOn p C budget
 
 abbrev reportReply : Config → Reply
 reportReply C = reply (reported (Open (length (report C))) (report C)) C
+
+pub run-refusing : (m budget : ℕ) → Refusing (λ n. callRunOn n m budget) (λ k i. ranOn (runs.Refused k i))
+run-refusing m budget = record { scratch = λ n. refl; refuses = λ C n k i. refl; refused = λ k i. refl }
+
+pub report-refusing : (m : ℕ) → Refusing (λ n. callReport n m) (λ k i. reported (Refused k i) [])
+report-refusing m = record { scratch = λ n. refl; refuses = λ C n k i. refl; refused = λ k i. refl }
 
 module _ (s : List ℕ) (ds : List Declaration) (ok : checked s ≡ accepted ds) (fits : FitsTables s) (ws : List ℕ) where
   abbrev P : Program
@@ -45,15 +51,13 @@ module _ (s : List ℕ) (ds : List Declaration) (ok : checked s ≡ accepted ds)
   pub run-kind : (budget : ℕ) → Kind s ws (λ n. callRunOn n (length ws) budget) (λ k i. ranOn (runs.Refused k i)) (runReply P budget)
   unfolding respond
   run-kind budget = record {
-    scratch = λ n. refl;
-    refuses = λ C n k i. refl;
-    refused = λ k i. refl;
+    refusing = run-refusing (length ws) budget;
     beyond = λ C n h. rw (enough-text s ds ok n h) (ap (λ p. onRun (length ws) (λ k i. reply (ranOn (runs.Refused k i)) C) (runReply p budget C)) (sym (program-is s ds ok fits)));
   }
 
   pub report-kind : Kind s ws (λ n. callReport n (length ws)) (λ k i. reported (Refused k i) []) reportReply
   unfolding respond
-  report-kind = record { scratch = λ n. refl; refuses = λ C n k i. refl; refused = λ k i. refl; beyond = λ C n h. rw (enough-text s ds ok n h) refl }
+  report-kind = record { refusing = report-refusing (length ws); beyond = λ C n h. rw (enough-text s ds ok n h) refl }
 
   module _ (wide : runWords ≤ length ws) (holds : HoldsRun s ws) where
     kept : (budget : ℕ) → WellFormed P (runOn P C budget .config)

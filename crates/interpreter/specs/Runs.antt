@@ -16,9 +16,10 @@ use Rattle.tables.specs.Roots.{TypeIn}
 use Rattle.tables.specs.Whole.{Tables}
 use Rattle.tables.specs.Everywhere.{Everywhere}
 use Rattle.runs.specs.Lists.{All}
-use Rattle.runs.specs.Raw.{RawEnd, RawProcess, RawOutside, RawConfig, rawIn, BoundedProcess}
+use Rattle.runs.specs.ListLaws.{all-weaken}
+use Rattle.runs.specs.Raw.{RawProcess, RawOutside, rawIn, BoundedProcess}
 use Rattle.machine.specs.Run.{configIn, Fits, RunOf, Becomes}
-use Rattle.wellformed.specs.OfText.{EndOf, ProcessOf, OutsideOf, OfText, pointer-in, ends-in, pointer-of}
+use Rattle.wellformed.specs.OfText.{ProcessOf, OutsideOf, pointer-in, ends-in, process-of, of-text}
 use Rattle.wellformed.specs.Formed.{Formed}
 use Rattle.accepted.specs.Texts.{tables-stand, tables-everywhere, program-is}
 use Rattle.interpreter.specs.Entries.{HoldsRun, configOf, Leaves}
@@ -32,36 +33,20 @@ module _ (s w : List ℕ) (t : Everywhere s w) where
     processes-fit n l (b .1) (a .1),
   )
 
-  outside-fit : (l : List RawOutside) → All (OutsideOf w) l → All (λ (o : RawOutside). TypeIn s w (o .node)) l
-  outside-fit [] a = tt
-  outside-fit (o ∷ l) a = (t .nodes (o .node) (a .0), outside-fit l (a .1))
-
   pub run-of : (ws : List ℕ) → Tables s w → runWords ≤ length ws → Formed s w (rawIn ws) → RunOf s w ws
   run-of ws u l f = record {
     tables = u;
     wide = l;
     bounds = f .bounded;
     processes = processes-fit _ (rawIn ws .processes) (f .bounded .processes) (f .ofText .processes);
-    outside = outside-fit (rawIn ws .outside) (f .ofText .outside);
+    outside = all-weaken (OutsideOf w) (λ (o : RawOutside). TypeIn s w (o .node)) (λ o h. t .nodes (o .node) h) (rawIn ws .outside) (f .ofText .outside);
   }
 
 module _ (s w : List ℕ) where
-  ends-of : (l : List RawEnd) → All _ l → All (EndOf w) l
-  ends-of [] a = tt
-  ends-of (e ∷ l) a = (a .0 .type .small, ends-of l (a .1))
-
-  processes-of : (l : List RawProcess) → All (Fits s w) l → All (ProcessOf w) l
-  processes-of [] a = tt
-  processes-of (p ∷ l) a = (record { term = λ d. pointer-of s w (a .0 .term d); held = ends-of (p .held) (a .0 .held) }, processes-of l (a .1))
-
-  outside-of : (l : List RawOutside) → All (λ (o : RawOutside). TypeIn s w (o .node)) l → All (OutsideOf w) l
-  outside-of [] a = tt
-  outside-of (o ∷ l) a = (a .0 .small, outside-of l (a .1))
-
   pub formed-of : (ws : List ℕ) → RunOf s w ws → WellFormed (programIn s w) (configIn s w ws) → Formed s w (rawIn ws)
   formed-of ws r f = record {
     bounded = r .bounds;
-    ofText = record { processes = processes-of (rawIn ws .processes) (r .processes); outside = outside-of (rawIn ws .outside) (r .outside) };
+    ofText = of-text s w (Fits s w) (λ p h. process-of s w (h .term) (h .held)) (rawIn ws) (r .processes) (r .outside);
     is = f;
   }
 

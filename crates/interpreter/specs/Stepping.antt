@@ -27,7 +27,7 @@ use Rattle.machine.specs.Run.{configIn, Carries}
 use Rattle.machine.specs.Changes.{places-in}
 use Rattle.accepted.specs.Texts.{program-is, bodies-typed}
 use Rattle.interpreter.specs.Entries.{HoldsRun, configOf, Leaves, RunAfter}
-use Rattle.interpreter.specs.Inside.{AnswersIn, Kind, enough-text, answers-short, answers-stranger, answers-known}
+use Rattle.interpreter.specs.Inside.{AnswersIn, Refusing, Kind, enough-text, answers-known}
 use Rattle.interpreter.specs.Runs.{leaves}
 
 abbrev refuses : Config → ℕ → ℕ → Reply
@@ -46,6 +46,9 @@ steppedBy (words.Carried seen) = Carried seen
 steppedBy words.NotOpen = Refused 20 0
 steppedBy words.Lacking = Refused 21 0
 
+pub step-refusing : (m place : ℕ) → Refusing (λ n. callStep n m place) (λ k i. stepped (Refused k i))
+step-refusing m place = record { scratch = λ n. refl; refuses = λ C n k i. refl; refused = λ k i. refl }
+
 module _ (s : List ℕ) (ds : List Declaration) (ok : checked s ≡ accepted ds) (fits : FitsTables s) (ws : List ℕ) (place : ℕ) where
   abbrev P : Program
   P = programIn s (tables s)
@@ -56,9 +59,7 @@ module _ (s : List ℕ) (ds : List Declaration) (ok : checked s ≡ accepted ds)
   pub step-kind : Kind s ws (λ n. callStep n (length ws) place) (λ k i. stepped (Refused k i)) (stepReply P place)
   unfolding respond
   step-kind = record {
-    scratch = λ n. refl;
-    refuses = λ C n k i. refl;
-    refused = λ k i. refl;
+    refusing = step-refusing (length ws) place;
     beyond = λ C n h. rw (enough-text s ds ok n h) (ap (λ p. onRun (length ws) (refuses C) (stepReply p place C)) (sym (program-is s ds ok fits)));
   }
 

@@ -1,13 +1,13 @@
 // The entries: each checks the text first, refusals 1 to 15, and then asks what the accepted text comes to.
 ghost use Rattle.interpreter.specs.Entries.{Starts, Steps, RunsOn, Reports, Names};
-use crate::accepted::name_in;
-use crate::accepted::report_in;
-use crate::accepted::run_on_in;
-use crate::accepted::start_in;
-use crate::accepted::step_in;
+use crate::inside::name_in;
+use crate::inside::run_on_in;
+use crate::inside::start_in;
+use crate::inside::step_in;
+use crate::reports::no_report;
+use crate::reports::report_in;
 use calculus::answers::RanOn;
 use calculus::answers::Report;
-use calculus::answers::Reported;
 use calculus::answers::Started;
 use calculus::answers::Stepped;
 use checker::check::check;

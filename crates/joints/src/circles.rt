@@ -12,7 +12,6 @@ ghost use Rattle.runs.specs.Raw.{rawIn, linkOf, Bounded};
 ghost use Rattle.runs.specs.Values.{Moved, endIn, heldIn, processIn};
 ghost use Rattle.joints.specs.Answers.{Answers};
 ghost use Rattle.joints.specs.Circles.{endJoint, heldJoints, processJoints, jointsFrom, circleFree, Labelled, Joined};
-use crate::words::wide;
 use runs::far::far_end;
 use runs::held::end_at;
 use runs::processes::count;
@@ -21,6 +20,7 @@ use runs::records::End;
 use runs::records::Far;
 use runs::records::Held;
 use runs::records::Process;
+use runs::words::wide;
 
 // Each place has its own label.
 fn own_labels() -> [u32; 128]

@@ -15,7 +15,6 @@ use crate::numbers::numbers_rise;
 pub mod circles;
 pub mod links;
 pub mod numbers;
-mod words;
 
 // Whether all of it holds.
 pub fn well_joined(run: &[u32]) -> bool

@@ -9,9 +9,9 @@ ghost use Rattle.runs.specs.Raw.{RawProcess, rawIn, linkOf, Bounded};
 ghost use Rattle.joints.specs.Answers.{Answers};
 ghost use Rattle.joints.specs.Tests.{before};
 ghost use Rattle.joints.specs.Links.{leads, linksTo, linkedIfWaiting};
-use crate::words::wide;
 use runs::processes::count;
 use runs::processes::load;
+use runs::words::wide;
 
 // Whether a link, if it is one, leads to a waiting handler.
 fn link_leads(run: &[u32], link: u32) -> bool

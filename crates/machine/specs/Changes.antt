@@ -31,7 +31,7 @@ use Rattle.runs.specs.declared.records.Process.{Process as ProcessWords}
 use Rattle.runs.specs.declared.records.Held.{Held}
 use Rattle.runs.specs.declared.records.Outside.{Outside as OutsideWords}
 use Rattle.contexts.specs.Held.{channelsOf, EndIn, HeldIn}
-use Rattle.machine.specs.Run.{configIn, processAs, Fits, RunOf, ProcessOf, StandsAt, Becomes}
+use Rattle.machine.specs.Run.{pointerLimit, configIn, processAs, Fits, RunOf, ProcessOf, StandsAt, Becomes}
 
 -- one change after another
 pub then : {s w old mid new : List ℕ} {D : Config} (f : Config → Config) → Becomes s w old mid D → Becomes s w mid new (f (configIn s w mid)) → Becomes s w old new (f D)
@@ -47,11 +47,11 @@ all-changed P f k h (o ∷ l) (a, b) = go (eqb k (o .channel)) (all-changed P f 
     go false r = (a, r)
 
 -- a pointer fits into its bits
-pub pointer-small : (s w : List ℕ) (p : ℕ) → Tables s w → ProcessIn s w p → p < 16384
+pub pointer-small : (s w : List ℕ) (p : ℕ) → Tables s w → ProcessIn s w p → p < pointerLimit
 unfolding ProcessFrom
 pointer-small s w p t a = go (decLt p processTermLimit)
   where
-    go : Dec (p < processTermLimit) → p < 16384
+    go : Dec (p < processTermLimit) → p < pointerLimit
     go (yes l) = omega arith
     go (no l) =
         let e = sym (process-tree s w (t .within) p a) ∙ process-root s w (t .within) p a .none (omega arith) in

@@ -30,7 +30,7 @@ use Rattle.contexts.specs.Held.{channelsOf}
 use Rattle.preservation.specs.Stepping.{Bodies}
 use Rattle.machine.specs.declared.outcome.Outcome.{Outcome as OutcomeWords}
 use Rattle.machine.specs.declared.outcome.Outcome.the-variants.{NotOpen}
-use Rattle.machine.specs.Run.{configIn, doingAs, processAs, RunOf, StandsAt, Carries}
+use Rattle.machine.specs.Run.{pointerLimit, configIn, doingAs, processAs, RunOf, StandsAt, Carries}
 use Rattle.machine.specs.Changes.{places-in}
 use Rattle.machine.specs.Making.{SpawnIn}
 use Rattle.machine.specs.Messages.{messageBy, SendNode, label-small}
@@ -66,7 +66,7 @@ module _ (s w : List ℕ) (G : Context) (link : Bool) (n : TermNode) where
   factsBy zero = ⊥
   factsBy (suc zero) = ProcessIn s w (n .third)
   factsBy (suc (suc zero)) = ProcessIn s w (n .third)
-  factsBy (suc (suc (suc zero))) = (n .second < 16384) × ProcessIn s w (n .third)
+  factsBy (suc (suc (suc zero))) = (n .second < pointerLimit) × ProcessIn s w (n .third)
   factsBy (suc (suc (suc (suc zero)))) = ProcessIn s w (n .third)
   factsBy (suc (suc (suc (suc (suc zero))))) = TypeIn s w (n .first) × ProcessIn s w (n .second) × ProcessIn s w (n .third) × Typed (programIn s w) G link (spawn (nameIn s (n .at)) (typeIn s w (n .first)) (processIn s w (n .second)) (processIn s w (n .third)))
   factsBy (suc (suc (suc (suc (suc (suc zero)))))) = Unit {0}
@@ -78,7 +78,7 @@ module _ (s w : List ℕ) (G : Context) (link : Bool) (n : TermNode) where
   factsBy (suc (suc (suc (suc (suc (suc (suc (suc (suc (suc (suc (suc k)))))))))))) = ProcessIn s w (n .second) × ProcessIn s w (n .third)
 
 module _ (s w old : List ℕ) (i : ℕ) (q : Process) (p : ℕ) (A : Proc) (G : Context) (link : Bool) (d : Typed (programIn s w) G link A)
-    (small : (o : ℕ) (c : Located) (k : ℕ) (P : Proc) → A ≡ sendLabel o c (labelIn s k) P → k < 16384) (at first second third : ℕ) where
+    (small : (o : ℕ) (c : Located) (k : ℕ) (P : Proc) → A ≡ sendLabel o c (labelIn s k) P → k < pointerLimit) (at first second third : ℕ) where
   abbrev node : ℕ → TermNode
   node k = termNode k at first second third
 

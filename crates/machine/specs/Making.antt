@@ -13,8 +13,9 @@ use Rattle.notation.specs.Reader.{nameIn}
 use Rattle.notation.specs.declared.reading.Found.{Found}
 use Rattle.notation.specs.declared.reading.Found.the-variants as found
 use Rattle.calculus.specs.Named.{kept}
+use Rattle.calculus.specs.Types.{Side, provided, used}
 use Rattle.calculus.specs.Mentions.{spawnTakes, spawnLeaves, tryTakes}
-use Rattle.calculus.specs.Configuration.{running, waiting, Process, process, Config, config, replaced, movedUp}
+use Rattle.calculus.specs.Configuration.{end, running, waiting, Process, process, Config, config, replaced, movedUp}
 use Rattle.calculus.specs.Configuration as calculus
 use Rattle.calculus.specs.Steps.{Outcome, lacking, placeFor, spawned, spawning, trying}
 use Rattle.calculus.specs.declared.answers.Seen.the-variants.{Nothing}
@@ -22,22 +23,18 @@ use Rattle.holding.specs.Fresh.{fresh-free}
 use Rattle.tables.specs.Roots.{TypeIn, ProcessIn}
 use Rattle.tables.specs.Decode.{typeIn, processIn}
 use Rattle.tables.specs.Program.{plainIn}
-use Rattle.tables.specs.Access.{node-there}
-use Rattle.tables.specs.Whole.{Tables}
 use Rattle.runs.specs.ListLaws.{length-insert}
-use Rattle.runs.specs.Raw.{rawIn, linkOf, linksBelow, Bounded, BoundedEnd}
-use Rattle.runs.specs.Values.{Changed, heldIn, held-length, endIn}
+use Rattle.runs.specs.Raw.{rawIn, sideOf, linkOf, linksBelow, Bounded}
+use Rattle.runs.specs.Values.{Changed, heldIn, held-length}
 use Rattle.runs.specs.Values as values
 use Rattle.runs.specs.Operations as raw
 use Rattle.runs.specs.Operations.{foundIn, movedWord}
 use Rattle.runs.specs.Bounds.{link-moved, raised}
 use Rattle.runs.specs.DecodeLaws.{decoded-fresh}
 use Rattle.runs.specs.declared.records.Held.{Held}
-use Rattle.runs.specs.declared.records.End.{End as EndWords}
 use Rattle.runs.specs.declared.records.Process.{Process as ProcessWords}
 use Rattle.contexts.specs.Held.{endIs, channelsOf, HeldIn, Brings}
 use Rattle.contexts.specs.Halves.{takes, wanted, Keeps, try-takes}
-use Rattle.contexts.specs.declared.halves.Half.{Half}
 use Rattle.contexts.specs.declared.halves.Half.the-variants.{OfSpawn, OfTry}
 use Rattle.machine.specs.declared.outcome.Outcome.{Outcome as OutcomeWords}
 use Rattle.machine.specs.declared.outcome.Outcome.the-variants.{Carried, Lacking}
@@ -56,6 +53,11 @@ module _ (s w old : List ℕ) (o : Outcome) where
 inserted-many : (i : ℕ) (q : Process) (l : List Process) → length (calculus.inserted i q l) ≡ suc (length l)
 unfolding calculus.inserted
 inserted-many i q l = length-insert (suc i) q (map (calculus.relinked (movedUp i)) l) ∙ ap suc (length-map l (calculus.relinked (movedUp i)))
+
+-- the first half of a spawn provides the new channel, the second uses it
+abbrev pub halfSide : Bool → Side
+halfSide true = provided
+halfSide false = used
 
 module _ (s w : List ℕ) where
   -- ── try
@@ -112,21 +114,10 @@ module _ (s w : List ℕ) where
           })
 
   -- ── spawn
-  -- a half's channels with one end more
-  pub record SpawnHalf (h : Held) (half : Half) (want : Bool) (e : EndWords) (r : Held) : Type 0 where
-    pub is : channelsOf s w r ≡ kept (λ n. wanted want (takes s w half n)) (channelsOf s w h) ++ (endIs s w (endIn e) ∷ [])
+  -- what a half takes, or what the first half leaves, with its end of the new channel k
+  pub record SpawnHalf (h : Held) (m : SpawnTerm) (first : Bool) (k : ℕ) (r : Held) : Type 0 where
+    pub is : channelsOf s w r ≡ kept (λ n. wanted first (takes s w (OfSpawn (m .name) (m .first)) n)) (channelsOf s w h) ++ ((nameAt s (m .name), end (halfSide first) k (plainIn s w (m .node))) ∷ [])
     pub fits : HeldIn s w r
-
-  pub channels-many : (h : Held) → length (channelsOf s w h) ≡ h .count
-  unfolding channelsOf
-  channels-many h = length-map (heldIn h) (endIs s w) ∙ held-length h
-
-  module _ (h : Held) (half : Half) (want : Bool) (r : Held) (k : Keeps s w h half want r) where
-    pub half-few : length (kept (λ n. wanted want (takes s w half n)) (channelsOf s w h)) < heldLimit → r .count < 16
-    half-few l = omega (arith, channels-many r, ap length (k .is))
-
-    pub half-brings : (e : EndWords) (q : Held) → Brings r (e .name) (e .side) (e .node) (e .channel) q → TypeIn s w (e .node) → SpawnHalf h half want e q
-    half-brings e q b a = record { is = b .is s w ∙ ap (λ l. l ++ (endIs s w (endIn e) ∷ [])) (k .is); fits = b .fits s w a (k .fits) }
 
   -- a spawn's numbers are those of the text, and its halves have room for the new channel
   pub record SpawnIn (m : SpawnTerm) (h : Held) : Type 0 where
@@ -137,35 +128,39 @@ module _ (s w : List ℕ) where
     pub taken : length (spawnTakes (nameAt s (m .name)) (processIn s w (m .first)) (channelsOf s w h)) < heldLimit
     pub left : length (spawnLeaves (nameAt s (m .name)) (processIn s w (m .first)) (channelsOf s w h)) < heldLimit
 
-  module _ (m : SpawnTerm) (h : Held) (f : SpawnIn m h) where
-    pub room-taken : length (kept (λ n. wanted true (takes s w (OfSpawn (m .name) (m .first)) n)) (channelsOf s w h)) < heldLimit
-    unfolding spawnTakes
-    room-taken = f .taken
+  pub channels-many : (h : Held) → length (channelsOf s w h) ≡ h .count
+  unfolding channelsOf
+  channels-many h = length-map (heldIn h) (endIs s w) ∙ held-length h
 
-    pub room-left : length (kept (λ n. wanted false (takes s w (OfSpawn (m .name) (m .first)) n)) (channelsOf s w h)) < heldLimit
-    unfolding spawnLeaves
-    room-left = f .left
+  module _ (m : SpawnTerm) (h : Held) (f : SpawnIn m h) (first : Bool) (r : Held) (k : Keeps s w h (OfSpawn (m .name) (m .first)) first r) where
+    half-room : (b : Bool) → length (kept (λ n. wanted b (takes s w (OfSpawn (m .name) (m .first)) n)) (channelsOf s w h)) < heldLimit
+    unfolding spawnTakes spawnLeaves
+    half-room true = f .taken
+    half-room false = f .left
 
-    pub new-end : Tables s w → (side k : ℕ) → k < 512 → BoundedEnd (endIn (record { name = m .name; side = side; node = m .node; channel = k }))
-    new-end t side k b = record { name = f .name; node = node-there s w t (m .node) (f .type); channel = b }
+    pub half-few : r .count < 16
+    half-few = omega (arith, half-room first, channels-many r, ap length (k .is))
 
-  module _ (h : Held) (name first : ℕ) (e : EndWords) (r : Held) where
-    half-taken : SpawnHalf h (OfSpawn name first) true e r → channelsOf s w r ≡ spawnTakes (nameAt s name) (processIn s w first) (channelsOf s w h) ++ (endIs s w (endIn e) ∷ [])
+    pub half-brings : {side : ℕ} (channel : ℕ) {q : Held} → sideOf side ≡ halfSide first → Brings r (m .name) side (m .node) channel q → SpawnHalf h m first channel q
+    half-brings channel e b = record {
+      is = b .is s w ∙ λ j. k .is j ++ ((nameAt s (m .name), end (e j) channel (plainIn s w (m .node))) ∷ []);
+      fits = b .fits s w (f .type) (k .fits);
+    }
+
+  module _ (h : Held) (m : SpawnTerm) (k : ℕ) (r : Held) where
+    half-taken : SpawnHalf h m true k r → channelsOf s w r ≡ spawnTakes (nameAt s (m .name)) (processIn s w (m .first)) (channelsOf s w h) ++ ((nameAt s (m .name), end provided k (plainIn s w (m .node))) ∷ [])
     unfolding spawnTakes
     half-taken f = f .is
 
-    half-left : SpawnHalf h (OfSpawn name first) false e r → channelsOf s w r ≡ spawnLeaves (nameAt s name) (processIn s w first) (channelsOf s w h) ++ (endIs s w (endIn e) ∷ [])
+    half-left : SpawnHalf h m false k r → channelsOf s w r ≡ spawnLeaves (nameAt s (m .name)) (processIn s w (m .first)) (channelsOf s w h) ++ ((nameAt s (m .name), end used k (plainIn s w (m .node))) ∷ [])
     unfolding spawnLeaves
     half-left f = f .is
-
-  abbrev newEnd : SpawnTerm → ℕ → ℕ → EndWords
-  newEnd m side channel = record { name = m .name; side = side; node = m .node; channel = channel }
 
   module _ (old : List ℕ) (t : RunOf s w old) (i : ℕ) (p : ProcessWords) (u : StandsAt s w old i p) (m : SpawnTerm) (f : SpawnIn m (p .held)) (k : ℕ) where
     pub maker-of : (h : Held) → HeldIn s w h → ProcessOf s w (length (rawIn old .processes)) (running-as (m .second) (p .link) h)
     maker-of h g = runs-on (t .tables) (m .second) (p .link) h (u .is .link) (f .second) g
 
-    module _ (mid : List ℕ) (ours theirs : Held) (a : SpawnHalf (p .held) (OfSpawn (m .name) (m .first)) true (newEnd m 0 k) ours) (b : SpawnHalf (p .held) (OfSpawn (m .name) (m .first)) false (newEnd m 1 k) theirs)
+    module _ (mid : List ℕ) (ours theirs : Held) (a : SpawnHalf (p .held) m true k ours) (b : SpawnHalf (p .held) m false k theirs)
         (c : Changed old mid (raw.onProcesses (λ l. set l i (values.processIn (running-as (m .second) (p .link) theirs))) (rawIn old))) (d : Bounded (rawIn mid)) where
       pub maker-stays : Becomes s w old mid (replaced i (processAs s w (running-as (m .second) (p .link) theirs)) (configIn s w old))
       maker-stays = stored s w old mid t i (running-as (m .second) (p .link) theirs) (maker-of theirs (b .fits)) c d
@@ -180,8 +175,8 @@ module _ (s w : List ℕ) where
           → Carries s w old new (Carried Nothing) (spawned (configIn s w old) i (processAs s w p) (nameAt s (m .name)) (plainIn s w (m .node)) (processIn s w (m .first)) (processIn s w (m .second)) (some k))
       spawns new q z =
           let C = configIn s w old in
-          let e₁ = half-taken (p .held) (m .name) (m .first) (newEnd m 0 k) ours a in
-          let e₂ = half-left (p .held) (m .name) (m .first) (newEnd m 1 k) theirs b in
+          let e₁ = half-taken (p .held) m k ours a in
+          let e₂ = half-left (p .held) m k theirs b in
           record {
             is = (
               refl,

@@ -27,6 +27,8 @@ use Rattle.contexts.specs.declared.held.Lookup.{Lookup}
 use Rattle.contexts.specs.declared.held.Lookup.the-variants as lookups
 use Rattle.machine.specs.declared.outcome.Outcome.{Outcome as OutcomeWords}
 use Rattle.machine.specs.declared.outcome.Outcome.the-variants.{NotOpen}
+use Rattle.machine.specs.declared.messages.Sending.{Sending}
+use Rattle.machine.specs.declared.messages.Receiver.{Receiver}
 use Rattle.machine.specs.Run.{configIn, doingAs, processAs, Carries}
 use Rattle.machine.specs.Changes.{running-as}
 use Rattle.machine.specs.Parting.{endAs, held-none, held-some}
@@ -116,67 +118,67 @@ module _ (s w : List ℕ) (C : Config) (i : ℕ) (q q′ : Process) (e : End) (h
   met-label = refl
 
 -- ── what the sender's step comes to, by where the far end is
-module _ (s w old : List ℕ) (i : ℕ) (p q : ProcessWords) (n : TermNode) (e : EndWords) where
+module _ (s w old : List ℕ) (sent : Sending) where
   abbrev pub sendingBy : Outcome
-  sendingBy = sending (programIn s w) (configIn s w old) i (processAs s w p) (processAs s w q) (message s n) (endAs s w e) (farOf s w old e)
+  sendingBy = sending (programIn s w) (configIn s w old) (sent .place) (processAs s w (sent .before)) (processAs s w (sent .after)) (message s (sent .term)) (endAs s w (sent .over)) (farOf s w old (sent .over))
 
-  abbrev pub holderBy : ℕ → ProcessWords → ℕ → Holder
-  holderBy j r x = record { place = j; process = processAs s w r; name = nameAt s x }
+  abbrev pub holderBy : Receiver → Holder
+  holderBy to = record { place = to .place; process = processAs s w (to .process); name = nameAt s (to .name) }
 
-  abbrev pub heardBy : ℕ → ProcessWords → ℕ → TermNode → Outcome
-  heardBy j r x t = metBy (programIn s w) (configIn s w old) i (processAs s w p) (processAs s w q) (message s n) (endAs s w e) (holderBy j r x) (turnBy s w t (t .kind))
+  abbrev pub heardBy : Receiver → Outcome
+  heardBy to = metBy (programIn s w) (configIn s w old) (sent .place) (processAs s w (sent .before)) (processAs s w (sent .after)) (message s (sent .term)) (endAs s w (sent .over)) (holderBy to) (turnBy s w (to .term) (to .term .kind))
 
-  abbrev kindsBy : ℕ → ProcessWords → ℕ → TermNode → ℕ → ℕ → Outcome
-  kindsBy j r x t k l = metBy (programIn s w) (configIn s w old) i (processAs s w p) (processAs s w q) (messageBy s (n .second) k) (endAs s w e) (holderBy j r x) (turnBy s w t l)
+  abbrev kindsBy : Receiver → ℕ → ℕ → Outcome
+  kindsBy to k l = metBy (programIn s w) (configIn s w old) (sent .place) (processAs s w (sent .before)) (processAs s w (sent .after)) (messageBy s (sent .term .second) k) (endAs s w (sent .over)) (holderBy to) (turnBy s w (to .term) l)
 
-  module _ (j x : ℕ) (r : ProcessWords) (t : TermNode) (f : farOf s w old e ≡ calculus.atProcess (holderBy j r x)) (g : Heard s w x (doingAs s w (r .kind) (r .pointer)) t) where
-    meets-as : sendingBy ≡ heardBy j r x t
+  module _ (to : Receiver) (f : farOf s w old (sent .over) ≡ calculus.atProcess (holderBy to)) (g : Heard s w (to .name) (doingAs s w (to .process .kind) (to .process .pointer)) (to .term)) where
+    meets-as : sendingBy ≡ heardBy to
     meets-as =
-        ap (sending (programIn s w) (configIn s w old) i (processAs s w p) (processAs s w q) (message s n) (endAs s w e)) f
-        ∙ meeting-heard (programIn s w) (configIn s w old) i (processAs s w p) (processAs s w q) (message s n) (endAs s w e) (holderBy j r x) (turnOf (doingAs s w (r .kind) (r .pointer)))
-        ∙ ap (metBy (programIn s w) (configIn s w old) i (processAs s w p) (processAs s w q) (message s n) (endAs s w e) (holderBy j r x)) (g .is)
+        ap (sending (programIn s w) (configIn s w old) (sent .place) (processAs s w (sent .before)) (processAs s w (sent .after)) (message s (sent .term)) (endAs s w (sent .over))) f
+        ∙ meeting-heard (programIn s w) (configIn s w old) (sent .place) (processAs s w (sent .before)) (processAs s w (sent .after)) (message s (sent .term)) (endAs s w (sent .over)) (holderBy to) (turnOf (doingAs s w (to .process .kind) (to .process .pointer)))
+        ∙ ap (metBy (programIn s w) (configIn s w old) (sent .place) (processAs s w (sent .before)) (processAs s w (sent .after)) (message s (sent .term)) (endAs s w (sent .over)) (holderBy to)) (g .is)
 
-    pub meets-other : SendNode n → (t .kind ≡ n .kind + 5 → ⊥) → Carries s w old old NotOpen sendingBy
-    meets-other a z = subst (Carries s w old old NotOpen) (sym (meets-as ∙ met-other s w (configIn s w old) i (processAs s w p) (processAs s w q) (endAs s w e) (holderBy j r x) n t (n .kind) (t .kind) (a .low) (a .high) z)) (record { is = (refl, refl) })
+    pub meets-other : SendNode (sent .term) → (to .term .kind ≡ sent .term .kind + 5 → ⊥) → Carries s w old old NotOpen sendingBy
+    meets-other a z = subst (Carries s w old old NotOpen) (sym (meets-as ∙ met-other s w (configIn s w old) (sent .place) (processAs s w (sent .before)) (processAs s w (sent .after)) (endAs s w (sent .over)) (holderBy to) (sent .term) (to .term) (sent .term .kind) (to .term .kind) (a .low) (a .high) z)) (record { is = (refl, refl) })
 
-    pub meets : {new : List ℕ} {o : OutcomeWords} → Carries s w old new o (heardBy j r x t) → Carries s w old new o sendingBy
+    pub meets : {new : List ℕ} {o : OutcomeWords} → Carries s w old new o (heardBy to) → Carries s w old new o sendingBy
     meets {new} {o} c = subst (Carries s w old new o) (sym meets-as) c
 
   -- the receiver's node is of the kind that the message wants
-  module _ (j : ℕ) (r : ProcessWords) (x : ℕ) (t : TermNode) {new : List ℕ} {o : OutcomeWords} where
-    kinds : (k l : ℕ) → n .kind ≡ k → t .kind ≡ l → Carries s w old new o (kindsBy j r x t k l) → Carries s w old new o (heardBy j r x t)
-    kinds k l a b c = subst (λ m. Carries s w old new o (kindsBy j r x t m (t .kind))) (sym a) (subst (λ m. Carries s w old new o (kindsBy j r x t k m)) (sym b) c)
+  module _ (to : Receiver) {new : List ℕ} {o : OutcomeWords} where
+    kinds : (k l : ℕ) → sent .term .kind ≡ k → to .term .kind ≡ l → Carries s w old new o (kindsBy to k l) → Carries s w old new o (heardBy to)
+    kinds k l a b c = subst (λ m. Carries s w old new o (kindsBy to m (to .term .kind))) (sym a) (subst (λ m. Carries s w old new o (kindsBy to k m)) (sym b) c)
 
-    pub hears-kind-close : n .kind ≡ 1 → t .kind ≡ n .kind + 5 → Carries s w old new o (bothBy s w old i q j r x (takesClose (onClose (processIn s w (t .third))) (nameAt s x) (processAs s w r))) → Carries s w old new o (heardBy j r x t)
+    pub hears-kind-close : sent .term .kind ≡ 1 → to .term .kind ≡ 6 → Carries s w old new o (bothBy s w old (sent .place) (sent .after) (to .place) (to .process) (to .name) (takesClose (onClose (processIn s w (to .term .third))) (nameAt s (to .name)) (processAs s w (to .process)))) → Carries s w old new o (heardBy to)
     unfolding afterReceive
-    hears-kind-close a b c = kinds 1 6 a (omega (arith, a, b)) c
+    hears-kind-close a b c = kinds 1 6 a b c
 
-    module _ {node : ℕ} (u : TypeAfter s w (afterMessage (programIn s w) (message s n) (plainIn s w (e .node))) node) where
-      pub hears-kind-channel : {f : Lookup} → n .kind ≡ 2 → t .kind ≡ n .kind + 5 → Sees s (p .held) (n .second) f
-          → Carries s w old new o (bothBy s w old i q j r x (takesChannel (onChannel (nameIn s (t .second)) (processIn s w (t .third))) (nameAt s x) (plainIn s w node) (endFound s w f) (processAs s w r))) → Carries s w old new o (heardBy j r x t)
+    module _ (u : TypeAfter s w (afterMessage (programIn s w) (message s (sent .term)) (plainIn s w (sent .over .node))) (sent .node)) where
+      pub hears-kind-channel : {f : Lookup} → sent .term .kind ≡ 2 → to .term .kind ≡ 7 → Sees s (sent .before .held) (sent .term .second) f
+          → Carries s w old new o (bothBy s w old (sent .place) (sent .after) (to .place) (to .process) (to .name) (takesChannel (onChannel (nameIn s (to .term .second)) (processIn s w (to .term .third))) (nameAt s (to .name)) (plainIn s w (sent .node)) (endFound s w f) (processAs s w (to .process)))) → Carries s w old new o (heardBy to)
       unfolding afterReceive
       hears-kind-channel {f} a b g c =
-          kinds 2 7 a (omega (arith, a, b))
-          (subst (λ d. Carries s w old new o (bothBy s w old i q j r x (takesChannel (onChannel (nameIn s (t .second)) (processIn s w (t .third))) (nameAt s x) (afterMessage (programIn s w) (messageBy s (n .second) 2) (plainIn s w (e .node))) d (processAs s w r)))) (sym (g .is w))
-          (subst (λ A. Carries s w old new o (bothBy s w old i q j r x (takesChannel (onChannel (nameIn s (t .second)) (processIn s w (t .third))) (nameAt s x) A (endFound s w f) (processAs s w r)))) (u .is ∙ ap (λ k. afterMessage (programIn s w) (messageBy s (n .second) k) (plainIn s w (e .node))) a) c))
+          kinds 2 7 a b
+          (subst (λ d. Carries s w old new o (bothBy s w old (sent .place) (sent .after) (to .place) (to .process) (to .name) (takesChannel (onChannel (nameIn s (to .term .second)) (processIn s w (to .term .third))) (nameAt s (to .name)) (afterMessage (programIn s w) (messageBy s (sent .term .second) 2) (plainIn s w (sent .over .node))) d (processAs s w (to .process))))) (sym (g .is w))
+          (subst (λ A. Carries s w old new o (bothBy s w old (sent .place) (sent .after) (to .place) (to .process) (to .name) (takesChannel (onChannel (nameIn s (to .term .second)) (processIn s w (to .term .third))) (nameAt s (to .name)) A (endFound s w f) (processAs s w (to .process))))) (u .is ∙ ap (λ k. afterMessage (programIn s w) (messageBy s (sent .term .second) k) (plainIn s w (sent .over .node))) a) c))
 
-      pub hears-kind-label : n .kind ≡ 3 → t .kind ≡ n .kind + 5
-          → Carries s w old new o (bothBy s w old i q j r x (takesLabel (onLabel (branchesIn s w (t .second) (t .third))) (nameAt s x) (plainIn s w node) (nameAt s (n .second + 1)) (processAs s w r))) → Carries s w old new o (heardBy j r x t)
+      pub hears-kind-label : sent .term .kind ≡ 3 → to .term .kind ≡ 8
+          → Carries s w old new o (bothBy s w old (sent .place) (sent .after) (to .place) (to .process) (to .name) (takesLabel (onLabel (branchesIn s w (to .term .second) (to .term .third))) (nameAt s (to .name)) (plainIn s w (sent .node)) (nameAt s (sent .term .second + 1)) (processAs s w (to .process)))) → Carries s w old new o (heardBy to)
       unfolding afterReceive
       hears-kind-label a b c =
-          kinds 3 8 a (omega (arith, a, b))
-          (subst (λ A. Carries s w old new o (bothBy s w old i q j r x (takesLabel (onLabel (branchesIn s w (t .second) (t .third))) (nameAt s x) A (nameAt s (n .second + 1)) (processAs s w r)))) (u .is ∙ ap (λ k. afterMessage (programIn s w) (messageBy s (n .second) k) (plainIn s w (e .node))) a) c)
+          kinds 3 8 a b
+          (subst (λ A. Carries s w old new o (bothBy s w old (sent .place) (sent .after) (to .place) (to .process) (to .name) (takesLabel (onLabel (branchesIn s w (to .term .second) (to .term .third))) (nameAt s (to .name)) A (nameAt s (sent .term .second + 1)) (processAs s w (to .process))))) (u .is ∙ ap (λ k. afterMessage (programIn s w) (messageBy s (sent .term .second) k) (plainIn s w (sent .over .node))) a) c)
 
   -- the outside; nobody
-  pub sends-out : {new : List ℕ} {o : OutcomeWords} (number : ℕ) → farOf s w old e ≡ calculus.atOutside number → Carries s w old new o (outBy s w old i p q n e number) → Carries s w old new o sendingBy
-  sends-out {new} {o} number f c = subst (λ F. Carries s w old new o (sending (programIn s w) (configIn s w old) i (processAs s w p) (processAs s w q) (message s n) (endAs s w e) F)) (sym f) c
+  pub sends-out : {new : List ℕ} {o : OutcomeWords} (number : ℕ) → farOf s w old (sent .over) ≡ calculus.atOutside number → Carries s w old new o (outBy s w old sent number) → Carries s w old new o sendingBy
+  sends-out {new} {o} number f c = subst (λ F. Carries s w old new o (sending (programIn s w) (configIn s w old) (sent .place) (processAs s w (sent .before)) (processAs s w (sent .after)) (message s (sent .term)) (endAs s w (sent .over)) F)) (sym f) c
 
-  sends-nobody : {new : List ℕ} {o : OutcomeWords} {F : calculus.Far} → FarAs (nameAt s) (plainIn s w) (processIn s w) (rawIn old) far.GivenUp F → Carries s w old new o (unheardBy s w old i p q n)
-      → Carries s w old new o (sending (programIn s w) (configIn s w old) i (processAs s w p) (processAs s w q) (message s n) (endAs s w e) F)
+  sends-nobody : {new : List ℕ} {o : OutcomeWords} {F : calculus.Far} → FarAs (nameAt s) (plainIn s w) (processIn s w) (rawIn old) far.GivenUp F → Carries s w old new o (unheardBy s w old sent)
+      → Carries s w old new o (sending (programIn s w) (configIn s w old) (sent .place) (processAs s w (sent .before)) (processAs s w (sent .after)) (message s (sent .term)) (endAs s w (sent .over)) F)
   sends-nobody givenUp c = c
 
-  pub sends-unheard : {new : List ℕ} {o : OutcomeWords} → far.GivenUp ≡ farRaw s w old e → Carries s w old new o (unheardBy s w old i p q n) → Carries s w old new o sendingBy
-  sends-unheard f c = sends-nobody (far-as s w old e far.GivenUp f) c
+  pub sends-unheard : {new : List ℕ} {o : OutcomeWords} → far.GivenUp ≡ farRaw s w old (sent .over) → Carries s w old new o (unheardBy s w old sent) → Carries s w old new o sendingBy
+  sends-unheard f c = sends-nobody (far-as s w old (sent .over) far.GivenUp f) c
 
 -- ── the rule
 abbrev pub sendBy : List ℕ → List ℕ → List ℕ → ℕ → ProcessWords → TermNode → Outcome
@@ -188,7 +190,7 @@ module _ (s w old : List ℕ) (i : ℕ) (p : ProcessWords) (n : TermNode) {f : L
   sends-nothing q = held-none a _ q
 
   pub sends-on : {e : EndWords} {node : ℕ} {h : Held} {new : List ℕ} {o : OutcomeWords} → f ≡ lookups.Found e → TypeAfter s w (afterMessage (programIn s w) (message s n) (plainIn s w (e .node))) node → SentHeld s w (p .held) n node h
-      → Carries s w old new o (sendingBy s w old i p (running-as (n .third) (p .link) h) n e) → Carries s w old new o (sendBy s w old i p n)
+      → Carries s w old new o (sendingBy s w old (record { place = i; before = p; after = running-as (n .third) (p .link) h; term = n; over = e; node = node })) → Carries s w old new o (sendBy s w old i p n)
   unfolding send
   sends-on {e} {new = new} {o = o} q u g c =
       held-some a _ q

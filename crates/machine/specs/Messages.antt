@@ -35,7 +35,7 @@ use Rattle.types.specs.declared.messages.Choosing.the-variants as NoChoosing
 use Rattle.runs.specs.declared.records.Held.{Held}
 use Rattle.runs.specs.declared.records.Process.{Process as ProcessWords}
 use Rattle.contexts.specs.Held.{channelsOf, HeldIn, Drops, Retypes}
-use Rattle.machine.specs.Run.{doingAs, ProcessOf}
+use Rattle.machine.specs.Run.{pointerLimit, doingAs, ProcessOf}
 
 -- the message of a send: kinds 1, 2 and 3
 abbrev pub messageBy : List ℕ → ℕ → ℕ → Message
@@ -51,7 +51,7 @@ message s n = messageBy s (n .second) (n .kind)
 pub record SendNode (n : TermNode) : Type 0 where
   pub low : 1 ≤ n .kind
   pub high : n .kind ≤ 3
-  pub label : n .kind ≡ 3 → n .second < 16384
+  pub label : n .kind ≡ 3 → n .second < pointerLimit
 
 -- ── the type afterwards
 pub record TypeAfter (s w : List ℕ) (A : Ty Name) (r : ℕ) : Type 0 where
@@ -161,7 +161,7 @@ abbrev pub partsBy : List ℕ → List ℕ → TermNode → ℕ → Type 0
 partsBy s w n zero = Unit {0}
 partsBy s w n (suc zero) = ProcessIn s w (n .third)
 partsBy s w n (suc (suc zero)) = ProcessIn s w (n .third)
-partsBy s w n (suc (suc (suc zero))) = (n .second < 16384) × ProcessIn s w (n .third)
+partsBy s w n (suc (suc (suc zero))) = (n .second < pointerLimit) × ProcessIn s w (n .third)
 partsBy s w n (suc (suc (suc (suc zero)))) = Unit {0}
 partsBy s w n (suc (suc (suc (suc (suc zero))))) = Unit {0}
 partsBy s w n (suc (suc (suc (suc (suc (suc zero)))))) = ProcessIn s w (n .third)
@@ -180,14 +180,14 @@ pub record Heard (s w : List ℕ) (x : ℕ) (d : Doing) (n : TermNode) : Type 0 
   pub parts : partsBy s w n (n .kind)
 
 -- where the label of a send stands fits into its bits
-pub label-small : (s w : List ℕ) (p : ℕ) → Tables s w → ProcessIn s w p → (o : ℕ) (c : Located) (k : ℕ) (P : Proc) → processIn s w p ≡ sendLabel o c (labelIn s k) P → k < 16384
+pub label-small : (s w : List ℕ) (p : ℕ) → Tables s w → ProcessIn s w p → (o : ℕ) (c : Located) (k : ℕ) (P : Proc) → processIn s w p ≡ sendLabel o c (labelIn s k) P → k < pointerLimit
 unfolding ProcessAt termAt termNodeOf
 label-small s w p t a o c k P e =
     let there : ProcessAt w (tallyIn w) p (sendLabel o c (labelIn s k) P) = subst (ProcessAt w (tallyIn w) p) (sym (process-tree s w (t .within) p a) ∙ e) (a .is) in
     let z : termAt w p .second ≡ k = ap (λ (n : TermNode). n .second) (there .1 .1) in
     omega (arith, z)
 
-module _ (s w : List ℕ) (p : ℕ) (A : Proc) (small : (o : ℕ) (c : Located) (k : ℕ) (P : Proc) → A ≡ sendLabel o c (labelIn s k) P → k < 16384) (at first second third : ℕ) where
+module _ (s w : List ℕ) (p : ℕ) (A : Proc) (small : (o : ℕ) (c : Located) (k : ℕ) (P : Proc) → A ≡ sendLabel o c (labelIn s k) P → k < pointerLimit) (at first second third : ℕ) where
   abbrev node : ℕ → TermNode
   node k = termNode k at first second third
 

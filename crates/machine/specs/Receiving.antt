@@ -35,10 +35,20 @@ use Rattle.contexts.specs.Halves.{append-nil}
 use Rattle.contexts.specs.declared.held.Lookup.{Lookup}
 use Rattle.contexts.specs.declared.held.Lookup.the-variants as lookups
 use Rattle.machine.specs.declared.outcome.Outcome.the-variants.{Carried, NotOpen}
-use Rattle.machine.specs.Run.{configIn, processAs, RunOf, ProcessOf, Becomes, Carries}
+use Rattle.machine.specs.declared.messages.Receiver.{Receiver}
+use Rattle.machine.specs.Run.{configIn, processAs, RunOf, ProcessOf, StandsAt, Becomes, Carries}
+use Rattle.machine.specs.Messages.{partsBy}
 use Rattle.machine.specs.Changes.{then, stored, running-as, places-after, places-in}
 use Rattle.machine.specs.Making.{channels-many}
 use Rattle.calculus.specs.Named.{changed}
+
+-- a process that receives stands at its place, and the numbers of its term are those of the text
+pub record ReceiverIn (s w ws : List ℕ) (to : Receiver) : Type 0 where
+  pub stands : StandsAt s w ws (to .place) (to .process)
+  pub parts : partsBy s w (to .term) (to .term .kind)
+
+pub parts-at : {s w ws : List ℕ} {to : Receiver} → ReceiverIn s w ws to → {k : ℕ} → to .term .kind ≡ k → partsBy s w (to .term) k
+parts-at {s} {w} {to = to} r e = subst (partsBy s w (to .term)) e (r .parts)
 
 -- ── two processes change
 abbrev pub bothSet : Config → ℕ → Process → ℕ → Process → Config

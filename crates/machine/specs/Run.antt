@@ -20,6 +20,10 @@ use Rattle.contexts.specs.Held.{channelsOf, EndIn, HeldIn}
 use Rattle.machine.specs.declared.outcome.Outcome.{Outcome}
 use Rattle.machine.specs.declared.outcome.Outcome.the-variants.{Carried, NotOpen, Lacking}
 
+-- a pointer has 14 bits, and so has the offset that a node keeps in a pointer's place
+abbrev pub pointerLimit : ℕ
+pointerLimit = 16384
+
 abbrev pub configIn : List ℕ → List ℕ → List ℕ → Config
 configIn s w ws = decoded (nameAt s) (plainIn s w) (processIn s w) (rawIn ws)
 
@@ -46,7 +50,7 @@ pub record RunOf (s w ws : List ℕ) : Type 0 where
 -- a process by value that may stand in a run of so many
 pub record ProcessOf (s w : List ℕ) (places : ℕ) (p : ProcessWords) : Type 0 where
   pub kind : p .kind < 3
-  pub pointer : p .pointer < 16384
+  pub pointer : p .pointer < pointerLimit
   pub link : linksBelow places (linkOf (p .link))
   pub term : (p .kind ≡ 1 → ⊥) → ProcessIn s w (p .pointer)
   pub held : HeldIn s w (p .held)

@@ -1,16 +1,16 @@
 -- The run-on loop: "until a step shows something, no process is left, none can be carried out, or its budget is spent".
-use Prim.Native.Nat.{ℕ, zero, suc, _+_, _-_, _≤_, _<_}
+use Prim.Native.Nat.{ℕ, zero, suc, _+_, _-_, _<_}
 use mathlib.Core.Path.{_≡_, refl, sym, _∙_, ap, subst}
 use mathlib.Core.List.{List, [], _∷_}
-use mathlib.Core.Bool.{Bool, true, false, cond, true≢false}
+use mathlib.Core.Bool.{Bool, true, false, true≢false}
 use mathlib.Core.Option.{Option, some, none}
 use native.Mathlib.Omega.{arith}
-use lib.ListN.{length, drop}
+use lib.ListN.{length}
 use Rattle.calculus.specs.Named.{isSome}
 use Rattle.calculus.specs.Program.{Program}
 use Rattle.calculus.specs.Configuration.{Process, Config}
 use Rattle.calculus.specs.Steps.{Outcome, carried, notOpen, lacking, step}
-use Rattle.calculus.specs.Runs.{isCarried, choosePlace, Ran, ran, testing, orDone, orFull, afterStep, runFrom, runOn}
+use Rattle.calculus.specs.Runs.{choosePlace, Ran, ran, orDone, orFull, afterStep, runFrom, runOn}
 use Rattle.calculus.specs.declared.answers.Seen.{Seen}
 use Rattle.calculus.specs.declared.answers.Seen.the-variants.{Nothing, Label, Close, Passed, Cancelled}
 use Rattle.calculus.specs.declared.answers.RanOn.{RanOn}

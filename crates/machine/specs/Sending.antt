@@ -12,7 +12,7 @@ use Rattle.notation.specs.Limits.{outsideNumbers}
 use Rattle.notation.specs.Token.{nameAt}
 use Rattle.notation.specs.Tables.{termNode}
 use Rattle.notation.specs.declared.reading.TermNode.{TermNode}
-use Rattle.calculus.specs.Configuration.{End, Process, Config, config, replaced}
+use Rattle.calculus.specs.Configuration.{End, Config, config, replaced}
 use Rattle.calculus.specs.Configuration as calculus
 use Rattle.calculus.specs.Steps.{Outcome, lacking, unheard, toOutside, passedOut, isGivenUp, parting, afterMessage}
 use Rattle.calculus.specs.declared.answers.Seen.the-variants.{Nothing, Label, Close, Passed}
@@ -25,7 +25,6 @@ use Rattle.runs.specs.Operations as raw
 use Rattle.runs.specs.DecodeLaws.{FarAs, atProcess, atOutside, givenUp, decoded-far-outside}
 use Rattle.runs.specs.declared.records.End.{End as EndWords}
 use Rattle.runs.specs.declared.records.Outside.{Outside as OutsideWords}
-use Rattle.runs.specs.declared.records.Process.{Process as ProcessWords}
 use Rattle.runs.specs.declared.records.Far.{Far}
 use Rattle.runs.specs.declared.records.Far.the-variants as far
 use Rattle.contexts.specs.Held.{Sees}
@@ -34,33 +33,41 @@ use Rattle.contexts.specs.declared.held.Lookup.{Lookup}
 use Rattle.contexts.specs.declared.held.Lookup.the-variants as lookups
 use Rattle.machine.specs.declared.outcome.Outcome.{Outcome as OutcomeWords}
 use Rattle.machine.specs.declared.outcome.Outcome.the-variants.{Carried, NotOpen, Lacking}
-use Rattle.machine.specs.Run.{configIn, processAs, RunOf, Becomes, Carries}
+use Rattle.machine.specs.declared.messages.Sending.{Sending}
+use Rattle.machine.specs.Run.{configIn, processAs, RunOf, ProcessOf, StandsAt, Becomes, Carries}
 use Rattle.machine.specs.Changes.{then, let-go, retyped, passed-out, given}
 use Rattle.machine.specs.Parting.{endAs, held-none, held-some}
 use Rattle.machine.specs.Forwarding.{farRaw, farOf, far-as}
 use Rattle.machine.specs.Forwarding as forwarding
-use Rattle.machine.specs.Messages.{message, TypeAfter}
+use Rattle.machine.specs.Messages.{message, SendNode, TypeAfter}
 
-module _ (s w old : List ℕ) (i : ℕ) (p q : ProcessWords) (n : TermNode) where
+-- a send under way: the process stands at its place, and what it will be and the type that the channel will have are those of the text
+pub record SendingIn (s w ws : List ℕ) (sent : Sending) : Type 0 where
+  pub stands : StandsAt s w ws (sent .place) (sent .before)
+  pub after : ProcessOf s w (length (rawIn ws .processes)) (sent .after)
+  pub type : TypeAfter s w (afterMessage (programIn s w) (message s (sent .term)) (plainIn s w (sent .over .node))) (sent .node)
+  pub node : SendNode (sent .term)
+
+module _ (s w old : List ℕ) (sent : Sending) where
   abbrev withKind : ℕ → TermNode
-  withKind k = termNode k (n .at) (n .first) (n .second) (n .third)
+  withKind k = termNode k (sent .term .at) (sent .term .first) (sent .term .second) (sent .term .third)
 
   -- ── the far end was given up
   abbrev pub unheardBy : Outcome
-  unheardBy = unheard (configIn s w old) i (processAs s w p) (processAs s w q) (message s n)
+  unheardBy = unheard (configIn s w old) (sent .place) (processAs s w (sent .before)) (processAs s w (sent .after)) (message s (sent .term))
 
   abbrev unheardAt : ℕ → Outcome
-  unheardAt k = unheard (configIn s w old) i (processAs s w p) (processAs s w q) (message s (withKind k))
+  unheardAt k = unheard (configIn s w old) (sent .place) (processAs s w (sent .before)) (processAs s w (sent .after)) (message s (withKind k))
 
-  module _ {f : Lookup} (z : n .kind ≡ 2) (a : Sees s (p .held) (n .second) f) where
+  module _ {f : Lookup} (z : sent .term .kind ≡ 2) (a : Sees s (sent .before .held) (sent .term .second) f) where
     pub unheard-none : f ≡ lookups.Nothing → Carries s w old old NotOpen unheardBy
-    unheard-none e = subst (λ k. Carries s w old old NotOpen (unheardAt k)) (sym z) (held-none a _ e)
+    unheard-none y = subst (λ k. Carries s w old old NotOpen (unheardAt k)) (sym z) (held-none a _ y)
 
-    pub unheard-parts : {new : List ℕ} {r : OutcomeWords} {d : EndWords} → f ≡ lookups.Found d → Carries s w old new r (parting (configIn s w old) i (processAs s w q) (endAs s w d)) → Carries s w old new r unheardBy
-    unheard-parts {new} {r} e c = subst (λ k. Carries s w old new r (unheardAt k)) (sym z) (held-some a _ e c)
+    pub unheard-parts : {new : List ℕ} {r : OutcomeWords} {d : EndWords} → f ≡ lookups.Found d → Carries s w old new r (parting (configIn s w old) (sent .place) (processAs s w (sent .after)) (endAs s w d)) → Carries s w old new r unheardBy
+    unheard-parts {new} {r} y c = subst (λ k. Carries s w old new r (unheardAt k)) (sym z) (held-some a _ y c)
 
-  pub unheard-goes : {new : List ℕ} → 1 ≤ n .kind → n .kind ≤ 3 → (n .kind ≡ 2 → ⊥) → Becomes s w old new (replaced i (processAs s w q) (configIn s w old)) → Carries s w old new (Carried Nothing) unheardBy
-  unheard-goes {new} l h z b = go (n .kind) l h z
+  pub unheard-goes : {new : List ℕ} → 1 ≤ sent .term .kind → sent .term .kind ≤ 3 → (sent .term .kind ≡ 2 → ⊥) → Becomes s w old new (replaced (sent .place) (processAs s w (sent .after)) (configIn s w old)) → Carries s w old new (Carried Nothing) unheardBy
+  unheard-goes {new} l h z b = go (sent .term .kind) l h z
     where
       go : (k : ℕ) → 1 ≤ k → k ≤ 3 → (k ≡ 2 → ⊥) → Carries s w old new (Carried Nothing) (unheardAt k)
       go zero l h z = absurd (omega arith)
@@ -69,29 +76,29 @@ module _ (s w old : List ℕ) (i : ℕ) (p q : ProcessWords) (n : TermNode) wher
       go (suc (suc (suc k))) l h z = record { is = (refl, b) }
 
   -- ── to the outside
-  module _ (e : EndWords) (number : ℕ) where
+  module _ (number : ℕ) where
     abbrev pub outBy : Outcome
-    outBy = toOutside (programIn s w) (configIn s w old) i (processAs s w p) (processAs s w q) (message s n) (endAs s w e) number
+    outBy = toOutside (programIn s w) (configIn s w old) (sent .place) (processAs s w (sent .before)) (processAs s w (sent .after)) (message s (sent .term)) (endAs s w (sent .over)) number
 
     abbrev outAt : ℕ → Outcome
-    outAt k = toOutside (programIn s w) (configIn s w old) i (processAs s w p) (processAs s w q) (message s (withKind k)) (endAs s w e) number
+    outAt k = toOutside (programIn s w) (configIn s w old) (sent .place) (processAs s w (sent .before)) (processAs s w (sent .after)) (message s (withKind k)) (endAs s w (sent .over)) number
 
-    module _ (mid : List ℕ) (b : Becomes s w old mid (replaced i (processAs s w q) (configIn s w old))) where
-      pub out-close : (new : List ℕ) → n .kind ≡ 1 → Changed mid new (raw.onOutside (raw.letGo (e .channel)) (rawIn mid)) → Bounded (rawIn new) → Carries s w old new (Carried (Close number)) outBy
+    module _ (mid : List ℕ) (b : Becomes s w old mid (replaced (sent .place) (processAs s w (sent .after)) (configIn s w old))) where
+      pub out-close : (new : List ℕ) → sent .term .kind ≡ 1 → Changed mid new (raw.onOutside (raw.letGo (sent .over .channel)) (rawIn mid)) → Bounded (rawIn new) → Carries s w old new (Carried (Close number)) outBy
       out-close new z c k = subst (λ m. Carries s w old new (Carried (Close number)) (outAt m)) (sym z)
-          (record { is = (refl, then (λ (D : Config). config (D .processes) (calculus.letGo (e .channel) (D .outside)) (D .given)) b (let-go s w mid new (b .run) (e .channel) c k)) })
+          (record { is = (refl, then (λ (D : Config). config (D .processes) (calculus.letGo (sent .over .channel) (D .outside)) (D .given)) b (let-go s w mid new (b .run) (sent .over .channel) c k)) })
 
-      module _ (node : ℕ) (u : TypeAfter s w (afterMessage (programIn s w) (message s n) (plainIn s w (e .node))) node) where
-        pub out-retyped : (new : List ℕ) → Changed mid new (raw.onOutside (raw.changedOutside (e .channel) (raw.retyped node)) (rawIn mid)) → Bounded (rawIn new)
-            → Becomes s w old new (config (set (configIn s w old .processes) i (processAs s w q)) (calculus.retypedOutside (e .channel) (afterMessage (programIn s w) (message s n) (plainIn s w (e .node))) (configIn s w old .outside)) (configIn s w old .given))
-        out-retyped new c k = subst (λ A. Becomes s w old new (config (set (configIn s w old .processes) i (processAs s w q)) (calculus.retypedOutside (e .channel) A (configIn s w old .outside)) (configIn s w old .given))) (u .is)
-            (then (λ (D : Config). config (D .processes) (calculus.retypedOutside (e .channel) (plainIn s w node) (D .outside)) (D .given)) b (retyped s w mid new (b .run) (e .channel) node (u .type) c k))
+      module _ (u : TypeAfter s w (afterMessage (programIn s w) (message s (sent .term)) (plainIn s w (sent .over .node))) (sent .node)) where
+        pub out-retyped : (new : List ℕ) → Changed mid new (raw.onOutside (raw.changedOutside (sent .over .channel) (raw.retyped (sent .node))) (rawIn mid)) → Bounded (rawIn new)
+            → Becomes s w old new (config (set (configIn s w old .processes) (sent .place) (processAs s w (sent .after))) (calculus.retypedOutside (sent .over .channel) (afterMessage (programIn s w) (message s (sent .term)) (plainIn s w (sent .over .node))) (configIn s w old .outside)) (configIn s w old .given))
+        out-retyped new c k = subst (λ A. Becomes s w old new (config (set (configIn s w old .processes) (sent .place) (processAs s w (sent .after))) (calculus.retypedOutside (sent .over .channel) A (configIn s w old .outside)) (configIn s w old .given))) (u .is)
+            (then (λ (D : Config). config (D .processes) (calculus.retypedOutside (sent .over .channel) (plainIn s w (sent .node)) (D .outside)) (D .given)) b (retyped s w mid new (b .run) (sent .over .channel) (sent .node) (u .type) c k))
 
         abbrev OutLabel : List ℕ → ℕ → Type 0
-        OutLabel new k = Becomes s w old new (config (set (configIn s w old .processes) i (processAs s w q)) (calculus.retypedOutside (e .channel) (afterMessage (programIn s w) (message s (withKind k)) (plainIn s w (e .node))) (configIn s w old .outside)) (configIn s w old .given))
+        OutLabel new k = Becomes s w old new (config (set (configIn s w old .processes) (sent .place) (processAs s w (sent .after))) (calculus.retypedOutside (sent .over .channel) (afterMessage (programIn s w) (message s (withKind k)) (plainIn s w (sent .over .node))) (configIn s w old .outside)) (configIn s w old .given))
 
-        pub out-label : (new : List ℕ) → n .kind ≡ 3 → Changed mid new (raw.onOutside (raw.changedOutside (e .channel) (raw.retyped node)) (rawIn mid)) → Bounded (rawIn new) → Carries s w old new (Carried (Label number (n .second))) outBy
-        out-label new z c k = subst (λ m. Carries s w old new (Carried (Label number (n .second))) (outAt m)) (sym z) (record { is = (refl, subst (OutLabel new) z (out-retyped new c k)) })
+        pub out-label : (new : List ℕ) → sent .term .kind ≡ 3 → Changed mid new (raw.onOutside (raw.changedOutside (sent .over .channel) (raw.retyped (sent .node))) (rawIn mid)) → Bounded (rawIn new) → Carries s w old new (Carried (Label number (sent .term .second))) outBy
+        out-label new z c k = subst (λ m. Carries s w old new (Carried (Label number (sent .term .second))) (outAt m)) (sym z) (record { is = (refl, subst (OutLabel new) z (out-retyped new c k)) })
 
 -- the node of a far end at the outside says its number
 module _ (s w old : List ℕ) (e : EndWords) (k : ℕ) (o : OutsideWords) where
@@ -132,32 +139,32 @@ module _ (s w old : List ℕ) (t : RunOf s w old) (m : ℕ) (e : m ≡ rawIn old
         (subst (λ n. Becomes s w old new (config (configIn s w old .processes) (configIn s w old .outside ++ (record { number = n; channel = d .channel; type = plainIn s w (d .node) } ∷ [])) (suc (configIn s w old .given)))) e
         (then (λ (D : Config). config (D .processes) (D .outside ++ (record { number = m; channel = d .channel; type = plainIn s w (d .node) } ∷ [])) (D .given)) one-given (passed-out s w mid new (one-given .run) (record { number = m; node = d .node; channel = d .channel }) u f k)))
 
-module _ (s w old : List ℕ) (i : ℕ) (p q : ProcessWords) (n : TermNode) (e : EndWords) (number : ℕ) where
+module _ (s w old : List ℕ) (sent : Sending) (number : ℕ) where
   abbrev pub passedBy : EndWords → Bool → Outcome
-  passedBy d gone = passedOut (configIn s w old) i (processAs s w q) number (e .channel) (afterMessage (programIn s w) (message s n) (plainIn s w (e .node))) (endAs s w d) gone
+  passedBy d gone = passedOut (configIn s w old) (sent .place) (processAs s w (sent .after)) number (sent .over .channel) (afterMessage (programIn s w) (message s (sent .term)) (plainIn s w (sent .over .node))) (endAs s w d) gone
 
   abbrev PassedAt : ℕ → EndWords → Bool → Outcome
-  PassedAt k d gone = passedOut (configIn s w old) i (processAs s w q) number (e .channel) (afterMessage (programIn s w) (message s (withKind s w old i p q n k)) (plainIn s w (e .node))) (endAs s w d) gone
+  PassedAt k d gone = passedOut (configIn s w old) (sent .place) (processAs s w (sent .after)) number (sent .over .channel) (afterMessage (programIn s w) (message s (withKind s w old sent k)) (plainIn s w (sent .over .node))) (endAs s w d) gone
 
   pub passes-numbered : (mid new : List ℕ) (d : EndWords) (gone : Bool) (m : ℕ) → m ≡ rawIn old .given
-      → Becomes s w old mid (config (set (configIn s w old .processes) i (processAs s w q)) (calculus.retypedOutside (e .channel) (afterMessage (programIn s w) (message s n) (plainIn s w (e .node))) (configIn s w old .outside)) (configIn s w old .given))
+      → Becomes s w old mid (config (set (configIn s w old .processes) (sent .place) (processAs s w (sent .after))) (calculus.retypedOutside (sent .over .channel) (afterMessage (programIn s w) (message s (sent .term)) (plainIn s w (sent .over .node))) (configIn s w old .outside)) (configIn s w old .given))
       → Becomes s w mid new (numbered (configIn s w mid) (endAs s w d) gone) → Carries s w old new (Carried (Passed number m gone)) (passedBy d gone)
   passes-numbered mid new d gone m z a b = record { is = (ap (λ k. Carried (Passed number k gone)) z, then (λ (D : Config). numbered D (endAs s w d) gone) a b) }
 
-  module _ {f : Lookup} (z : n .kind ≡ 2) (a : Sees s (p .held) (n .second) f) where
-    pub passes-none : f ≡ lookups.Nothing → Carries s w old old NotOpen (outBy s w old i p q n e number)
-    passes-none y = subst (λ k. Carries s w old old NotOpen (outAt s w old i p q n e number k)) (sym z) (held-none a _ y)
+  module _ {f : Lookup} (z : sent .term .kind ≡ 2) (a : Sees s (sent .before .held) (sent .term .second) f) where
+    pub passes-none : f ≡ lookups.Nothing → Carries s w old old NotOpen (outBy s w old sent number)
+    passes-none y = subst (λ k. Carries s w old old NotOpen (outAt s w old sent number k)) (sym z) (held-none a _ y)
 
     module _ {d : EndWords} (y : f ≡ lookups.Found d) where
       abbrev orLacking : Bool → Outcome
       orLacking b = cond b (PassedAt 2 d (isGivenUp (farOf s w old d))) lacking
 
-      pub passes-lacking : 32 ≤ rawIn old .given → Carries s w old old Lacking (outBy s w old i p q n e number)
-      passes-lacking h = subst (λ k. Carries s w old old Lacking (outAt s w old i p q n e number k)) (sym z)
+      pub passes-lacking : 32 ≤ rawIn old .given → Carries s w old old Lacking (outBy s w old sent number)
+      passes-lacking h = subst (λ k. Carries s w old old Lacking (outAt s w old sent number k)) (sym z)
           (held-some a _ y (subst (λ b. Carries s w old old Lacking (orLacking b)) (sym (le-ltb (rawIn old .given) outsideNumbers h)) (record { is = (refl, refl) })))
 
-      pub passes-out : {new : List ℕ} {r : OutcomeWords} (x : Far) (gone : Bool) → rawIn old .given < 32 → x ≡ farRaw s w old d → gone ≡ forwarding.isGivenUp x → Carries s w old new r (passedBy d gone) → Carries s w old new r (outBy s w old i p q n e number)
-      passes-out {new} {r} x gone h v g c = subst (λ k. Carries s w old new r (outAt s w old i p q n e number k)) (sym z)
+      pub passes-out : {new : List ℕ} {r : OutcomeWords} (x : Far) (gone : Bool) → rawIn old .given < 32 → x ≡ farRaw s w old d → gone ≡ forwarding.isGivenUp x → Carries s w old new r (passedBy d gone) → Carries s w old new r (outBy s w old sent number)
+      passes-out {new} {r} x gone h v g c = subst (λ k. Carries s w old new r (outAt s w old sent number k)) (sym z)
           (held-some a _ y (subst (λ b. Carries s w old new r (orLacking b)) (sym (lt-ltb (rawIn old .given) outsideNumbers h))
           (subst (λ b. Carries s w old new r (PassedAt 2 d b)) (g ∙ given-up-so s w old d x v) (subst (λ k. Carries s w old new r (PassedAt k d gone)) z c))))
 

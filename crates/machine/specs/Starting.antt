@@ -27,7 +27,7 @@ use Rattle.tables.specs.declared.access.Labelled.{Labelled}
 use Rattle.tables.specs.declared.access.Declared.{Declared}
 use Rattle.runs.specs.Lists.{tab, All}
 use Rattle.runs.specs.ListLaws.{length-tab, tab-same, tab-append, map-tab}
-use Rattle.runs.specs.Raw.{RawEnd, RawProcess, RawOutside, RawConfig, BoundedEnd, BoundedProcess, BoundedOutside, Bounded, rawIn}
+use Rattle.runs.specs.Raw.{RawEnd, RawProcess, RawOutside, RawConfig, BoundedEnd, Bounded, rawIn}
 use Rattle.runs.specs.Operations.{single, withGiven, onOutside}
 use Rattle.runs.specs.Values.{endIn, outsideIn, heldIn, Changed}
 use Rattle.runs.specs.Decode.{decodedEnd, decodedOutside, decoded}
@@ -112,16 +112,8 @@ end-bounded : (w : List ℕ) (i n k : ℕ) → EntriesFit w i n → n ≤ 16 →
 unfolding entryAt pairOf
 end-bounded w i n k f m h = record { name = omega arith; node = f .each k h .1; channel = omega arith }
 
--- an entry by value
-module _ {w : List ℕ} {i n k : ℕ} {e : Labelled} (f : EntriesFit w i n) (h : k < n) (o : EntryOf w (i + k) e) where
-  pub entry-node : e .number < 512
-  entry-node = omega (arith, o .holds .number, f .each k h .1)
-
-  pub entry-end : n ≤ 16 → BoundedEnd (endIn (record { name = e .at; side = 0; node = e .number; channel = k }))
-  entry-end m = record { name = o .at; node = entry-node; channel = omega arith }
-
-  pub entry-channel : n ≤ 32 → BoundedOutside (outsideIn (record { number = k; node = e .number; channel = k }))
-  entry-channel m = record { number = omega arith; node = entry-node; channel = omega arith }
+pub entry-node : {w : List ℕ} {i n k : ℕ} {e : Labelled} → EntriesFit w i n → k < n → EntryOf w (i + k) e → e .number < 512
+entry-node {k = k} f h o = omega (arith, o .holds .number, f .each k h .1)
 
 -- ── what the process holds
 -- as far as the loop has come: k entries of n
@@ -142,6 +134,9 @@ brought-on {w} {i} {k = k} {e = e} b h o g m =
 
 pub brought-all : {w : List ℕ} {i n k : ℕ} {q : Held} → Brought w i n k q → n ≤ k → heldIn q ≡ tab (startEnd w i) n
 brought-all {w} {i} {n} {k} b h = let e : k ≡ n = omega (arith, b .upto) in b .is ∙ ap (tab (startEnd w i)) e
+
+pub ends-bounded : {w : List ℕ} {i n : ℕ} (q : Held) → heldIn q ≡ tab (startEnd w i) n → EntriesFit w i n → n ≤ 16 → (length (heldIn q) ≤ 16) × All BoundedEnd (heldIn q)
+ends-bounded {w} {i} {n} q g f m = (omega (arith, ap length g, length-tab (startEnd w i) n), subst (All BoundedEnd) (sym g) (all-tab BoundedEnd (startEnd w i) n (λ k h. end-bounded w i n k f m h)))
 
 -- ── what the outside uses
 -- as far as the loop has come: k entries of n
@@ -181,15 +176,6 @@ module _ {w : List ℕ} {i n : ℕ} {old : List ℕ} where
 module _ (w : List ℕ) (i n body : ℕ) (held : Held) (g : heldIn held ≡ tab (startEnd w i) n) where
   abbrev startProcess : List RawEnd → RawProcess
   startProcess l = record { kind = 0; pointer = body; held = l; link = none }
-
-  pub start-bounded : EntriesFit w i n → n ≤ 16 → body < 16384 → BoundedProcess 1 (startProcess (heldIn held))
-  start-bounded f m b = record {
-    kind = omega arith;
-    pointer = b;
-    many = omega (arith, ap length g, length-tab (startEnd w i) n, m);
-    each = subst (All BoundedEnd) (sym g) (all-tab BoundedEnd (startEnd w i) n (λ k h. end-bounded w i n k f m h));
-    link = tt;
-  }
 
   pub begun : {old one two new : List ℕ} → Changed old one (single (startProcess (heldIn held))) → Changed one two (onOutside (λ l. l ++ tab (startChannel w i) n) (rawIn one)) → Changed two new (withGiven (rawIn two) n) → Changed old new (startRaw w i n body)
   begun a b c = record {

@@ -14,6 +14,7 @@ use runs::places::remove;
 use runs::processes::load;
 use runs::processes::store;
 use runs::records::Process;
+use runs::words::wide;
 
 // What a handler does once its process raises, or leaves the list.
 fn handler_kind(kind: u32, raised: bool) -> u32
@@ -26,12 +27,6 @@ fn handler_kind(kind: u32, raised: bool) -> u32
         return kind;
     }
     1
-}
-
-fn wide(x: u32) -> usize
-    ensures { λ r. ⌜ r ≡ x ⌝ }
-{
-    x as usize
 }
 
 // The handler of a link, if there is one, starts or folds up.

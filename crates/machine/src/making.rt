@@ -1,34 +1,32 @@
 // A process comes: try and spawn.
 ghost use mathlib.Core.Path.{_≡_};
 ghost use Prim.Native.Nat.{_<_};
-ghost use mathlib.Core.Bool.{true, false};
 ghost use mathlib.Core.Option.{some};
 ghost use lib.ListN.{length};
-ghost use Rattle.calculus.specs.Named.{kept};
 ghost use Rattle.calculus.specs.Steps.{trying};
+ghost use Rattle.notation.specs.Limits.{processPlaces, channelPlaces};
 ghost use Rattle.tables.specs.Decode.{processIn};
-ghost use Rattle.tables.specs.Roots.{TypeIn, ProcessIn};
+ghost use Rattle.tables.specs.Roots.{ProcessIn};
 ghost use Rattle.tables.specs.Whole.{Tables};
-ghost use Rattle.runs.specs.Raw.{rawIn, BoundedEnd};
-ghost use Rattle.runs.specs.Values.{endIn};
-ghost use Rattle.contexts.specs.Held.{channelsOf, HeldIn};
-ghost use Rattle.contexts.specs.Halves.{HalfIn, takes, wanted};
+ghost use Rattle.runs.specs.Raw.{rawIn, sideOf};
+ghost use Rattle.contexts.specs.Held.{HeldIn};
 ghost use Rattle.machine.specs.Run.{configIn, processAs, RunOf, StandsAt, Carries};
-ghost use Rattle.machine.specs.Making.{TryHalf, SpawnHalf, SpawnIn, spawnedBy, spawningBy};
+ghost use Rattle.machine.specs.Making.{TryHalf, halfSide, SpawnHalf, SpawnIn, spawnedBy, spawningBy};
 use crate::outcome::Outcome;
 use calculus::answers::Seen;
 use contexts::halves::Half;
 use contexts::halves::keep;
 use contexts::held::bring_end;
 use notation::reading::Found;
+use notation::script::Script;
 use runs::channels::fresh_channel;
 use runs::places::insert;
 use runs::places::moved_link;
 use runs::processes::count;
 use runs::processes::store;
-use runs::records::End;
 use runs::records::Held;
 use runs::records::Process;
+use runs::words::wide;
 
 // A spawn: where the new name stands, the node of its type, the pointers of its halves.
 pub struct SpawnTerm {
@@ -36,12 +34,6 @@ pub struct SpawnTerm {
     pub node: u32,
     pub first: u32,
     pub second: u32,
-}
-
-fn wide(x: u32) -> usize
-    ensures { λ r. ⌜ r ≡ x ⌝ }
-{
-    x as usize
 }
 
 // What a half of a try takes.
@@ -71,7 +63,7 @@ pub fn try_both(
     requires { ⌜ ProcessIn (now text) (now scratch) second ⌝ }
     ensures { λ r. ⌜ Carries (now (text .entry)) (now (scratch .entry)) (now (run .entry)) (now (run .exit)) r (trying (configIn (now (text .entry)) (now (scratch .entry)) (now (run .entry))) place (processAs (now (text .entry)) (now (scratch .entry)) p) (processIn (now (text .entry)) (now (scratch .entry)) first) (processIn (now (text .entry)) (now (scratch .entry)) second)) ⌝ }
 {
-    if 128 <= count(run) {
+    if Script::PROCESS_PLACES <= count(run) {
         return Outcome::Lacking;
     }
     let h = p.held;
@@ -101,17 +93,36 @@ pub fn try_both(
     Outcome::Carried(Seen::Nothing)
 }
 
-// What a half of a spawn takes, or leaves, with its end of the new channel.
-fn spawn_half(text: &[u8], scratch: &[u32], h: Held, half: Half, want: bool, e: End) -> Held
-    requires { ⌜ Tables (now text) (now scratch) ⌝ }
-    requires { ⌜ HalfIn (now text) (now scratch) half ⌝ }
-    requires { ⌜ HeldIn (now text) (now scratch) h ⌝ }
-    requires { ⌜ length (kept (λ n. wanted want (takes (now text) (now scratch) half n)) (channelsOf (now text) (now scratch) h)) < 16 ⌝ }
-    requires { ⌜ BoundedEnd (endIn e) × (e .side < 2) × TypeIn (now text) (now scratch) (e .node) ⌝ }
-    ensures { λ r. ⌜ SpawnHalf (now (text .entry)) (now (scratch .entry)) h half want e r ⌝ }
+// The first half of a spawn provides the new channel, the second uses it.
+fn side_of(first: bool) -> u32
+    ensures { λ r. ⌜ sideOf r ≡ halfSide first ⌝ }
+    ensures { λ r. ⌜ r < 2 ⌝ }
 {
-    let r = keep(text, scratch, h, half, want);
-    bring_end(r, e.name, e.side, e.node, e.channel)
+    if first {
+        return 0;
+    }
+    1
+}
+
+// What a half of a spawn takes, or what the first half leaves, with its end of the new channel.
+fn spawn_half(
+    text: &[u8],
+    scratch: &[u32],
+    h: Held,
+    m: SpawnTerm,
+    first: bool,
+    channel: u32,
+) -> Held
+    requires { ⌜ Tables (now text) (now scratch) ⌝ }
+    requires { ⌜ HeldIn (now text) (now scratch) h ⌝ }
+    requires { ⌜ SpawnIn (now text) (now scratch) m h ⌝ }
+    requires { ⌜ channel < 512 ⌝ }
+    ensures { λ r. ⌜ SpawnHalf (now (text .entry)) (now (scratch .entry)) h m first channel r ⌝ }
+{
+    let half = Half::OfSpawn(m.name as usize, m.first as usize);
+    let r = keep(text, scratch, h, half, first);
+    let side = side_of(first);
+    bring_end(r, m.name, side, m.node, channel)
 }
 
 // The halves of a spawn stand side by side, with the new channel between them.
@@ -127,57 +138,24 @@ fn spawn_on(
     requires { ⌜ RunOf (now text) (now scratch) (now run) ⌝ }
     requires { ⌜ StandsAt (now text) (now scratch) (now run) place p ⌝ }
     requires { ⌜ SpawnIn (now text) (now scratch) m (p .held) ⌝ }
-    requires { ⌜ (length (rawIn (now run) .processes) < 128) × (channel < 512) ⌝ }
+    requires { ⌜ (length (rawIn (now run) .processes) < processPlaces) × (channel < channelPlaces) ⌝ }
     ensures { λ r. ⌜ Carries (now (text .entry)) (now (scratch .entry)) (now (run .entry)) (now (run .exit)) r (spawnedBy (now (text .entry)) (now (scratch .entry)) (now (run .entry)) place p m (some channel)) ⌝ }
 {
     let h = p.held;
-    let half = Half::OfSpawn(m.name as usize, m.first as usize);
-    let ours = spawn_half(
-        text,
-        scratch,
-        h,
-        half,
-        true,
-        End {
-            name: m.name,
-            side: 0,
-            node: m.node,
-            channel,
-        },
-    );
-    let theirs = spawn_half(
-        text,
-        scratch,
-        h,
-        half,
-        false,
-        End {
-            name: m.name,
-            side: 1,
-            node: m.node,
-            channel,
-        },
-    );
-    store(
-        run,
-        place,
-        Process {
-            kind: 0,
-            pointer: m.second,
-            link: p.link,
-            held: theirs,
-        },
-    );
-    insert(
-        run,
-        place,
-        Process {
-            kind: 0,
-            pointer: m.first,
-            link: 0,
-            held: ours,
-        },
-    );
+    let made = Process {
+        kind: 0,
+        pointer: m.first,
+        link: 0,
+        held: spawn_half(text, scratch, h, m, true, channel),
+    };
+    let maker = Process {
+        kind: 0,
+        pointer: m.second,
+        link: p.link,
+        held: spawn_half(text, scratch, h, m, false, channel),
+    };
+    store(run, place, maker);
+    insert(run, place, made);
     Outcome::Carried(Seen::Nothing)
 }
 
@@ -195,7 +173,7 @@ pub fn spawn(
     requires { ⌜ SpawnIn (now text) (now scratch) m (p .held) ⌝ }
     ensures { λ r. ⌜ Carries (now (text .entry)) (now (scratch .entry)) (now (run .entry)) (now (run .exit)) r (spawningBy (now (text .entry)) (now (scratch .entry)) (now (run .entry)) place p m) ⌝ }
 {
-    if 128 <= count(run) {
+    if Script::PROCESS_PLACES <= count(run) {
         return Outcome::Lacking;
     }
     let f = fresh_channel(run);

@@ -1,17 +1,18 @@
 // A send, whoever is at the far end.
 ghost use mathlib.Core.Path.{_≡_};
 ghost use Prim.Native.Nat.{_+_, _<_};
-ghost use lib.ListN.{length};
-ghost use Rattle.calculus.specs.Steps.{afterMessage};
 ghost use Rattle.calculus.specs.WellFormed.{WellFormed};
-ghost use Rattle.tables.specs.Program.{plainIn, programIn};
+ghost use Rattle.tables.specs.Program.{programIn};
 ghost use Rattle.tables.specs.Roots.{ProcessIn};
-ghost use Rattle.runs.specs.Raw.{rawIn};
 ghost use Rattle.runs.specs.declared.records.Far.the-variants as far;
-ghost use Rattle.machine.specs.Run.{configIn, RunOf, ProcessOf, StandsAt, Carries};
+ghost use Rattle.machine.specs.Run.{configIn, RunOf, StandsAt, Carries};
 ghost use Rattle.machine.specs.Forwarding.{farRaw};
-ghost use Rattle.machine.specs.Messages.{message, SendNode, TypeAfter, partsBy};
+ghost use Rattle.machine.specs.Messages.{SendNode};
+ghost use Rattle.machine.specs.Sending.{SendingIn};
+ghost use Rattle.machine.specs.Receiving.{ReceiverIn};
 ghost use Rattle.machine.specs.Meeting.{sendingBy, heardBy, sendBy};
+use crate::messages::Receiver;
+use crate::messages::Sending;
 use crate::messages::after_message;
 use crate::messages::after_send;
 use crate::messages::turn_on;
@@ -29,148 +30,84 @@ use runs::far::far_end;
 use runs::held::end_at;
 use runs::outside::outside_at;
 use runs::processes::load;
-use runs::records::End;
 use runs::records::Far;
 use runs::records::Process;
 
-// The process r at place j, which knows the channel by the name at `x`, takes the message of n with its term t.
-fn hear(
-    text: &[u8],
-    scratch: &[u32],
-    run: &mut [u32],
-    place: usize,
-    p: Process,
-    q: Process,
-    n: TermNode,
-    e: End,
-    node: u32,
-    j: usize,
-    r: Process,
-    x: usize,
-    t: TermNode,
-) -> Outcome
+// The receiver takes the message.
+fn hear(text: &[u8], scratch: &[u32], run: &mut [u32], sent: Sending, to: Receiver) -> Outcome
     requires { ⌜ RunOf (now text) (now scratch) (now run) ⌝ }
-    requires { ⌜ StandsAt (now text) (now scratch) (now run) place p × StandsAt (now text) (now scratch) (now run) j r ⌝ }
-    requires { ⌜ ProcessOf (now text) (now scratch) (length (rawIn (now run) .processes)) q ⌝ }
-    requires { ⌜ TypeAfter (now text) (now scratch) (afterMessage (programIn (now text) (now scratch)) (message (now text) n) (plainIn (now text) (now scratch) (e .node))) node ⌝ }
-    requires { ⌜ SendNode n × (t .kind ≡ n .kind + 5) × partsBy (now text) (now scratch) t (t .kind) ⌝ }
-    requires { ⌜ (t .kind ≡ 7 → r .held .count < 16) ⌝ }
-    ensures { λ o. ⌜ Carries (now (text .entry)) (now (scratch .entry)) (now (run .entry)) (now (run .exit)) o (heardBy (now (text .entry)) (now (scratch .entry)) (now (run .entry)) place p q n e j r x t) ⌝ }
+    requires { ⌜ SendingIn (now text) (now scratch) (now run) sent ⌝ }
+    requires { ⌜ ReceiverIn (now text) (now scratch) (now run) to ⌝ }
+    requires { ⌜ to .term .kind ≡ sent .term .kind + 5 ⌝ }
+    requires { ⌜ (to .term .kind ≡ 7 → to .process .held .count < 16) ⌝ }
+    ensures { λ o. ⌜ Carries (now (text .entry)) (now (scratch .entry)) (now (run .entry)) (now (run .exit)) o (heardBy (now (text .entry)) (now (scratch .entry)) (now (run .entry)) sent to) ⌝ }
 {
+    let n = sent.term;
     if n.kind == 1 {
-        return hear_close(text, scratch, run, place, q, j, r, x, t.third as u32);
+        return hear_close(text, scratch, run, sent, to);
     }
     if n.kind == 3 {
-        return hear_label(text, scratch, run, place, q, j, r, x, node, n.second, t);
+        return hear_label(text, scratch, run, sent, to);
     }
-    let h = p.held;
-    let f = find_end(text, h, n.second);
-    hear_channel(
-        text,
-        scratch,
-        run,
-        place,
-        q,
-        j,
-        r,
-        x,
-        node,
-        f,
-        t.second as u32,
-        t.third as u32,
-    )
+    hear_channel(text, scratch, run, sent, to)
 }
 
 // The far end is at position k of what the process at place j holds.
-fn meet(
-    text: &[u8],
-    scratch: &[u32],
-    run: &mut [u32],
-    place: usize,
-    p: Process,
-    q: Process,
-    n: TermNode,
-    e: End,
-    node: u32,
-    j: usize,
-    k: usize,
-) -> Outcome
+fn meet(text: &[u8], scratch: &[u32], run: &mut [u32], sent: Sending, j: usize, k: usize) -> Outcome
     requires { ⌜ RunOf (now text) (now scratch) (now run) ⌝ }
-    requires { ⌜ StandsAt (now text) (now scratch) (now run) place p ⌝ }
-    requires { ⌜ ProcessOf (now text) (now scratch) (length (rawIn (now run) .processes)) q ⌝ }
-    requires { ⌜ TypeAfter (now text) (now scratch) (afterMessage (programIn (now text) (now scratch)) (message (now text) n) (plainIn (now text) (now scratch) (e .node))) node ⌝ }
-    requires { ⌜ SendNode n ⌝ }
+    requires { ⌜ SendingIn (now text) (now scratch) (now run) sent ⌝ }
     requires { ⌜ WellFormed (programIn (now text) (now scratch)) (configIn (now text) (now scratch) (now run)) ⌝ }
-    requires { ⌜ farRaw (now text) (now scratch) (now run) e ≡ far.Process j k ⌝ }
-    ensures { λ o. ⌜ Carries (now (text .entry)) (now (scratch .entry)) (now (run .entry)) (now (run .exit)) o (sendingBy (now (text .entry)) (now (scratch .entry)) (now (run .entry)) place p q n e) ⌝ }
+    requires { ⌜ farRaw (now text) (now scratch) (now run) (sent .over) ≡ far.Process j k ⌝ }
+    ensures { λ o. ⌜ Carries (now (text .entry)) (now (scratch .entry)) (now (run .entry)) (now (run .exit)) o (sendingBy (now (text .entry)) (now (scratch .entry)) (now (run .entry)) sent) ⌝ }
 {
     let r = load(run, j);
     let h = r.held;
     let y = end_at(h, k);
     let x = y.name as usize;
     let t = turn_on(text, scratch, r, x);
+    let n = sent.term;
     if t.kind != n.kind + 5 {
         return Outcome::NotOpen;
     }
-    hear(text, scratch, run, place, p, q, n, e, node, j, r, x, t)
+    let to = Receiver {
+        place: j,
+        process: r,
+        name: x,
+        term: t,
+    };
+    hear(text, scratch, run, sent, to)
 }
 
 // The far end is the outside's, at position k of its channels.
-fn send_out(
-    text: &[u8],
-    scratch: &[u32],
-    run: &mut [u32],
-    place: usize,
-    p: Process,
-    q: Process,
-    n: TermNode,
-    e: End,
-    node: u32,
-    k: usize,
-) -> Outcome
+fn send_out(text: &[u8], scratch: &[u32], run: &mut [u32], sent: Sending, k: usize) -> Outcome
     requires { ⌜ RunOf (now text) (now scratch) (now run) ⌝ }
-    requires { ⌜ StandsAt (now text) (now scratch) (now run) place p ⌝ }
-    requires { ⌜ ProcessOf (now text) (now scratch) (length (rawIn (now run) .processes)) q ⌝ }
-    requires { ⌜ TypeAfter (now text) (now scratch) (afterMessage (programIn (now text) (now scratch)) (message (now text) n) (plainIn (now text) (now scratch) (e .node))) node ⌝ }
-    requires { ⌜ SendNode n ⌝ }
+    requires { ⌜ SendingIn (now text) (now scratch) (now run) sent ⌝ }
     requires { ⌜ WellFormed (programIn (now text) (now scratch)) (configIn (now text) (now scratch) (now run)) ⌝ }
-    requires { ⌜ farRaw (now text) (now scratch) (now run) e ≡ far.Outside k ⌝ }
-    ensures { λ o. ⌜ Carries (now (text .entry)) (now (scratch .entry)) (now (run .entry)) (now (run .exit)) o (sendingBy (now (text .entry)) (now (scratch .entry)) (now (run .entry)) place p q n e) ⌝ }
+    requires { ⌜ farRaw (now text) (now scratch) (now run) (sent .over) ≡ far.Outside k ⌝ }
+    ensures { λ o. ⌜ Carries (now (text .entry)) (now (scratch .entry)) (now (run .entry)) (now (run .exit)) o (sendingBy (now (text .entry)) (now (scratch .entry)) (now (run .entry)) sent) ⌝ }
 {
     let o = outside_at(run, k);
+    let n = sent.term;
     if n.kind == 2 {
-        return pass_out(text, scratch, run, place, p, q, n, e, o.number, node);
+        return pass_out(text, scratch, run, sent, o.number);
     }
-    send_shown(text, scratch, run, place, p, q, n, e, o.number, node)
+    send_shown(text, scratch, run, sent, o.number)
 }
 
-// The sender p has sent over its end e, and stands as q; who is at the far end?
-fn deliver(
-    text: &[u8],
-    scratch: &[u32],
-    run: &mut [u32],
-    place: usize,
-    p: Process,
-    q: Process,
-    n: TermNode,
-    e: End,
-    node: u32,
-) -> Outcome
+// The process has sent; who is at the far end?
+fn deliver(text: &[u8], scratch: &[u32], run: &mut [u32], sent: Sending) -> Outcome
     requires { ⌜ RunOf (now text) (now scratch) (now run) ⌝ }
-    requires { ⌜ StandsAt (now text) (now scratch) (now run) place p ⌝ }
-    requires { ⌜ ProcessOf (now text) (now scratch) (length (rawIn (now run) .processes)) q ⌝ }
-    requires { ⌜ TypeAfter (now text) (now scratch) (afterMessage (programIn (now text) (now scratch)) (message (now text) n) (plainIn (now text) (now scratch) (e .node))) node ⌝ }
-    requires { ⌜ SendNode n × (e .side < 2) ⌝ }
+    requires { ⌜ SendingIn (now text) (now scratch) (now run) sent ⌝ }
+    requires { ⌜ sent .over .side < 2 ⌝ }
     requires { ⌜ WellFormed (programIn (now text) (now scratch)) (configIn (now text) (now scratch) (now run)) ⌝ }
-    ensures { λ o. ⌜ Carries (now (text .entry)) (now (scratch .entry)) (now (run .entry)) (now (run .exit)) o (sendingBy (now (text .entry)) (now (scratch .entry)) (now (run .entry)) place p q n e) ⌝ }
+    ensures { λ o. ⌜ Carries (now (text .entry)) (now (scratch .entry)) (now (run .entry)) (now (run .exit)) o (sendingBy (now (text .entry)) (now (scratch .entry)) (now (run .entry)) sent) ⌝ }
 {
+    let e = sent.over;
     let f = far_end(run, e.channel, e.side);
     match f {
-        Far::Process(j, k) => {
-            return meet(text, scratch, run, place, p, q, n, e, node, j, k);
-        }
-        Far::Outside(k) => return send_out(text, scratch, run, place, p, q, n, e, node, k),
-        Far::GivenUp => return send_unheard(text, scratch, run, place, p, q, n),
+        Far::Process(j, k) => return meet(text, scratch, run, sent, j, k),
+        Far::Outside(k) => return send_out(text, scratch, run, sent, k),
+        Far::GivenUp => return send_unheard(text, scratch, run, sent),
     }
 }
 
@@ -196,20 +133,23 @@ pub fn send(
     };
     let node = after_message(text, scratch, n, e.node as usize);
     let held = after_send(text, scratch, h, n, node as u32);
+    let after = Process {
+        kind: 0,
+        pointer: n.third as u32,
+        link: p.link,
+        held,
+    };
     deliver(
         text,
         scratch,
         run,
-        place,
-        p,
-        Process {
-            kind: 0,
-            pointer: n.third as u32,
-            link: p.link,
-            held,
+        Sending {
+            place,
+            before: p,
+            after,
+            term: n,
+            over: e,
+            node: node as u32,
         },
-        n,
-        e,
-        node as u32,
     )
 }

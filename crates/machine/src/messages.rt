@@ -17,6 +17,7 @@ use notation::reading::Found;
 use notation::reading::TermNode;
 use notation::script::Script;
 use notation::token::names_equal;
+use runs::records::End;
 use runs::records::Held;
 use runs::records::Process;
 use tables::access::term_node;
@@ -26,6 +27,25 @@ use types::acting::passing;
 use types::acting::standing;
 use types::messages::Choosing;
 use types::messages::Passing;
+
+// A send under way: the process at a place before it and after it, its term, the end that it goes over, and the node of the type that
+// the channel then has.
+pub struct Sending {
+    pub place: usize,
+    pub before: Process,
+    pub after: Process,
+    pub term: TermNode,
+    pub over: End,
+    pub node: u32,
+}
+
+// A process that receives: its place, where its name for the channel stands, and its term.
+pub struct Receiver {
+    pub place: usize,
+    pub process: Process,
+    pub name: usize,
+    pub term: TermNode,
+}
 
 // The type of a channel of the type i, once a channel was passed over it.
 fn after_passing(text: &[u8], scratch: &[u32], i: usize) -> usize

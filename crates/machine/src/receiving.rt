@@ -1,25 +1,24 @@
 // A process that receives, and what its sender's message does to it.
-ghost use Prim.Native.Nat.{ℕ, _+_, _<_};
+ghost use mathlib.Core.Path.{_≡_};
+ghost use Prim.Native.Nat.{ℕ, _<_};
 ghost use lib.ListN.{length};
-ghost use Rattle.notation.specs.Reader.{nameIn};
-ghost use Rattle.notation.specs.Token.{nameAt};
-ghost use Rattle.calculus.specs.Steps.{onClose, onChannel, onLabel, takesClose, takesChannel, takesLabel};
-ghost use Rattle.tables.specs.Decode.{processIn};
-ghost use Rattle.tables.specs.Program.{plainIn};
-ghost use Rattle.tables.specs.Roots.{TypeIn, ProcessIn, BranchesIn, branchesIn};
+ghost use Rattle.tables.specs.Roots.{BranchesIn};
 ghost use Rattle.tables.specs.Whole.{Tables};
 ghost use Rattle.runs.specs.Raw.{rawIn};
-ghost use Rattle.contexts.specs.Held.{endFound, FoundIn};
-ghost use Rattle.machine.specs.Run.{configIn, processAs, RunOf, ProcessOf, StandsAt, Becomes, Carries};
-ghost use Rattle.machine.specs.Receiving.{bothSet, bothBy, FoundBounded, BringsFound, BranchIs};
+ghost use Rattle.machine.specs.Run.{configIn, processAs, RunOf, ProcessOf, Becomes, Carries};
+ghost use Rattle.machine.specs.Sending.{SendingIn};
+ghost use Rattle.machine.specs.Receiving.{ReceiverIn, bothSet, FoundBounded, BringsFound, BranchIs};
+ghost use Rattle.machine.specs.Meeting.{heardBy};
+use crate::messages::Receiver;
+use crate::messages::Sending;
 use crate::outcome::Outcome;
 use calculus::answers::Seen;
 use contexts::held::Lookup;
 use contexts::held::bring_end;
 use contexts::held::drop_end;
+use contexts::held::find_end;
 use contexts::held::retype_end;
 use notation::reading::Found;
-use notation::reading::TermNode;
 use runs::processes::store;
 use runs::records::Held;
 use runs::records::Process;
@@ -46,37 +45,35 @@ fn store_both(
     store(run, j, r);
 }
 
-// The receiver r at place j closes the channel whose name is the one at `x`, and goes on with the term at a pointer.
+// The receiver closes the channel, and goes on.
 pub fn hear_close(
     text: &[u8],
     scratch: &[u32],
     run: &mut [u32],
-    place: usize,
-    q: Process,
-    j: usize,
-    r: Process,
-    x: usize,
-    pointer: u32,
+    sent: Sending,
+    to: Receiver,
 ) -> Outcome
     requires { ⌜ RunOf (now text) (now scratch) (now run) ⌝ }
-    requires { ⌜ place < length (rawIn (now run) .processes) ⌝ }
-    requires { ⌜ ProcessOf (now text) (now scratch) (length (rawIn (now run) .processes)) q ⌝ }
-    requires { ⌜ StandsAt (now text) (now scratch) (now run) j r ⌝ }
-    requires { ⌜ ProcessIn (now text) (now scratch) pointer ⌝ }
-    ensures { λ o. ⌜ Carries (now (text .entry)) (now (scratch .entry)) (now (run .entry)) (now (run .exit)) o (bothBy (now (text .entry)) (now (scratch .entry)) (now (run .entry)) place q j r x (takesClose (onClose (processIn (now (text .entry)) (now (scratch .entry)) pointer)) (nameAt (now (text .entry)) x) (processAs (now (text .entry)) (now (scratch .entry)) r))) ⌝ }
+    requires { ⌜ SendingIn (now text) (now scratch) (now run) sent ⌝ }
+    requires { ⌜ ReceiverIn (now text) (now scratch) (now run) to ⌝ }
+    requires { ⌜ (sent .term .kind ≡ 1) × (to .term .kind ≡ 6) ⌝ }
+    ensures { λ o. ⌜ Carries (now (text .entry)) (now (scratch .entry)) (now (run .entry)) (now (run .exit)) o (heardBy (now (text .entry)) (now (scratch .entry)) (now (run .entry)) sent to) ⌝ }
 {
+    let r = to.process;
+    let t = to.term;
     let h = r.held;
-    let held = drop_end(text, h, x);
+    let held = drop_end(text, h, to.name);
+    let q = sent.after;
     store_both(
         text,
         scratch,
         run,
-        place,
+        sent.place,
         q,
-        j,
+        to.place,
         Process {
             kind: 0,
-            pointer,
+            pointer: t.third as u32,
             link: r.link,
             held,
         },
@@ -96,43 +93,40 @@ fn bring_found(h: Held, f: Lookup, at: u32) -> Held
     }
 }
 
-// The receiver r takes the end f under the name at `name`; the channel that passed it is then of the type of a node.
+// The receiver takes the channel that was passed.
 pub fn hear_channel(
     text: &[u8],
     scratch: &[u32],
     run: &mut [u32],
-    place: usize,
-    q: Process,
-    j: usize,
-    r: Process,
-    x: usize,
-    node: u32,
-    f: Lookup,
-    name: u32,
-    pointer: u32,
+    sent: Sending,
+    to: Receiver,
 ) -> Outcome
     requires { ⌜ RunOf (now text) (now scratch) (now run) ⌝ }
-    requires { ⌜ place < length (rawIn (now run) .processes) ⌝ }
-    requires { ⌜ ProcessOf (now text) (now scratch) (length (rawIn (now run) .processes)) q ⌝ }
-    requires { ⌜ StandsAt (now text) (now scratch) (now run) j r ⌝ }
-    requires { ⌜ ProcessIn (now text) (now scratch) pointer ⌝ }
-    requires { ⌜ TypeIn (now text) (now scratch) node × FoundIn (now text) (now scratch) f ⌝ }
-    requires { ⌜ (name < 8192) × (r .held .count < 16) ⌝ }
-    ensures { λ o. ⌜ Carries (now (text .entry)) (now (scratch .entry)) (now (run .entry)) (now (run .exit)) o (bothBy (now (text .entry)) (now (scratch .entry)) (now (run .entry)) place q j r x (takesChannel (onChannel (nameIn (now (text .entry)) name) (processIn (now (text .entry)) (now (scratch .entry)) pointer)) (nameAt (now (text .entry)) x) (plainIn (now (text .entry)) (now (scratch .entry)) node) (endFound (now (text .entry)) (now (scratch .entry)) f) (processAs (now (text .entry)) (now (scratch .entry)) r))) ⌝ }
+    requires { ⌜ SendingIn (now text) (now scratch) (now run) sent ⌝ }
+    requires { ⌜ ReceiverIn (now text) (now scratch) (now run) to ⌝ }
+    requires { ⌜ (sent .term .kind ≡ 2) × (to .term .kind ≡ 7) × (to .process .held .count < 16) ⌝ }
+    ensures { λ o. ⌜ Carries (now (text .entry)) (now (scratch .entry)) (now (run .entry)) (now (run .exit)) o (heardBy (now (text .entry)) (now (scratch .entry)) (now (run .entry)) sent to) ⌝ }
 {
+    let n = sent.term;
+    let p = sent.before;
+    let passed = p.held;
+    let f = find_end(text, passed, n.second);
+    let r = to.process;
+    let t = to.term;
     let h = r.held;
-    let m = retype_end(text, h, x, node);
-    let held = bring_found(m, f, name);
+    let m = retype_end(text, h, to.name, sent.node);
+    let held = bring_found(m, f, t.second as u32);
+    let q = sent.after;
     store_both(
         text,
         scratch,
         run,
-        place,
+        sent.place,
         q,
-        j,
+        to.place,
         Process {
             kind: 0,
-            pointer,
+            pointer: t.third as u32,
             link: r.link,
             held,
         },
@@ -159,40 +153,37 @@ fn branch_of(text: &[u8], scratch: &[u32], at: usize, e: usize, n: usize) -> Fou
     Found::Nothing
 }
 
-// The receiver r goes on with the branch of the label at `at`, of those of its node t.
+// The receiver goes on with the branch of the label.
 pub fn hear_label(
     text: &[u8],
     scratch: &[u32],
     run: &mut [u32],
-    place: usize,
-    q: Process,
-    j: usize,
-    r: Process,
-    x: usize,
-    node: u32,
-    at: usize,
-    t: TermNode,
+    sent: Sending,
+    to: Receiver,
 ) -> Outcome
     requires { ⌜ RunOf (now text) (now scratch) (now run) ⌝ }
-    requires { ⌜ place < length (rawIn (now run) .processes) ⌝ }
-    requires { ⌜ ProcessOf (now text) (now scratch) (length (rawIn (now run) .processes)) q ⌝ }
-    requires { ⌜ StandsAt (now text) (now scratch) (now run) j r ⌝ }
-    requires { ⌜ TypeIn (now text) (now scratch) node × ((p : ℕ) × BranchesIn (now text) (now scratch) p (t .second) (t .third)) ⌝ }
-    ensures { λ o. ⌜ Carries (now (text .entry)) (now (scratch .entry)) (now (run .entry)) (now (run .exit)) o (bothBy (now (text .entry)) (now (scratch .entry)) (now (run .entry)) place q j r x (takesLabel (onLabel (branchesIn (now (text .entry)) (now (scratch .entry)) (t .second) (t .third))) (nameAt (now (text .entry)) x) (plainIn (now (text .entry)) (now (scratch .entry)) node) (nameAt (now (text .entry)) (at + 1)) (processAs (now (text .entry)) (now (scratch .entry)) r))) ⌝ }
+    requires { ⌜ SendingIn (now text) (now scratch) (now run) sent ⌝ }
+    requires { ⌜ ReceiverIn (now text) (now scratch) (now run) to ⌝ }
+    requires { ⌜ (sent .term .kind ≡ 3) × (to .term .kind ≡ 8) ⌝ }
+    ensures { λ o. ⌜ Carries (now (text .entry)) (now (scratch .entry)) (now (run .entry)) (now (run .exit)) o (heardBy (now (text .entry)) (now (scratch .entry)) (now (run .entry)) sent to) ⌝ }
 {
-    let f = branch_of(text, scratch, at, t.second, t.third);
+    let n = sent.term;
+    let t = to.term;
+    let f = branch_of(text, scratch, n.second, t.second, t.third);
     let Found::At(pointer) = f else {
         return Outcome::NotOpen;
     };
+    let r = to.process;
     let h = r.held;
-    let held = retype_end(text, h, x, node);
+    let held = retype_end(text, h, to.name, sent.node);
+    let q = sent.after;
     store_both(
         text,
         scratch,
         run,
-        place,
+        sent.place,
         q,
-        j,
+        to.place,
         Process {
             kind: 0,
             pointer: pointer as u32,

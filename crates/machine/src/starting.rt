@@ -3,7 +3,7 @@ ghost use mathlib.Core.Path.{_≡_};
 ghost use mathlib.Core.List.{_++_};
 ghost use Prim.Native.Nat.{_+_, _≤_, _<_};
 ghost use lib.ListN.{length};
-ghost use Rattle.notation.specs.Limits.{runWords};
+ghost use Rattle.notation.specs.Limits.{heldLimit, outsideNumbers, runWords};
 ghost use Rattle.calculus.specs.Runs.{execOf};
 ghost use Rattle.typereader.specs.Filling.{Area};
 ghost use Rattle.tables.specs.Program.{programIn};
@@ -12,6 +12,7 @@ ghost use Rattle.runs.specs.Lists.{tab};
 ghost use Rattle.runs.specs.Raw.{rawIn, Bounded};
 ghost use Rattle.runs.specs.Operations.{onOutside};
 ghost use Rattle.runs.specs.Values.{heldIn, Changed};
+ghost use Rattle.machine.specs.Run.{pointerLimit};
 ghost use Rattle.machine.specs.Dispatch.{SmallSignatures};
 ghost use Rattle.machine.specs.Starting.{startEnd, startChannel, EntriesFit, startRaw, Begins};
 use notation::reading::Found;
@@ -33,7 +34,7 @@ use tables::search::find_process;
 
 // The ends that a process provides at start: those of n signature entries, on the channels from 0 on.
 fn start_ends(scratch: &[u32], first: usize, n: usize) -> Held
-    requires { ⌜ Area (now scratch) × EntriesFit (now scratch) first n × (n ≤ 16) ⌝ }
+    requires { ⌜ Area (now scratch) × EntriesFit (now scratch) first n × (n ≤ heldLimit) ⌝ }
     ensures { λ r. ⌜ heldIn r ≡ tab (startEnd (now (scratch .entry)) first) n ⌝ }
 {
     let none = no_ends();
@@ -58,28 +59,28 @@ fn start_ends(scratch: &[u32], first: usize, n: usize) -> Held
 // "The outside uses these channels, numbered from 0 in list order."
 fn use_channels(scratch: &[u32], run: &mut [u32], first: usize, n: usize)
     requires { ⌜ Area (now scratch) × EntriesFit (now scratch) first n ⌝ }
-    requires { ⌜ (runWords ≤ length (now run)) × Bounded (rawIn (now run)) × (length (rawIn (now run) .outside) + n ≤ 32) ⌝ }
+    requires { ⌜ (runWords ≤ length (now run)) × Bounded (rawIn (now run)) × (length (rawIn (now run) .outside) + n ≤ outsideNumbers) ⌝ }
     ensures { λ r. ⌜ Changed (now (run .entry)) (now (run .exit)) (onOutside (λ l. l ++ tab (startChannel (now (scratch .entry)) first) n) (rawIn (now (run .entry)))) ⌝ }
     ensures { λ r. ⌜ Bounded (rawIn (now (run .exit))) ⌝ }
 {
-    let mut k: usize = 0;
-    while k < n {
-        let e = entry(scratch, first + k);
+    let mut number: usize = 0;
+    while number < n {
+        let e = entry(scratch, first + number);
         append_outside(
             run,
             Outside {
-                number: k as u32,
+                number: number as u32,
                 node: e.number as u32,
-                channel: k as u32,
+                channel: number as u32,
             },
         );
-        k += 1;
+        number += 1;
     }
 }
 
 // The run of a process alone, with what it provides, which the outside uses.
 fn begin_process(scratch: &[u32], run: &mut [u32], d: Declared)
-    requires { ⌜ Area (now scratch) × EntriesFit (now scratch) (d .first) (d .provided) × (d .provided ≤ 16) × (d .body < 16384) ⌝ }
+    requires { ⌜ Area (now scratch) × EntriesFit (now scratch) (d .first) (d .provided) × (d .provided ≤ heldLimit) × (d .body < pointerLimit) ⌝ }
     requires { ⌜ runWords ≤ length (now run) ⌝ }
     ensures { λ r. ⌜ Changed (now (run .entry)) (now (run .exit)) (startRaw (now (scratch .entry)) (d .first) (d .provided) (d .body)) ⌝ }
     ensures { λ r. ⌜ Bounded (rawIn (now (run .exit))) ⌝ }

@@ -7,4 +7,4 @@ pub mod outside;
 pub mod places;
 pub mod processes;
 pub mod records;
-mod words;
+pub mod words;

@@ -4,6 +4,7 @@ use contexts::held::find_end;
 use notation::reading::Found;
 use runs::records::End;
 use runs::records::Held;
+use runs::words::wide;
 use tables::access::type_node;
 use types::acting::choosing;
 use types::acting::labelled;
@@ -19,12 +20,6 @@ ghost use Rattle.typereader.specs.Filling.{Area};
 ghost use Rattle.runs.specs.Values.{endIn};
 ghost use Rattle.tables.specs.Whole.{Tables};
 ghost use Rattle.terms.specs.Acting.{Acts, UnitOf, PassesOver, ChoosesOver, TakesFrom};
-
-pub(crate) fn wide(x: u32) -> usize
-    ensures { λ r. ⌜ r ≡ x ⌝ }
-{
-    x as usize
-}
 
 pub fn narrow(x: usize) -> u32
     requires { ⌜ x < 65536 ⌝ }

@@ -1,5 +1,4 @@
 // `call p (a, ..) [b, ..]`: its two lists of names, and the refusal's number, or 0.
-use crate::acting::wide;
 use contexts::held::Lookup;
 use contexts::held::drop_end;
 use contexts::held::find_end;
@@ -7,6 +6,7 @@ use contexts::names::in_list;
 use contexts::names::list_end;
 use notation::reading::Found;
 use runs::records::Held;
+use runs::words::wide;
 use tables::access::declared_process;
 use tables::access::entry;
 use tables::arguments::Argument;

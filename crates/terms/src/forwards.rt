@@ -1,10 +1,10 @@
 // `fwd x c`: the refusal's number, or 0.
-use crate::acting::wide;
 use contexts::held::Lookup;
 use contexts::held::drop_end;
 use contexts::held::find_end;
 use runs::records::End;
 use runs::records::Held;
+use runs::words::wide;
 use types::equality::same_type;
 ghost use mathlib.Core.Path.{_≡_};
 ghost use mathlib.Core.Bool.{_&&_};

@@ -13,7 +13,6 @@ ghost use Rattle.runs.specs.Raw.{rawIn, sideOf, Bounded};
 ghost use Rattle.runs.specs.Values.{endIn, heldIn};
 ghost use Rattle.wellformed.specs.OfText.{Node, EndOf, OfText};
 ghost use Rattle.wellformed.specs.Kept.{placeOf, Kept, farSame, Entered, outsideEnd, processEnds, rawEnds, besideIn};
-use crate::words::wide;
 use runs::held::end_at;
 use runs::outside::outside_at;
 use runs::outside::outside_count;
@@ -21,6 +20,7 @@ use runs::processes::count;
 use runs::processes::load;
 use runs::records::End;
 use runs::records::Held;
+use runs::words::wide;
 use types::equality::same_type;
 
 // The place of a key's word.

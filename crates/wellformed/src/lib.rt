@@ -18,7 +18,6 @@ pub mod fitting;
 pub mod numbers;
 pub mod outwards;
 pub mod typing;
-mod words;
 
 // Whether the words of a run are a well-formed configuration of this text.
 pub fn well_formed(text: &[u8], scratch: &[u32], run: &[u32]) -> bool

@@ -7,7 +7,6 @@ ghost use Rattle.runs.specs.Lists.{All};
 ghost use Rattle.runs.specs.Raw.{rawIn, Bounded};
 ghost use Rattle.runs.specs.Values.{heldIn, processIn, Decided};
 ghost use Rattle.wellformed.specs.OfText.{Pointer, EndOf, TermOf, ProcessOf, OutsideOf, OfText};
-use crate::words::wide;
 use notation::script::Script;
 use runs::held::end_at;
 use runs::outside::outside_at;
@@ -16,6 +15,7 @@ use runs::processes::count;
 use runs::processes::load;
 use runs::records::Held;
 use runs::records::Process;
+use runs::words::wide;
 use tables::access::node_count;
 use tables::access::term_count;
 
@@ -31,7 +31,7 @@ fn pointer_stands(scratch: &[u32], p: usize) -> bool
     if p < Script::PROCESS_TERMS {
         return false;
     }
-    p <= 9216
+    p <= Script::PROCESS_TERMS + Script::TEXT
 }
 
 // A process's pointer, which does not matter where it folds up.

@@ -9,11 +9,11 @@ ghost use Rattle.tables.specs.Whole.{Tables};
 ghost use Rattle.runs.specs.Raw.{rawIn, Bounded};
 ghost use Rattle.wellformed.specs.OfText.{OfText};
 ghost use Rattle.wellformed.specs.Outward.{outwardIn};
-use crate::words::wide;
 use declared::reach::has_other;
 use declared::reach::reach;
 use runs::outside::outside_at;
 use runs::outside::outside_count;
+use runs::words::wide;
 
 pub fn outside_outward(text: &[u8], scratch: &[u32], run: &[u32]) -> bool
     requires { ⌜ Tables (now text) (now scratch) × Everywhere (now text) (now scratch) ⌝ }

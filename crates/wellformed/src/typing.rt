@@ -17,7 +17,6 @@ ghost use Rattle.declared.specs.Verdicts.{verdictOf};
 ghost use Rattle.terms.specs.Next.{contextIn};
 ghost use Rattle.wellformed.specs.OfText.{ProcessOf, OfText};
 ghost use Rattle.wellformed.specs.Typing.{Distinct, typedIn};
-use crate::words::wide;
 use checker::process::check_process;
 use contexts::held::Lookup;
 use contexts::held::find_end;
@@ -28,6 +27,7 @@ use runs::processes::count;
 use runs::processes::load;
 use runs::records::Held;
 use runs::records::Process;
+use runs::words::wide;
 
 // Whether no name comes twice: the first is not among those after it, which are tried likewise.
 fn names_distinct(text: &[u8], h: Held) -> bool

@@ -11,7 +11,6 @@ use Rattle.checker.proofs.choices.labels_offered.Statement.{statement}
 use Rattle.checker.proofs.choices.labels_offered.Tie as tie
 use Rattle.checker.proofs.choices.labels_offered.Reads as reads
 use Rattle.checker.proofs.choices.labels_offered.Lts as lts
-use Rattle.checker.proofs.choices.wide.Reads as wide-reads
 use Rattle.labels.proofs.fit.labels_fit.Reads as labels-fit-reads
 use Rattle.terms.proofs.acting.acting.Reads as acting-reads
 use Rattle.types.proofs.acting.choosing.Reads as choosing-reads

@@ -9,7 +9,6 @@ use Rattle.contexts.proofs.halves.divides.Reads as reads
 use Rattle.contexts.proofs.halves.divides.Lts as lts
 use Rattle.contexts.proofs.halves.half_takes.Reads as half-takes-reads
 use Rattle.contexts.proofs.halves.is_fair.Reads as is-fair-reads
-use Rattle.contexts.proofs.halves.wide.Reads as wide-reads
 use Rattle.runs.proofs.held.end_at.Reads as end-at-reads
 
 abbrev Inv-loop : tie.InvT-loop

@@ -12,7 +12,6 @@ use Rattle.contexts.proofs.halves.keep.Tie as tie
 use Rattle.contexts.proofs.halves.keep.Reads as reads
 use Rattle.contexts.proofs.halves.keep.Lts as lts
 use Rattle.contexts.proofs.halves.keeps_end.Reads as keeps-end-reads
-use Rattle.contexts.proofs.halves.wide.Reads as wide-reads
 use Rattle.contexts.proofs.halves.with_if.Reads as with-if-reads
 use Rattle.runs.proofs.held.end_at.Reads as end-at-reads
 use Rattle.runs.proofs.held.no_ends.Reads as no-ends-reads

@@ -14,7 +14,6 @@ use Rattle.contexts.proofs.held.position_named.Statement.{statement}
 use Rattle.contexts.proofs.held.position_named.Tie as tie
 use Rattle.contexts.proofs.held.position_named.Reads as reads
 use Rattle.contexts.proofs.held.position_named.Lts as lts
-use Rattle.contexts.proofs.held.wide.Reads as wide-reads
 use Rattle.notation.proofs.token.names_equal.Reads as names-equal-reads
 use Rattle.runs.proofs.held.end_at.Reads as end-at-reads
 

@@ -4,67 +4,54 @@ use borrow.Author.Needs.{needs}
 use Rattle.machine.proofs.meeting.deliver.Statement.{statement}
 use Rattle.machine.proofs.meeting.deliver.Tie as tie
 
--- src/meeting.rt:167:9
 far-end-requires : tie.Need-far-end-requires
 far-end-requires c κs =
-    let s = c .before .before .before .before in
-    ((s .pre .0 .wide), ((s .pre .0 .bounds), s .pre .1 .1 .1 .1 .0 .1))
+    let s = c .before .before .before .before .before in
+    ((s .pre .0 .wide), ((s .pre .0 .bounds), s .pre .1 .1 .0))
 
--- src/meeting.rt:169:22
 enum-known-f : tie.Need-enum-known-f
 enum-known-f c = search needs
 
--- src/meeting.rt:170:13
 meet-requires : tie.Need-meet-requires
 meet-requires c κs =
-    let s = c .before .before .before .before .before .before .before .before .before in
-    (s .pre .0, (s .pre .1 .0, (s .pre .1 .1 .0, (s .pre .1 .1 .1 .0, (s .pre .1 .1 .1 .1 .0 .0, (s .pre .1 .1 .1 .1 .1, sym (sym (c .before .before .f .given .1) ∙ c .before .before .before .before .far-end .ensures)))))))
+    let s = c .before .before .before .before .before .before .before .before .before .before in
+    (s .pre .0, (s .pre .1 .0, (s .pre .1 .1 .1, sym (sym (c .before .before .f .given .1) ∙ c .before .before .before .before .far-end .ensures))))
 
--- src/meeting.rt:170:13
 same-length : tie.Need-same-length
 same-length c = search needs
 
--- src/meeting.rt:170:13
 returns : tie.Need-returns
 returns c = c .before .before .meet .ensures
 
--- src/meeting.rt:172:22
 enum-known-f-2 : tie.Need-enum-known-f-2
 enum-known-f-2 c = search needs
 
--- src/meeting.rt:172:28
 send-out-requires : tie.Need-send-out-requires
 send-out-requires c κs =
-    let s = c .before .before .before .before .before .before .before .before .before in
-    (s .pre .0, (s .pre .1 .0, (s .pre .1 .1 .0, (s .pre .1 .1 .1 .0, (s .pre .1 .1 .1 .1 .0 .0, (s .pre .1 .1 .1 .1 .1, sym (sym (c .before .before .f2 .given .1) ∙ c .before .before .before .before .far-end .ensures)))))))
+    let s = c .before .before .before .before .before .before .before .before .before .before in
+    (s .pre .0, (s .pre .1 .0, (s .pre .1 .1 .1, sym (sym (c .before .before .f2 .given .1) ∙ c .before .before .before .before .far-end .ensures))))
 
--- src/meeting.rt:172:28
 same-length-2 : tie.Need-same-length-2
 same-length-2 c = search needs
 
--- src/meeting.rt:172:28
 returns-2 : tie.Need-returns-2
 returns-2 c = c .before .before .send-out .ensures
 
--- src/meeting.rt:173:60
 enum-told : tie.Need-enum-told
 enum-told c = search needs
 
--- src/meeting.rt:173:25
 send-unheard-requires : tie.Need-send-unheard-requires
 send-unheard-requires c κs =
-    let s = c .before .before .before .before .before .before .before .before in
-    (s .pre .0, (s .pre .1 .0, (s .pre .1 .1 .0, (s .pre .1 .1 .1 .1 .0 .0 .low, s .pre .1 .1 .1 .1 .0 .0 .high))))
+    let s = c .before .before .before .before .before .before .before .before .before in
+    (s .pre .0, s .pre .1 .0)
 
--- src/meeting.rt:173:25
 same-length-3 : tie.Need-same-length-3
 same-length-3 c = search needs
 
--- src/meeting.rt:173:25
 returns-3 : tie.Need-returns-3
 returns-3 c =
-    let s = c .before .before .before .before .before .before .before .before .before .before .before in
-    sends-unheard (s .args .text .now) (s .args .scratch .now) (s .args .run .now) (s .args .place) (s .args .p) (s .args .q) (s .args .n) (s .args .e) (sym (c .before .before .before .before .enum-told .given .1) ∙ c .before .before .before .before .before .before .far-end .ensures) (c .before .before .send-unheard .ensures)
+    let s = c .before .before .before .before .before .before .before .before .before .before .before .before in
+    sends-unheard (s .args .text .now) (s .args .scratch .now) (s .args .run .now) (s .args .sent) (sym (c .before .before .before .before .enum-told .given .1) ∙ c .before .before .before .before .before .before .far-end .ensures) (c .before .before .send-unheard .ensures)
 
 pub deliver-spec : {M : Type 1} → statement M
 deliver-spec =

@@ -1,96 +1,49 @@
-use mathlib.Core.Path.{_≡_, subst}
+use mathlib.Core.Path.{_≡_}
 use native.Mathlib.Omega.{arith}
-use Rattle.machine.specs.Meeting.{hears-kind-close, hears-kind-channel, hears-kind-label}
-use Rattle.machine.specs.Changes.{pointer-small}
-use Rattle.machine.specs.Messages.{partsBy}
 use borrow.Author.Needs.{needs}
 use Rattle.machine.proofs.meeting.hear.Statement.{statement}
 use Rattle.machine.proofs.meeting.hear.Tie as tie
 
--- src/meeting.rt:61:66
-cast-hear-close : tie.Need-cast-hear-close
-cast-hear-close c =
-    let s = c .before .before .before .before .before .before .before in
-    let z : s .args .t .kind ≡ 6 = omega (arith, (s .pre .1 .1 .1 .1 .0 .1), c .before .before .if1 .taken) in omega (arith, pointer-small (s .args .text .now) (s .args .scratch .now) _ (s .pre .0 .tables) (subst (partsBy (s .args .text .now) (s .args .scratch .now) (s .args .t)) z (s .pre .1 .1 .1 .1 .0 .2)))
-
--- src/meeting.rt:61:9
 hear-close-requires : tie.Need-hear-close-requires
-hear-close-requires c κs =
-    let s = c .before .before .before .before .before .before .before in
-    let z : s .args .t .kind ≡ 6 = omega (arith, (s .pre .1 .1 .1 .1 .0 .1), c .before .before .if1 .taken) in (s .pre .0, (s .pre .1 .0 .0 .below, (s .pre .1 .1 .0, (s .pre .1 .0 .1, (subst (partsBy (s .args .text .now) (s .args .scratch .now) (s .args .t)) z (s .pre .1 .1 .1 .1 .0 .2))))))
+hear-close-requires c κs = (c .before .before .before .before .before .before .before .pre .0, (c .before .before .before .before .before .before .before .pre .1 .0, (c .before .before .before .before .before .before .before .pre .1 .1 .0, (c .before .if1 .taken, omega (arith, c .before .if1 .taken, c .before .before .before .before .before .before .before .pre .1 .1 .1 .0)))))
 
--- src/meeting.rt:61:9
 same-length : tie.Need-same-length
 same-length c = search needs
 
--- src/meeting.rt:61:9
 returns : tie.Need-returns
-returns c =
-    let s = c .before .before .before .before .before .before .before .before .before .before in
-    hears-kind-close (s .args .text .now) (s .args .scratch .now) (s .args .run .now) (s .args .place) (s .args .p) (s .args .q) (s .args .n) (s .args .e) (s .args .j) (s .args .r) (s .args .x) (s .args .t) (c .before .before .before .before .before .if1 .taken) (s .pre .1 .1 .1 .1 .0 .1) (c .before .before .hear-close .ensures)
+returns c = c .before .before .hear-close .ensures
 
--- src/meeting.rt:64:9
 hear-label-requires : tie.Need-hear-label-requires
-hear-label-requires c κs =
-    let s = c .before .before .before .before .before .before .before .before in
-    let z : s .args .t .kind ≡ 8 = omega (arith, (s .pre .1 .1 .1 .1 .0 .1), c .before .if2 .taken) in (s .pre .0, (s .pre .1 .0 .0 .below, (s .pre .1 .1 .0, (s .pre .1 .0 .1, (s .pre .1 .1 .1 .0 .type, (subst (partsBy (s .args .text .now) (s .args .scratch .now) (s .args .t)) z (s .pre .1 .1 .1 .1 .0 .2)))))))
+hear-label-requires c κs = (c .before .before .before .before .before .before .before .before .before .pre .0, (c .before .before .before .before .before .before .before .before .before .pre .1 .0, (c .before .before .before .before .before .before .before .before .before .pre .1 .1 .0, (c .before .if2 .taken, omega (arith, c .before .if2 .taken, c .before .before .before .before .before .before .before .before .before .pre .1 .1 .1 .0)))))
 
--- src/meeting.rt:64:9
 same-length-2 : tie.Need-same-length-2
 same-length-2 c = search needs
 
--- src/meeting.rt:64:9
 returns-2 : tie.Need-returns-2
-returns-2 c =
-    let s = c .before .before .before .before .before .before .before .before .before .before .before in
-    hears-kind-label (s .args .text .now) (s .args .scratch .now) (s .args .run .now) (s .args .place) (s .args .p) (s .args .q) (s .args .n) (s .args .e) (s .args .j) (s .args .r) (s .args .x) (s .args .t) (s .pre .1 .1 .1 .0) (c .before .before .before .before .if2 .taken) (s .pre .1 .1 .1 .1 .0 .1) (c .before .before .hear-label .ensures)
+returns-2 c = c .before .before .hear-label .ensures
 
--- src/meeting.rt:67:9
-find-end-requires : tie.Need-find-end-requires
-find-end-requires c κs = c .before .before .before .before .before .before .before .before .pre .1 .0 .0 .is .held .many
-
--- src/meeting.rt:79:9
-cast-hear-channel : tie.Need-cast-hear-channel
-cast-hear-channel c =
-    let s = c .before .before .before .before .before .before .before .before .before .before .before in
-    let y : s .args .n .kind ≡ 2 = omega (arith, (s .pre .1 .1 .1 .1 .0 .0) .low, (s .pre .1 .1 .1 .1 .0 .0) .high, c .before .before .before .before .before .before .if1 .left, c .before .before .before .before .if2 .left) in let z : s .args .t .kind ≡ 7 = omega (arith, (s .pre .1 .1 .1 .1 .0 .1), y) in omega (arith, (subst (partsBy (s .args .text .now) (s .args .scratch .now) (s .args .t)) z (s .pre .1 .1 .1 .1 .0 .2)) .0)
-
--- src/meeting.rt:80:9
-cast-hear-channel-2 : tie.Need-cast-hear-channel-2
-cast-hear-channel-2 c =
-    let s = c .before .before .before .before .before .before .before .before .before .before .before .before in
-    let y : s .args .n .kind ≡ 2 = omega (arith, (s .pre .1 .1 .1 .1 .0 .0) .low, (s .pre .1 .1 .1 .1 .0 .0) .high, c .before .before .before .before .before .before .before .if1 .left, c .before .before .before .before .before .if2 .left) in let z : s .args .t .kind ≡ 7 = omega (arith, (s .pre .1 .1 .1 .1 .0 .1), y) in omega (arith, pointer-small (s .args .text .now) (s .args .scratch .now) _ (s .pre .0 .tables) ((subst (partsBy (s .args .text .now) (s .args .scratch .now) (s .args .t)) z (s .pre .1 .1 .1 .1 .0 .2)) .1))
-
--- src/meeting.rt:68:5
 hear-channel-requires : tie.Need-hear-channel-requires
 hear-channel-requires c κs =
-    let s = c .before .before .before .before .before .before .before .before .before .before .before .before in
-    let y : s .args .n .kind ≡ 2 = omega (arith, (s .pre .1 .1 .1 .1 .0 .0) .low, (s .pre .1 .1 .1 .1 .0 .0) .high, c .before .before .before .before .before .before .before .if1 .left, c .before .before .before .before .before .if2 .left) in let z : s .args .t .kind ≡ 7 = omega (arith, (s .pre .1 .1 .1 .1 .0 .1), y) in (s .pre .0, (s .pre .1 .0 .0 .below, (s .pre .1 .1 .0, (s .pre .1 .0 .1, ((subst (partsBy (s .args .text .now) (s .args .scratch .now) (s .args .t)) z (s .pre .1 .1 .1 .1 .0 .2)) .1, ((s .pre .1 .1 .1 .0 .type, (c .before .before .before .find-end .ensures .fits (s .args .scratch .now) (s .pre .1 .0 .0 .is .held))), ((subst (partsBy (s .args .text .now) (s .args .scratch .now) (s .args .t)) z (s .pre .1 .1 .1 .1 .0 .2)) .0, s .pre .1 .1 .1 .1 .1 z)))))))
+    let two : c .before .before .before .before .before .before .before .before .before .args .sent .term .kind ≡ 2 = omega (arith, c .before .before .before .before .before .before .before .before .before .pre .1 .0 .node .low, c .before .before .before .before .before .before .before .before .before .pre .1 .0 .node .high, c .before .before .before .if1 .left, c .before .if2 .left) in
+    let seven : c .before .before .before .before .before .before .before .before .before .args .to .term .kind ≡ 7 = omega (arith, two, c .before .before .before .before .before .before .before .before .before .pre .1 .1 .1 .0) in
+    (c .before .before .before .before .before .before .before .before .before .pre .0, (c .before .before .before .before .before .before .before .before .before .pre .1 .0, (c .before .before .before .before .before .before .before .before .before .pre .1 .1 .0, (two, seven, c .before .before .before .before .before .before .before .before .before .pre .1 .1 .1 .1 seven))))
 
--- src/meeting.rt:37:1
 same-length-3 : tie.Need-same-length-3
 same-length-3 c = search needs
 
--- src/meeting.rt:37:1
 returns-3 : tie.Need-returns-3
-returns-3 c =
-    let s = c .before .before .before .before .before .before .before .before .before .before .before .before .before .before .before in
-    let y : s .args .n .kind ≡ 2 = omega (arith, (s .pre .1 .1 .1 .1 .0 .0) .low, (s .pre .1 .1 .1 .1 .0 .0) .high, c .before .before .before .before .before .before .before .before .before .before .if1 .left, c .before .before .before .before .before .before .before .before .if2 .left) in hears-kind-channel (s .args .text .now) (s .args .scratch .now) (s .args .run .now) (s .args .place) (s .args .p) (s .args .q) (s .args .n) (s .args .e) (s .args .j) (s .args .r) (s .args .x) (s .args .t) (s .pre .1 .1 .1 .0) y (s .pre .1 .1 .1 .1 .0 .1) (c .before .before .before .before .before .before .find-end .ensures) (c .before .before .hear-channel .ensures)
+returns-3 c = c .before .before .hear-channel .ensures
 
 pub hear-spec : {M : Type 1} → statement M
 hear-spec =
     tie.close
     (tie.spec
-    cast-hear-close
     hear-close-requires
     same-length
     returns
     hear-label-requires
     same-length-2
     returns-2
-    find-end-requires
-    cast-hear-channel
-    cast-hear-channel-2
     hear-channel-requires
     same-length-3
     returns-3)

@@ -7,43 +7,36 @@ use borrow.Author.Needs.{needs}
 use Rattle.machine.proofs.meeting.send_out.Statement.{statement}
 use Rattle.machine.proofs.meeting.send_out.Tie as tie
 
--- src/meeting.rt:140:9
 outside-at-requires : tie.Need-outside-at-requires
 outside-at-requires c κs =
     let s = c .before .before .before .before in
-    ((s .pre .0 .wide), ((s .pre .0 .bounds), outside-there-below (s .args .text .now) (s .args .scratch .now) (s .args .run .now) (s .args .e) (s .args .k) (s .pre .1 .1 .1 .1 .1 .1)))
+    ((s .pre .0 .wide), ((s .pre .0 .bounds), outside-there-below (s .args .text .now) (s .args .scratch .now) (s .args .run .now) (s .args .sent .over) (s .args .k) (s .pre .1 .1 .1)))
 
--- src/meeting.rt:142:9
 pass-out-requires : tie.Need-pass-out-requires
 pass-out-requires c κs =
-    let s = c .before .before .before .before .before .before .before .before in
-    (s .pre .0, (s .pre .1 .0, (s .pre .1 .1 .0, (s .pre .1 .1 .1 .0, (outside-few (s .args .text .now) (s .args .scratch .now) (s .args .run .now) (s .pre .1 .1 .1 .1 .1 .0), c .before .if1 .taken)))))
+    let s = c .before .before .before .before .before .before .before .before .before in
+    (s .pre .0, (s .pre .1 .0, (outside-few (s .args .text .now) (s .args .scratch .now) (s .args .run .now) (s .pre .1 .1 .0), c .before .if1 .taken)))
 
--- src/meeting.rt:142:9
 same-length : tie.Need-same-length
 same-length c = search needs
 
--- src/meeting.rt:142:9
 returns : tie.Need-returns
 returns c =
-    let s = c .before .before .before .before .before .before .before .before .before .before .before in
-    sends-out (s .args .text .now) (s .args .scratch .now) (s .args .run .now) (s .args .place) (s .args .p) (s .args .q) (s .args .n) (s .args .e) _ (out-number (s .args .text .now) (s .args .scratch .now) (s .args .run .now) (s .args .e) (s .args .k) (c .before .before .before .before .before .before .outside-at .result) (sym (s .pre .1 .1 .1 .1 .1 .1)) (c .before .before .before .before .before .before .outside-at .ensures .0)) (c .before .before .pass-out .ensures)
+    let s = c .before .before .before .before .before .before .before .before .before .before .before .before in
+    sends-out (s .args .text .now) (s .args .scratch .now) (s .args .run .now) (s .args .sent) _ (out-number (s .args .text .now) (s .args .scratch .now) (s .args .run .now) (s .args .sent .over) (s .args .k) (c .before .before .before .before .before .before .before .outside-at .result) (sym (s .pre .1 .1 .1)) (c .before .before .before .before .before .before .before .outside-at .ensures .0)) (c .before .before .pass-out .ensures)
 
--- src/meeting.rt:144:5
 send-shown-requires : tie.Need-send-shown-requires
 send-shown-requires c κs =
-    let s = c .before .before .before .before .before .before .before .before in
-    (s .pre .0, (s .pre .1 .0, (s .pre .1 .1 .0, (s .pre .1 .1 .1 .0, (s .pre .1 .1 .1 .1 .0, c .before .if1 .left)))))
+    let s = c .before .before .before .before .before .before .before .before .before in
+    (s .pre .0, (s .pre .1 .0, c .before .if1 .left))
 
--- src/meeting.rt:119:1
 same-length-2 : tie.Need-same-length-2
 same-length-2 c = search needs
 
--- src/meeting.rt:119:1
 returns-2 : tie.Need-returns-2
 returns-2 c =
-    let s = c .before .before .before .before .before .before .before .before .before .before .before in
-    sends-out (s .args .text .now) (s .args .scratch .now) (s .args .run .now) (s .args .place) (s .args .p) (s .args .q) (s .args .n) (s .args .e) _ (out-number (s .args .text .now) (s .args .scratch .now) (s .args .run .now) (s .args .e) (s .args .k) (c .before .before .before .before .before .before .outside-at .result) (sym (s .pre .1 .1 .1 .1 .1 .1)) (c .before .before .before .before .before .before .outside-at .ensures .0)) (c .before .before .send-shown .ensures)
+    let s = c .before .before .before .before .before .before .before .before .before .before .before .before in
+    sends-out (s .args .text .now) (s .args .scratch .now) (s .args .run .now) (s .args .sent) _ (out-number (s .args .text .now) (s .args .scratch .now) (s .args .run .now) (s .args .sent .over) (s .args .k) (c .before .before .before .before .before .before .before .outside-at .result) (sym (s .pre .1 .1 .1)) (c .before .before .before .before .before .before .before .outside-at .ensures .0)) (c .before .before .send-shown .ensures)
 
 pub send-out-spec : {M : Type 1} → statement M
 send-out-spec =

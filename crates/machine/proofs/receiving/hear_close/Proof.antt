@@ -1,28 +1,32 @@
-use Rattle.machine.specs.Receiving.{hears-close}
-use Rattle.machine.specs.Changes.{runs-on}
+use native.Mathlib.Omega.{arith}
+use Rattle.machine.specs.Receiving.{parts-at, hears-close}
+use Rattle.machine.specs.Meeting.{hears-kind-close}
+use Rattle.machine.specs.Changes.{runs-on, pointer-small}
 use borrow.Author.Needs.{needs}
 use Rattle.machine.proofs.receiving.hear_close.Statement.{statement}
 use Rattle.machine.proofs.receiving.hear_close.Tie as tie
 
--- src/receiving.rt:70:9
 drop-end-requires : tie.Need-drop-end-requires
-drop-end-requires c κs = c .before .before .before .before .pre .1 .1 .1 .0 .is .held .many
+drop-end-requires c κs = c .before .before .before .before .before .before .pre .1 .1 .0 .stands .is .held .many
 
--- src/receiving.rt:71:5
+cast-t14 : tie.Need-cast-t14
+cast-t14 c = omega (arith, pointer-small (c .before .before .before .before .before .before .before .before .before .before .args .text .now) (c .before .before .before .before .before .before .before .before .before .before .args .scratch .now) _ (c .before .before .before .before .before .before .before .before .before .before .pre .0 .tables) (parts-at (c .before .before .before .before .before .before .before .before .before .before .pre .1 .1 .0) (c .before .before .before .before .before .before .before .before .before .before .pre .1 .1 .1 .1)))
+
 store-both-requires : tie.Need-store-both-requires
-store-both-requires c κs =
-    let s = c .before .before .before .before .before .before in
-    (s .pre .0, ((s .pre .1 .0, s .pre .1 .1 .1 .0 .below), (s .pre .1 .1 .0, runs-on (s .pre .0 .tables) (s .args .pointer) (s .args .r .link) (c .before .drop-end .result) (s .pre .1 .1 .1 .0 .is .link) (s .pre .1 .1 .1 .1) (c .before .drop-end .ensures .fits (s .args .scratch .now) (s .pre .1 .1 .1 .0 .is .held)))))
+store-both-requires c κs = (c .before .before .before .before .before .before .before .before .before .before .pre .0, ((c .before .before .before .before .before .before .before .before .before .before .pre .1 .0 .stands .below, c .before .before .before .before .before .before .before .before .before .before .pre .1 .1 .0 .stands .below), (c .before .before .before .before .before .before .before .before .before .before .pre .1 .0 .after, runs-on (c .before .before .before .before .before .before .before .before .before .before .pre .0 .tables) (c .before .before .before .before .before .before .before .before .before .before .args .to .term .third) (c .before .before .before .before .before .before .before .before .before .before .args .to .process .link) (c .before .before .before .drop-end .result) (c .before .before .before .before .before .before .before .before .before .before .pre .1 .1 .0 .stands .is .link) (parts-at (c .before .before .before .before .before .before .before .before .before .before .pre .1 .1 .0) (c .before .before .before .before .before .before .before .before .before .before .pre .1 .1 .1 .1)) (c .before .before .before .drop-end .ensures .fits (c .before .before .before .before .before .before .before .before .before .before .args .scratch .now) (c .before .before .before .before .before .before .before .before .before .before .pre .1 .1 .0 .stands .is .held)))))
 
--- src/receiving.rt:51:1
 same-length : tie.Need-same-length
 same-length c = search needs
 
--- src/receiving.rt:51:1
 returns : tie.Need-returns
-returns c =
-    let s = c .before .before .before .before .before .before .before .before .before in
-    hears-close (s .args .text .now) (s .args .scratch .now) (s .args .run .now) (s .args .place) (s .args .q) (s .args .j) (s .args .r) (s .args .x) (c .before .before .before .before .drop-end .result) (s .args .pointer) (c .before .before .store-both .ensures) (c .before .before .before .before .drop-end .ensures)
+returns c = hears-kind-close (c .before .before .before .before .before .before .before .before .before .before .before .before .before .args .text .now) (c .before .before .before .before .before .before .before .before .before .before .before .before .before .args .scratch .now) (c .before .before .before .before .before .before .before .before .before .before .before .before .before .args .run .now) (c .before .before .before .before .before .before .before .before .before .before .before .before .before .args .sent) (c .before .before .before .before .before .before .before .before .before .before .before .before .before .args .to) (c .before .before .before .before .before .before .before .before .before .before .before .before .before .pre .1 .1 .1 .0) (c .before .before .before .before .before .before .before .before .before .before .before .before .before .pre .1 .1 .1 .1) (hears-close (c .before .before .before .before .before .before .before .before .before .before .before .before .before .args .text .now) (c .before .before .before .before .before .before .before .before .before .before .before .before .before .args .scratch .now) (c .before .before .before .before .before .before .before .before .before .before .before .before .before .args .run .now) (c .before .before .before .before .before .before .before .before .before .before .before .before .before .args .sent .place) (c .before .before .before .before .before .before .before .before .before .before .before .before .before .args .sent .after) (c .before .before .before .before .before .before .before .before .before .before .before .before .before .args .to .place) (c .before .before .before .before .before .before .before .before .before .before .before .before .before .args .to .process) (c .before .before .before .before .before .before .before .before .before .before .before .before .before .args .to .name) (c .before .before .before .before .before .before .drop-end .result) (c .before .before .before .before .before .before .before .before .before .before .before .before .before .args .to .term .third) (c .before .before .store-both .ensures) (c .before .before .before .before .before .before .drop-end .ensures))
 
 pub hear-close-spec : {M : Type 1} → statement M
-hear-close-spec = tie.close (tie.spec drop-end-requires store-both-requires same-length returns)
+hear-close-spec =
+    tie.close
+    (tie.spec
+    drop-end-requires
+    cast-t14
+    store-both-requires
+    same-length
+    returns)

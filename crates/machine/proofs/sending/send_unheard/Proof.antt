@@ -5,55 +5,45 @@ use borrow.Author.Needs.{needs}
 use Rattle.machine.proofs.sending.send_unheard.Statement.{statement}
 use Rattle.machine.proofs.sending.send_unheard.Tie as tie
 
--- src/sending.rt:41:13
 find-end-requires : tie.Need-find-end-requires
-find-end-requires c κs = c .before .before .before .before .before .before .pre .1 .0 .is .held .many
+find-end-requires c κs = c .before .before .before .before .before .before .before .before .before .pre .1 .stands .is .held .many
 
--- src/sending.rt:42:27
 enum-known-f : tie.Need-enum-known-f
 enum-known-f c = search needs
 
--- src/sending.rt:43:13
 enum-told : tie.Need-enum-told
 enum-told c = search needs
 
--- src/sending.rt:43:13
 returns : tie.Need-returns
 returns c =
-    let s = c .before .before .before .before .before .before .before .before .before in
-    unheard-none (s .args .text .now) (s .args .scratch .now) (s .args .run .now) (s .args .place) (s .args .p) (s .args .q) (s .args .n) (c .before .before .before .before .if1 .taken) (c .before .before .find-end .ensures) (c .enum-told .given .1)
+    let s = c .before .before .before .before .before .before .before .before .before .before .before .before in
+    unheard-none (s .args .text .now) (s .args .scratch .now) (s .args .run .now) (s .args .sent) (c .before .before .before .before .before .if1 .taken) (c .before .before .find-end .ensures) (c .enum-told .given .1)
 
--- src/sending.rt:45:9
 part-requires : tie.Need-part-requires
 part-requires c κs =
-    let s = c .before .before .before .before .before .before .before .before .before .before .before in
-    (s .pre .0, (s .pre .1 .0 .below, (s .pre .1 .1 .0, end-found {w = (s .args .scratch .now)} (c .before .before .before .before .find-end .ensures) (c .before .before .f .given .1) (s .pre .1 .0 .is .held) .1)))
+    let s = c .before .before .before .before .before .before .before .before .before .before .before .before .before .before in
+    (s .pre .0, (s .pre .1 .stands .below, (s .pre .1 .after, end-found {w = (s .args .scratch .now)} (c .before .before .before .before .find-end .ensures) (c .before .before .f .given .1) (s .pre .1 .stands .is .held) .1)))
 
--- src/sending.rt:45:9
 same-length : tie.Need-same-length
 same-length c = search needs
 
--- src/sending.rt:45:9
 returns-2 : tie.Need-returns-2
 returns-2 c =
-    let s = c .before .before .before .before .before .before .before .before .before .before .before .before .before .before in
-    unheard-parts (s .args .text .now) (s .args .scratch .now) (s .args .run .now) (s .args .place) (s .args .p) (s .args .q) (s .args .n) (c .before .before .before .before .before .before .before .before .before .if1 .taken) (c .before .before .before .before .before .before .before .find-end .ensures) (c .before .before .before .before .before .f .given .1) (c .before .before .part .ensures)
+    let s = c .before .before .before .before .before .before .before .before .before .before .before .before .before .before .before .before .before in
+    unheard-parts (s .args .text .now) (s .args .scratch .now) (s .args .run .now) (s .args .sent) (c .before .before .before .before .before .before .before .before .before .before .if1 .taken) (c .before .before .before .before .before .before .before .find-end .ensures) (c .before .before .before .before .before .f .given .1) (c .before .before .part .ensures)
 
--- src/sending.rt:47:5
 store-requires : tie.Need-store-requires
 store-requires c κs =
-    let s = c .before .before .before .before .before .before in
-    ((s .pre .0 .wide), ((s .pre .0 .bounds), (s .pre .1 .0 .below, bounded-of (s .args .text .now) (s .args .scratch .now) (s .pre .1 .1 .0))))
+    let s = c .before .before .before .before .before .before .before .before in
+    ((s .pre .0 .wide), ((s .pre .0 .bounds), (s .pre .1 .stands .below, bounded-of (s .args .text .now) (s .args .scratch .now) (s .pre .1 .after))))
 
--- src/sending.rt:24:1
 same-length-2 : tie.Need-same-length-2
 same-length-2 c = search needs
 
--- src/sending.rt:24:1
 returns-3 : tie.Need-returns-3
 returns-3 c =
-    let s = c .before .before .before .before .before .before .before .before .before in
-    unheard-goes (s .args .text .now) (s .args .scratch .now) (s .args .run .now) (s .args .place) (s .args .p) (s .args .q) (s .args .n) (s .pre .1 .1 .1 .0) (s .pre .1 .1 .1 .1) (c .before .before .before .before .if1 .left) (stored (s .args .text .now) (s .args .scratch .now) (s .args .run .now) _ (s .pre .0) (s .args .place) (s .args .q) (s .pre .1 .1 .0) (c .before .before .store .ensures .0) (c .before .before .store .ensures .1))
+    let s = c .before .before .before .before .before .before .before .before .before .before .before in
+    unheard-goes (s .args .text .now) (s .args .scratch .now) (s .args .run .now) (s .args .sent) (s .pre .1 .node .low) (s .pre .1 .node .high) (c .before .before .before .before .if1 .left) (stored (s .args .text .now) (s .args .scratch .now) (s .args .run .now) _ (s .pre .0) (s .args .sent .place) (s .args .sent .after) (s .pre .1 .after) (c .before .before .store .ensures .0) (c .before .before .store .ensures .1))
 
 pub send-unheard-spec : {M : Type 1} → statement M
 send-unheard-spec =

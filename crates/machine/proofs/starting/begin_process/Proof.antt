@@ -2,7 +2,7 @@ use native.Mathlib.Omega.{arith}
 use mathlib.Core.Path.{ap}
 use lib.ListN.{length}
 use Rattle.runs.specs.Raw.{RawConfig}
-use Rattle.machine.specs.Starting.{start-bounded, begun}
+use Rattle.machine.specs.Starting.{ends-bounded, begun}
 use borrow.Author.Needs.{needs}
 use Rattle.machine.proofs.starting.begin_process.Statement.{statement}
 use Rattle.machine.proofs.starting.begin_process.Tie as tie
@@ -14,7 +14,7 @@ cast-set-given : tie.Need-cast-set-given
 cast-set-given c = omega (arith, c .before .before .before .before .before .pre .0 .3)
 
 begin-requires : tie.Need-begin-requires
-begin-requires c κs = (c .before .before .before .before .before .pre .1, start-bounded (c .before .before .before .before .before .args .scratch .now) (c .before .before .before .before .before .args .d .first) (c .before .before .before .before .before .args .d .provided) (c .before .before .before .before .before .args .d .body) _ (c .before .before .start-ends .ensures) (c .before .before .before .before .before .pre .0 .1) (c .before .before .before .before .before .pre .0 .2) (c .before .before .before .before .before .pre .0 .3))
+begin-requires c κs = let b = ends-bounded _ (c .before .before .start-ends .ensures) (c .before .before .before .before .before .pre .0 .1) (c .before .before .before .before .before .pre .0 .2) in (c .before .before .before .before .before .pre .1, record { kind = omega arith; pointer = c .before .before .before .before .before .pre .0 .3; many = b .0; each = b .1; link = tt })
 
 use-channels-requires : tie.Need-use-channels-requires
 use-channels-requires c κs = ((c .before .before .before .before .before .before .before .before .before .pre .0 .0, c .before .before .before .before .before .before .before .before .before .pre .0 .1), (omega (arith, c .before .before .before .before .before .before .before .before .before .pre .1, c .before .before .before .begin .ensures .0 .long), c .before .before .before .begin .ensures .1, omega (arith, c .before .before .before .before .before .before .before .before .before .pre .0 .2, ap (λ (C : RawConfig). length (C .outside)) (c .before .before .before .begin .ensures .0 .is))))

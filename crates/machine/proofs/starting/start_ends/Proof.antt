@@ -1,6 +1,6 @@
 use native.Mathlib.Omega.{arith}
 use Prim.Native.Nat.{_-_}
-use Rattle.machine.specs.Starting.{Brought, entry-node, entry-end, brought-on, brought-all}
+use Rattle.machine.specs.Starting.{Brought, entry-node, brought-on, brought-all}
 use borrow.Author.Needs.{needs}
 use Rattle.machine.proofs.starting.start_ends.Statement.{statement}
 use Rattle.machine.proofs.starting.start_ends.Tie as tie
@@ -33,7 +33,7 @@ cast-t12 : tie.Need-cast-t12 Inv-loop μ-loop
 cast-t12 c = omega (arith, c .before .before .before .loop-test .taken, c .before .before .before .before .before .before .before .pre .2)
 
 with-requires : tie.Need-with-requires Inv-loop μ-loop
-with-requires c κs = (omega (arith, c .before .before .before .loop-test .taken, c .before .before .before .before .before .before .before .pre .2, c .before .before .before .before .loop .inv .many), (entry-end (c .before .before .before .before .before .before .before .pre .1) (c .before .before .before .loop-test .taken) (c .before .before .entry .ensures) (c .before .before .before .before .before .before .before .pre .2), omega arith))
+with-requires c κs = (omega (arith, c .before .before .before .loop-test .taken, c .before .before .before .before .before .before .before .pre .2, c .before .before .before .before .loop .inv .many), (record { name = c .before .before .entry .ensures .at; node = entry-node (c .before .before .before .before .before .before .before .pre .1) (c .before .before .before .loop-test .taken) (c .before .before .entry .ensures); channel = omega (arith, c .before .before .before .loop-test .taken, c .before .before .before .before .before .before .before .pre .2) }, omega arith))
 
 add-k : tie.Need-add-k Inv-loop μ-loop
 add-k c = search needs

@@ -1,15 +1,15 @@
 use native.Mathlib.Omega.{arith}
 use Prim.Native.Nat.{_-_}
-use Rattle.machine.specs.Starting.{Used, entry-node, entry-channel, used-none, used-many, used-on, used-all}
+use Rattle.machine.specs.Starting.{Used, entry-node, used-none, used-many, used-on, used-all}
 use borrow.Author.Needs.{needs}
 use Rattle.machine.proofs.starting.use_channels.Statement.{statement}
 use Rattle.machine.proofs.starting.use_channels.Tie as tie
 
 abbrev Inv-loop : tie.InvT-loop
-Inv-loop scratch run₀ first n k₀ run k = Used scratch first n run₀ run k
+Inv-loop scratch run₀ first n number₀ run number = Used scratch first n run₀ run number
 
 abbrev μ-loop : tie.MeasureT-loop
-μ-loop scratch run₀ first n k₀ run k = n - k
+μ-loop scratch run₀ first n number₀ run number = n - number
 
 loop-holds : tie.Need-loop-holds Inv-loop μ-loop
 loop-holds c = used-none (c .before .before .pre .1 .1)
@@ -30,10 +30,10 @@ cast-t14 : tie.Need-cast-t14 Inv-loop μ-loop
 cast-t14 c = omega (arith, c .before .before .before .loop-test .taken, c .before .before .before .before .before .before .before .pre .1 .2)
 
 append-outside-requires : tie.Need-append-outside-requires Inv-loop μ-loop
-append-outside-requires c κs = (omega (arith, c .before .before .before .before .before .before .before .pre .1 .0, c .before .before .before .before .loop .inv .is .long), (c .before .before .before .before .loop .inv .bounds, (omega (arith, c .before .before .before .before .before .before .before .pre .1 .2, c .before .before .before .loop-test .taken, used-many (c .before .before .before .before .loop .inv)), entry-channel (c .before .before .before .before .before .before .before .pre .0 .1) (c .before .before .before .loop-test .taken) (c .before .before .entry .ensures) (omega (arith, c .before .before .before .before .before .before .before .pre .1 .2)))))
+append-outside-requires c κs = (omega (arith, c .before .before .before .before .before .before .before .pre .1 .0, c .before .before .before .before .loop .inv .is .long), (c .before .before .before .before .loop .inv .bounds, (omega (arith, c .before .before .before .before .before .before .before .pre .1 .2, c .before .before .before .loop-test .taken, used-many (c .before .before .before .before .loop .inv)), record { number = omega (arith, c .before .before .before .loop-test .taken, c .before .before .before .before .before .before .before .pre .1 .2); node = entry-node (c .before .before .before .before .before .before .before .pre .0 .1) (c .before .before .before .loop-test .taken) (c .before .before .entry .ensures); channel = omega (arith, c .before .before .before .loop-test .taken, c .before .before .before .before .before .before .before .pre .1 .2) })))
 
-add-k : tie.Need-add-k Inv-loop μ-loop
-add-k c = search needs
+add-number : tie.Need-add-number Inv-loop μ-loop
+add-number c = search needs
 
 loop-less : tie.Need-loop-less Inv-loop μ-loop
 loop-less c = search needs
@@ -60,7 +60,7 @@ use-channels-spec =
     cast-t13
     cast-t14
     append-outside-requires
-    add-k
+    add-number
     loop-less
     loop-again
     same-length

@@ -1,8 +1,8 @@
 use Prim.Native.Nat.{_-_, _≤_}
-use mathlib.Core.Path.{_≡_, refl}
+use mathlib.Core.Path.{refl}
 use borrow.Author.Needs.{needs}
 use native.Mathlib.Omega.{arith}
-use lib.ListN.{length, getD}
+use lib.ListN.{getD}
 use Rattle.runs.specs.Values.{Moved}
 use Rattle.runs.proofs.Rows.{moved-none, moved-up}
 use Rattle.machine.proofs.trying.copy_of.Statement.{statement}

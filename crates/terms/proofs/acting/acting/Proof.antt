@@ -14,7 +14,6 @@ use Rattle.terms.proofs.acting.acting.Reads as reads
 use Rattle.terms.proofs.acting.acting.Lts as lts
 use Rattle.contexts.proofs.held.find_end.Reads as find-end-reads
 use Rattle.terms.proofs.acting.narrow.Reads as narrow-reads
-use Rattle.terms.proofs.acting.wide.Reads as wide-reads
 use Rattle.types.proofs.acting.standing.Reads as standing-reads
 
 -- src/acting.rt:41:9

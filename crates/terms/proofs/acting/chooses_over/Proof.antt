@@ -8,7 +8,6 @@ use Rattle.terms.proofs.acting.chooses_over.Statement.{statement}
 use Rattle.terms.proofs.acting.chooses_over.Tie as tie
 use Rattle.terms.proofs.acting.chooses_over.Reads as reads
 use Rattle.terms.proofs.acting.chooses_over.Lts as lts
-use Rattle.terms.proofs.acting.wide.Reads as wide-reads
 use Rattle.types.proofs.acting.choosing.Reads as choosing-reads
 use Rattle.types.proofs.acting.labelled.Reads as labelled-reads
 

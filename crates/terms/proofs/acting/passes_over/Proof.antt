@@ -12,7 +12,6 @@ use Rattle.terms.proofs.acting.passes_over.Statement.{statement}
 use Rattle.terms.proofs.acting.passes_over.Tie as tie
 use Rattle.terms.proofs.acting.passes_over.Reads as reads
 use Rattle.terms.proofs.acting.passes_over.Lts as lts
-use Rattle.terms.proofs.acting.wide.Reads as wide-reads
 use Rattle.types.proofs.acting.passing.Reads as passing-reads
 use Rattle.types.proofs.equality.same_type.Reads as same-type-reads
 

@@ -7,7 +7,6 @@ use Rattle.terms.proofs.acting.takes_from.Statement.{statement}
 use Rattle.terms.proofs.acting.takes_from.Tie as tie
 use Rattle.terms.proofs.acting.takes_from.Reads as reads
 use Rattle.terms.proofs.acting.takes_from.Lts as lts
-use Rattle.terms.proofs.acting.wide.Reads as wide-reads
 use Rattle.types.proofs.acting.passing.Reads as passing-reads
 
 -- src/acting.rt:109:9

@@ -14,7 +14,6 @@ use Rattle.terms.proofs.calls.entry_fits.Tie as tie
 use Rattle.terms.proofs.calls.entry_fits.Reads as reads
 use Rattle.terms.proofs.calls.entry_fits.Lts as lts
 use Rattle.contexts.proofs.held.find_end.Reads as find-end-reads
-use Rattle.terms.proofs.acting.wide.Reads as wide-reads
 use Rattle.types.proofs.equality.same_type.Reads as same-type-reads
 
 -- src/calls.rt:58:9

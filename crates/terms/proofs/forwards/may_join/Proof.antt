@@ -10,7 +10,6 @@ use Rattle.terms.proofs.forwards.may_join.Statement.{statement}
 use Rattle.terms.proofs.forwards.may_join.Tie as tie
 use Rattle.terms.proofs.forwards.may_join.Reads as reads
 use Rattle.terms.proofs.forwards.may_join.Lts as lts
-use Rattle.terms.proofs.acting.wide.Reads as wide-reads
 use Rattle.types.proofs.equality.same_type.Reads as same-type-reads
 
 -- src/forwards.rt:28:9

@@ -15,7 +15,6 @@ use Rattle.terms.proofs.sends.close_next.Lts as lts
 use Rattle.contexts.proofs.held.drop_end.Reads as drop-end-reads
 use Rattle.terms.proofs.acting.acting.Reads as acting-reads
 use Rattle.terms.proofs.acting.is_unit.Reads as is-unit-reads
-use Rattle.terms.proofs.acting.wide.Reads as wide-reads
 
 -- src/sends.rt:37:9
 acting-requires : tie.Need-acting-requires

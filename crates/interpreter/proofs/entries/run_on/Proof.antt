@@ -1,0 +1,80 @@
+use mathlib.Core.Path.{_≡_}
+use Prim.Native.Nat.{_≤_}
+use native.Mathlib.Omega.{arith}
+use lib.ListN.{length}
+use Rattle.interpreter.specs.Texts.{scratch-enough, text-accepted}
+use Rattle.interpreter.specs.Inside.{answers-accepted, answers-refused}
+use Rattle.calculus.specs.Machine.{callRunOn}
+use Rattle.interpreter.specs.RunningOn.{run-refusing}
+use borrow.Author.Needs.{needs}
+use Rattle.interpreter.proofs.entries.run_on.Statement.{statement}
+use Rattle.interpreter.proofs.entries.run_on.Tie as tie
+use Rattle.interpreter.proofs.entries.run_on.Reads as reads
+use Rattle.interpreter.proofs.entries.run_on.Lts as lts
+use Rattle.checker.proofs.check.check.Reads as check-reads
+use Rattle.interpreter.proofs.inside.run_on_in.Reads as run-on-in-reads
+
+-- src/entries.rt:42:9
+check-requires : tie.Need-check-requires
+check-requires c κs = search needs
+
+-- src/entries.rt:43:26
+enum-known-v : tie.Need-enum-known-v
+enum-known-v c = search needs
+
+-- src/entries.rt:44:32
+enum-told : tie.Need-enum-told
+enum-told c = search needs
+
+-- src/entries.rt:44:32
+sub-run-on-in : tie.Need-sub-run-on-in
+sub-run-on-in c = search needs
+
+-- src/entries.rt:44:32
+part-run-on-in-start : tie.Need-part-run-on-in-start
+part-run-on-in-start c = search needs
+
+-- src/entries.rt:44:32
+part-run-on-in-end : tie.Need-part-run-on-in-end
+part-run-on-in-end c = let l : length (c .before .before .before .before .before .check .last .1 .0) ≡ length (c .before .before .before .before .before .before .before .before .before .before .args .scratch .now) = search needs in let h : 8192 ≤ length (c .before .before .before .before .before .check .last .1 .0) = omega (arith, l, scratch-enough (c .before .before .before .before .before .before .before .before .before .before .args .text .now) (c .before .before .before .before .before .before .before .before .before .before .args .scratch .now) (c .before .before .before .before .before .check .last .1 .0) _ (c .before .before .before .before .before .check .ensures) (c .before .enum-told .given .1)) in search needs
+
+-- src/entries.rt:44:9
+run-on-in-requires : tie.Need-run-on-in-requires
+run-on-in-requires c κs = let l : length (c .before .before .before .before .before .before .before .check .last .1 .0) ≡ length (c .before .before .before .before .before .before .before .before .before .before .before .before .args .scratch .now) = search needs in text-accepted (c .before .before .before .before .before .before .before .before .before .before .before .before .args .text .now) (c .before .before .before .before .before .before .before .before .before .before .before .before .args .scratch .now) (c .before .before .before .before .before .before .before .check .last .1 .0) _ (c .before .before .before .before .before .before .before .check .ensures) (c .before .before .before .enum-told .given .1) l
+
+-- src/entries.rt:44:9
+same-length : tie.Need-same-length
+same-length c = search needs
+
+-- src/entries.rt:44:9
+same-length-2 : tie.Need-same-length-2
+same-length-2 c = search needs
+
+-- src/entries.rt:44:9
+returns : tie.Need-returns
+returns c = answers-accepted (c .before .before .before .before .before .before .before .before .before .before .before .before .before .before .before .args .text .now) (c .before .before .before .before .before .before .before .before .before .before .before .before .before .before .before .args .scratch .now) (c .before .before .before .before .before .before .before .before .before .before .check .last .1 .0) _ (c .before .before .before .before .before .before .before .before .before .before .check .ensures) (c .before .before .before .before .before .before .before .before .before .before .before .before .before .before .before .args .run .now) (λ n. callRunOn n (length (c .before .before .before .before .before .before .before .before .before .before .before .before .before .before .before .args .run .now)) (c .before .before .before .before .before .before .before .before .before .before .before .before .before .before .before .args .budget)) (c .before .before .before .before .before .before .enum-told .given .1) (c .before .before .run-on-in .ensures)
+
+-- src/entries.rt:39:1
+same-length-3 : tie.Need-same-length-3
+same-length-3 c = search needs
+
+-- src/entries.rt:39:1
+returns-2 : tie.Need-returns-2
+returns-2 c = answers-refused (c .before .before .before .before .before .before .before .before .before .before .args .text .now) (c .before .before .before .before .before .before .before .before .before .before .args .scratch .now) (c .before .before .before .before .before .check .last .1 .0) _ (c .before .before .before .before .before .check .ensures) (c .before .before .before .before .before .before .before .before .before .before .args .run .now) (λ n. callRunOn n (length (c .before .before .before .before .before .before .before .before .before .before .args .run .now)) (c .before .before .before .before .before .before .before .before .before .before .args .budget)) _ (run-refusing (length (c .before .before .before .before .before .before .before .before .before .before .args .run .now)) (c .before .before .before .before .before .before .before .before .before .before .args .budget)) (c .before .v .given .0 .0) (c .before .v .given .0 .1 .0) (c .before .v .given .1)
+
+pub run-on-spec : {M : Type 1} → statement M
+run-on-spec =
+    tie.close
+    (tie.spec
+    check-requires
+    enum-known-v
+    enum-told
+    sub-run-on-in
+    part-run-on-in-start
+    part-run-on-in-end
+    run-on-in-requires
+    same-length
+    same-length-2
+    returns
+    same-length-3
+    returns-2)

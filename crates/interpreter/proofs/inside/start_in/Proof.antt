@@ -1,0 +1,35 @@
+use Rattle.interpreter.specs.Told.{tables-in, small-in, start-short, start-told}
+use borrow.Author.Needs.{needs}
+use Rattle.interpreter.proofs.inside.start_in.Statement.{statement}
+use Rattle.interpreter.proofs.inside.start_in.Tie as tie
+use Rattle.interpreter.proofs.inside.start_in.Reads as reads
+use Rattle.interpreter.proofs.inside.start_in.Lts as lts
+use Rattle.machine.proofs.starting.begin_line.Reads as begin-line-reads
+
+-- src/inside.rt:28:9
+returns : tie.Need-returns
+returns c = start-short (c .before .before .before .before .pre) (c .if1 .taken)
+
+-- src/inside.rt:30:8
+begin-line-requires : tie.Need-begin-line-requires
+begin-line-requires c κs = (tables-in (c .before .before .before .before .before .pre), (c .before .if1 .left, small-in (c .before .before .before .before .before .pre)))
+
+-- src/inside.rt:31:9
+same-length : tie.Need-same-length
+same-length c = search needs
+
+-- src/inside.rt:31:9
+returns-2 : tie.Need-returns-2
+returns-2 c = start-told (c .before .before .before .before .before .before .before .before .before .pre) (c .before .before .before .before .before .if1 .left) (c .before .before .before .begin-line .ensures) (c .if2 .taken)
+
+-- src/inside.rt:23:1
+same-length-2 : tie.Need-same-length-2
+same-length-2 c = search needs
+
+-- src/inside.rt:23:1
+returns-3 : tie.Need-returns-3
+returns-3 c = start-told (c .before .before .before .before .before .before .before .before .before .pre) (c .before .before .before .before .before .if1 .left) (c .before .before .before .begin-line .ensures) (c .if2 .left)
+
+pub start-in-spec : {M : Type 1} → statement M
+start-in-spec =
+    tie.close (tie.spec returns begin-line-requires same-length returns-2 same-length-2 returns-3)

@@ -1,0 +1,48 @@
+use Rattle.interpreter.specs.Told.{tables-in, everywhere-in, holds-in, formed-in, step-short, step-stranger}
+use borrow.Author.Needs.{needs}
+use Rattle.interpreter.proofs.inside.step_in.Statement.{statement}
+use Rattle.interpreter.proofs.inside.step_in.Tie as tie
+use Rattle.interpreter.proofs.inside.step_in.Reads as reads
+use Rattle.interpreter.proofs.inside.step_in.Lts as lts
+use Rattle.interpreter.proofs.inside.step_placed.Reads as step-placed-reads
+use Rattle.wellformed.proofs.well_formed.Reads as well-formed-reads
+
+-- src/inside.rt:41:9
+returns : tie.Need-returns
+returns c = step-short (c .before .before .before .before .pre) (c .if1 .taken)
+
+-- src/inside.rt:43:8
+well-formed-requires : tie.Need-well-formed-requires
+well-formed-requires c κs = ((tables-in (c .before .before .before .before .before .pre), everywhere-in (c .before .before .before .before .before .pre)), c .before .if1 .left)
+
+-- src/inside.rt:44:9
+step-placed-requires : tie.Need-step-placed-requires
+step-placed-requires c κs = (c .before .before .before .before .before .before .before .before .pre, (c .before .before .before .before .if1 .left, holds-in (c .before .before .before .before .before .before .before .before .pre) _ (c .before .before .well-formed .ensures .yes (c .before .if2 .taken))))
+
+-- src/inside.rt:44:9
+same-length : tie.Need-same-length
+same-length c = search needs
+
+-- src/inside.rt:44:9
+returns-2 : tie.Need-returns-2
+returns-2 c = search needs
+
+-- src/inside.rt:36:1
+same-length-2 : tie.Need-same-length-2
+same-length-2 c = search needs
+
+-- src/inside.rt:36:1
+returns-3 : tie.Need-returns-3
+returns-3 c = step-stranger (c .before .before .before .before .before .before .before .pre) (c .before .before .before .if1 .left) (λ f. c .before .well-formed .ensures .no (c .if2 .left) (formed-in (c .before .before .before .before .before .before .before .pre) _ f))
+
+pub step-in-spec : {M : Type 1} → statement M
+step-in-spec =
+    tie.close
+    (tie.spec
+    returns
+    well-formed-requires
+    step-placed-requires
+    same-length
+    returns-2
+    same-length-2
+    returns-3)

@@ -1,0 +1,71 @@
+use Rattle.interpreter.specs.Reporting.{numbersOf, Listing, listing-start, listing-on, listing-end}
+use Rattle.runs.specs.Raw.{rawIn}
+use native.Mathlib.Omega.{arith}
+use borrow.Author.Needs.{needs}
+use mathlib.Core.Path.{refl}
+use lib.ListN.{length}
+use Prim.Native.Nat.{_-_, _≤_}
+use Rattle.interpreter.proofs.reports.list_numbers.Statement.{statement}
+use Rattle.interpreter.proofs.reports.list_numbers.Tie as tie
+use Rattle.interpreter.proofs.reports.list_numbers.Reads as reads
+use Rattle.interpreter.proofs.reports.list_numbers.Lts as lts
+use Rattle.runs.proofs.outside.outside_at.Reads as outside-at-reads
+use Rattle.runs.proofs.outside.outside_count.Reads as outside-count-reads
+
+abbrev Inv-loop : tie.InvT-loop
+Inv-loop run numbers₀ n k₀ numbers k = Listing (numbersOf (rawIn run)) numbers k × (k ≤ n)
+
+abbrev μ-loop : tie.MeasureT-loop
+μ-loop run numbers₀ n k₀ numbers k = n - k
+
+-- src/reports.rt:22:9
+outside-count-requires : tie.Need-outside-count-requires Inv-loop μ-loop
+outside-count-requires c κs = c .before .pre .0
+
+-- src/reports.rt:24:5
+loop-holds : tie.Need-loop-holds Inv-loop μ-loop
+loop-holds c = (listing-start _, omega arith)
+
+-- src/reports.rt:25:13
+outside-at-requires : tie.Need-outside-at-requires Inv-loop μ-loop
+outside-at-requires c κs = (c .before .before .before .before .pre .0, (c .before .before .before .before .pre .1, omega (arith, c .loop-test .taken, c .before .before .outside-count .ensures)))
+
+-- src/reports.rt:26:9
+mul-numbers : tie.Need-mul-numbers Inv-loop μ-loop
+mul-numbers c = search needs
+
+-- src/reports.rt:26:9
+array-write-numbers : tie.Need-array-write-numbers Inv-loop μ-loop
+array-write-numbers c = omega (arith, c .before .before .loop .inv .0 .long, c .before .loop-test .taken, c .before .before .before .outside-count .ensures, c .before .before .before .before .before .pre .1 .channels)
+
+-- src/reports.rt:27:9
+add-k : tie.Need-add-k Inv-loop μ-loop
+add-k c = search needs
+
+-- src/reports.rt:24:5
+loop-less : tie.Need-loop-less Inv-loop μ-loop
+loop-less c = search needs
+
+-- src/reports.rt:24:5
+loop-again : tie.Need-loop-again Inv-loop μ-loop
+loop-again c = (listing-on (rawIn (c .before .before .before .before .before .args .run .now)) _ _ (c .before .before .loop .inv .0) (omega (arith, c .before .loop-test .taken, c .before .before .before .outside-count .ensures)) (c .before .before .before .before .before .pre .1 .channels) (c .outside-at .ensures .0) refl, omega (arith, c .before .loop-test .taken))
+
+-- src/reports.rt:17:1
+returns : tie.Need-returns Inv-loop μ-loop
+returns c = listing-end (rawIn (c .before .before .before .before .args .run .now)) _ _ (c .before .loop .inv .0) (omega (arith, c .loop-test .left, c .before .before .outside-count .ensures)) (omega (arith, c .before .loop .inv .1, c .before .before .outside-count .ensures))
+
+pub list-numbers-spec : {M : Type 1} → statement M
+list-numbers-spec =
+    tie.close
+    (tie.spec
+    Inv-loop
+    μ-loop
+    outside-count-requires
+    loop-holds
+    outside-at-requires
+    mul-numbers
+    array-write-numbers
+    add-k
+    loop-less
+    loop-again
+    returns)

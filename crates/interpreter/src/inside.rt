@@ -1,0 +1,97 @@
+// What the entries come to for an accepted text, whose tables are lent: refusals 16 to 21.
+ghost use Prim.Native.Nat.{_≤_};
+ghost use lib.ListN.{length};
+ghost use Rattle.notation.specs.Limits.{runWords};
+ghost use Rattle.calculus.specs.Machine.{callStep, callRunOn, stepped, ranOn};
+ghost use Rattle.interpreter.specs.Entries.{HoldsRun};
+ghost use Rattle.interpreter.specs.Texts.{TextIn};
+ghost use Rattle.interpreter.specs.Inside.{AnswersIn, StartsIn, NamesIn};
+use calculus::answers::RanOn;
+use calculus::answers::Started;
+use calculus::answers::Stepped;
+use machine::dispatch::step_at;
+use machine::outcome::Outcome;
+use machine::running::steps_until;
+use machine::starting::begin_line;
+use notation::script::Script;
+use notation::token::name_of;
+use runs::processes::count;
+use tables::access::exec_at;
+use tables::access::exec_count;
+use wellformed::well_formed;
+
+pub(crate) fn start_in(text: &[u8], tables: &[u32], run: &mut [u32], line: u32) -> Started
+    requires { ⌜ TextIn (now text) (now tables) ⌝ }
+    ensures { λ r. ⌜ StartsIn (now (text .entry)) (now (run .entry)) line r (now (run .exit)) ⌝ }
+{
+    if run.len() < Script::RUN_WORDS {
+        return Started::Refused(16, 0);
+    }
+    if begin_line(text, tables, run, line as usize) {
+        return Started::Begun;
+    }
+    Started::Refused(17, 0)
+}
+
+pub(crate) fn step_in(text: &[u8], tables: &[u32], run: &mut [u32], place: u32) -> Stepped
+    requires { ⌜ TextIn (now text) (now tables) ⌝ }
+    ensures { λ r. ⌜ AnswersIn (now (text .entry)) (now (run .entry)) (λ n. callStep n (length (now (run .entry))) place) (stepped r) (now (run .exit)) ⌝ }
+{
+    if run.len() < Script::RUN_WORDS {
+        return Stepped::Refused(16, 0);
+    }
+    if well_formed(text, tables, run) {
+        return step_placed(text, tables, run, place as usize);
+    }
+    Stepped::Refused(18, 0)
+}
+
+// The step at a place of a run that holds a configuration of this text.
+fn step_placed(text: &[u8], tables: &[u32], run: &mut [u32], place: usize) -> Stepped
+    requires { ⌜ TextIn (now text) (now tables) ⌝ }
+    requires { ⌜ (runWords ≤ length (now run)) × HoldsRun (now text) (now run) ⌝ }
+    ensures { λ r. ⌜ AnswersIn (now (text .entry)) (now (run .entry)) (λ n. callStep n (length (now (run .entry))) place) (stepped r) (now (run .exit)) ⌝ }
+{
+    if count(run) <= place {
+        return Stepped::Refused(19, 0);
+    }
+    let o = step_at(text, tables, run, place);
+    match o {
+        Outcome::Carried(seen) => return Stepped::Carried(seen),
+        Outcome::NotOpen => return Stepped::Refused(20, 0),
+        Outcome::Lacking => return Stepped::Refused(21, 0),
+    }
+}
+
+pub(crate) fn run_on_in(text: &[u8], tables: &[u32], run: &mut [u32], budget: u32) -> RanOn
+    requires { ⌜ TextIn (now text) (now tables) ⌝ }
+    ensures { λ r. ⌜ AnswersIn (now (text .entry)) (now (run .entry)) (λ n. callRunOn n (length (now (run .entry))) budget) (ranOn r) (now (run .exit)) ⌝ }
+{
+    if run.len() < Script::RUN_WORDS {
+        return RanOn::Refused(16, 0);
+    }
+    if well_formed(text, tables, run) {
+        return steps_until(text, tables, run, budget);
+    }
+    RanOn::Refused(18, 0)
+}
+
+pub(crate) fn name_in<'a>(
+    text: &'a [u8],
+    tables: &[u32],
+    line: u32,
+    number: &mut u32,
+    at: &mut usize,
+) -> &'a [u8]
+    requires { ⌜ TextIn (now text) (now tables) ⌝ }
+    ensures { λ r. ⌜ NamesIn (now (text .entry)) line (now r) (now (number .exit)) (now (at .exit)) ⌝ }
+{
+    *at = 0;
+    let i = line as usize;
+    if exec_count(tables) <= i {
+        *number = 17;
+        return &text[0..0];
+    }
+    *number = 0;
+    name_of(text, exec_at(tables, i))
+}
