@@ -1,14 +1,11 @@
 -- An accepted text: its script stands in its tables, and the program that they hold is the script's own.
 use Prim.Native.Nat.{ℕ}
-use mathlib.Core.Path.{_≡_, refl, sym, _∙_, ap, subst}
+use mathlib.Core.Path.{_≡_, sym, _∙_, ap, subst}
 use mathlib.Core.List.{List}
-use native.Mathlib.Omega.{arith}
-use lib.ListN.{length, length-replicate}
-use Rattle.notation.specs.Limits.{scratchWords}
 use Rattle.notation.specs.Tree.{Declaration}
 use Rattle.notation.specs.Reader.{got}
 use Rattle.notation.specs.Scripts.{readText}
-use Rattle.notation.specs.Tables.{nothing, zeros, tables, tablesOf, tablesRead, afterScript}
+use Rattle.notation.specs.Tables.{nothing, tables, afterScript}
 use Rattle.notation.specs.declared.reading.Cursor.{Cursor}
 use Rattle.calculus.specs.Program.{programOf}
 use Rattle.calculus.specs.Accepted.{accepted, checked}
@@ -45,3 +42,30 @@ module _ (s : List ℕ) (ds : List Declaration) (ok : checked s ≡ accepted ds)
 
   pub bodies-typed : Bodies (programIn s (tables s))
   bodies-typed = subst Bodies (sym program-is) (accepted-bodies s ds ok)
+
+-- ── words w that hold the tables of s, which is accepted
+pub record TextIn (s w : List ℕ) : Type 0 where
+  pub script : List Declaration
+  pub accepts : checked s ≡ accepted script
+  pub words : w ≡ tables s
+  pub fits : FitsTables s
+
+module _ {s w : List ℕ} (t : TextIn s w) where
+  -- what holds of the tables holds of the words, and the other way
+  pub over : (Q : List ℕ → Type 0) → Q (tables s) → Q w
+  over Q q = subst Q (sym (t .words)) q
+
+  pub under : (Q : List ℕ → Type 0) → Q w → Q (tables s)
+  under Q q = subst Q (t .words) q
+
+  pub tables-in : Tables s w
+  tables-in = over (Tables s) (tables-stand s (t .script) (t .accepts) (t .fits))
+
+  pub everywhere-in : Everywhere s w
+  everywhere-in = over (Everywhere s) (tables-everywhere s (t .script) (t .accepts) (t .fits))
+
+  pub program-in : programIn s w ≡ programOf (t .script)
+  program-in = ap (programIn s) (t .words) ∙ program-is s (t .script) (t .accepts) (t .fits)
+
+  pub bodies-in : Bodies (programIn s w)
+  bodies-in = over (λ x. Bodies (programIn s x)) (bodies-typed s (t .script) (t .accepts) (t .fits))

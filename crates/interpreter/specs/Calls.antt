@@ -9,7 +9,6 @@ use lib.ListN.{length, take}
 use Rattle.notation.specs.Limits.{runWords}
 use Rattle.notation.specs.Tree.{Declaration}
 use Rattle.calculus.specs.Accepted.{accepted, checked}
-use Rattle.calculus.specs.Answers.{Told, startedAs, steppedAs, ranOnAs, reportedAs}
 use Rattle.calculus.specs.Configuration.{Config}
 use Rattle.calculus.specs.Demands as calculus
 use Rattle.calculus.specs.Machine.{Call, callStart, callStep, callRunOn, callReport, callExecName, Answer, started, stepped, ranOn, reported, named, respond, idle}
@@ -19,7 +18,7 @@ use Rattle.calculus.specs.declared.answers.Started.the-variants.{Begun}
 use Rattle.calculus.specs.declared.answers.Stepped.{Stepped}
 use Rattle.calculus.specs.declared.answers.RanOn.{RanOn}
 use Rattle.calculus.specs.declared.answers.Report.{Report}
-use Rattle.interpreter.specs.Entries.{configOf, HoldsRun, Starts, Steps, RunsOn, counted, Reports, Names}
+use Rattle.interpreter.specs.Entries.{configOf, HoldsRun, answerAs, Starts, Steps, RunsOn, counted, Reports, Names}
 
 -- a moment: a call of an entry with the words that it was lent, its answer, and those words afterwards
 pub data Moment : Type 0 where
@@ -89,14 +88,6 @@ abbrev pub replayed : List ℕ → Config → List Call → Config
 replayed s C [] = C
 replayed s C (c ∷ cs) = replayed s (respond s C c .config) cs
 
--- the refusal's number, 0 where there is none
-abbrev pub refusalOf : Answer → ℕ
-refusalOf (started a) = startedAs a .refusal
-refusalOf (stepped a) = steppedAs a .refusal
-refusalOf (ranOn a) = ranOnAs a .refusal
-refusalOf (reported a l) = reportedAs a .refusal
-refusalOf (named l n i) = n
-
 -- what holds at a moment that meets the run `run`, the plain machine being at C
 pub record Agrees (s : List ℕ) (p : Program) (C : Config) (run : List ℕ) (m : Moment) : Type 0 where
   -- "Answers are compared whole"
@@ -107,7 +98,7 @@ pub record Agrees (s : List ℕ) (p : Program) (C : Config) (run : List ℕ) (m 
   -- a forest, joints fewer than processes, one type at both ends of a channel, a step open while a process is left, also between the steps of a run-on;
   -- a start is refused exactly when its line is missing, a run-on never, an open step exactly when it lacks; a refusal changes nothing
   pub plain : calculus.Kept p (record { before = C; call = callOf m; after = respond s C (callOf m) })
-  pub never18 : refusalOf (answerOf m) ≢ 18
+  pub never18 : answerAs (answerOf m) .refusal ≢ 18
 
 -- "one theorem about every list of calls": at each moment m of a list of calls that begins with a start carried out
 pub record Demand3 : Type 0 where

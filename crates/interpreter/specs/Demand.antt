@@ -27,8 +27,8 @@ use Rattle.runs.specs.Raw.{RawConfig, rawIn}
 use Rattle.runs.specs.Decode.{decoded}
 use Rattle.runs.specs.SliceLaws.{raw-taken, raw-of-taken}
 use Rattle.wellformed.specs.Formed.{Formed}
-use Rattle.interpreter.specs.Entries.{configOf, HoldsRun, Leaves, runAfter, RunAfter, Reached, Answers, Starts, Names}
-use Rattle.interpreter.specs.Calls.{Moment, start, step, runOn, report, execName, Kept, callOf, answerOf, Lent, Lends, left, leftBy, leftByAll, Linked, replayed, refusalOf, Agrees, Demand3}
+use Rattle.interpreter.specs.Entries.{configOf, HoldsRun, Leaves, answerAs, Gives, runAfter, RunAfter, Reached, Answers, Starts, Names}
+use Rattle.interpreter.specs.Calls.{Moment, start, step, runOn, report, execName, Kept, callOf, answerOf, Lent, Lends, left, leftBy, leftByAll, Linked, replayed, Agrees, Demand3}
 use Rattle.interpreter.specs.Unread.{Short, short-answer, short-config, start-anew, name-anew, never-18}
 
 -- the run holds the configuration C
@@ -75,11 +75,11 @@ module _ (s : List ℕ) (ds : List Declaration) (ok : checked s ≡ accepted ds)
         go : (b : Bool) → leb runWords (length ws) ≡ b → (a ≡ respond s C c .answer) × After C c (cond b (take runWords vs) run)
         go true e =
             let g = in-slice s C run ws (l .is (leb-true runWords (length ws) e)) h in
-            let k = subst (λ D. (a ≡ respond s D c .answer) × RunAfter s ws vs (respond s D c)) (g .is) (A .known (λ _. g .formed)) in
-            (k .0, settled C c ws vs (k .1) (λ _. g))
+            let k = subst (λ D. Gives a (respond s D c) × RunAfter s ws vs (respond s D c)) (g .is) (A .known (λ _. g .formed)) in
+            (k .0 .is, settled C c ws vs (k .1) (λ _. g))
         go false e =
             let z = leb-false runWords (length ws) e in
-            (A .known (λ (r : Reached s w ws). absurd (omega (arith, z, r .run))) .0 ∙ short-answer s c (short z) (configOf s ws) C, subst (λ D. Holding s D run) (sym (short-config s c (short z) C)) h)
+            (A .known (λ (r : Reached s w ws). absurd (omega (arith, z, r .run))) .0 .is ∙ short-answer s c (short z) (configOf s ws) C, subst (λ D. Holding s D run) (sym (short-config s c (short z) C)) h)
 
   -- ── a start
   module _ (C : Config) (run w ws : List ℕ) (line : ℕ) where
@@ -106,16 +106,16 @@ module _ (s : List ℕ) (ds : List Declaration) (ok : checked s ≡ accepted ds)
 
   -- ── at each moment
   at-moment : (C : Config) (run : List ℕ) → Holding s C run → (m : Moment) → Kept s m → Lends run m → (answerOf m ≡ respond s C (callOf m) .answer) × After C (callOf m) (leftBy run m)
-  at-moment C run h (start w ws line r v vs) k l = begins C run w ws line (k .answer) (k .run) l (λ _. h)
+  at-moment C run h (start w ws line r v vs) k l = begins C run w ws line (k .answer .is) (k .run) l (λ _. h)
   at-moment C run h (step w ws place r v vs) k l = answered C run h _ w ws (λ z. z) k l
   at-moment C run h (runOn w ws budget r v vs) k l = answered C run h _ w ws (λ z. z) k l
   at-moment C run h (report w ws r v) k l = answered C run h _ w ws (λ z. z) (k .answers) l
   at-moment C run h (execName w line part number at v) k l =
-      (k .answer ∙ name-anew s (length w) line idle C .0, subst (λ D. Holding s D run) (sym (name-anew s (length w) line C C .1)) h)
+      (k .answer .is ∙ name-anew s (length w) line idle C .0, subst (λ D. Holding s D run) (sym (name-anew s (length w) line C C .1)) h)
 
   agrees-with : (C : Config) (run : List ℕ) (m : Moment) → answerOf m ≡ respond s C (callOf m) .answer → After C (callOf m) (leftBy run m)
       → calculus.Kept (programOf ds) (record { before = C; call = callOf m; after = respond s C (callOf m) }) → Agrees s (programOf ds) C run m
-  agrees-with C run m e h k = record { answer = e; holds = h .formed; config = h .is; plain = k; never18 = λ z. never-18 s ds ok C (callOf m) (ap refusalOf (sym e) ∙ z) }
+  agrees-with C run m e h k = record { answer = e; holds = h .formed; config = h .is; plain = k; never18 = λ z. never-18 s ds ok C (callOf m) (ap (λ a. answerAs a .refusal) (sym e) ∙ z) }
 
   -- ── at each of a list
   abbrev AtEach : Config → List ℕ → List Moment → Type 0
@@ -157,10 +157,10 @@ module _ (s : List ℕ) (ds : List Declaration) (ok : checked s ≡ accepted ds)
       c′ = callStart (length w) (length ws) line
 
       begun : respond s idle c′ .answer ≡ started Begun
-      begun = sym (k .answer) ∙ b
+      begun = sym (k .answer .is) ∙ b
 
       y : (started r ≡ respond s idle c′ .answer) × After idle c′ (left run ws vs)
-      y = begins idle run w ws line (k .answer) (k .run) d (λ e. absurd (true≢false (sym e ∙ ap isRefused begun)))
+      y = begins idle run w ws line (k .answer .is) (k .run) d (λ e. absurd (true≢false (sym e ∙ ap isRefused begun)))
 
       formed : WellFormed (programOf ds) (respond s idle c′ .config)
       formed = begun-well-formed s ds ok (replied s ds ok idle c′) (ap has-begun begun)

@@ -1,7 +1,7 @@
 -- What each entry promises: its answer and every word that it was lent, for all texts, slices and numbers.
 -- s is the text; w and ws are the scratch and run words lent, v and vs what they are afterwards.
-use Prim.Native.Nat.{ℕ, _≤_}
-use mathlib.Core.Path.{_≡_}
+use Prim.Native.Nat.{ℕ, zero, suc, _≤_}
+use mathlib.Core.Path.{_≡_, ap}
 use mathlib.Core.List.{List, [], _++_}
 use mathlib.Core.Bool.{Bool, true, false, cond}
 use lib.Dec.{leb}
@@ -10,6 +10,7 @@ use Rattle.notation.specs.Limits.{scratchWords, runWords}
 use Rattle.notation.specs.Tables.{tables}
 use Rattle.notation.specs.Tree.{Declaration}
 use Rattle.calculus.specs.Accepted.{accepted, checked}
+use Rattle.calculus.specs.Answers.{Told, refusedAs, givenAs, startedAs, steppedAs, ranOnAs, reportedAs}
 use Rattle.calculus.specs.Configuration.{Config}
 use Rattle.calculus.specs.Demands.{isRefused}
 use Rattle.calculus.specs.Machine.{Call, callStart, callStep, callRunOn, callReport, callExecName, Answer, started, stepped, ranOn, reported, named, Reply, refusal, respond, idle}
@@ -52,6 +53,30 @@ runAfter s ws vs D false = Leaves s ws vs D
 pub record RunAfter (s ws vs : List ℕ) (y : Reply) : Type 0 where
   pub is : runAfter s ws vs (y .config) (isRefused (y .answer))
 
+-- ── answers in document 01's numbers and values
+abbrev namedAs : List ℕ → ℕ → ℕ → Told
+namedAs part zero at = givenAs part
+namedAs part (suc n) at = refusedAs (suc n) at
+
+-- a report's numbers follow its count
+abbrev listedAs : Told → List ℕ → Told
+listedAs t l = record { refusal = t .refusal; values = t .values ++ l }
+
+abbrev pub answerAs : Answer → Told
+answerAs (started a) = startedAs a
+answerAs (stepped a) = steppedAs a
+answerAs (ranOn a) = ranOnAs a
+answerAs (reported a l) = listedAs (reportedAs a) l
+answerAs (named part n at) = namedAs part n at
+
+-- the very answer of a reply, so the same number and values
+pub record Gives (a : Answer) (y : Reply) : Type 0 where
+  pub is : a ≡ y .answer
+  pub told : answerAs a ≡ answerAs (y .answer)
+
+pub gives : {a : Answer} {y : Reply} → a ≡ y .answer → Gives a y
+gives e = record { is = e; told = ap answerAs e }
+
 -- ── refusal 18
 -- no refusal before it applies: the text is accepted, and both slices have their words
 pub record Reached (s w ws : List ℕ) : Type 0 where
@@ -63,14 +88,14 @@ pub record Reached (s w ws : List ℕ) : Type 0 where
 -- an entry that is lent a run: 18 where it is reached and the words are no such configuration; otherwise the plain machine's reply to the call for the configuration there
 pub record Answers (s w ws : List ℕ) (c : Call) (a : Answer) (v vs : List ℕ) : Type 0 where
   pub scratch : v ≡ scratchAfter s w
-  pub stranger : Reached s w ws → ¬ HoldsRun s ws → (a ≡ refusal idle c 18 0 .answer) × (vs ≡ ws)
-  pub known : (Reached s w ws → HoldsRun s ws) → (a ≡ respond s (configOf s ws) c .answer) × RunAfter s ws vs (respond s (configOf s ws) c)
+  pub stranger : Reached s w ws → ¬ HoldsRun s ws → Gives a (refusal idle c 18 0) × (vs ≡ ws)
+  pub known : (Reached s w ws → HoldsRun s ws) → Gives a (respond s (configOf s ws) c) × RunAfter s ws vs (respond s (configOf s ws) c)
 
 -- ── the entries
 -- start, which asks nothing of the run's words
 pub record Starts (s w ws : List ℕ) (line : ℕ) (r : Started) (v vs : List ℕ) : Type 0 where
   pub scratch : v ≡ scratchAfter s w
-  pub answer : started r ≡ respond s idle (callStart (length w) (length ws) line) .answer
+  pub answer : Gives (started r) (respond s idle (callStart (length w) (length ws) line))
   pub run : RunAfter s ws vs (respond s idle (callStart (length w) (length ws) line))
 
 abbrev pub Steps : List ℕ → List ℕ → List ℕ → ℕ → Stepped → List ℕ → List ℕ → Type 0
@@ -92,4 +117,4 @@ pub record Reports (s w ws : List ℕ) (r : Report) (v : List ℕ) : Type 0 wher
 -- the name of an exec line, "handed back as the part of the lent text that holds it"; the refusal's number and offset "stand in two lent numbers, both 0 otherwise"
 pub record Names (s w : List ℕ) (line : ℕ) (part : List ℕ) (number at : ℕ) (v : List ℕ) : Type 0 where
   pub scratch : v ≡ scratchAfter s w
-  pub answer : named part number at ≡ respond s idle (callExecName (length w) line) .answer
+  pub answer : Gives (named part number at) (respond s idle (callExecName (length w) line))

@@ -1,12 +1,12 @@
 -- What an entry comes to once the text is accepted, whatever number of scratch words from 8,192 on was lent.
 use Prim.Native.Nat.{ℕ, _<_, _≤_}
 use mathlib.Core.Path.{_≡_, refl, sym, _∙_, ap, subst}
-use mathlib.Core.List.{List, []}
+use mathlib.Core.List.{List, [], _++_}
 use mathlib.Core.Bool.{Bool, true, false, cond, true≢false}
 use native.Mathlib.Omega.{arith}
-use borrow.Author.Tests.{le-leb, lt-leb}
+use borrow.Author.Tests.{leb-true, leb-false, le-leb, lt-leb}
 use lib.Dec.{leb}
-use lib.ListN.{length, take}
+use lib.ListN.{length, drop}
 use Rattle.notation.specs.Limits.{scratchWords, runWords}
 use Rattle.notation.specs.Tree.{Declaration}
 use Rattle.calculus.specs.Accepted.{Checked, accepted, faulty, checked}
@@ -17,9 +17,17 @@ use Rattle.calculus.specs.declared.answers.Started.{Started}
 use Rattle.calculus.specs.declared.answers.Started.the-variants as begins
 use Rattle.declared.specs.declared.verdict.Verdict.{Verdict}
 use Rattle.declared.specs.declared.verdict.Verdict.the-variants as verdict
-use Rattle.checker.specs.Texts.{TextChecked}
-use Rattle.interpreter.specs.Entries.{HoldsRun, configOf, Leaves, runAfter, RunAfter, Reached, Answers, Starts, Names}
-use Rattle.interpreter.specs.Texts.{scratch-is, text-refused, scratch-enough, script-of}
+use Rattle.checker.specs.Texts.{wordsIn, TextChecked}
+use Rattle.interpreter.specs.Entries.{scratchAfter, HoldsRun, configOf, Leaves, runAfter, RunAfter, gives, Reached, Answers, Starts, Names}
+use Rattle.accepted.specs.Verdicts.{text-refused, scratch-enough, script-of}
+
+-- ── the scratch words, as the check leaves them
+pub scratch-is : (s w x : List ℕ) (r : Verdict) → TextChecked s w r x → x ≡ scratchAfter s w
+scratch-is s w x r t = go (leb scratchWords (length w)) refl
+  where
+    go : (b : Bool) → leb scratchWords (length w) ≡ b → x ≡ cond b (wordsIn s (checked s) ++ drop scratchWords w) w
+    go true e = t .enough (leb-true scratchWords (length w) e) .1
+    go false e = t .short (leb-false scratchWords (length w) e) .1
 
 pub record AnswersIn (s ws : List ℕ) (c : ℕ → Call) (a : Answer) (vs : List ℕ) : Type 0 where
   pub stranger : runWords ≤ length ws → ¬ HoldsRun s ws → (n : ℕ) → (a ≡ refusal idle (c n) 18 0 .answer) × (vs ≡ ws)
@@ -101,7 +109,7 @@ module _ (s w x : List ℕ) (v : Verdict) (t : TextChecked s w v x) (ws : List �
     known = λ _.
         let e : reply (r n i) (configOf s ws) ≡ respond s (configOf s ws) (c (length w)) =
         sym (reply-refused s (configOf s ws) (c (length w)) n i (ap (textChecked s) (K .scratch (length w)) ∙ text-refused s w x v t n i q) ∙ K .refuses (configOf s ws) (length w) n i) in
-        (ap (λ (z : Reply). z .answer) e, subst (RunAfter s ws ws) e (untouched (configOf s ws) (r n i) (K .refused n i)));
+        (gives (ap (λ (z : Reply). z .answer) e), subst (RunAfter s ws ws) e (untouched (configOf s ws) (r n i) (K .refused n i)));
   }
 
   pub answers-accepted : v ≡ verdict.Fine → {a : Answer} {vs : List ℕ} → AnswersIn s ws c a vs → Answers s w ws (c (length w)) a x vs
@@ -109,8 +117,10 @@ module _ (s w x : List ℕ) (v : Verdict) (t : TextChecked s w v x) (ws : List �
       let enough = scratch-enough s w x v t q in
       record {
         scratch = scratch-is s w x v t;
-        stranger = λ h d. A .stranger (h .run) d (length w);
-        known = λ k. A .known (λ l. k (record { script = script-of s w x v t q .0; accepts = script-of s w x v t q .1; scratch = enough; run = l })) (length w) enough;
+        stranger = λ h d. let (e, u) = A .stranger (h .run) d (length w) in (gives e, u);
+        known = λ k.
+          let (e, u) = A .known (λ l. k (record { script = script-of s w x v t q .0; accepts = script-of s w x v t q .1; scratch = enough; run = l })) (length w) enough in
+          (gives e, u);
       }
 
 -- ── start and the name of an exec line
@@ -118,16 +128,16 @@ module _ (s w x : List ℕ) (v : Verdict) (t : TextChecked s w v x) where
   pub starts-refused : (ws : List ℕ) (line n i : ℕ) → v ≡ verdict.Refused n i → Starts s w ws line (begins.Refused n i) x ws
   starts-refused ws line n i q =
       let e : reply (started (begins.Refused n i)) idle ≡ respond s idle (callStart (length w) (length ws) line) = sym (reply-refused s idle (callStart (length w) (length ws) line) n i (text-refused s w x v t n i q)) in
-      record { scratch = scratch-is s w x v t; answer = ap (λ (z : Reply). z .answer) e; run = subst (RunAfter s ws ws) e (untouched idle (started (begins.Refused n i)) refl) }
+      record { scratch = scratch-is s w x v t; answer = gives (ap (λ (z : Reply). z .answer) e); run = subst (RunAfter s ws ws) e (untouched idle (started (begins.Refused n i)) refl) }
 
   pub starts-accepted : {ws vs : List ℕ} {line : ℕ} {r : Started} → v ≡ verdict.Fine → StartsIn s ws line r vs → Starts s w ws line r x vs
-  starts-accepted q A = let y = A .is (length w) (scratch-enough s w x v t q) in record { scratch = scratch-is s w x v t; answer = y .0; run = y .1 }
+  starts-accepted q A = let y = A .is (length w) (scratch-enough s w x v t q) in record { scratch = scratch-is s w x v t; answer = gives (y .0); run = y .1 }
 
   pub names-refused : (line n i : ℕ) → v ≡ verdict.Refused n i → Names s w line [] n i x
   names-refused line n i q = record {
     scratch = scratch-is s w x v t;
-    answer = ap (λ (z : Reply). z .answer) (sym (reply-refused s idle (callExecName (length w) line) n i (text-refused s w x v t n i q)));
+    answer = gives (ap (λ (z : Reply). z .answer) (sym (reply-refused s idle (callExecName (length w) line) n i (text-refused s w x v t n i q))));
   }
 
   pub names-accepted : {line number at : ℕ} {part : List ℕ} → v ≡ verdict.Fine → NamesIn s line part number at → Names s w line part number at x
-  names-accepted q A = record { scratch = scratch-is s w x v t; answer = A .is (length w) (scratch-enough s w x v t q) }
+  names-accepted q A = record { scratch = scratch-is s w x v t; answer = gives (A .is (length w) (scratch-enough s w x v t q)) }

@@ -1,5 +1,4 @@
 pub mod Entries
-pub mod Texts
 pub mod Inside
 pub mod Runs
 pub mod Stepping

@@ -20,11 +20,8 @@ use Rattle.calculus.specs.declared.answers.Reported.the-variants as reports
 use Rattle.calculus.specs.declared.answers.Report.{Report}
 use Rattle.calculus.specs.declared.answers.Started.the-variants as begins
 use Rattle.calculus.specs.declared.answers.Stepped.the-variants as steps
-use Rattle.preservation.specs.Stepping.{Bodies}
 use Rattle.tables.specs.Decode.{tallyIn}
-use Rattle.tables.specs.Everywhere.{Everywhere}
 use Rattle.tables.specs.Program.{programIn}
-use Rattle.tables.specs.Whole.{Tables}
 use Rattle.runs.specs.Raw.{rawIn}
 use Rattle.machine.specs.declared.outcome.Outcome.{Outcome as OutcomeWords}
 use Rattle.machine.specs.Run.{configIn, RunOf, Carries}
@@ -32,9 +29,8 @@ use Rattle.machine.specs.Running as machine
 use Rattle.machine.specs.Dispatch.{SmallSignatures, small-signatures}
 use Rattle.machine.specs.Starting.{Begins}
 use Rattle.wellformed.specs.Formed.{Formed}
-use Rattle.accepted.specs.Texts.{tables-stand, tables-everywhere, bodies-typed}
+use Rattle.accepted.specs.Texts.{TextIn, over, under, tables-in, everywhere-in, bodies-in}
 use Rattle.interpreter.specs.Entries.{HoldsRun, configOf}
-use Rattle.interpreter.specs.Texts.{TextIn}
 use Rattle.interpreter.specs.Inside.{AnswersIn, StartsIn, NamesIn, answers-short, answers-stranger}
 use Rattle.interpreter.specs.Runs as slices
 use Rattle.interpreter.specs.Stepping as stepping
@@ -46,41 +42,25 @@ use Rattle.interpreter.specs.Starting as starting
 use Rattle.interpreter.specs.Starting.{startedBy}
 
 module _ {s w : List ℕ} (t : TextIn s w) where
-  -- what holds of the tables holds of the words
-  over : (Q : List ℕ → Type 0) → Q (tables s) → Q w
-  over Q q = subst Q (sym (t .words)) q
-
-  under : (Q : List ℕ → Type 0) → Q w → Q (tables s)
-  under Q q = subst Q (t .words) q
-
-  pub tables-in : Tables s w
-  tables-in = over (Tables s) (tables-stand s (t .script) (t .accepts) (t .fits))
-
-  pub everywhere-in : Everywhere s w
-  everywhere-in = over (Everywhere s) (tables-everywhere s (t .script) (t .accepts) (t .fits))
-
-  pub bodies-in : Bodies (programIn s w)
-  bodies-in = over (λ x. Bodies (programIn s x)) (bodies-typed s (t .script) (t .accepts) (t .fits))
-
   pub small-in : SmallSignatures (programIn s w)
-  small-in = small-signatures bodies-in
+  small-in = small-signatures (bodies-in t)
 
   -- ── start
   pub start-short : {ws : List ℕ} {line : ℕ} → length ws < runWords → StartsIn s ws line (begins.Refused 16 0) ws
   start-short {ws} {line} l = starting.starts-short s (t .script) (t .accepts) (t .fits) ws line l
 
   pub start-told : {ws vs : List ℕ} {line : ℕ} {b d : Bool} → runWords ≤ length ws → Begins s w ws vs b (execOf (programIn s w) line) → b ≡ d → StartsIn s ws line (startedBy d) vs
-  start-told {ws} {vs} {line} {b} l m e = subst (λ x. StartsIn s ws line (startedBy x) vs) e (starting.starts-told s (t .script) (t .accepts) (t .fits) ws line l (under (λ x. Begins s x ws vs b (execOf (programIn s x) line)) m))
+  start-told {ws} {vs} {line} {b} l m e = subst (λ x. StartsIn s ws line (startedBy x) vs) e (starting.starts-told s (t .script) (t .accepts) (t .fits) ws line l (under t (λ x. Begins s x ws vs b (execOf (programIn s x) line)) m))
 
   -- ── a run that holds a configuration of the text
   pub holds-in : (ws : List ℕ) → Formed s w (rawIn ws) → HoldsRun s ws
-  holds-in ws f = under (λ x. Formed s x (rawIn ws)) f
+  holds-in ws f = under t (λ x. Formed s x (rawIn ws)) f
 
   pub formed-in : (ws : List ℕ) → HoldsRun s ws → Formed s w (rawIn ws)
-  formed-in ws f = over (λ x. Formed s x (rawIn ws)) f
+  formed-in ws f = over t (λ x. Formed s x (rawIn ws)) f
 
   pub run-in : (ws : List ℕ) → runWords ≤ length ws → HoldsRun s ws → RunOf s w ws
-  run-in ws l f = slices.run-of s w everywhere-in ws tables-in l (formed-in ws f)
+  run-in ws l f = slices.run-of s w (everywhere-in t) ws (tables-in t) l (formed-in ws f)
 
   pub well-formed-in : (ws : List ℕ) → HoldsRun s ws → WellFormed (programIn s w) (configIn s w ws)
   well-formed-in ws f = formed-in ws f .is
@@ -100,7 +80,7 @@ module _ {s w : List ℕ} (t : TextIn s w) where
         → AnswersIn s ws (λ n. callStep n (length ws) place) (stepped (steppedBy o)) vs
     step-told {vs} {a} {o} l f h c e =
         subst (λ x. AnswersIn s ws (λ n. callStep n (length ws) place) (stepped (steppedBy x)) vs) e
-        (stepping.step-told s (t .script) (t .accepts) (t .fits) ws place l f h (under (λ x. Carries s x ws vs a (step (programIn s x) (configIn s x ws) place)) c))
+        (stepping.step-told s (t .script) (t .accepts) (t .fits) ws place l f h (under t (λ x. Carries s x ws vs a (step (programIn s x) (configIn s x ws) place)) c))
 
   -- ── run-on
   module _ {ws : List ℕ} {budget : ℕ} where
@@ -111,7 +91,7 @@ module _ {s w : List ℕ} (t : TextIn s w) where
     run-stranger l d = answers-stranger s ws _ _ _ (running.run-kind s (t .script) (t .accepts) (t .fits) ws budget) l d
 
     pub run-told : {vs : List ℕ} {r : RanOn} → runWords ≤ length ws → HoldsRun s ws → machine.RunsOn s w ws vs r (runOn (programIn s w) (configIn s w ws) budget) → AnswersIn s ws (λ n. callRunOn n (length ws) budget) (ranOn r) vs
-    run-told {vs} {r} l f m = running.run-told s (t .script) (t .accepts) (t .fits) ws l f budget (under (λ x. machine.RunsOn s x ws vs r (runOn (programIn s x) (configIn s x ws) budget)) m)
+    run-told {vs} {r} l f m = running.run-told s (t .script) (t .accepts) (t .fits) ws l f budget (under t (λ x. machine.RunsOn s x ws vs r (runOn (programIn s x) (configIn s x ws) budget)) m)
 
   -- ── report
   module _ {ws : List ℕ} where
@@ -126,8 +106,8 @@ module _ {s w : List ℕ} (t : TextIn s w) where
 
   -- ── the name of an exec line
   pub name-none : {line : ℕ} → length (programIn s w .execs) ≤ line → NamesIn s line [] 17 0
-  name-none {line} l = starting.names-none s (t .script) (t .accepts) (t .fits) line (under (λ x. length (programIn s x .execs) ≤ line) l)
+  name-none {line} l = starting.names-none s (t .script) (t .accepts) (t .fits) line (under t (λ x. length (programIn s x .execs) ≤ line) l)
 
   pub name-told : {line : ℕ} {part : List ℕ} (n : Located) → getElem? (programIn s w .execs) line ≡ some n → part ≡ n .name → NamesIn s line part 0 0
   name-told {line} n e q =
-      subst (λ p. NamesIn s line p 0 0) (sym q) (starting.names-told s (t .script) (t .accepts) (t .fits) line n (under (λ x. getElem? (programIn s x .execs) line ≡ some n) e))
+      subst (λ p. NamesIn s line p 0 0) (sym q) (starting.names-told s (t .script) (t .accepts) (t .fits) line n (under t (λ x. getElem? (programIn s x .execs) line ≡ some n) e))

@@ -26,7 +26,7 @@ use Rattle.calculus.specs.declared.answers.Started.the-variants as begins
 use Rattle.calculus.specs.declared.answers.Stepped.the-variants as steps
 use Rattle.calculus.specs.declared.answers.Reported.the-variants as reports
 use Rattle.safety.specs.Replies.{refusal-config, run-never-refused}
-use Rattle.interpreter.specs.Calls.{refusalOf}
+use Rattle.interpreter.specs.Entries.{answerAs}
 
 -- ── a refusal's answer, and that the configuration stays
 same-refusal : (c : Call) (C D : Config) (k i : ℕ) → refusal C c k i .answer ≡ refusal D c k i .answer
@@ -123,9 +123,9 @@ module _ (s : List ℕ) where
 
 -- ── 18 is no reply of the plain machine to an accepted text
 record Other (y : Reply) : Type 0 where
-  number : refusalOf (y .answer) ≢ 18
+  number : answerAs (y .answer) .refusal ≢ 18
 
-given-none : (a : RanOn) → isRefused (ranOn a) ≡ false → refusalOf (ranOn a) ≡ 0
+given-none : (a : RanOn) → isRefused (ranOn a) ≡ false → answerAs (ranOn a) .refusal ≡ 0
 unfolding ranOnAs
 given-none (runs.Shown seen t) e = refl
 given-none (runs.Done t) e = refl
@@ -134,11 +134,11 @@ given-none (runs.Stopped t) e = refl
 given-none (runs.Refused k i) e = absurd (true≢false e)
 
 module _ (c : Call) (C : Config) where
-  refusal-number : (k i : ℕ) → refusalOf (refusal C c k i .answer) ≡ k
+  refusal-number : (k i : ℕ) → answerAs (refusal C c k i .answer) .refusal ≡ k
   unfolding startedAs steppedAs ranOnAs reportedAs
   refusal-number k i = go c
     where
-      go : (c : Call) → refusalOf (refusal C c k i .answer) ≡ k
+      go : (c : Call) → answerAs (refusal C c k i .answer) .refusal ≡ k
       go (callStart n m line) = refl
       go (callStep n m place) = refl
       go (callRunOn n m budget) = refl
@@ -176,7 +176,7 @@ module _ (c : Call) (C : Config) where
       go true = rw ok h
       go false = other 1 0 (λ e. absurd (omega (arith, e)))
 
-carried-other : (y : Reply) → refusalOf (y .answer) ≡ 0 → Other y
+carried-other : (y : Reply) → answerAs (y .answer) .refusal ≡ 0 → Other y
 carried-other y e = record { number = λ z. absurd (omega (arith, e, z)) }
 
 other-reply : (s : List ℕ) (ds : List Declaration) → checked s ≡ accepted ds → (C : Config) (c : Call) → Other (respond s C c)
@@ -205,5 +205,5 @@ other-reply s ds ok C (callExecName n line) =
     let name : Located → Reply = λ x. reply (named (x .name) 0 0) C in
     other-text c C s ds ok n (λ p. onLine (getElem? (p .execs) line) (refusal C c) name) (other-line c C (getElem? (programOf ds .execs) line) (λ x. carried-other (name x) refl))
 
-pub never-18 : (s : List ℕ) (ds : List Declaration) → checked s ≡ accepted ds → (C : Config) (c : Call) → refusalOf (respond s C c .answer) ≢ 18
+pub never-18 : (s : List ℕ) (ds : List Declaration) → checked s ≡ accepted ds → (C : Config) (c : Call) → answerAs (respond s C c .answer) .refusal ≢ 18
 never-18 s ds ok C c = other-reply s ds ok C c .number

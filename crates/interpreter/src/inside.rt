@@ -4,7 +4,7 @@ ghost use lib.ListN.{length};
 ghost use Rattle.notation.specs.Limits.{runWords};
 ghost use Rattle.calculus.specs.Machine.{callStep, callRunOn, stepped, ranOn};
 ghost use Rattle.interpreter.specs.Entries.{HoldsRun};
-ghost use Rattle.interpreter.specs.Texts.{TextIn};
+ghost use Rattle.accepted.specs.Texts.{TextIn};
 ghost use Rattle.interpreter.specs.Inside.{AnswersIn, StartsIn, NamesIn};
 use calculus::answers::RanOn;
 use calculus::answers::Started;

@@ -4,7 +4,7 @@ ghost use Prim.Native.Nat.{ℕ, _≤_};
 ghost use lib.ListN.{length, getD, take};
 ghost use Rattle.notation.specs.Limits.{runWords};
 ghost use Rattle.runs.specs.Raw.{rawIn, Bounded};
-ghost use Rattle.interpreter.specs.Texts.{TextIn};
+ghost use Rattle.accepted.specs.Texts.{TextIn};
 ghost use Rattle.interpreter.specs.Reporting.{numbersOf, Listed, ReportsIn, Refuses};
 use calculus::answers::Report;
 use calculus::answers::Reported;

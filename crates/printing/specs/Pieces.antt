@@ -15,9 +15,9 @@ use Rattle.calculus.specs.Program.{Program}
 use Rattle.calculus.specs.WellFormed.{WellFormed}
 use Rattle.calculus.specs.declared.answers.RanOn.{RanOn}
 use Rattle.calculus.specs.declared.answers.RanOn.the-variants.{Shown, Done, Full, Stopped, Refused}
-use Rattle.reader.specs.Reading.{FitsTables}
 use Rattle.tables.specs.Program.{programIn}
 use Rattle.machine.specs.Run.{configIn, RunOf}
+use Rattle.accepted.specs.Texts.{TextIn}
 use Rattle.printing.specs.declared.pieces.Stage.{Stage}
 use Rattle.printing.specs.declared.pieces.Stage.the-variants.{Exec, Running, Finished}
 use Rattle.printing.specs.declared.pieces.Piece.{Piece}
@@ -34,13 +34,6 @@ left s p C Finished = []
 
 abbrev pub leftIn : List ℕ → List ℕ → List ℕ → Stage → List ℕ
 leftIn s w ws = left s (programIn s w) (configIn s w ws)
-
--- w holds the tables of s, which is accepted
-pub record TextIn (s w : List ℕ) : Type 0 where
-  pub script : List Declaration
-  pub accepts : checked s ≡ accepted script
-  pub words : w ≡ tables s
-  pub fits : FitsTables s
 
 -- what holds at a stage: the text is accepted, and the run of a line that was begun is well-formed
 pub record RunningIn (s w ws : List ℕ) (line taken : ℕ) : Type 0 where

@@ -44,11 +44,12 @@ use Rattle.machine.specs.Run.{configIn, Becomes}
 use Rattle.machine.specs.Running.{RunsOn}
 use Rattle.machine.specs.Starting.{BeginsBy, Begins, execs-many, exec-name}
 use Rattle.machine.specs.Dispatch.{SmallSignatures, small-signatures}
-use Rattle.accepted.specs.Texts.{tables-stand, program-is, bodies-typed}
+use Rattle.accepted.specs.Texts.{TextIn, tables-in, program-in}
+use Rattle.accepted.specs.Verdicts.{refused-so, fine-so}
 use Rattle.printing.specs.Writing.{Appended}
 use Rattle.printing.specs.Lines.{append-nil}
 use Rattle.printing.specs.RunLines.{given-within, shown-steps, fuel-enough}
-use Rattle.printing.specs.Pieces.{left, leftIn, TextIn, RunningIn, GoingBy, Going, turns, isLeft, First, Next, Wrote, toldLines, toldStage, Turn, Linked, written, PiecesPrinted}
+use Rattle.printing.specs.Pieces.{left, leftIn, RunningIn, GoingBy, Going, turns, isLeft, First, Next, Wrote, toldLines, toldStage, Turn, Linked, written, PiecesPrinted}
 use Rattle.printing.specs.declared.pieces.Stage.{Stage}
 use Rattle.printing.specs.declared.pieces.Stage.the-variants.{Exec, Running, Finished}
 use Rattle.printing.specs.declared.pieces.Piece.{Piece}
@@ -72,23 +73,11 @@ told-as s line taken e {out} {r} w = subst (λ a. Wrote out r (toldLines s taken
 
 -- ── an accepted text
 module _ (s w : List ℕ) (t : TextIn s w) where
-  pub text-program : programIn s w ≡ programOf (t .script)
-  text-program = ap (programIn s) (t .words) ∙ program-is s (t .script) (t .accepts) (t .fits)
-
-  pub text-tables : Tables s w
-  text-tables = subst (Tables s) (sym (t .words)) (tables-stand s (t .script) (t .accepts) (t .fits))
-
-  pub text-bodies : Bodies (programIn s w)
-  text-bodies = subst (λ v. Bodies (programIn s v)) (sym (t .words)) (bodies-typed s (t .script) (t .accepts) (t .fits))
-
-  pub text-small : SmallSignatures (programIn s w)
-  text-small = small-signatures text-bodies
-
   run-formed : (C : Config) (budget : ℕ) → WellFormed (programIn s w) C → WellFormed (programIn s w) (runOn (programIn s w) C budget .config)
-  run-formed C budget = subst (λ p. WellFormed p C → WellFormed p (runOn p C budget .config)) (sym text-program) (λ v. run-keeps s (t .script) (t .accepts) C v budget)
+  run-formed C budget = subst (λ p. WellFormed p C → WellFormed p (runOn p C budget .config)) (sym (program-in t)) (λ v. run-keeps s (t .script) (t .accepts) C v budget)
 
   start-formed : (line : ℕ) (g : Signature) → execOf (programIn s w) line ≡ some g → WellFormed (programIn s w) (startConfig g)
-  start-formed line g = subst (λ p. execOf p line ≡ some g → WellFormed p (startConfig g)) (sym text-program) (accepted-start s (t .script) (t .accepts) line g)
+  start-formed line g = subst (λ p. execOf p line ≡ some g → WellFormed p (startConfig g)) (sym (program-in t)) (accepted-start s (t .script) (t .accepts) line g)
 
 abbrev isAccepted : Checked → Bool
 isAccepted (accepted ds) = true
@@ -107,30 +96,6 @@ text-short s w t = go (leb (length s) textLimit) refl
         absurd (false≢true z)
 
 -- ── the first piece
-abbrev IsFine : calculus.Verdict → Type 0
-IsFine fine = Unit {0}
-IsFine (calculus.refused n i) = ⊥
-
-abbrev IsRefused : calculus.Verdict → Type 0
-IsRefused fine = ⊥
-IsRefused (calculus.refused n i) = Unit {0}
-
-abbrev numberOf : calculus.Verdict → ℕ
-numberOf fine = 0
-numberOf (calculus.refused n i) = n
-
-abbrev offsetOf : calculus.Verdict → ℕ
-offsetOf fine = 0
-offsetOf (calculus.refused n i) = i
-
-refused-so : (c : Checked) (n i : ℕ) → calculus.refused n i ≡ verdictIn c → c ≡ faulty n i
-refused-so (accepted ds) n i e = absurd (subst IsRefused e tt)
-refused-so (faulty m j) n i e = λ k. faulty (numberOf (sym e k)) (offsetOf (sym e k))
-
-fine-so : (c : Checked) → fine ≡ verdictIn c → (ds : List Declaration) × (c ≡ accepted ds)
-fine-so (accepted ds) e = (ds, refl)
-fine-so (faulty n i) e = absurd (subst IsFine e tt)
-
 printed-by : (s : List ℕ) (c : Checked) → checked s ≡ c → printed s ≡ printedOf s c
 unfolding printed
 printed-by s c e = ap (printedOf s) e
@@ -160,7 +125,7 @@ module _ (s w x : List ℕ) (v : Verdict) (t : TextChecked s w v x) (long : leng
 
     pub first-fine : (out : List ℕ) → First s x out (record { length = 0; stage = Exec 0 })
     first-fine out = record {
-      is = λ ws. printed-by s (accepted (first-text .script)) (first-text .accepts) ∙ ap (λ (p : Program). allExecs s p (p .execs)) (sym (text-program s x first-text));
+      is = λ ws. printed-by s (accepted (first-text .script)) (first-text .accepts) ∙ ap (λ (p : Program). allExecs s p (p .execs)) (sym (program-in first-text));
       within = omega arith;
       going = λ ws. record { is = first-text };
     }
@@ -301,7 +266,7 @@ module _ (s w ws : List ℕ) (line taken : ℕ) (r : RunningIn s w ws line taken
   told-steps z = omega (arith, ap given (z .answer), given-within Q (configIn s w ws) budget, r .steps)
 
   pub line-small : line < 16
-  line-small = omega (arith, r .exec, execs-many s w, text-tables s w (r .text) .within)
+  line-small = omega (arith, r .exec, execs-many s w, tables-in (r .text) .within)
 
   pub running-next : {a : RanOn} {vs out : List ℕ} {x : Piece} → RunsOn s w ws vs a (runOn Q (configIn s w ws) budget) → Wrote out x (toldLines s taken a) (toldStage line taken a) → Next s w ws vs out (Running line taken) x
   unfolding runLines

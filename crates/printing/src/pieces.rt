@@ -16,7 +16,8 @@ ghost use lib.ListN.{length};
 ghost use Rattle.notation.specs.Limits.{scratchWords, runWords};
 ghost use Rattle.calculus.specs.Printed.{stepLimit, ending};
 ghost use Rattle.progress.specs.RunOn.{given};
-ghost use Rattle.printing.specs.Pieces.{pieceBytes, TextIn, RunningIn, Going, isLeft, First, Next, Wrote, toldLines, toldStage};
+ghost use Rattle.accepted.specs.Texts.{TextIn};
+ghost use Rattle.printing.specs.Pieces.{pieceBytes, RunningIn, Going, isLeft, First, Next, Wrote, toldLines, toldStage};
 ghost use Rattle.printing.specs.declared.pieces.Stage.the-variants.{Exec, Running};
 
 // What is left to print: all from an exec line on; what is left of that line, of which so many steps were taken, and all after it; nothing.

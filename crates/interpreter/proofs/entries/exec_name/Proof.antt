@@ -2,7 +2,7 @@ use mathlib.Core.Path.{_≡_}
 use Prim.Native.Nat.{_≤_}
 use native.Mathlib.Omega.{arith}
 use lib.ListN.{length}
-use Rattle.interpreter.specs.Texts.{scratch-enough, text-accepted}
+use Rattle.accepted.specs.Verdicts.{scratch-enough, text-accepted}
 use Rattle.interpreter.specs.Inside.{names-accepted, names-refused}
 use borrow.Author.Needs.{needs}
 use Rattle.interpreter.proofs.entries.exec_name.Statement.{statement}

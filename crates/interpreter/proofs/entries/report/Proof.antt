@@ -3,7 +3,7 @@ use Prim.Native.Nat.{_≤_}
 use native.Mathlib.Omega.{arith}
 use lib.ListN.{length}
 use Rattle.calculus.specs.Machine.{callReport}
-use Rattle.interpreter.specs.Texts.{scratch-enough, text-accepted}
+use Rattle.accepted.specs.Verdicts.{scratch-enough, text-accepted}
 use Rattle.interpreter.specs.Inside.{answers-accepted, answers-refused}
 use Rattle.interpreter.specs.RunningOn.{report-refusing}
 use Rattle.interpreter.specs.Reporting.{text-refused-report}

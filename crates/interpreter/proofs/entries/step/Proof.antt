@@ -2,7 +2,7 @@ use mathlib.Core.Path.{_≡_}
 use Prim.Native.Nat.{_≤_}
 use native.Mathlib.Omega.{arith}
 use lib.ListN.{length}
-use Rattle.interpreter.specs.Texts.{scratch-enough, text-accepted}
+use Rattle.accepted.specs.Verdicts.{scratch-enough, text-accepted}
 use Rattle.interpreter.specs.Inside.{answers-accepted, answers-refused}
 use Rattle.calculus.specs.Machine.{callStep}
 use Rattle.interpreter.specs.Stepping.{step-refusing}

@@ -1,6 +1,7 @@
 use native.Mathlib.Omega.{arith}
 use Rattle.machine.specs.Starting.{execs-many, exec-name}
-use Rattle.interpreter.specs.Told.{tables-in, name-none, name-told}
+use Rattle.accepted.specs.Texts.{tables-in}
+use Rattle.interpreter.specs.Told.{name-none, name-told}
 use borrow.Author.Needs.{needs}
 use Rattle.interpreter.proofs.inside.name_in.Statement.{statement}
 use Rattle.interpreter.proofs.inside.name_in.Tie as tie

@@ -1,4 +1,5 @@
-use Rattle.interpreter.specs.Told.{tables-in, everywhere-in, bodies-in, holds-in, formed-in, run-in, well-formed-in, run-short, run-stranger, run-told}
+use Rattle.accepted.specs.Texts.{tables-in, everywhere-in, bodies-in}
+use Rattle.interpreter.specs.Told.{holds-in, formed-in, run-in, well-formed-in, run-short, run-stranger, run-told}
 use borrow.Author.Needs.{needs}
 use Rattle.interpreter.proofs.inside.run_on_in.Statement.{statement}
 use Rattle.interpreter.proofs.inside.run_on_in.Tie as tie

@@ -1,4 +1,5 @@
-use Rattle.interpreter.specs.Told.{tables-in, small-in, start-short, start-told}
+use Rattle.accepted.specs.Texts.{tables-in}
+use Rattle.interpreter.specs.Told.{small-in, start-short, start-told}
 use borrow.Author.Needs.{needs}
 use Rattle.interpreter.proofs.inside.start_in.Statement.{statement}
 use Rattle.interpreter.proofs.inside.start_in.Tie as tie

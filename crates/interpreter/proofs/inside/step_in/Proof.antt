@@ -1,4 +1,5 @@
-use Rattle.interpreter.specs.Told.{tables-in, everywhere-in, holds-in, formed-in, step-short, step-stranger}
+use Rattle.accepted.specs.Texts.{tables-in, everywhere-in}
+use Rattle.interpreter.specs.Told.{holds-in, formed-in, step-short, step-stranger}
 use borrow.Author.Needs.{needs}
 use Rattle.interpreter.proofs.inside.step_in.Statement.{statement}
 use Rattle.interpreter.proofs.inside.step_in.Tie as tie

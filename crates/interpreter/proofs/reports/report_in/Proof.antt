@@ -1,5 +1,6 @@
 use native.Mathlib.Omega.{arith}
-use Rattle.interpreter.specs.Told.{tables-in, everywhere-in, holds-in, formed-in, report-short, report-stranger, report-open}
+use Rattle.accepted.specs.Texts.{tables-in, everywhere-in}
+use Rattle.interpreter.specs.Told.{holds-in, formed-in, report-short, report-stranger, report-open}
 use borrow.Author.Needs.{needs}
 use Rattle.interpreter.proofs.reports.report_in.Statement.{statement}
 use Rattle.interpreter.proofs.reports.report_in.Tie as tie

@@ -1,4 +1,6 @@
-use Rattle.printing.specs.Stages.{text-tables, text-small, text-short, exec-none, exec-begun, exec-empty}
+use Rattle.machine.specs.Dispatch.{small-signatures}
+use Rattle.accepted.specs.Texts.{tables-in, bodies-in}
+use Rattle.printing.specs.Stages.{text-short, exec-none, exec-begun, exec-empty}
 use native.Mathlib.Omega.{arith}
 use borrow.Author.Needs.{needs}
 use Rattle.printing.proofs.pieces.exec_piece.Statement.{statement}
@@ -12,7 +14,7 @@ use Rattle.tables.proofs.access.exec_count.Reads as exec-count-reads
 
 -- src/pieces.rt:89:8
 exec-count-requires : tie.Need-exec-count-requires
-exec-count-requires c κs = text-tables _ _ (c .before .before .before .before .pre .0) .area
+exec-count-requires c κs = tables-in (c .before .before .before .before .pre .0) .area
 
 -- src/pieces.rt:90:9
 returns : tie.Need-returns
@@ -20,11 +22,11 @@ returns c = exec-none _ _ (c .before .before .before .before .before .before .pr
 
 -- src/pieces.rt:95:8
 begin-line-requires : tie.Need-begin-line-requires
-begin-line-requires c κs = (text-tables _ _ (c .before .before .before .before .before .before .before .pre .0), (c .before .before .before .before .before .before .before .pre .1 .0, text-small _ _ (c .before .before .before .before .before .before .before .pre .0)))
+begin-line-requires c κs = (tables-in (c .before .before .before .before .before .before .before .pre .0), (c .before .before .before .before .before .before .before .pre .1 .0, small-signatures (bodies-in (c .before .before .before .before .before .before .before .pre .0))))
 
 -- src/pieces.rt:96:13
 exec-at-requires : tie.Need-exec-at-requires
-exec-at-requires c κs = (text-tables _ _ (c .before .before .before .before .before .before .before .before .before .before .before .pre .0) .area, omega (arith, c .before .before .before .before .before .before .exec-count .ensures, c .before .before .before .before .before .if1 .left, text-tables _ _ (c .before .before .before .before .before .before .before .before .before .before .before .pre .0) .within))
+exec-at-requires c κs = (tables-in (c .before .before .before .before .before .before .before .before .before .before .before .pre .0) .area, omega (arith, c .before .before .before .before .before .before .exec-count .ensures, c .before .before .before .before .before .if1 .left, tables-in (c .before .before .before .before .before .before .before .before .before .before .before .pre .0) .within))
 
 -- src/pieces.rt:97:13
 put-header-requires : tie.Need-put-header-requires

@@ -1,4 +1,5 @@
-use Rattle.printing.specs.Stages.{text-bodies, text-short, told-steps, line-small, running-next}
+use Rattle.accepted.specs.Texts.{bodies-in}
+use Rattle.printing.specs.Stages.{text-short, told-steps, line-small, running-next}
 use native.Mathlib.Omega.{arith}
 use borrow.Author.Needs.{needs}
 use Rattle.printing.proofs.pieces.running_piece.Statement.{statement}
@@ -14,7 +15,7 @@ sub-steps-until c = search needs
 
 -- src/pieces.rt:122:9
 steps-until-requires : tie.Need-steps-until-requires
-steps-until-requires c κs = (c .before .before .before .before .before .pre .0 .run, (c .before .before .before .before .before .pre .0 .formed, text-bodies _ _ (c .before .before .before .before .before .pre .0 .text)))
+steps-until-requires c κs = (c .before .before .before .before .before .pre .0 .run, (c .before .before .before .before .before .pre .0 .formed, bodies-in (c .before .before .before .before .before .pre .0 .text)))
 
 -- src/pieces.rt:123:5
 told-piece-requires : tie.Need-told-piece-requires

@@ -1,4 +1,4 @@
--- What the check of a text leaves to an entry: the refusal, or the tables of an accepted text.
+-- What the check of a text leaves: the refusal, or the tables of an accepted text.
 use Prim.Native.Nat.{ℕ, _+_, _-_, _<_, _≤_}
 use mathlib.Core.Path.{_≡_, refl, sym, _∙_, ap, subst}
 use mathlib.Core.List.{List, [], _∷_, _++_}
@@ -18,16 +18,8 @@ use Rattle.calculus.specs.Verdict as calculus
 use Rattle.declared.specs.Verdicts.{verdictOf}
 use Rattle.declared.specs.declared.verdict.Verdict.{Verdict}
 use Rattle.declared.specs.declared.verdict.Verdict.the-variants as verdict
-use Rattle.reader.specs.Reading.{FitsTables}
 use Rattle.checker.specs.Texts.{verdictIn, wordsIn, TextChecked}
-use Rattle.interpreter.specs.Entries.{scratchAfter}
-
--- w holds the tables of s, which is accepted
-pub record TextIn (s w : List ℕ) : Type 0 where
-  pub script : List Declaration
-  pub accepts : checked s ≡ accepted script
-  pub words : w ≡ tables s
-  pub fits : FitsTables s
+use Rattle.accepted.specs.Texts.{TextIn}
 
 abbrev IsFine : calculus.Verdict → Type 0
 IsFine fine = Unit {0}
@@ -45,22 +37,15 @@ abbrev IsRefused : calculus.Verdict → Type 0
 IsRefused fine = ⊥
 IsRefused (calculus.refused n i) = Unit {0}
 
-refused-so : (c : Checked) (n i : ℕ) → calculus.refused n i ≡ verdictIn c → c ≡ faulty n i
+pub refused-so : (c : Checked) (n i : ℕ) → calculus.refused n i ≡ verdictIn c → c ≡ faulty n i
 refused-so (accepted ds) n i e = absurd (subst IsRefused e tt)
 refused-so (faulty m j) n i e = λ k. faulty (numberOf (sym e k)) (offsetOf (sym e k))
 
-fine-so : (c : Checked) → fine ≡ verdictIn c → (ds : List Declaration) × (c ≡ accepted ds)
+pub fine-so : (c : Checked) → fine ≡ verdictIn c → (ds : List Declaration) × (c ≡ accepted ds)
 fine-so (accepted ds) e = (ds, refl)
 fine-so (faulty n i) e = absurd (subst IsFine e tt)
 
 module _ (s w x : List ℕ) (r : Verdict) (t : TextChecked s w r x) where
-  pub scratch-is : x ≡ scratchAfter s w
-  scratch-is = go (leb scratchWords (length w)) refl
-    where
-      go : (b : Bool) → leb scratchWords (length w) ≡ b → x ≡ cond b (wordsIn s (checked s) ++ drop scratchWords w) w
-      go true e = t .enough (leb-true scratchWords (length w) e) .1
-      go false e = t .short (leb-false scratchWords (length w) e) .1
-
   -- refused
   pub text-refused : (n i : ℕ) → r ≡ verdict.Refused n i → textChecked s (length w) ≡ faulty n i
   unfolding textChecked
