@@ -119,8 +119,8 @@ module _ (s w x : List ℕ) (v : Verdict) (t : TextChecked s w v x) (ws : List �
         scratch = scratch-is s w x v t;
         stranger = λ h d. let (e, u) = A .stranger (h .run) d (length w) in (gives e, u);
         known = λ k.
-          let (e, u) = A .known (λ l. k (record { script = script-of s w x v t q .0; accepts = script-of s w x v t q .1; scratch = enough; run = l })) (length w) enough in
-          (gives e, u);
+            let (e, u) = A .known (λ l. k (record { script = script-of s w x v t q .0; accepts = script-of s w x v t q .1; scratch = enough; run = l })) (length w) enough in
+            (gives e, u);
       }
 
 -- ── start and the name of an exec line

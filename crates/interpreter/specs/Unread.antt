@@ -1,5 +1,5 @@
 -- Replies that do not depend on the configuration: where the run is too short, of a start, and of an exec's name. And no reply gives 18.
-use Prim.Native.Nat.{ℕ, _<_, _≤_}
+use Prim.Native.Nat.{ℕ, zero, suc, _<_, _≤_}
 use mathlib.Core.Path.{_≡_, refl, sym, _∙_, ap, subst}
 use mathlib.Core.Logic.{_≢_}
 use mathlib.Core.List.{List, [], _∷_}
@@ -133,6 +133,10 @@ given-none (runs.Full t) e = refl
 given-none (runs.Stopped t) e = refl
 given-none (runs.Refused k i) e = absurd (true≢false e)
 
+name-number : (k i : ℕ) → answerAs (named [] k i) .refusal ≡ k
+name-number zero i = refl
+name-number (suc k) i = refl
+
 module _ (c : Call) (C : Config) where
   refusal-number : (k i : ℕ) → answerAs (refusal C c k i .answer) .refusal ≡ k
   unfolding startedAs steppedAs ranOnAs reportedAs
@@ -143,7 +147,7 @@ module _ (c : Call) (C : Config) where
       go (callStep n m place) = refl
       go (callRunOn n m budget) = refl
       go (callReport n m) = refl
-      go (callExecName n line) = refl
+      go (callExecName n line) = name-number k i
 
   other : (k i : ℕ) → (k ≢ 18) → Other (refusal C c k i)
   other k i d = record { number = λ e. d (sym (refusal-number k i) ∙ e) }

@@ -1,6 +1,6 @@
 // The step at a place: "Which rule applies is decided by the term's kind".
 ghost use mathlib.Core.Path.{_≡_};
-ghost use Prim.Native.Nat.{_<_};
+ghost use Prim.Native.Nat.{_≤_, _<_};
 ghost use Rattle.calculus.specs.Steps.{step};
 ghost use Rattle.calculus.specs.WellFormed.{WellFormed};
 ghost use Rattle.tables.specs.Program.{programIn};
@@ -24,6 +24,38 @@ use runs::processes::count;
 use runs::processes::load;
 use runs::records::Process;
 use tables::access::term_node;
+
+// The rule of a term that ends its process.
+fn step_ending(
+    text: &[u8],
+    scratch: &[u32],
+    run: &mut [u32],
+    place: usize,
+    p: Process,
+    n: TermNode,
+) -> Outcome
+    requires { ⌜ RunOf (now text) (now scratch) (now run) ⌝ }
+    requires { ⌜ StandsAt (now text) (now scratch) (now run) place p ⌝ }
+    requires { ⌜ SmallSignatures (programIn (now text) (now scratch)) ⌝ }
+    requires { ⌜ RuledBy (now text) (now scratch) (now run) place p n × (9 ≤ n .kind) ⌝ }
+    ensures { λ r. ⌜ Carries (now (text .entry)) (now (scratch .entry)) (now (run .entry)) (now (run .exit)) r (termBy (now (text .entry)) (now (scratch .entry)) (now (run .entry)) place p) ⌝ }
+{
+    let kind = n.kind;
+    match kind {
+        9 => return forward(text, scratch, run, place, p, n.first, n.second),
+        10 => return call(text, scratch, run, place, p, n.first, n.second),
+        11 => return raise(text, scratch, run, place, p, n.third as u32),
+        _ => return try_both(
+            text,
+            scratch,
+            run,
+            place,
+            p,
+            n.second as u32,
+            n.third as u32,
+        ),
+    }
+}
 
 // The rule of the kind of the node n, which is the term that p runs.
 fn step_term(
@@ -56,18 +88,7 @@ fn step_term(
             return spawn(text, scratch, run, place, p, m);
         }
         6..=8 => return receive(text, scratch, run, place, p, n.first),
-        9 => return forward(text, scratch, run, place, p, n.first, n.second),
-        10 => return call(text, scratch, run, place, p, n.first, n.second),
-        11 => return raise(text, scratch, run, place, p, n.third as u32),
-        _ => return try_both(
-            text,
-            scratch,
-            run,
-            place,
-            p,
-            n.second as u32,
-            n.third as u32,
-        ),
+        9.. => return step_ending(text, scratch, run, place, p, n),
     }
 }
 
