@@ -1,0 +1,2 @@
+pub mod Outward
+pub mod NeverTwice
