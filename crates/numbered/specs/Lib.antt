@@ -1,2 +1,3 @@
 pub mod Outward
 pub mod NeverTwice
+pub mod Verdicts
