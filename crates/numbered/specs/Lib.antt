@@ -1,3 +1,5 @@
 pub mod Outward
 pub mod NeverTwice
 pub mod Verdicts
+pub mod Readings
+pub mod TypeReadings
