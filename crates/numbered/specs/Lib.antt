@@ -3,3 +3,4 @@ pub mod NeverTwice
 pub mod Verdicts
 pub mod Readings
 pub mod TypeReadings
+pub mod ProcessReadings
