@@ -4,3 +4,4 @@ pub mod Verdicts
 pub mod Readings
 pub mod TypeReadings
 pub mod ProcessReadings
+pub mod ScriptReadings
