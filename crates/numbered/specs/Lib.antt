@@ -5,3 +5,4 @@ pub mod Readings
 pub mod TypeReadings
 pub mod ProcessReadings
 pub mod ScriptReadings
+pub mod Refusals
