@@ -1,5 +1,6 @@
 pub mod Outward
 pub mod NeverTwice
+pub mod CallNumbers
 pub mod Verdicts
 pub mod Readings
 pub mod TypeReadings

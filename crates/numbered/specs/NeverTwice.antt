@@ -3,7 +3,6 @@ use Prim.Native.Nat.{ℕ, zero, suc, _+_, _≤_}
 use native.Mathlib.Omega.{arith}
 use mathlib.Core.Path.{_≡_, refl, sym, _∙_, ap, subst}
 use mathlib.Core.List.{List, [], _∷_, _++_, map, List·Memᴰ·head, List·Memᴰ·tail, List·Memᴰ·not-nil}
-use mathlib.Core.Bool.{Bool}
 use lib.ListN.{length}
 use Rattle.notation.specs.Tree.{Name, Ty}
 use Rattle.calculus.specs.Program.{Signature, Program}
@@ -43,7 +42,8 @@ pub record InOrder (g : ℕ) (l : List ℕ) (h : ℕ) : Type 0 where
   pub numbers : l ≡ numbersFrom g count
   pub after : h ≡ g + count
 
-one-step : (g h k : ℕ) (seen : Seen) (l : List ℕ) → Counted g seen h → InOrder h l k → InOrder g (numberOf seen l) k
+-- one step before
+pub one-step : (g h k : ℕ) (seen : Seen) (l : List ℕ) → Counted g seen h → InOrder h l k → InOrder g (numberOf seen l) k
 one-step g h k Nothing l e r = subst (λ x. InOrder x l k) e r
 one-step g h k (Label n m) l e r = subst (λ x. InOrder x l k) e r
 one-step g h k (Close n) l e r = subst (λ x. InOrder x l k) e r
@@ -68,17 +68,21 @@ from-once : (k n : ℕ) → NoneTwice (numbersFrom k n)
 from-once k zero = tt
 from-once k (suc n) = ((λ h. let l = from-least (suc k) n k h in omega arith), from-once (suc k) n)
 
-module _ (p : Program) (C D : Config) (l : List Seen) (r : Steps p C l D) where
-  in-order : InOrder (C .given) (numbersPassed l) (D .given)
-  in-order = passed-in-order p C D l r
+module _ {g : ℕ} {l : List ℕ} {h : ℕ} (o : InOrder g l h) where
+  pub order-once : NoneTwice l
+  order-once = subst NoneTwice (sym (o .numbers)) (from-once g (o .count))
 
+  pub order-new : (m : ℕ) → In m l → g ≤ m
+  order-new m i = from-least g (o .count) m (subst (In m) (o .numbers) i)
+
+module _ (p : Program) (C D : Config) (l : List Seen) (r : Steps p C l D) where
   -- the numbers that the steps of a run pass out are all different
   pub passed-once : NoneTwice (numbersPassed l)
-  passed-once = subst NoneTwice (sym (in-order .numbers)) (from-once (C .given) (in-order .count))
+  passed-once = order-once (passed-in-order p C D l r)
 
   -- and none of them was given before
   pub passed-new : (m : ℕ) → In m (numbersPassed l) → C .given ≤ m
-  passed-new m h = from-least (C .given) (in-order .count) m (subst (In m) (in-order .numbers) h)
+  passed-new = order-new (passed-in-order p C D l r)
 
 -- ── from the start on: the numbers of the signature's channels are the first
 numbers-join : (k j a b n : ℕ) → j ≡ k + a → n ≡ a + b → numbersFrom k a ++ numbersFrom j b ≡ numbersFrom k n
@@ -94,14 +98,15 @@ start-numbers : (k : ℕ) (l : List (Name × Ty Name)) → map (λ (o : Outside)
 start-numbers k [] = refl
 start-numbers k (e ∷ l) = ap (λ r. k ∷ r) (start-numbers (suc k) l)
 
-module _ (p : Program) (s : Signature) (D : Config) (l : List Seen) (r : Steps p (startConfig s) l D) where
-  -- every number that a run gives, at its start and by its steps: those from 0 on, in order
-  pub run-numbers : report (startConfig s) ++ numbersPassed l ≡ numbersFrom 0 (D .given)
-  unfolding report startConfig
-  run-numbers =
-      let o = passed-in-order p (startConfig s) D l r in
-      (λ i. start-numbers 0 (s .provides) i ++ o .numbers i) ∙ numbers-join 0 (length (s .provides)) (length (s .provides)) (o .count) (D .given) (omega arith) (o .after)
+-- every number that a run gives, at its start and after it: those from 0 on, in order
+pub start-order : (s : Signature) {l : List ℕ} {h : ℕ} → InOrder (startConfig s .given) l h → report (startConfig s) ++ l ≡ numbersFrom 0 h
+unfolding report startConfig
+start-order s {h = h} o =
+    (λ i. start-numbers 0 (s .provides) i ++ o .numbers i) ∙ numbers-join 0 (length (s .provides)) (length (s .provides)) (o .count) h (omega arith) (o .after)
 
-  -- "numbers are never given twice in a run"
-  pub never-twice : NoneTwice (report (startConfig s) ++ numbersPassed l)
-  never-twice = subst NoneTwice (sym run-numbers) (from-once 0 (D .given))
+pub start-once : (s : Signature) {l : List ℕ} {h : ℕ} → InOrder (startConfig s .given) l h → NoneTwice (report (startConfig s) ++ l)
+start-once s {h = h} o = subst NoneTwice (sym (start-order s o)) (from-once 0 h)
+
+-- "numbers are never given twice in a run"
+pub never-twice : (p : Program) (s : Signature) (D : Config) (l : List Seen) → Steps p (startConfig s) l D → NoneTwice (report (startConfig s) ++ numbersPassed l)
+never-twice p s D l r = start-once s (passed-in-order p (startConfig s) D l r)

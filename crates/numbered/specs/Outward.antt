@@ -1,9 +1,9 @@
 -- "a channel passed out takes the next outside number": how a step changes the count of numbers given.
 use Prim.Native.Nat.{ℕ, suc}
-use mathlib.Core.Path.{_≡_, refl, sym, _∙_, subst}
+use mathlib.Core.Path.{_≡_, refl, subst}
 use mathlib.Core.List.{List, [], _∷_}
 use mathlib.Core.Bool.{Bool, true, false, cond}
-use mathlib.Core.Option.{Option, some, none, Option·map}
+use mathlib.Core.Option.{Option, some, none}
 use lib.ListN.{length}
 use lib.Dec.{ltb}
 use Rattle.notation.specs.Limits.{processPlaces, outsideNumbers}
@@ -11,9 +11,8 @@ use Rattle.notation.specs.Bytes.{same}
 use Rattle.notation.specs.Tree.{Name, Located, Ty, Proc, empty, sendUnit, sendChannel, sendLabel, cancel, spawn, recvUnit, recvChannel, recvLabel, fwd, call, raise, try, plain}
 use Rattle.calculus.specs.Named.{lookup}
 use Rattle.calculus.specs.Program.{Signature, Program}
-use Rattle.calculus.specs.Typing.{namesOf}
-use Rattle.calculus.specs.Configuration.{End, Doing, running, folding, waiting, Process, process, Config, config, at, Holder, Far, atProcess, atOutside, givenUp, farEnd, freshChannel}
-use Rattle.calculus.specs.Steps.{Outcome, carried, notOpen, lacking, onHeld, Message, closing, passes, chooses, Turn, sends, receives, alone, turnOf, afterSend, afterReceive, passedEnd, seenAt, parting, bothTo, meeting, isGivenUp, toOutside, unheard, sending, send, answering, receiving, receive, cancelling, placeFor, spawned, spawning, trying, entering, calling, raising, joinedTo, joining, forwarding, leaving, foldingUp, stepTerm, stepDoing, stepOf, step}
+use Rattle.calculus.specs.Configuration.{End, Doing, running, folding, waiting, Process, process, Config, at, Holder, Far, atProcess, atOutside, givenUp, farEnd, freshChannel}
+use Rattle.calculus.specs.Steps.{Outcome, carried, notOpen, lacking, onHeld, Message, closing, passes, chooses, Turn, sends, receives, alone, turnOf, afterSend, afterReceive, passedEnd, seenAt, parting, bothTo, meeting, toOutside, unheard, sending, send, answering, receiving, receive, cancelling, placeFor, spawned, spawning, trying, entering, calling, raising, joinedTo, joining, forwarding, leaving, foldingUp, stepTerm, stepDoing, stepOf, step}
 use Rattle.calculus.specs.declared.answers.Seen.{Seen}
 use Rattle.calculus.specs.declared.answers.Seen.the-variants.{Nothing, Label, Close, Passed, Cancelled}
 

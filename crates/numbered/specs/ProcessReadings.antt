@@ -1,13 +1,12 @@
 -- The reading of a process goes on or is refused by 3 to 5: its fuel is never spent, since each call has read a token.
 use Prim.Native.Nat.{ℕ, zero, suc, _+_, _*_, _≤_, _<_}
 use native.Mathlib.Omega.{arith}
-use mathlib.Core.Path.{_≡_, refl}
-use mathlib.Core.List.{List, [], _∷_}
+use mathlib.Core.List.{List, []}
 use lib.ListN.{length}
 use lib.Dec.{eqb}
 use Rattle.notation.specs.Token.{kindAt, kSend, kRecv, kFwd, kCall, kCancel, kRaise, kTry, kCatch, kName, kLabel, kRoundOpen, kRoundClose, kSquareOpen, kSquareClose, kColon, kComma, kSemicolon, kFrom, kThen, kBar, kFault}
 use Rattle.notation.specs.Tree.{Located, Ty, Proc, Branches}
-use Rattle.notation.specs.Reader.{Result, got}
+use Rattle.notation.specs.Reader.{Result}
 use Rattle.notation.specs.Types.{readType}
 use Rattle.notation.specs.Processes.{termHead, payload, bracketedBy, readNames, nameList, sendBy, recvBy, processBy, restBy, branchesBy, readProcess, readRest, readBranches}
 use Rattle.notation.specs.declared.reading.Cursor.{Cursor}

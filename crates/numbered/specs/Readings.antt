@@ -8,7 +8,7 @@ use lib.ListN.{length}
 use lib.Dec.{eqb}
 use borrow.Author.Tests.{eqb-true}
 use Rattle.notation.specs.Token.{tokenAt, width, kThen, kRoundOpen, kRoundClose, kLabel, kFault}
-use Rattle.notation.specs.Reader.{Result, got, refused, take, part, lastly, choose, past, fault, expect, misfit, limited, opening, typeTerm, processTerm, closed, closedTaken, onwardFrom, thenToken}
+use Rattle.notation.specs.Reader.{Result, got, refused, take, part, lastly, choose, fault, expect, misfit, limited, opening, typeTerm, processTerm, closedTaken, onwardFrom, thenToken}
 use Rattle.notation.specs.Types.{labelTerm}
 use Rattle.notation.specs.Processes.{unitTaken}
 use Rattle.notation.specs.declared.token.Token.{Token}

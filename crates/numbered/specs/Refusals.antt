@@ -1,10 +1,10 @@
 -- Demand 1's "whoever calls .. gets an answer or a numbered refusal": the numbers of the refusals of a text and of a call.
 use Prim.Native.Nat.{ℕ, zero, suc, _≤_}
 use native.Mathlib.Omega.{arith}
-use mathlib.Core.Path.{_≡_, refl, sym, _∙_, ap, subst}
+use mathlib.Core.Path.{_≡_, refl, subst}
 use mathlib.Core.Logic.{_⊎_, inl, inr}
 use mathlib.Core.List.{List, []}
-use mathlib.Core.Bool.{Bool, true, false, cond, true≢false}
+use mathlib.Core.Bool.{Bool, true, false, cond}
 use mathlib.Core.Option.{Option, some, none}
 use lib.ListN.{getElem?}
 use lib.Dec.{leb}
@@ -93,7 +93,7 @@ ByArguments (callExecName scratch line) n = n ≡ 17
 abbrev pub Refuses : Call → ℕ → ℕ → Type 0
 Refuses c n i = Between 2 15 n ⊎ (((n ≡ 1) ⊎ ByArguments c n) × (i ≡ 0))
 
-abbrev AnswersOf : Call → Answer → Bool → Type 0
+abbrev pub AnswersOf : Call → Answer → Bool → Type 0
 AnswersOf c a true = Refuses c (refusalOf a) (offsetOf a)
 AnswersOf c a false = (refusalOf a ≡ 0) × (offsetOf a ≡ 0)
 

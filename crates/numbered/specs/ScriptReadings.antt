@@ -2,20 +2,19 @@
 use Prim.Native.Nat.{ℕ, zero, suc, _+_, _*_, _≤_, _<_}
 use native.Mathlib.Omega.{arith}
 use mathlib.Core.Path.{_≡_, refl, subst}
-use mathlib.Core.List.{List, [], _∷_}
-use mathlib.Core.Bool.{cond}
+use mathlib.Core.List.{List, []}
 use lib.ListN.{length}
 use lib.Dec.{leb, ltb, eqb}
 use Rattle.notation.specs.Limits.{textLimit, typeLimit, processLimit, execLimit}
 use Rattle.notation.specs.Token.{kindAt, kType, kProc, kExec, kName, kRoundOpen, kRoundClose, kSquareOpen, kSquareClose, kColon, kComma, kEquals, kFault}
 use Rattle.notation.specs.Tree.{Declaration}
-use Rattle.notation.specs.Reader.{Result, got, refused, expect}
+use Rattle.notation.specs.Reader.{Result, refused, expect}
 use Rattle.notation.specs.Scripts.{readEntries, entryList, declarationHead, Count, keyword, typeDeclaration, procDeclaration, execDeclaration, scriptBy, readScript, start, fuel, readText}
 use Rattle.notation.specs.declared.reading.Cursor.{Cursor}
 use Rattle.notation.specs.declared.token.DeclarationHead.{DeclarationHead}
 use Rattle.notation.specs.declared.token.DeclarationHead.the-variants.{TypeWord, ProcWord, ExecWord, End, Other}
 use Rattle.numbered.specs.Verdicts.{Between}
-use Rattle.numbered.specs.Readings.{cond-both, From, Takes, Reads, reads-got, reads-take, reads-part, reads-lastly, reads-later, reads-choose, reads-misfit, takes-limited, takes-expect, takes-opening}
+use Rattle.numbered.specs.Readings.{cond-both, From, Takes, Reads, reads-got, reads-take, reads-part, reads-lastly, reads-choose, reads-misfit, takes-limited, takes-expect, takes-opening}
 use Rattle.numbered.specs.TypeReadings.{type-read}
 use Rattle.numbered.specs.ProcessReadings.{process-read}
 

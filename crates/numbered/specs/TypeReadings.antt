@@ -9,12 +9,12 @@ use lib.Dec.{eqb}
 use borrow.Author.Tests.{eqb-true}
 use Rattle.notation.specs.Token.{kindAt, kOne, kName, kRoundOpen, kRoundClose, kBraceOpen, kBraceClose, kPlus, kWith, kColon, kComma, kStar, kAt, kLolli, kFault}
 use Rattle.notation.specs.Tree.{Located, Ty, unit, named, plus, with, Alternatives}
-use Rattle.notation.specs.Reader.{Result, got, expect, typeTerm, opening, nameIn}
+use Rattle.notation.specs.Reader.{Result, nameIn}
 use Rattle.notation.specs.Types.{typeHead, isInfix, typeBy, roundBy, choiceBy, atomBy, alternativesBy, readType, readAtom, readAlternatives}
 use Rattle.notation.specs.declared.reading.Cursor.{Cursor}
 use Rattle.notation.specs.declared.token.TypeHead.{TypeHead}
 use Rattle.notation.specs.declared.token.TypeHead.the-variants.{One, Name, Round, Plus, With, Other}
-use Rattle.numbered.specs.Readings.{From, Reads, Beyond, reads-got, reads-take, reads-part, reads-lastly, reads-later, reads-choose, reads-misfit, takes-expect, takes-opening, takes-type, takes-label}
+use Rattle.numbered.specs.Readings.{Reads, Beyond, reads-got, reads-take, reads-part, reads-lastly, reads-later, reads-choose, reads-misfit, takes-expect, takes-opening, takes-type, takes-label}
 
 infix-kind : (k : ℕ) → isInfix k ≡ true → k < kFault
 unfolding isInfix
