@@ -3,6 +3,7 @@ use crate::process::check_process;
 use contexts::held::bring_end;
 use declared::verdict::Verdict;
 use declared::verdict::declared_verdict;
+use notation::script::Script;
 use runs::held::no_ends;
 use runs::records::Held;
 use tables::access::Declared;
@@ -58,7 +59,7 @@ fn check_body(text: &[u8], scratch: &[u32], i: usize) -> Verdict
 {
     let e = declared_process(scratch, i);
     if has_seventeenth(e) {
-        let t = entry(scratch, e.first + 16);
+        let t = entry(scratch, e.first + Script::HELD);
         return Verdict::Refused(15, t.at);
     }
     let h = signature_held(text, scratch, e);
@@ -69,10 +70,10 @@ fn check_body(text: &[u8], scratch: &[u32], i: usize) -> Verdict
 fn has_seventeenth(e: Declared) -> bool
     ensures { λ r. ⌜ r ≡ ltb 16 (e .provided + e .used) ⌝ }
 {
-    if 16 < e.provided {
+    if Script::HELD < e.provided {
         return true;
     }
-    16 - e.provided < e.used
+    Script::HELD - e.provided < e.used
 }
 
 // The check of each process, in text order.

@@ -4,6 +4,7 @@ use contexts::halves::divides;
 use contexts::halves::keep;
 use contexts::held::bring_end;
 use notation::reading::TermNode;
+use notation::script::Script;
 use runs::records::Held;
 use terms::acting::narrow;
 use terms::calls::call_refusal;
@@ -82,11 +83,11 @@ pub(crate) fn spawn_refusal(text: &[u8], scratch: &[u32], h: Held, n: TermNode) 
         return 15;
     }
     let a = keep(text, scratch, h, first, true);
-    if a.count == 16 {
+    if a.count == Script::HELD {
         return 15;
     }
     let b = keep(text, scratch, h, first, false);
-    if b.count == 16 {
+    if b.count == Script::HELD {
         return 15;
     }
     0

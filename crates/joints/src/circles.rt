@@ -12,6 +12,7 @@ ghost use Rattle.runs.specs.Raw.{rawIn, linkOf, Bounded};
 ghost use Rattle.runs.specs.Values.{Moved, endIn, heldIn, processIn};
 ghost use Rattle.joints.specs.Answers.{Answers};
 ghost use Rattle.joints.specs.Circles.{endJoint, heldJoints, processJoints, jointsFrom, circleFree, Labelled, Joined};
+use notation::script::Script;
 use runs::far::far_end;
 use runs::held::end_at;
 use runs::processes::count;
@@ -28,7 +29,7 @@ fn own_labels() -> [u32; 128]
 {
     let mut labels = [0u32; 128];
     let mut k: usize = 0;
-    while k < 128 {
+    while k < Script::PROCESS_PLACES {
         labels[k] = k as u32;
         k += 1;
     }
@@ -47,7 +48,7 @@ fn relabel(labels: &mut [u32; 128], a: u32, b: u32)
     ensures { λ r. ⌜ (length (now (labels .entry)) ≡ 128 → Moved (now (labels .entry)) (now (labels .exit)) 0 128 (relabelled a b (λ x. getD (now (labels .entry)) x 0))) ⌝ }
 {
     let mut k: usize = 0;
-    while k < 128 {
+    while k < Script::PROCESS_PLACES {
         let label = renamed(labels[k], a, b);
         labels[k] = label;
         k += 1;

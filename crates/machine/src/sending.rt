@@ -15,6 +15,7 @@ use crate::parting::part;
 use calculus::answers::Seen;
 use contexts::held::Lookup;
 use contexts::held::find_end;
+use notation::script::Script;
 use runs::far::far_end;
 use runs::outside::append_outside;
 use runs::outside::given;
@@ -24,6 +25,9 @@ use runs::outside::set_given;
 use runs::processes::store;
 use runs::records::End;
 use runs::records::Outside;
+
+// The notation's limit, as a word.
+const OUTSIDE_NUMBERS: u32 = Script::OUTSIDE_NUMBERS as u32;
 
 // "When the far end was given up: a send goes on, and gives up a channel it would have passed".
 pub fn send_unheard(text: &[u8], scratch: &[u32], run: &mut [u32], sent: Sending) -> Outcome
@@ -139,7 +143,7 @@ pub fn pass_out(
         return Outcome::NotOpen;
     };
     let m = given(run);
-    if 32 <= m {
+    if OUTSIDE_NUMBERS <= m {
         return Outcome::Lacking;
     }
     let far = far_end(run, d.channel, d.side);

@@ -11,6 +11,18 @@ use crate::outside::outside_count;
 use crate::processes::count;
 use crate::processes::get;
 use crate::records::Held;
+use notation::script::Script;
+
+// The notation's limits, as words.
+const TEXT: u32 = Script::TEXT as u32;
+
+const TYPE_TERMS: u32 = Script::TYPE_TERMS as u32;
+
+const HELD: u32 = Script::HELD as u32;
+
+const PROCESS_PLACES: u32 = Script::PROCESS_PLACES as u32;
+
+const OUTSIDE_NUMBERS: u32 = Script::OUTSIDE_NUMBERS as u32;
 
 // What a process holds.
 fn ends_bounded(h: Held) -> bool
@@ -21,10 +33,10 @@ fn ends_bounded(h: Held) -> bool
     let mut k: usize = 0;
     while k < n {
         let e = end_at(h, k);
-        if 8192 <= e.name {
+        if TEXT <= e.name {
             return false;
         }
-        if 512 <= e.node {
+        if TYPE_TERMS <= e.node {
             return false;
         }
         k += 1;
@@ -37,7 +49,7 @@ fn process_bounded(run: &[u32], i: usize, n: u32) -> bool
     requires { ⌜ (runWords ≤ length (now run)) × (i < 128) ⌝ }
     ensures { λ r. ⌜ Decided r (BoundedProcess n (processOf (λ t. getD (now (run .entry)) (80 + 40 * i + t) 0))) ⌝ }
 {
-    if 16 < run[80 + 40 * i + 2] {
+    if HELD < run[80 + 40 * i + 2] {
         return false;
     }
     let p = get(run, i);
@@ -82,10 +94,10 @@ fn outside_bounded(run: &[u32]) -> bool
     let mut k: usize = 0;
     while k < n {
         let o = get_outside(run, k);
-        if 32 <= o.number {
+        if OUTSIDE_NUMBERS <= o.number {
             return false;
         }
-        if 512 <= o.node {
+        if TYPE_TERMS <= o.node {
             return false;
         }
         k += 1;
@@ -98,13 +110,13 @@ pub fn bounded(run: &[u32]) -> bool
     requires { ⌜ runWords ≤ length (now run) ⌝ }
     ensures { λ r. ⌜ Decided r (Bounded (rawIn (now (run .entry)))) ⌝ }
 {
-    if 128 < run[0] {
+    if PROCESS_PLACES < run[0] {
         return false;
     }
-    if 32 < run[1] {
+    if OUTSIDE_NUMBERS < run[1] {
         return false;
     }
-    if 32 < run[2] {
+    if OUTSIDE_NUMBERS < run[2] {
         return false;
     }
     if !processes_bounded(run) {

@@ -15,6 +15,7 @@ use crate::processes::load;
 use crate::records::Held;
 use crate::words::wide;
 use notation::reading::Found;
+use notation::script::Script;
 
 // Marks the channels of the outside.
 fn mark_outside(marks: &mut [u32; 512], run: &[u32])
@@ -78,7 +79,7 @@ pub fn fresh_channel(run: &[u32]) -> Found
 {
     let marks = marked(run);
     let mut k: usize = 0;
-    while k < 512 {
+    while k < Script::CHANNEL_PLACES {
         if marks[k] == 0 {
             return Found::At(k);
         }
@@ -95,7 +96,7 @@ pub fn busy_places(run: &[u32]) -> usize
 {
     let marks = marked(run);
     let mut n: usize = 0;
-    let mut k: usize = 512;
+    let mut k: usize = Script::CHANNEL_PLACES;
     while 0 < k {
         k -= 1;
         n += wide(marks[k]);

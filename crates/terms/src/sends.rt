@@ -12,6 +12,7 @@ use contexts::held::drop_end;
 use contexts::held::find_end;
 use contexts::held::retype_end;
 use notation::reading::Found;
+use notation::script::Script;
 use notation::token::names_equal;
 use runs::records::Held;
 use runs::words::wide;
@@ -185,7 +186,7 @@ pub fn receive_next(text: &[u8], scratch: &[u32], h: Held, c: usize, x: usize) -
             held: h,
         };
     }
-    if h.count == 16 {
+    if h.count == Script::HELD {
         return Next {
             refusal: 15,
             held: h,
