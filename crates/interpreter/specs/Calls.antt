@@ -1,9 +1,9 @@
--- Demand 3 of the code, as a statement: lists of calls of the entries, known by their contracts alone, beside the plain machine fed with the same calls.
+-- Demands 1 and 3 of the code, as statements: calls of the entries, known by their contracts alone; lists of them beside the plain machine fed with the same calls.
 use Prim.Native.Nat.{ℕ, _≤_}
 use mathlib.Core.Path.{_≡_}
 use mathlib.Core.Logic.{_≢_}
 use mathlib.Core.List.{List, [], _∷_, _++_, map}
-use mathlib.Core.Bool.{cond}
+use mathlib.Core.Bool.{true, cond}
 use lib.Dec.{leb}
 use lib.ListN.{length, take}
 use Rattle.notation.specs.Limits.{runWords}
@@ -18,7 +18,8 @@ use Rattle.calculus.specs.declared.answers.Started.the-variants.{Begun}
 use Rattle.calculus.specs.declared.answers.Stepped.{Stepped}
 use Rattle.calculus.specs.declared.answers.RanOn.{RanOn}
 use Rattle.calculus.specs.declared.answers.Report.{Report}
-use Rattle.interpreter.specs.Entries.{configOf, HoldsRun, answerAs, Starts, Steps, RunsOn, counted, Reports, Names}
+use Rattle.numbered.specs.Refusals.{refusalOf}
+use Rattle.interpreter.specs.Entries.{configOf, HoldsRun, Starts, Steps, RunsOn, counted, Reports, Names}
 
 -- a moment: a call of an entry with the words that it was lent, its answer, and those words afterwards
 pub data Moment : Type 0 where
@@ -50,6 +51,18 @@ answerOf (step w ws place r v vs) = stepped r
 answerOf (runOn w ws budget r v vs) = ranOn r
 answerOf (report w ws r v) = reported (r .answer) (take (counted (r .answer)) (r .numbers))
 answerOf (execName w line part number at v) = named part number at
+
+-- ── demand 1: "Whoever calls, with whatever text, buffers, numbers or order of calls, gets an answer or a numbered refusal; a refused step leaves the run as it was."
+abbrev pub RunKept : Moment → Type 0
+RunKept (start w ws line r v vs) = vs ≡ ws
+RunKept (step w ws place r v vs) = vs ≡ ws
+RunKept (runOn w ws budget r v vs) = vs ≡ ws
+RunKept (report w ws r v) = Unit {0}
+RunKept (execName w line part number at v) = Unit {0}
+
+pub record Demand1 : Type 0 where
+  pub numbered : (s : List ℕ) (m : Moment) → Kept s m → calculus.isRefused (answerOf m) ≡ true → (1 ≤ refusalOf (answerOf m)) × (refusalOf (answerOf m) ≤ 21)
+  pub unchanged : (s : List ℕ) (m : Moment) → Kept s m → calculus.isRefused (answerOf m) ≡ true → RunKept m
 
 -- ── the run between the calls: the first 6,144 words. The slices may be longer or shorter from call to call.
 -- a slice of so many words or more begins with the run as it was left
@@ -98,7 +111,7 @@ pub record Agrees (s : List ℕ) (p : Program) (C : Config) (run : List ℕ) (m 
   -- a forest, joints fewer than processes, one type at both ends of a channel, a step open while a process is left, also between the steps of a run-on;
   -- a start is refused exactly when its line is missing, a run-on never, an open step exactly when it lacks; a refusal changes nothing
   pub plain : calculus.Kept p (record { before = C; call = callOf m; after = respond s C (callOf m) })
-  pub never18 : answerAs (answerOf m) .refusal ≢ 18
+  pub never18 : refusalOf (answerOf m) ≢ 18
 
 -- "one theorem about every list of calls": at each moment m of a list of calls that begins with a start carried out
 pub record Demand3 : Type 0 where

@@ -27,9 +27,11 @@ use Rattle.runs.specs.Raw.{RawConfig, rawIn}
 use Rattle.runs.specs.Decode.{decoded}
 use Rattle.runs.specs.SliceLaws.{raw-taken, raw-of-taken}
 use Rattle.wellformed.specs.Formed.{Formed}
-use Rattle.interpreter.specs.Entries.{configOf, HoldsRun, Leaves, answerAs, Gives, runAfter, RunAfter, Reached, Answers, Starts, Names}
+use Rattle.numbered.specs.Refusals.{refusalOf}
+use Rattle.interpreter.specs.Entries.{configOf, HoldsRun, Leaves, Gives, runAfter, RunAfter, Reached, Answers, Starts, Names}
 use Rattle.interpreter.specs.Calls.{Moment, start, step, runOn, report, execName, Kept, callOf, answerOf, Lent, Lends, left, leftBy, leftByAll, Linked, replayed, Agrees, Demand3}
-use Rattle.interpreter.specs.Unread.{Short, short-answer, short-config, start-anew, name-anew, never-18}
+use Rattle.interpreter.specs.Unread.{Short, short-answer, short-config, start-anew, name-anew}
+use Rattle.interpreter.specs.Numbers.{never-18}
 
 -- the run holds the configuration C
 pub record Holding (s : List ℕ) (C : Config) (run : List ℕ) : Type 0 where
@@ -115,7 +117,7 @@ module _ (s : List ℕ) (ds : List Declaration) (ok : checked s ≡ accepted ds)
 
   agrees-with : (C : Config) (run : List ℕ) (m : Moment) → answerOf m ≡ respond s C (callOf m) .answer → After C (callOf m) (leftBy run m)
       → calculus.Kept (programOf ds) (record { before = C; call = callOf m; after = respond s C (callOf m) }) → Agrees s (programOf ds) C run m
-  agrees-with C run m e h k = record { answer = e; holds = h .formed; config = h .is; plain = k; never18 = λ z. never-18 s ds ok C (callOf m) (ap (λ a. answerAs a .refusal) (sym e) ∙ z) }
+  agrees-with C run m e h k = record { answer = e; holds = h .formed; config = h .is; plain = k; never18 = λ z. never-18 s C (callOf m) (ap refusalOf (sym e) ∙ z) }
 
   -- ── at each of a list
   abbrev AtEach : Config → List ℕ → List Moment → Type 0

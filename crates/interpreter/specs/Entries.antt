@@ -2,6 +2,7 @@
 -- s is the text; w and ws are the scratch and run words lent, v and vs what they are afterwards.
 use Prim.Native.Nat.{ℕ, zero, suc, _≤_}
 use mathlib.Core.Path.{_≡_, ap}
+use mathlib.Core.Logic.{_⊎_}
 use mathlib.Core.List.{List, [], _++_}
 use mathlib.Core.Bool.{Bool, true, false, cond}
 use lib.Dec.{leb}
@@ -88,6 +89,7 @@ pub record Reached (s w ws : List ℕ) : Type 0 where
 -- an entry that is lent a run: 18 where it is reached and the words are no such configuration; otherwise the plain machine's reply to the call for the configuration there
 pub record Answers (s w ws : List ℕ) (c : Call) (a : Answer) (v vs : List ℕ) : Type 0 where
   pub scratch : v ≡ scratchAfter s w
+  pub either : (Reached s w ws × (¬ HoldsRun s ws)) ⊎ (Reached s w ws → HoldsRun s ws)
   pub stranger : Reached s w ws → ¬ HoldsRun s ws → Gives a (refusal idle c 18 0) × (vs ≡ ws)
   pub known : (Reached s w ws → HoldsRun s ws) → Gives a (respond s (configOf s ws) c) × RunAfter s ws vs (respond s (configOf s ws) c)
 

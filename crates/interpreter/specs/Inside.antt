@@ -1,6 +1,7 @@
 -- What an entry comes to once the text is accepted, whatever number of scratch words from 8,192 on was lent.
 use Prim.Native.Nat.{ℕ, _<_, _≤_}
 use mathlib.Core.Path.{_≡_, refl, sym, _∙_, ap, subst}
+use mathlib.Core.Logic.{_⊎_, inl, inr}
 use mathlib.Core.List.{List, [], _++_}
 use mathlib.Core.Bool.{Bool, true, false, cond, true≢false}
 use native.Mathlib.Omega.{arith}
@@ -30,6 +31,7 @@ scratch-is s w x r t = go (leb scratchWords (length w)) refl
     go false e = t .short (leb-false scratchWords (length w) e) .1
 
 pub record AnswersIn (s ws : List ℕ) (c : ℕ → Call) (a : Answer) (vs : List ℕ) : Type 0 where
+  pub either : ((runWords ≤ length ws) × (¬ HoldsRun s ws)) ⊎ (runWords ≤ length ws → HoldsRun s ws)
   pub stranger : runWords ≤ length ws → ¬ HoldsRun s ws → (n : ℕ) → (a ≡ refusal idle (c n) 18 0 .answer) × (vs ≡ ws)
   pub known : (runWords ≤ length ws → HoldsRun s ws) → (n : ℕ) → scratchWords ≤ n → (a ≡ respond s (configOf s ws) (c n) .answer) × RunAfter s ws vs (respond s (configOf s ws) (c n))
 
@@ -82,6 +84,7 @@ module _ (s ws : List ℕ) (c : ℕ → Call) (r : ℕ → ℕ → Answer) (y : 
   -- refusals 16 and 18
   pub answers-short : length ws < runWords → AnswersIn s ws c (r 16 0) ws
   answers-short l = record {
+    either = inr (λ h. absurd (omega arith));
     stranger = λ h. absurd (omega arith);
     known = λ _ n h.
         let e : reply (r 16 0) (configOf s ws) ≡ respond s (configOf s ws) (c n) = sym (K .beyond (configOf s ws) n h ∙ ap (λ b. cond b (y (configOf s ws)) (reply (r 16 0) (configOf s ws))) (lt-leb runWords (length ws) l)) in
@@ -89,11 +92,12 @@ module _ (s ws : List ℕ) (c : ℕ → Call) (r : ℕ → ℕ → Answer) (y : 
   }
 
   pub answers-stranger : runWords ≤ length ws → ¬ HoldsRun s ws → AnswersIn s ws c (r 18 0) ws
-  answers-stranger l d = record { stranger = λ _ _ n. (ap (λ (z : Reply). z .answer) (sym (K .refusing .refuses idle n 18 0)), refl); known = λ k. absurd (d (k l)) }
+  answers-stranger l d = record { either = inl (l, d); stranger = λ _ _ n. (ap (λ (z : Reply). z .answer) (sym (K .refusing .refuses idle n 18 0)), refl); known = λ k. absurd (d (k l)) }
 
   -- past them
   pub answers-known : {a : Answer} {vs : List ℕ} → runWords ≤ length ws → HoldsRun s ws → a ≡ y (configOf s ws) .answer → RunAfter s ws vs (y (configOf s ws)) → AnswersIn s ws c a vs
   answers-known {vs = vs} l d e f = record {
+    either = inr (λ _. d);
     stranger = λ _ g. absurd (g d);
     known = λ _ n h.
         let z : y (configOf s ws) ≡ respond s (configOf s ws) (c n) = sym (K .beyond (configOf s ws) n h ∙ ap (λ b. cond b (y (configOf s ws)) (reply (r 16 0) (configOf s ws))) (le-leb runWords (length ws) l)) in
@@ -105,23 +109,34 @@ module _ (s w x : List ℕ) (v : Verdict) (t : TextChecked s w v x) (ws : List �
   pub answers-refused : (r : ℕ → ℕ → Answer) → Refusing c r → (n i : ℕ) → v ≡ verdict.Refused n i → Answers s w ws (c (length w)) (r n i) x ws
   answers-refused r K n i q = record {
     scratch = scratch-is s w x v t;
-    stranger = λ h. absurd (true≢false (ap isFaulty (sym (text-refused s w x v t n i q) ∙ enough-text s (h .script) (h .accepts) (length w) (h .scratch))));
+    either = inr (λ h. absurd (unreached h));
+    stranger = λ h. absurd (unreached h);
     known = λ _.
         let e : reply (r n i) (configOf s ws) ≡ respond s (configOf s ws) (c (length w)) =
         sym (reply-refused s (configOf s ws) (c (length w)) n i (ap (textChecked s) (K .scratch (length w)) ∙ text-refused s w x v t n i q) ∙ K .refuses (configOf s ws) (length w) n i) in
         (gives (ap (λ (z : Reply). z .answer) e), subst (RunAfter s ws ws) e (untouched (configOf s ws) (r n i) (K .refused n i)));
   }
+    where
+      unreached : ¬ Reached s w ws
+      unreached h = true≢false (ap isFaulty (sym (text-refused s w x v t n i q) ∙ enough-text s (h .script) (h .accepts) (length w) (h .scratch)))
 
   pub answers-accepted : v ≡ verdict.Fine → {a : Answer} {vs : List ℕ} → AnswersIn s ws c a vs → Answers s w ws (c (length w)) a x vs
-  answers-accepted q A =
-      let enough = scratch-enough s w x v t q in
-      record {
-        scratch = scratch-is s w x v t;
-        stranger = λ h d. let (e, u) = A .stranger (h .run) d (length w) in (gives e, u);
-        known = λ k.
-            let (e, u) = A .known (λ l. k (record { script = script-of s w x v t q .0; accepts = script-of s w x v t q .1; scratch = enough; run = l })) (length w) enough in
-            (gives e, u);
-      }
+  answers-accepted q {a} {vs} A = record {
+    scratch = scratch-is s w x v t;
+    either = go (A .either);
+    stranger = λ h d. let (e, u) = A .stranger (h .run) d (length w) in (gives e, u);
+    known = λ k. let (e, u) = A .known (λ l. k (reached l)) (length w) enough in (gives e, u);
+  }
+    where
+      enough : scratchWords ≤ length w
+      enough = scratch-enough s w x v t q
+
+      reached : runWords ≤ length ws → Reached s w ws
+      reached l = record { script = script-of s w x v t q .0; accepts = script-of s w x v t q .1; scratch = enough; run = l }
+
+      go : ((runWords ≤ length ws) × (¬ HoldsRun s ws)) ⊎ (runWords ≤ length ws → HoldsRun s ws) → (Reached s w ws × (¬ HoldsRun s ws)) ⊎ (Reached s w ws → HoldsRun s ws)
+      go (inl (l, d)) = inl (reached l, d)
+      go (inr k) = inr (λ h. k (h .run))
 
 -- ── start and the name of an exec line
 module _ (s w x : List ℕ) (v : Verdict) (t : TextChecked s w v x) where

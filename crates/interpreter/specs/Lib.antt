@@ -8,4 +8,5 @@ pub mod Starting
 pub mod Told
 pub mod Calls
 pub mod Unread
+pub mod Numbers
 pub mod Demand

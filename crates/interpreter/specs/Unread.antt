@@ -1,32 +1,22 @@
--- Replies that do not depend on the configuration: where the run is too short, of a start, and of an exec's name. And no reply gives 18.
-use Prim.Native.Nat.{ℕ, zero, suc, _<_, _≤_}
-use mathlib.Core.Path.{_≡_, refl, sym, _∙_, ap, subst}
-use mathlib.Core.Logic.{_≢_}
-use mathlib.Core.List.{List, [], _∷_}
+-- Replies that do not depend on the configuration: where the run is too short, of a start, and of an exec's name.
+use Prim.Native.Nat.{ℕ, _<_}
+use mathlib.Core.Path.{_≡_, refl, sym, _∙_, ap}
+use mathlib.Core.List.{List}
 use mathlib.Core.Bool.{Bool, true, false, cond, true≢false}
 use mathlib.Core.Option.{Option, some, none}
-use native.Mathlib.Omega.{arith}
-use borrow.Author.Tests.{leb-true, lt-leb}
+use borrow.Author.Tests.{lt-leb}
 use lib.Dec.{leb}
-use lib.ListN.{length, getElem?}
-use Rattle.notation.specs.Limits.{scratchWords, runWords}
-use Rattle.notation.specs.Tree.{Located, Declaration}
-use Rattle.calculus.specs.Accepted.{Checked, accepted, faulty, checked}
-use Rattle.calculus.specs.Answers.{startedAs, steppedAs, ranOnAs, reportedAs}
-use Rattle.calculus.specs.Configuration.{Process, Config, at}
+use lib.ListN.{getElem?}
+use Rattle.notation.specs.Limits.{runWords}
+use Rattle.notation.specs.Tree.{Located}
+use Rattle.calculus.specs.Accepted.{Checked, accepted, faulty}
+use Rattle.calculus.specs.Configuration.{Config}
 use Rattle.calculus.specs.Demands.{isRefused}
-use Rattle.calculus.specs.Machine.{Call, callStart, callStep, callRunOn, callReport, callExecName, Answer, started, stepped, ranOn, reported, named, Reply, reply, textChecked, onProgram, onRun, onLine, onPlace, onStep, refusal, respondBy, respond, idle}
+use Rattle.calculus.specs.Machine.{Call, callStart, callStep, callRunOn, callReport, callExecName, started, named, Reply, reply, textChecked, onProgram, onRun, onLine, refusal, respond}
 use Rattle.calculus.specs.Program.{Signature, Program, programOf}
-use Rattle.calculus.specs.Runs.{startConfig, execOf, runOn, report}
-use Rattle.calculus.specs.Steps.{Outcome, carried, notOpen, lacking, step}
-use Rattle.calculus.specs.declared.answers.Seen.{Seen}
-use Rattle.calculus.specs.declared.answers.RanOn.{RanOn}
-use Rattle.calculus.specs.declared.answers.RanOn.the-variants as runs
+use Rattle.calculus.specs.Runs.{startConfig, execOf}
 use Rattle.calculus.specs.declared.answers.Started.the-variants as begins
-use Rattle.calculus.specs.declared.answers.Stepped.the-variants as steps
-use Rattle.calculus.specs.declared.answers.Reported.the-variants as reports
-use Rattle.safety.specs.Replies.{refusal-config, run-never-refused}
-use Rattle.interpreter.specs.Entries.{answerAs}
+use Rattle.safety.specs.Replies.{refusal-config}
 
 -- ── a refusal's answer, and that the configuration stays
 same-refusal : (c : Call) (C D : Config) (k i : ℕ) → refusal C c k i .answer ≡ refusal D c k i .answer
@@ -120,94 +110,3 @@ module _ (s : List ℕ) where
     pub name-anew : (C D : Config) → (respond s C (callExecName n line) .answer ≡ respond s D (callExecName n line) .answer) × (respond s C (callExecName n line) .config ≡ C)
     unfolding respond
     name-anew C D = name-on C D (textChecked s n)
-
--- ── 18 is no reply of the plain machine to an accepted text
-record Other (y : Reply) : Type 0 where
-  number : answerAs (y .answer) .refusal ≢ 18
-
-given-none : (a : RanOn) → isRefused (ranOn a) ≡ false → answerAs (ranOn a) .refusal ≡ 0
-unfolding ranOnAs
-given-none (runs.Shown seen t) e = refl
-given-none (runs.Done t) e = refl
-given-none (runs.Full t) e = refl
-given-none (runs.Stopped t) e = refl
-given-none (runs.Refused k i) e = absurd (true≢false e)
-
-name-number : (k i : ℕ) → answerAs (named [] k i) .refusal ≡ k
-name-number zero i = refl
-name-number (suc k) i = refl
-
-module _ (c : Call) (C : Config) where
-  refusal-number : (k i : ℕ) → answerAs (refusal C c k i .answer) .refusal ≡ k
-  unfolding startedAs steppedAs ranOnAs reportedAs
-  refusal-number k i = go c
-    where
-      go : (c : Call) → answerAs (refusal C c k i .answer) .refusal ≡ k
-      go (callStart n m line) = refl
-      go (callStep n m place) = refl
-      go (callRunOn n m budget) = refl
-      go (callReport n m) = refl
-      go (callExecName n line) = name-number k i
-
-  other : (k i : ℕ) → (k ≢ 18) → Other (refusal C c k i)
-  other k i d = record { number = λ e. d (sym (refusal-number k i) ∙ e) }
-
-  other-run : (m : ℕ) {y : Reply} → Other y → Other (onRun m (refusal C c) y)
-  other-run m {y} h = go (leb runWords m)
-    where
-      go : (b : Bool) → Other (cond b y (refusal C c 16 0))
-      go true = h
-      go false = other 16 0 (λ e. absurd (omega (arith, e)))
-
-  other-line : {X : Type 0} (o : Option X) {k : X → Reply} → ((x : X) → Other (k x)) → Other (onLine o (refusal C c) k)
-  other-line none h = other 17 0 (λ e. absurd (omega (arith, e)))
-  other-line (some x) h = h x
-
-  other-place : (o : Option Process) {y : Reply} → Other y → Other (onPlace o (refusal C c) y)
-  other-place none h = other 19 0 (λ e. absurd (omega (arith, e)))
-  other-place (some q) h = h
-
-  other-step : (o : Outcome) {k : Seen → Config → Reply} → ((seen : Seen) (D : Config) → Other (k seen D)) → Other (onStep o (refusal C c) k)
-  other-step (carried seen D) h = h seen D
-  other-step notOpen h = other 20 0 (λ e. absurd (omega (arith, e)))
-  other-step lacking h = other 21 0 (λ e. absurd (omega (arith, e)))
-
-  other-text : (s : List ℕ) (ds : List Declaration) → checked s ≡ accepted ds → (n : ℕ) (f : Program → Reply) → Other (f (programOf ds)) → Other (onProgram (textChecked s n) (refusal C c) f)
-  unfolding textChecked
-  other-text s ds ok n f h = go (leb scratchWords n)
-    where
-      go : (b : Bool) → Other (onProgram (cond b (checked s) (faulty 1 0)) (refusal C c) f)
-      go true = rw ok h
-      go false = other 1 0 (λ e. absurd (omega (arith, e)))
-
-carried-other : (y : Reply) → answerAs (y .answer) .refusal ≡ 0 → Other y
-carried-other y e = record { number = λ z. absurd (omega (arith, e, z)) }
-
-other-reply : (s : List ℕ) (ds : List Declaration) → checked s ≡ accepted ds → (C : Config) (c : Call) → Other (respond s C c)
-unfolding respond startedAs steppedAs reportedAs
-other-reply s ds ok C (callStart n m line) =
-    let c = callStart n m line in
-    let begun : Signature → Reply = λ g. reply (started begins.Begun) (startConfig g) in
-    other-text c C s ds ok n (λ p. onRun m (refusal C c) (onLine (execOf p line) (refusal C c) begun))
-    (other-run c C m (other-line c C (execOf (programOf ds) line) (λ g. carried-other (begun g) refl)))
-other-reply s ds ok C (callStep n m place) =
-    let c = callStep n m place in
-    let done : Seen → Config → Reply = λ seen D. reply (stepped (steps.Carried seen)) D in
-    other-text c C s ds ok n (λ p. onRun m (refusal C c) (onPlace (at C place) (refusal C c) (onStep (step p C place) (refusal C c) done)))
-    (other-run c C m (other-place c C (at C place) (other-step c C (step (programOf ds) C place) (λ seen D. carried-other (done seen D) refl))))
-other-reply s ds ok C (callRunOn n m budget) =
-    let c = callRunOn n m budget in
-    let ran : Program → Reply = λ p. reply (ranOn (runOn p C budget .answer)) (runOn p C budget .config) in
-    other-text c C s ds ok n (λ p. onRun m (refusal C c) (ran p))
-    (other-run c C m (carried-other (ran (programOf ds)) (given-none (runOn (programOf ds) C budget .answer) (run-never-refused (programOf ds) C budget))))
-other-reply s ds ok C (callReport n m) =
-    let c = callReport n m in
-    let told = reply (reported (reports.Open (length (report C))) (report C)) C in
-    other-text c C s ds ok n (λ p. onRun m (refusal C c) told) (other-run c C m (carried-other told refl))
-other-reply s ds ok C (callExecName n line) =
-    let c = callExecName n line in
-    let name : Located → Reply = λ x. reply (named (x .name) 0 0) C in
-    other-text c C s ds ok n (λ p. onLine (getElem? (p .execs) line) (refusal C c) name) (other-line c C (getElem? (programOf ds .execs) line) (λ x. carried-other (name x) refl))
-
-pub never-18 : (s : List ℕ) (ds : List Declaration) → checked s ≡ accepted ds → (C : Config) (c : Call) → answerAs (respond s C c .answer) .refusal ≢ 18
-never-18 s ds ok C c = other-reply s ds ok C c .number
