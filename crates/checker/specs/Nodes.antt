@@ -14,7 +14,7 @@ use Rattle.notation.specs.Tables.{termNode}
 use Rattle.notation.specs.Tree.{Name, Proc}
 use Rattle.notation.specs.declared.reading.TermNode.{TermNode}
 use Rattle.calculus.specs.Named.{names}
-use Rattle.calculus.specs.Types.{Side, provided, used}
+use Rattle.calculus.specs.Types.{provided, used}
 use Rattle.calculus.specs.Mentions.{spawnTakes, spawnLeaves, tryTakes, neverBoth, exactlyOne}
 use Rattle.calculus.specs.Program.{Slot, slot, Context, Program}
 use Rattle.calculus.specs.Typing.{bringing, namesOf}
@@ -64,10 +64,6 @@ joins? s w n G = mayBring (nameAt s (n .at)) G (spawnTakes (nameAt s (n .at)) (p
 unfoldable pub spawnStep : List ℕ → List ℕ → TermNode → Context → Step
 spawnStep s w n G =
     granted 13 (apart? s w n G) (granted 15 (joins? s w n G) (go G))
-
-abbrev pub halfSide : Bool → Side
-halfSide true = provided
-halfSide false = used
 
 abbrev pub halfContext : List ℕ → List ℕ → TermNode → Context → Bool → Context
 halfContext s w n G true = bringing (nameAt s (n .at)) (slot provided (plainIn s w (n .first))) (spawnTakes (nameAt s (n .at)) (processIn s w (n .second)) G)

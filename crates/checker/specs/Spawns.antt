@@ -12,7 +12,6 @@ use Rattle.notation.specs.Token.{nameAt}
 use Rattle.notation.specs.Tree.{Name, Proc}
 use Rattle.notation.specs.declared.reading.TermNode.{TermNode}
 use Rattle.calculus.specs.Named.{lookup, isSome, names}
-use Rattle.calculus.specs.Types.{Side, provided, used}
 use Rattle.calculus.specs.Mentions.{spawnTakes, spawnLeaves, tryTakes, neverBoth, exactlyOne}
 use Rattle.calculus.specs.Program.{slot, Context}
 use Rattle.calculus.specs.Typing.{bringing}
@@ -25,12 +24,12 @@ use Rattle.tables.specs.Decode.{processIn}
 use Rattle.tables.specs.Program.{plainIn}
 use Rattle.tables.specs.Roots.{TypeIn}
 use Rattle.contexts.specs.Held.{channelsOf, HeldIn, Brings}
-use Rattle.contexts.specs.Halves.{Keeps, Fair, spawn-takes, spawn-leaves, try-takes, never-shared, shared-once}
+use Rattle.contexts.specs.Halves.{halfSide, Keeps, Fair, spawn-takes, spawn-leaves, try-takes, never-shared, shared-once}
 use Rattle.contexts.specs.declared.halves.Half.the-variants.{OfSpawn, OfTry}
 use Rattle.terms.specs.Next.{Step, stop, go, granted, contextIn}
 use Rattle.terms.specs.Endings.{numberOf}
 use Rattle.terms.specs.Sends.{count-so}
-use Rattle.checker.specs.Nodes.{apart?, joins?, spawnStep, halfSide, halfContext, SpawnHalf}
+use Rattle.checker.specs.Nodes.{apart?, joins?, spawnStep, halfContext, SpawnHalf}
 
 -- ── a split of what is held is a split of the context
 context-takes : (x : Name) (P : Proc) (l : List (Name × End)) → contextOf (spawnTakes x P l) ≡ spawnTakes x P (contextOf l)

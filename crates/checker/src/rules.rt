@@ -2,6 +2,7 @@
 use contexts::halves::Half;
 use contexts::halves::divides;
 use contexts::halves::keep;
+use contexts::halves::side_of;
 use contexts::held::bring_end;
 use notation::reading::TermNode;
 use notation::script::Script;
@@ -19,7 +20,6 @@ use terms::sends::receive_next;
 ghost use mathlib.Core.Path.{_≡_};
 ghost use Prim.Native.Nat.{ℕ, _<_, _≤_};
 ghost use Rattle.contexts.specs.Held.{HeldIn};
-ghost use Rattle.runs.specs.Raw.{sideOf};
 ghost use Rattle.tables.specs.Program.{programIn};
 ghost use Rattle.tables.specs.Decode.{argumentsAt};
 ghost use Rattle.tables.specs.Names.{CallAt};
@@ -27,7 +27,7 @@ ghost use Rattle.tables.specs.Roots.{TypeIn, ProcessIn};
 ghost use Rattle.tables.specs.Whole.{Tables};
 ghost use Rattle.terms.specs.Next.{contextIn, Goes};
 ghost use Rattle.terms.specs.Endings.{numberOf};
-ghost use Rattle.checker.specs.Nodes.{sendStep, receiveStep, endStep, spawnStep, halfSide, SpawnHalf};
+ghost use Rattle.checker.specs.Nodes.{sendStep, receiveStep, endStep, spawnStep, SpawnHalf};
 
 // A send, or a cancel: what is held after it.
 pub(crate) fn send_next(text: &[u8], scratch: &[u32], h: Held, n: TermNode) -> Next
@@ -105,15 +105,4 @@ pub(crate) fn spawn_half(text: &[u8], scratch: &[u32], h: Held, n: TermNode, fir
     let at = narrow(n.at);
     let node = narrow(n.first);
     bring_end(a, at, side, node, 0)
-}
-
-// The first half provides the new channel, the second uses it.
-fn side_of(first: bool) -> u32
-    ensures { λ r. ⌜ sideOf r ≡ halfSide first ⌝ }
-    ensures { λ r. ⌜ r < 2 ⌝ }
-{
-    if first {
-        return 0;
-    }
-    1
 }

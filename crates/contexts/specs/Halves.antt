@@ -10,6 +10,7 @@ use lib.Seq.{take-all}
 use Rattle.notation.specs.Bytes.{same}
 use Rattle.notation.specs.Token.{nameAt}
 use Rattle.notation.specs.Tree.{Name}
+use Rattle.calculus.specs.Types.{Side, provided, used}
 use Rattle.calculus.specs.Named.{kept, names, all}
 use Rattle.calculus.specs.Mentions.{mentions, halfMentions, spawnTakes, spawnLeaves, tryTakes, neverBoth, exactlyOne}
 use Rattle.tables.specs.Decode.{processIn}
@@ -27,6 +28,11 @@ use Rattle.contexts.specs.declared.halves.Half.the-variants.{OfSpawn, Of
 abbrev pub HalfIn : List ℕ → List ℕ → Half → Type 0
 HalfIn s w (OfSpawn x p) = ProcessIn s w p
 HalfIn s w (OfTry p) = ProcessIn s w p
+
+-- the first half of a spawn provides the new channel, the second uses it
+abbrev pub halfSide : Bool → Side
+halfSide true = provided
+halfSide false = used
 
 -- the half mentions a name that is held; a spawn's new name is none
 abbrev pub takes : List ℕ → List ℕ → Half → Name → Bool

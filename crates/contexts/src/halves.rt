@@ -11,17 +11,28 @@ ghost use mathlib.Core.Path.{_≡_};
 ghost use Prim.Native.Nat.{ℕ, _+_, _≤_, _<_};
 ghost use mathlib.Core.List.{[], _∷_, _++_};
 ghost use mathlib.Core.Bool.{cond};
-ghost use Rattle.runs.specs.Raw.{BoundedEnd};
+ghost use Rattle.runs.specs.Raw.{BoundedEnd, sideOf};
 ghost use Rattle.runs.specs.Values.{endIn, heldIn};
 ghost use Rattle.notation.specs.Token.{nameAt};
 ghost use Rattle.tables.specs.Whole.{Tables};
 ghost use Rattle.contexts.specs.Held.{HeldIn};
-ghost use Rattle.contexts.specs.Halves.{HalfIn, takes, wanted, Keeps, fair, Fair};
+ghost use Rattle.contexts.specs.Halves.{HalfIn, halfSide, takes, wanted, Keeps, fair, Fair};
 
 // A half of a spawn, in which the name at the first offset is a new one, or a half of a try; and its pointer.
 pub enum Half {
     OfSpawn(usize, usize),
     OfTry(usize),
+}
+
+// The first half of a spawn provides the new channel, the second uses it.
+pub fn side_of(first: bool) -> u32
+    ensures { λ r. ⌜ sideOf r ≡ halfSide first ⌝ }
+    ensures { λ r. ⌜ r < 2 ⌝ }
+{
+    if first {
+        return 0;
+    }
+    1
 }
 
 // The half takes the held channel whose name is the one at `at`.

@@ -13,7 +13,7 @@ use Rattle.notation.specs.Reader.{nameIn}
 use Rattle.notation.specs.declared.reading.Found.{Found}
 use Rattle.notation.specs.declared.reading.Found.the-variants as found
 use Rattle.calculus.specs.Named.{kept}
-use Rattle.calculus.specs.Types.{Side, provided, used}
+use Rattle.calculus.specs.Types.{provided, used}
 use Rattle.calculus.specs.Mentions.{spawnTakes, spawnLeaves, tryTakes}
 use Rattle.calculus.specs.Configuration.{end, running, waiting, Process, process, Config, config, replaced, movedUp}
 use Rattle.calculus.specs.Configuration as calculus
@@ -34,7 +34,7 @@ use Rattle.runs.specs.DecodeLaws.{decoded-fresh}
 use Rattle.runs.specs.declared.records.Held.{Held}
 use Rattle.runs.specs.declared.records.Process.{Process as ProcessWords}
 use Rattle.contexts.specs.Held.{endIs, channelsOf, HeldIn, Brings}
-use Rattle.contexts.specs.Halves.{takes, wanted, Keeps, try-takes}
+use Rattle.contexts.specs.Halves.{halfSide, takes, wanted, Keeps, try-takes}
 use Rattle.contexts.specs.declared.halves.Half.the-variants.{OfSpawn, OfTry}
 use Rattle.machine.specs.declared.outcome.Outcome.{Outcome as OutcomeWords}
 use Rattle.machine.specs.declared.outcome.Outcome.the-variants.{Carried, Lacking}
@@ -53,11 +53,6 @@ module _ (s w old : List ℕ) (o : Outcome) where
 inserted-many : (i : ℕ) (q : Process) (l : List Process) → length (calculus.inserted i q l) ≡ suc (length l)
 unfolding calculus.inserted
 inserted-many i q l = length-insert (suc i) q (map (calculus.relinked (movedUp i)) l) ∙ ap suc (length-map l (calculus.relinked (movedUp i)))
-
--- the first half of a spawn provides the new channel, the second uses it
-abbrev pub halfSide : Bool → Side
-halfSide true = provided
-halfSide false = used
 
 module _ (s w : List ℕ) where
   -- ── try

@@ -15,27 +15,30 @@ use Rattle.notation.specs.declared.reading.Found.the-variants as found
 use Rattle.typereader.specs.Filling.{Area}
 use Rattle.calculus.specs.Configuration.{End, Process, process, running, Config, config, replaced}
 use Rattle.calculus.specs.Steps.{Outcome, onClose, onChannel, onLabel, bothTo, branchOf, bound, retypedEnd, takesClose, takesChannel, takesLabel}
-use Rattle.calculus.specs.declared.answers.Seen.the-variants.{Nothing}
-use Rattle.tables.specs.Access.{BranchOf, branch-there}
+use Rattle.tables.specs.Access.{BranchOf, node-there, branch-there}
 use Rattle.tables.specs.Decode.{processIn}
 use Rattle.tables.specs.Program.{plainIn}
-use Rattle.tables.specs.Roots.{ProcessIn, BranchesIn, branchesIn, FirstBranch}
+use Rattle.tables.specs.Roots.{TypeIn, ProcessIn, BranchesIn, branchesIn, FirstBranch}
 use Rattle.tables.specs.Search.{placeOf}
 use Rattle.tables.specs.Whole.{Tables}
 use Rattle.tables.specs.declared.access.Labelled.{Labelled}
 use Rattle.runs.specs.Raw.{rawIn, linkOf, BoundedEnd, Bounded}
-use Rattle.runs.specs.Values.{Changed, endIn}
+use Rattle.runs.specs.Values.{Changed, endIn, heldIn}
 use Rattle.runs.specs.Values as values
+use Rattle.runs.specs.Lists.{All}
+use Rattle.runs.specs.ListLaws.{all-weaken}
 use Rattle.runs.specs.Operations as raw
 use Rattle.runs.specs.declared.records.End.{End as EndWords}
 use Rattle.runs.specs.declared.records.Held.{Held}
 use Rattle.runs.specs.declared.records.Process.{Process as ProcessWords}
-use Rattle.contexts.specs.Held.{channelsOf, HeldIn, endFound, FoundIn, Drops, Retypes, Brings}
+use Rattle.contexts.specs.Held.{channelsOf, EndIn, HeldIn, endFound, FoundIn, Drops, Retypes, Brings}
 use Rattle.contexts.specs.Halves.{append-nil}
 use Rattle.contexts.specs.declared.held.Lookup.{Lookup}
 use Rattle.contexts.specs.declared.held.Lookup.the-variants as lookups
-use Rattle.machine.specs.declared.outcome.Outcome.the-variants.{Carried, NotOpen}
+use Rattle.machine.specs.declared.outcome.Outcome.{Outcome as OutcomeWords}
+use Rattle.machine.specs.declared.outcome.Outcome.the-variants.{NotOpen}
 use Rattle.machine.specs.declared.messages.Receiver.{Receiver}
+use Rattle.machine.specs.declared.messages.Sending.{Sending}
 use Rattle.machine.specs.Run.{configIn, processAs, RunOf, ProcessOf, StandsAt, Becomes, Carries}
 use Rattle.machine.specs.Messages.{partsBy}
 use Rattle.machine.specs.Changes.{then, stored, running-as, places-after, places-in}
@@ -49,6 +52,11 @@ pub record ReceiverIn (s w ws : List ℕ) (to : Receiver) : Type 0 where
 
 pub parts-at : {s w ws : List ℕ} {to : Receiver} → ReceiverIn s w ws to → {k : ℕ} → to .term .kind ≡ k → partsBy s w (to .term) k
 parts-at {s} {w} {to = to} r e = subst (partsBy s w (to .term)) e (r .parts)
+
+-- what retyping an end asks for
+pub may-retype : {s w ws : List ℕ} {to : Receiver} {node : ℕ} → Tables s w → TypeIn s w node → ReceiverIn s w ws to → ((to .process .held .count ≤ 16) × (node < 512)) × All BoundedEnd (heldIn (to .process .held))
+may-retype {s} {w} {to = to} {node} t a r =
+    let h = r .stands .is .held in ((h .many, node-there s w t node a), all-weaken (EndIn s w) BoundedEnd (λ e b. b .bounds) (heldIn (to .process .held)) (h .each))
 
 -- ── two processes change
 abbrev pub bothSet : Config → ℕ → Process → ℕ → Process → Config
@@ -140,27 +148,31 @@ module _ (s w : List ℕ) (at e₀ n₀ : ℕ) where
   search-end e n l z = record { is = l .rest ∙ ap (reached e) z; process = λ x q. subst (processThere s w) q tt }
 
 -- ── the receiver afterwards
+-- the sender is as its send left it, and the receiver goes on with the term at a pointer and what it holds now
+abbrev pub bothOn : List ℕ → List ℕ → List ℕ → Sending → Receiver → ℕ → Held → Outcome
+bothOn s w old sent to pointer held = bothTo (configIn s w old) (sent .place) (processAs s w (sent .after)) (to .place) (some (processAs s w (running-as pointer (to .process .link) held)))
+
 module _ (s w old : List ℕ) (i : ℕ) (q : ProcessWords) (j : ℕ) (r : ProcessWords) (x : ℕ) where
   abbrev pub bothBy : Option Process → Outcome
   bothBy o = bothTo (configIn s w old) i (processAs s w q) j o
 
-  module _ {new : List ℕ} (h : Held) (pointer : ℕ) (b : Becomes s w old new (bothSet (configIn s w old) i (processAs s w q) j (processAs s w (running-as pointer (r .link) h)))) where
-    -- the receiver goes on with the term at a pointer and the channels of l
-    goes-on : (l : _) → channelsOf s w h ≡ l → Carries s w old new (Carried Nothing) (bothBy (some (process (running (processIn s w pointer)) l (linkOf (r .link)))))
-    goes-on l e = record { is = (refl, subst (λ m. Becomes s w old new (bothSet (configIn s w old) i (processAs s w q) j (process (running (processIn s w pointer)) m (linkOf (r .link))))) e b) }
+  module _ {new : List ℕ} {o : OutcomeWords} (h : Held) (pointer : ℕ) (b : Carries s w old new o (bothBy (some (processAs s w (running-as pointer (r .link) h))))) where
+    -- the receiver has the channels of l
+    with-held : (l : _) → channelsOf s w h ≡ l → Carries s w old new o (bothBy (some (process (running (processIn s w pointer)) l (linkOf (r .link)))))
+    with-held l e = subst (λ m. Carries s w old new o (bothBy (some (process (running (processIn s w pointer)) m (linkOf (r .link)))))) e b
 
-    pub hears-close : Drops s (r .held) x h → Carries s w old new (Carried Nothing) (bothBy (takesClose (onClose (processIn s w pointer)) (nameAt s x) (processAs s w r)))
-    hears-close d = goes-on _ (d .is w)
+    pub hears-close : Drops s (r .held) x h → Carries s w old new o (bothBy (takesClose (onClose (processIn s w pointer)) (nameAt s x) (processAs s w r)))
+    hears-close d = with-held _ (d .is w)
 
     pub hears-channel : (node name : ℕ) (f : Lookup) (m : Held) → Retypes s (r .held) x node m → BringsFound m f name h
-        → Carries s w old new (Carried Nothing) (bothBy (takesChannel (onChannel (nameIn s name) (processIn s w pointer)) (nameAt s x) (plainIn s w node) (endFound s w f) (processAs s w r)))
-    hears-channel node name f m c d = goes-on _ (d .is s w ∙ ap (λ l. l ++ bound (nameAt s name) (endFound s w f)) (c .is w))
+        → Carries s w old new o (bothBy (takesChannel (onChannel (nameIn s name) (processIn s w pointer)) (nameAt s x) (plainIn s w node) (endFound s w f) (processAs s w r)))
+    hears-channel node name f m c d = with-held _ (d .is s w ∙ ap (λ l. l ++ bound (nameAt s name) (endFound s w f)) (c .is w))
 
     pub hears-label : (node at e n : ℕ) (k : Found) → BranchIs s w at e n k → k ≡ found.At pointer → Retypes s (r .held) x node h
-        → Carries s w old new (Carried Nothing) (bothBy (takesLabel (onLabel (branchesIn s w e n)) (nameAt s x) (plainIn s w node) (nameAt s (at + 1)) (processAs s w r)))
+        → Carries s w old new o (bothBy (takesLabel (onLabel (branchesIn s w e n)) (nameAt s x) (plainIn s w node) (nameAt s (at + 1)) (processAs s w r)))
     hears-label node at e n k f z c =
-        subst (λ o. Carries s w old new (Carried Nothing) (bothBy (Option·map (λ P. process (running P) (retypedEnd (nameAt s x) (plainIn s w node) (channelsOf s w (r .held))) (linkOf (r .link))) o)))
-        (sym (f .is ∙ ap (λ y. Option·map (λ x. processIn s w x) (placeOf y)) z)) (goes-on _ (c .is w))
+        subst (λ p. Carries s w old new o (bothBy (Option·map (λ P. process (running P) (retypedEnd (nameAt s x) (plainIn s w node) (channelsOf s w (r .held))) (linkOf (r .link))) p)))
+        (sym (f .is ∙ ap (λ y. Option·map (λ x. processIn s w x) (placeOf y)) z)) (with-held _ (c .is w))
 
   pub hears-nothing : (node at e n : ℕ) (k : Found) → BranchIs s w at e n k → k ≡ found.Nothing
       → Carries s w old old NotOpen (bothBy (takesLabel (onLabel (branchesIn s w e n)) (nameAt s x) (plainIn s w node) (nameAt s (at + 1)) (processAs s w r)))

@@ -8,14 +8,15 @@ ghost use Rattle.notation.specs.Limits.{processPlaces, channelPlaces};
 ghost use Rattle.tables.specs.Decode.{processIn};
 ghost use Rattle.tables.specs.Roots.{ProcessIn};
 ghost use Rattle.tables.specs.Whole.{Tables};
-ghost use Rattle.runs.specs.Raw.{rawIn, sideOf};
+ghost use Rattle.runs.specs.Raw.{rawIn};
 ghost use Rattle.contexts.specs.Held.{HeldIn};
 ghost use Rattle.machine.specs.Run.{configIn, processAs, RunOf, StandsAt, Carries};
-ghost use Rattle.machine.specs.Making.{TryHalf, halfSide, SpawnHalf, SpawnIn, spawnedBy, spawningBy};
+ghost use Rattle.machine.specs.Making.{TryHalf, SpawnHalf, SpawnIn, spawnedBy, spawningBy};
 use crate::outcome::Outcome;
 use calculus::answers::Seen;
 use contexts::halves::Half;
 use contexts::halves::keep;
+use contexts::halves::side_of;
 use contexts::held::bring_end;
 use notation::reading::Found;
 use notation::script::Script;
@@ -91,17 +92,6 @@ pub fn try_both(
         },
     );
     Outcome::Carried(Seen::Nothing)
-}
-
-// The first half of a spawn provides the new channel, the second uses it.
-fn side_of(first: bool) -> u32
-    ensures { λ r. ⌜ sideOf r ≡ halfSide first ⌝ }
-    ensures { λ r. ⌜ r < 2 ⌝ }
-{
-    if first {
-        return 0;
-    }
-    1
 }
 
 // What a half of a spawn takes, or what the first half leaves, with its end of the new channel.

@@ -2,12 +2,13 @@
 ghost use mathlib.Core.Path.{_≡_};
 ghost use Prim.Native.Nat.{ℕ, _<_};
 ghost use lib.ListN.{length};
-ghost use Rattle.tables.specs.Roots.{BranchesIn};
+ghost use Rattle.tables.specs.Roots.{ProcessIn, BranchesIn};
 ghost use Rattle.tables.specs.Whole.{Tables};
 ghost use Rattle.runs.specs.Raw.{rawIn};
+ghost use Rattle.contexts.specs.Held.{HeldIn};
 ghost use Rattle.machine.specs.Run.{configIn, processAs, RunOf, ProcessOf, Becomes, Carries};
 ghost use Rattle.machine.specs.Sending.{SendingIn};
-ghost use Rattle.machine.specs.Receiving.{ReceiverIn, bothSet, FoundBounded, BringsFound, BranchIs};
+ghost use Rattle.machine.specs.Receiving.{ReceiverIn, bothSet, bothOn, FoundBounded, BringsFound, BranchIs};
 ghost use Rattle.machine.specs.Meeting.{heardBy};
 use crate::messages::Receiver;
 use crate::messages::Sending;
@@ -45,6 +46,41 @@ fn store_both(
     store(run, j, r);
 }
 
+// The sender goes on as its send left it, and the receiver with the term at `pointer` and what it holds now.
+fn go_on(
+    text: &[u8],
+    scratch: &[u32],
+    run: &mut [u32],
+    sent: Sending,
+    to: Receiver,
+    pointer: usize,
+    held: Held,
+) -> Outcome
+    requires { ⌜ RunOf (now text) (now scratch) (now run) ⌝ }
+    requires { ⌜ SendingIn (now text) (now scratch) (now run) sent ⌝ }
+    requires { ⌜ ReceiverIn (now text) (now scratch) (now run) to ⌝ }
+    requires { ⌜ ProcessIn (now text) (now scratch) pointer × HeldIn (now text) (now scratch) held ⌝ }
+    ensures { λ o. ⌜ Carries (now (text .entry)) (now (scratch .entry)) (now (run .entry)) (now (run .exit)) o (bothOn (now (text .entry)) (now (scratch .entry)) (now (run .entry)) sent to pointer held) ⌝ }
+{
+    let q = sent.after;
+    let r = to.process;
+    store_both(
+        text,
+        scratch,
+        run,
+        sent.place,
+        q,
+        to.place,
+        Process {
+            kind: 0,
+            pointer: pointer as u32,
+            link: r.link,
+            held,
+        },
+    );
+    Outcome::Carried(Seen::Nothing)
+}
+
 // The receiver closes the channel, and goes on.
 pub fn hear_close(
     text: &[u8],
@@ -63,22 +99,7 @@ pub fn hear_close(
     let t = to.term;
     let h = r.held;
     let held = drop_end(text, h, to.name);
-    let q = sent.after;
-    store_both(
-        text,
-        scratch,
-        run,
-        sent.place,
-        q,
-        to.place,
-        Process {
-            kind: 0,
-            pointer: t.third as u32,
-            link: r.link,
-            held,
-        },
-    );
-    Outcome::Carried(Seen::Nothing)
+    go_on(text, scratch, run, sent, to, t.third, held)
 }
 
 // With an end more under the name at `at`, if one was found.
@@ -116,22 +137,7 @@ pub fn hear_channel(
     let h = r.held;
     let m = retype_end(text, h, to.name, sent.node);
     let held = bring_found(m, f, t.second as u32);
-    let q = sent.after;
-    store_both(
-        text,
-        scratch,
-        run,
-        sent.place,
-        q,
-        to.place,
-        Process {
-            kind: 0,
-            pointer: t.third as u32,
-            link: r.link,
-            held,
-        },
-    );
-    Outcome::Carried(Seen::Nothing)
+    go_on(text, scratch, run, sent, to, t.third, held)
 }
 
 // The process of the label whose apostrophe stands at `at`, among the n branches before the place e.
@@ -176,20 +182,5 @@ pub fn hear_label(
     let r = to.process;
     let h = r.held;
     let held = retype_end(text, h, to.name, sent.node);
-    let q = sent.after;
-    store_both(
-        text,
-        scratch,
-        run,
-        sent.place,
-        q,
-        to.place,
-        Process {
-            kind: 0,
-            pointer: pointer as u32,
-            link: r.link,
-            held,
-        },
-    );
-    Outcome::Carried(Seen::Nothing)
+    go_on(text, scratch, run, sent, to, pointer, held)
 }

@@ -15,17 +15,15 @@ use crate::choosing::step_first;
 use crate::choosing::was_carried;
 use crate::dispatch::step_at;
 use crate::outcome::Outcome;
+use runs::words::copy_words;
 
+// The words of a run.
 fn copy_of(run: &[u32]) -> [u32; 6144]
     requires { ⌜ runWords ≤ length (now run) ⌝ }
     ensures { λ r. ⌜ CopyOf (now (run .entry)) r ⌝ }
 {
     let mut w = [0u32; 6144];
-    let mut k: usize = 0;
-    while k < 6144 {
-        w[k] = run[k];
-        k += 1;
-    }
+    copy_words(run, 0, &mut w, 0, 6144);
     w
 }
 

@@ -155,9 +155,9 @@ letting-at old new run c j i k p q h = subst (λ (r : List ℕ). Letting old r c
 pub unchanged : (ws : List ℕ) (C : RawConfig) → rawIn ws ≡ C → Bounded (rawIn ws) → Changed ws ws C × Bounded (rawIn ws)
 unchanged ws C e b = (record { is = e; past = refl; long = refl }, b)
 
-pub changed-changes : (ws new : List ℕ) (c k : ℕ) (f : RawOutside → RawOutside) {o : RawOutside} → outsideAt c (rawIn ws .outside) ≡ found.At k → getElem? (rawIn ws .outside) k ≡ some o
-    → Changed ws new (withOutside (rawIn ws) (set (rawIn ws .outside) k (f o))) → Changed ws new (withOutside (rawIn ws) (changedOutside c f (rawIn ws .outside)))
-changed-changes ws new c k f e g h = changed-as (ap (withOutside (rawIn ws)) (sym (changed-found c f (rawIn ws .outside) k e g))) h
+pub changed-changes : (ws new : List ℕ) (c k : ℕ) (f : RawOutside → RawOutside) {o p : RawOutside} → outsideAt c (rawIn ws .outside) ≡ found.At k → getElem? (rawIn ws .outside) k ≡ some o → p ≡ f o
+    → Changed ws new (withOutside (rawIn ws) (set (rawIn ws .outside) k p)) → Changed ws new (withOutside (rawIn ws) (changedOutside c f (rawIn ws .outside)))
+changed-changes ws new c k f e g q h = changed-as (ap (withOutside (rawIn ws)) (ap (set (rawIn ws .outside) k) q ∙ sym (changed-found c f (rawIn ws .outside) k e g))) h
 
 pub changed-same : (ws : List ℕ) (c : ℕ) (f : RawOutside → RawOutside) → outsideAt c (rawIn ws .outside) ≡ found.Nothing → rawIn ws ≡ withOutside (rawIn ws) (changedOutside c f (rawIn ws .outside))
 changed-same ws c f e = ap (withOutside (rawIn ws)) (sym (changed-nothing c f (rawIn ws .outside) e))

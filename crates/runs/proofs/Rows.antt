@@ -53,6 +53,9 @@ module _ (old : List ℕ) (g : ℕ → ℕ) where
     above = λ k a. m .above k (omega arith);
   }
 
+pub moved-as : (old new : List ℕ) (lo hi : ℕ) (g h : ℕ → ℕ) → ((k : ℕ) → g k ≡ h k) → Moved old new lo hi g → Moved old new lo hi h
+moved-as old new lo hi g h e m = record { long = m .long; inside = λ k a b. m .inside k a b ∙ e k; below = m .below; above = m .above }
+
 -- lists that agree from n on
 pub drop-same : (n : ℕ) (a b : List ℕ) → length a ≡ length b → ((k : ℕ) → n ≤ k → getD a k 0 ≡ getD b k 0) → drop n a ≡ drop n b
 drop-same n a b h e =

@@ -11,6 +11,8 @@ use Rattle.runs.specs.Lists.{insertAt, removeAt, scan}
 use Rattle.runs.specs.Raw.{RawEnd, RawProcess, RawOutside, RawConfig}
 use Rattle.notation.specs.declared.reading.Found.{Found}
 use Rattle.notation.specs.declared.reading.Found.the-variants as found
+use Rattle.runs.specs.declared.records.Change.{Change}
+use Rattle.runs.specs.declared.records.Change.the-variants as change
 use Rattle.runs.specs.declared.records.Holder.{Holder}
 use Rattle.runs.specs.declared.records.Holder.the-variants as holder
 use Rattle.runs.specs.declared.records.Far.{Far}
@@ -144,3 +146,7 @@ retyped node o = record { number = o .number; node = node; channel = o .channel 
 
 abbrev pub rerouted : ℕ → RawOutside → RawOutside
 rerouted channel o = record { number = o .number; node = o .node; channel = channel }
+
+abbrev pub changedBy : Change → RawOutside → RawOutside
+changedBy (change.Node node) = retyped node
+changedBy (change.Channel channel) = rerouted channel

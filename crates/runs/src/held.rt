@@ -1,12 +1,12 @@
 // What a process holds, by position, oldest first.
 ghost use mathlib.Core.Path.{_≡_};
-ghost use Prim.Native.Nat.{ℕ, _+_, _-_, _≤_, _<_};
+ghost use Prim.Native.Nat.{ℕ, _+_, _-_, _*_, _≤_, _<_};
 ghost use mathlib.Core.List.{[], _∷_, _++_};
 ghost use mathlib.Core.Option.{some};
 ghost use lib.ListN.{length, getElem?, set};
 ghost use Rattle.runs.specs.Lists.{removeAt};
-ghost use Rattle.runs.specs.Raw.{BoundedEnd, sideOf};
-ghost use Rattle.runs.specs.Values.{endIn, heldIn};
+ghost use Rattle.runs.specs.Raw.{BoundedEnd, sideOf, endOf};
+ghost use Rattle.runs.specs.Values.{endIn, heldIn, Written};
 ghost use Rattle.runs.specs.Operations.{heldAt};
 use crate::records::End;
 use crate::records::Held;
@@ -37,6 +37,18 @@ pub fn end_at(h: Held, k: usize) -> End
     }
 }
 
+// The words of an end at a position.
+fn put_end(words: [u32; 32], k: usize, e: End) -> [u32; 32]
+    requires { ⌜ k < 16 ⌝ }
+    requires { ⌜ BoundedEnd (endIn e) × (e .side < 2) ⌝ }
+    ensures { λ r. ⌜ Written endOf 2 words r (2 * k) (endIn e) ⌝ }
+{
+    let mut w = words;
+    w[2 * k] = e.name * 2 + e.side;
+    w[2 * k + 1] = e.node * 512 + e.channel;
+    w
+}
+
 // With one end more, the youngest.
 pub fn with(h: Held, e: End) -> Held
     requires { ⌜ h .count < 16 ⌝ }
@@ -45,9 +57,8 @@ pub fn with(h: Held, e: End) -> Held
     ensures { λ r. ⌜ r .count ≡ h .count + 1 ⌝ }
 {
     let n = h.count;
-    let mut w = h.words;
-    w[2 * n] = e.name * 2 + e.side;
-    w[2 * n + 1] = e.node * 512 + e.channel;
+    let words = h.words;
+    let w = put_end(words, n, e);
     Held {
         count: n + 1,
         words: w,
@@ -62,9 +73,8 @@ pub fn replaced(h: Held, k: usize, e: End) -> Held
     ensures { λ r. ⌜ r .count ≡ h .count ⌝ }
 {
     let n = h.count;
-    let mut w = h.words;
-    w[2 * k] = e.name * 2 + e.side;
-    w[2 * k + 1] = e.node * 512 + e.channel;
+    let words = h.words;
+    let w = put_end(words, k, e);
     Held { count: n, words: w }
 }
 

@@ -5,9 +5,10 @@ ghost use mathlib.Core.List.{[], _∷_, _++_};
 ghost use mathlib.Core.Option.{some};
 ghost use lib.ListN.{length, getD, getElem?, set};
 ghost use Rattle.notation.specs.Limits.{runWords};
-ghost use Rattle.runs.specs.Raw.{rawIn, outsideOf, BoundedOutside, Bounded};
+ghost use Rattle.runs.specs.Raw.{rawIn, outsideOf, RawOutside, BoundedOutside, Bounded};
 ghost use Rattle.runs.specs.Values.{outsideIn, Changed, Written};
-ghost use Rattle.runs.specs.Operations.{onOutside, withGiven, outsideAt, letGo, changedOutside, retyped, rerouted};
+ghost use Rattle.runs.specs.Operations.{onOutside, withGiven, outsideAt, letGo, changedOutside, retyped, rerouted, changedBy};
+use crate::records::Change;
 use crate::records::Outside;
 use crate::words::wide;
 use notation::reading::Found;
@@ -142,6 +143,41 @@ pub fn let_go(run: &mut [u32], channel: u32)
     run[2] = j as u32;
 }
 
+// With a change.
+fn changed(o: Outside, change: Change) -> Outside
+    ensures { λ r. ⌜ outsideIn r ≡ changedBy change (outsideIn o) ⌝ }
+{
+    match change {
+        Change::Node(node) => Outside {
+            number: o.number,
+            node: node,
+            channel: o.channel,
+        },
+        Change::Channel(channel) => Outside {
+            number: o.number,
+            node: o.node,
+            channel: channel,
+        },
+    }
+}
+
+// A change of the first of a channel.
+fn change_outside(run: &mut [u32], channel: u32, change: Change)
+    requires { ⌜ runWords ≤ length (now run) ⌝ }
+    requires { ⌜ Bounded (rawIn (now run)) ⌝ }
+    requires { ⌜ ((o : RawOutside) → BoundedOutside o → BoundedOutside (changedBy change o)) ⌝ }
+    ensures { λ r. ⌜ Changed (now (run .entry)) (now (run .exit)) (onOutside (changedOutside channel (changedBy change)) (rawIn (now (run .entry)))) ⌝ }
+    ensures { λ r. ⌜ Bounded (rawIn (now (run .exit))) ⌝ }
+{
+    let f = find_outside(run, channel);
+    let Found::At(k) = f else {
+        return;
+    };
+    let o = outside_at(run, k);
+    let p = changed(o, change);
+    set_outside(run, k, p);
+}
+
 // Another type for a channel.
 pub fn retype_outside(run: &mut [u32], channel: u32, node: u32)
     requires { ⌜ runWords ≤ length (now run) ⌝ }
@@ -150,17 +186,7 @@ pub fn retype_outside(run: &mut [u32], channel: u32, node: u32)
     ensures { λ r. ⌜ Changed (now (run .entry)) (now (run .exit)) (onOutside (changedOutside channel (retyped node)) (rawIn (now (run .entry)))) ⌝ }
     ensures { λ r. ⌜ Bounded (rawIn (now (run .exit))) ⌝ }
 {
-    let f = find_outside(run, channel);
-    let Found::At(k) = f else {
-        return;
-    };
-    let o = outside_at(run, k);
-    let p = Outside {
-        number: o.number,
-        node: node,
-        channel: o.channel,
-    };
-    set_outside(run, k, p);
+    change_outside(run, channel, Change::Node(node));
 }
 
 // Another channel in the place of one.
@@ -171,15 +197,5 @@ pub fn reroute_outside(run: &mut [u32], channel: u32, target: u32)
     ensures { λ r. ⌜ Changed (now (run .entry)) (now (run .exit)) (onOutside (changedOutside channel (rerouted target)) (rawIn (now (run .entry)))) ⌝ }
     ensures { λ r. ⌜ Bounded (rawIn (now (run .exit))) ⌝ }
 {
-    let f = find_outside(run, channel);
-    let Found::At(k) = f else {
-        return;
-    };
-    let o = outside_at(run, k);
-    let p = Outside {
-        number: o.number,
-        node: o.node,
-        channel: target,
-    };
-    set_outside(run, k, p);
+    change_outside(run, channel, Change::Channel(target));
 }

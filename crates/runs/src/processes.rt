@@ -9,8 +9,8 @@ ghost use Rattle.runs.specs.Values.{processIn, Changed, Written};
 ghost use Rattle.runs.specs.Operations.{onProcesses};
 use crate::records::Held;
 use crate::records::Process;
-use crate::words::copy_in;
 use crate::words::copy_out;
+use crate::words::copy_words;
 use crate::words::wide;
 
 // How many there are.
@@ -65,7 +65,7 @@ pub(crate) fn put(run: &mut [u32], at: usize, p: Process)
     let h = p.held;
     run[at + 2] = h.count as u32;
     let w = h.words;
-    copy_in(run, at + 3, &w);
+    copy_words(&w, 0, run, at + 3, 32);
 }
 
 // Another process at a place.

@@ -29,6 +29,12 @@ pub struct Outside {
     pub channel: u32,
 }
 
+// A change of a channel that the outside uses: another type, or another channel in its place.
+pub enum Change {
+    Node(u32),
+    Channel(u32),
+}
+
 // Who holds an end: the process at a place, at a position of what it holds.
 pub enum Holder {
     At(usize, usize),

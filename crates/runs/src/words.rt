@@ -11,30 +11,26 @@ pub fn wide(x: u32) -> usize
     x as usize
 }
 
+// The n words of `from` at a place and after it, to a place of `to` and after it.
+pub fn copy_words(from: &[u32], at: usize, to: &mut [u32], into: usize, n: usize)
+    requires { ⌜ (at + n ≤ length (now from)) × (into + n ≤ length (now to)) ⌝ }
+    ensures { λ r. ⌜ Moved (now (to .entry)) (now (to .exit)) into (into + n) (λ k. getD (now (from .entry)) (at + (k - into)) 0) ⌝ }
+{
+    let mut k: usize = 0;
+    while k < n {
+        to[into + k] = from[at + k];
+        k += 1;
+    }
+}
+
 // The 32 words from `at` on.
 pub(crate) fn copy_out(run: &[u32], at: usize) -> [u32; 32]
     requires { ⌜ at + 32 ≤ length (now run) ⌝ }
     ensures { λ r. ⌜ ((k : ℕ) → k < 32 → getD r k 0 ≡ getD (now (run .entry)) (at + k) 0) ⌝ }
 {
     let mut w = [0u32; 32];
-    let mut k: usize = 0;
-    while k < 32 {
-        w[k] = run[at + k];
-        k += 1;
-    }
+    copy_words(run, at, &mut w, 0, 32);
     w
-}
-
-// The words of w, from `at` on.
-pub(crate) fn copy_in(run: &mut [u32], at: usize, w: &[u32; 32])
-    requires { ⌜ at + 32 ≤ length (now run) ⌝ }
-    ensures { λ r. ⌜ Moved (now (run .entry)) (now (run .exit)) at (at + 32) (λ k. getD (now (w .entry)) (k - at) 0) ⌝ }
-{
-    let mut k: usize = 0;
-    while k < 32 {
-        run[at + k] = w[k];
-        k += 1;
-    }
 }
 
 // The words from `from` up to `to` move up.

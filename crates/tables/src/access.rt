@@ -23,6 +23,23 @@ fn wide(x: u32) -> usize
     x as usize
 }
 
+// Two words side by side.
+struct Two {
+    first: usize,
+    second: usize,
+}
+
+// The words at i and after it.
+fn two_words(scratch: &[u32], i: usize) -> Two
+    requires { ⌜ i + 1 < length (now scratch) ⌝ }
+    ensures { λ r. ⌜ (r .first ≡ getD (now (scratch .entry)) i 0) × (r .second ≡ getD (now (scratch .entry)) (i + 1) 0) ⌝ }
+    ensures { λ r. ⌜ (r .first < 4294967296) × (r .second < 4294967296) ⌝ }
+{
+    let first = word(scratch, i);
+    let second = word(scratch, i + 1);
+    Two { first, second }
+}
+
 // The type node i.
 pub fn type_node(scratch: &[u32], i: usize) -> TypeNode
     requires { ⌜ Area (now scratch) × (i < 512) ⌝ }
@@ -41,14 +58,13 @@ pub fn term_node(scratch: &[u32], i: usize) -> TermNode
     requires { ⌜ Area (now scratch) × (i < 1024) ⌝ }
     ensures { λ r. ⌜ TermOf (now (scratch .entry)) i r ⌝ }
 {
-    let x = word(scratch, 1952 + 2 * i);
-    let y = word(scratch, 1952 + 2 * i + 1);
+    let w = two_words(scratch, 1952 + 2 * i);
     TermNode {
-        kind: x % 16,
-        at: x / 16 % 8192,
-        first: x / 131072,
-        second: y % 16384,
-        third: y / 16384,
+        kind: w.first % 16,
+        at: w.first / 16 % 8192,
+        first: w.first / 131072,
+        second: w.second % 16384,
+        third: w.second / 16384,
     }
 }
 
@@ -134,9 +150,11 @@ pub fn declared_type(scratch: &[u32], i: usize) -> Labelled
     requires { ⌜ Area (now scratch) × (i < 64) ⌝ }
     ensures { λ r. ⌜ TypeOf (now (scratch .entry)) i r ⌝ }
 {
-    let at = word(scratch, 16 + 2 * i);
-    let number = word(scratch, 16 + 2 * i + 1);
-    Labelled { at, number }
+    let w = two_words(scratch, 16 + 2 * i);
+    Labelled {
+        at: w.first,
+        number: w.second,
+    }
 }
 
 // A process's entry: its name, its first signature entry, how many it provides and uses, its body.
@@ -153,16 +171,14 @@ pub fn declared_process(scratch: &[u32], i: usize) -> Declared
     requires { ⌜ Area (now scratch) × (i < 64) ⌝ }
     ensures { λ r. ⌜ SignatureOf (now (scratch .entry)) i r ⌝ }
 {
-    let at = word(scratch, 144 + 4 * i);
-    let first = word(scratch, 144 + 4 * i + 1);
-    let counts = word(scratch, 144 + 4 * i + 2);
-    let body = word(scratch, 144 + 4 * i + 3);
+    let named = two_words(scratch, 144 + 4 * i);
+    let counted = two_words(scratch, 144 + 4 * i + 2);
     Declared {
-        at,
-        first,
-        provided: counts % 1024,
-        used: counts / 1024,
-        body,
+        at: named.first,
+        first: named.second,
+        provided: counted.first % 1024,
+        used: counted.first / 1024,
+        body: counted.second,
     }
 }
 

@@ -1,19 +1,12 @@
-use mathlib.Core.Path.{_≡_, refl, sym, _∙_, ap, subst}
+use mathlib.Core.Path.{subst}
 use denote.Ref.{now}
 use native.Mathlib.Omega.{arith}
 use borrow.Author.Needs.{needs}
-use borrow.Author.Tests.{eq-eqb, ne-eqb}
 use Rattle.tables.specs.Access.{node-there}
 use Rattle.contexts.specs.Held.{Brings}
 use Rattle.checker.specs.Spawns.{half-fits, half-so}
 use Rattle.checker.proofs.rules.spawn_half.Statement.{statement}
 use Rattle.checker.proofs.rules.spawn_half.Tie as tie
-use Rattle.checker.proofs.rules.spawn_half.Reads as reads
-use Rattle.checker.proofs.rules.spawn_half.Lts as lts
-use Rattle.checker.proofs.rules.side_of.Reads as side-of-reads
-use Rattle.contexts.proofs.halves.keep.Reads as keep-reads
-use Rattle.contexts.proofs.held.bring_end.Reads as bring-end-reads
-use Rattle.terms.proofs.acting.narrow.Reads as narrow-reads
 
 -- src/rules.rt:102:9
 keep-requires : tie.Need-keep-requires

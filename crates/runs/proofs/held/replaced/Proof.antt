@@ -1,69 +1,17 @@
 use borrow.Author.Needs.{needs}
 use native.Mathlib.Omega.{arith}
-use Prim.Native.Nat.{_-_, _*_}
-use mathlib.Core.Path.{_≡_, refl}
-use lib.ListN.{length}
-use Rattle.runs.specs.Raw.{endOf}
+use mathlib.Core.Path.{refl}
 use Rattle.runs.specs.Values.{heldIn}
-use Rattle.runs.proofs.Rows.{pair-written, end-packed}
 use Rattle.runs.proofs.Ends.{ends-set}
 use Rattle.runs.proofs.held.replaced.Statement.{statement}
 use Rattle.runs.proofs.held.replaced.Tie as tie
 
-mul-w : tie.Need-mul-w
-mul-w c = search needs
-
-add-w : tie.Need-add-w
-add-w c = search needs
-
-mul-w-2 : tie.Need-mul-w-2
-mul-w-2 c = search needs
-
-mul-w-3 : tie.Need-mul-w-3
-mul-w-3 c = search needs
-
-array-write-w : tie.Need-array-write-w
-array-write-w c = search needs
-
-mul-w-4 : tie.Need-mul-w-4
-mul-w-4 c = search needs
-
-add-w-2 : tie.Need-add-w-2
-add-w-2 c = search needs
-
-mul-w-5 : tie.Need-mul-w-5
-mul-w-5 c = search needs
-
-add-w-3 : tie.Need-add-w-3
-add-w-3 c = search needs
-
-mul-w-6 : tie.Need-mul-w-6
-mul-w-6 c = search needs
-
-array-write-w-2 : tie.Need-array-write-w-2
-array-write-w-2 c = search needs
+put-end-requires : tie.Need-put-end-requires
+put-end-requires c κs = search needs
 
 returns : tie.Need-returns
 unfolding heldIn
-returns c =
-    let a = c .before .before .before .before .before .args in
-    let l : length (a .h .words) ≡ 32 = search needs in
-    let w = pair-written endOf (a .h .words) (2 * a .k) _ _ _ (omega arith) (end-packed (a .e .name) (a .e .side) (a .e .node) (a .e .channel) (omega arith) (omega arith)) in
-    (ends-set _ _ (a .h .count) (a .k) _ w (omega arith), refl)
+returns c = let a = c .before .before .args in (ends-set _ _ (a .h .count) (a .k) _ (c .put-end .ensures) (omega arith), refl)
 
 pub replaced-spec : {M : Type 1} → statement M
-replaced-spec =
-    tie.close
-    (tie.spec
-    mul-w
-    add-w
-    mul-w-2
-    mul-w-3
-    array-write-w
-    mul-w-4
-    add-w-2
-    mul-w-5
-    add-w-3
-    mul-w-6
-    array-write-w-2
-    returns)
+replaced-spec = tie.close (tie.spec put-end-requires returns)

@@ -1,8 +1,10 @@
 use borrow.Author.Needs.{needs}
 use native.Mathlib.Omega.{arith}
-use mathlib.Core.Path.{_∙_}
-use lib.ListN.{length-set}
+use Prim.Native.Nat.{_+_, _≤_}
+use mathlib.Core.Path.{_≡_, _∙_, ap}
+use lib.ListN.{length, getD, length-set}
 use Rattle.runs.specs.Values.{heldIn}
+use Rattle.runs.proofs.Rows.{moved-as}
 use Rattle.runs.proofs.Slices.{written}
 use Rattle.runs.proofs.processes.put.Statement.{statement}
 use Rattle.runs.proofs.processes.put.Tie as tie
@@ -40,20 +42,27 @@ mul-run-4 c = search needs
 slice-write-run-3 : tie.Need-slice-write-run-3
 slice-write-run-3 c = simp length-set (omega arith)
 
-add-copy-in : tie.Need-add-copy-in
-add-copy-in c = search needs
+slice-aggregate-copy-words : tie.Need-slice-aggregate-copy-words
+slice-aggregate-copy-words c = search needs
 
-copy-in-requires : tie.Need-copy-in-requires
-copy-in-requires c κs = simp length-set (omega arith)
+add-copy-words : tie.Need-add-copy-words
+add-copy-words c = search needs
+
+copy-words-requires : tie.Need-copy-words-requires
+copy-words-requires c κs =
+    let a = c .before .before .before .before .before .before .before .before .args in
+    let l : length (a .p .held .words) ≡ 32 = search needs in
+    let w : 0 + 32 ≤ length (a .p .held .words) = omega (arith, l) in (w, simp length-set (omega arith))
 
 same-length : tie.Need-same-length
-same-length c = c .before .before .copy-in .ensures .long ∙ simp length-set
+same-length c = c .before .before .copy-words .ensures .long ∙ simp length-set
 
 returns : tie.Need-returns
 unfolding heldIn
 returns c =
     let a = c .before .before .before .before .before .before .before .before .before .before .before .args in
-    written (a .run .now) (a .at) (a .p .kind) (a .p .pointer) (a .p .link) (a .p .held .count) (a .p .held .words) _ (omega arith) (omega arith) (omega arith) (c .before .before .copy-in .ensures)
+    written (a .run .now) (a .at) (a .p .kind) (a .p .pointer) (a .p .link) (a .p .held .count) (a .p .held .words) _ (omega arith) (omega arith) (omega arith)
+    (moved-as _ _ _ _ _ _ (λ k. ap (λ m. getD (a .p .held .words) m 0) (omega arith)) (c .before .before .copy-words .ensures))
 
 pub put-spec : {M : Type 1} → statement M
 put-spec =
@@ -70,7 +79,8 @@ put-spec =
     add-run-3
     mul-run-4
     slice-write-run-3
-    add-copy-in
-    copy-in-requires
+    slice-aggregate-copy-words
+    add-copy-words
+    copy-words-requires
     same-length
     returns)
