@@ -1,3 +1,4 @@
 pub mod Scans
 pub mod ByteTables
 pub mod Tokens
+pub mod Names

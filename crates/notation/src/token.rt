@@ -257,7 +257,24 @@ pub fn name_of(text: &[u8], at: usize) -> &[u8]
 pub fn names_equal(text: &[u8], a: usize, b: usize) -> bool
     ensures { λ r. ⌜ r ≡ same (nameAt (now (text .entry)) a) (nameAt (now (text .entry)) b) ⌝ }
 {
-    same_bytes(name_of(text, a), name_of(text, b))
+    if a == b {
+        return true;
+    }
+    let mut x = a;
+    let mut y = b;
+    while x < text.len() {
+        let c = text[x];
+        let d = byte_at(text, y);
+        if !is_name_byte(c) {
+            return !is_name_byte(d);
+        }
+        if c != d {
+            return false;
+        }
+        x += 1;
+        y += 1;
+    }
+    !is_name_byte(byte_at(text, y))
 }
 
 // A token of this kind whose name stands from `from` to `end`; a name that is too long is at fault.
