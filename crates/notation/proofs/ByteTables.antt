@@ -34,7 +34,7 @@ abbrev pub tab : (ℕ → ℕ) → ℕ → ℕ → List ℕ
 tab f i zero = []
 tab f i (suc n) = f i ∷ tab f (suc i) n
 
-tab-from : (f : ℕ → ℕ) (i n k : ℕ) → k < n → getD (tab f i n) k 0 ≡ f (i + k)
+pub tab-from : (f : ℕ → ℕ) (i n k : ℕ) → k < n → getD (tab f i n) k 0 ≡ f (i + k)
 tab-from f i zero k h = absurd (not-suc-le-zero h)
 tab-from f i (suc n) zero h = rw add-zero
 tab-from f i (suc n) (suc k) h = rw (add-suc, ← suc-add) (tab-from f (suc i) n k (le-of-suc-le-suc h))

@@ -5,7 +5,7 @@ ghost use mathlib.Core.Bool.{not};
 ghost use mathlib.Core.List.{[]};
 ghost use lib.ListN.{length, getD, take, drop};
 ghost use Rattle.notation.specs.Bytes.{letter, nameByte, blank, same};
-ghost use Rattle.notation.specs.Token.{symbols, rows, symbol, skip, nameEnd, nameAt, named, wordAt, labelAt, markAt, firstAt, tokenAt, Onward};
+ghost use Rattle.notation.specs.Token.{symbols, rows, symbol, beginning, skip, nameEnd, nameAt, named, wordAt, labelAt, markAt, firstAt, tokenAt, Onward};
 use crate::script::Script;
 
 // A token: its kind, where its first byte stands, and where the byte after its last one stands.
@@ -134,6 +134,13 @@ const CLASS: [u8; 256] =
 const SYMBOLS: [u8; 210] =
     *b"\x04type\x00\x00\x04proc\x00\x00\x04exec\x00\x00\x04send\x00\x00\x04recv\x00\x00\x03fwd\x00\x00\x00\x04call\x00\x00\x06cancel\x05raise\x00\x03try\x00\x00\x00\x05catch\x00\x02-o\x00\x00\x00\x00\x02<-\x00\x00\x00\x00\x02=>\x00\x00\x00\x00\x01(\x00\x00\x00\x00\x00\x01)\x00\x00\x00\x00\x00\x01[\x00\x00\x00\x00\x00\x01]\x00\x00\x00\x00\x00\x01{\x00\x00\x00\x00\x00\x01}\x00\x00\x00\x00\x00\x01:\x00\x00\x00\x00\x00\x01,\x00\x00\x00\x00\x00\x01;\x00\x00\x00\x00\x00\x01=\x00\x00\x00\x00\x00\x01|\x00\x00\x00\x00\x00\x011\x00\x00\x00\x00\x00\x01*\x00\x00\x00\x00\x00\x01@\x00\x00\x00\x00\x00\x01+\x00\x00\x00\x00\x00\x01&\x00\x00\x00\x00\x00";
 
+// For each byte the first symbol that begins with it, and for each symbol the next that begins as it does: its place added to the
+// byte 0, or N for none.
+const FIRST: [u8; 256] =
+    *b"NNNNNNNNNNNNNNNNNNNNNNNNNNNNNNNNNNNNNNMN>?JLE;NNNINNNNNNNNDF<=NNKNNNNNNNNNNNNNNNNNNNNNNNNNN@NANNNNN6N25NNNNNNNNN1N430NNNNNNBHCNNNNNNNNNNNNNNNNNNNNNNNNNNNNNNNNNNNNNNNNNNNNNNNNNNNNNNNNNNNNNNNNNNNNNNNNNNNNNNNNNNNNNNNNNNNNNNNNNNNNNNNNNNNNNNNNNNNNNNNNNNNNNNNNNN";
+
+const NEXT: [u8; 30] = *b"9NNN8N7:NNNNNGNNNNNNNNNNNNNNNN";
+
 fn is_letter(b: u8) -> bool
     ensures { λ r. ⌜ r ≡ letter b ⌝ }
 {
@@ -216,17 +223,33 @@ fn is_symbol(w: &[u8], table: &[u8], k: usize) -> bool
     same_bytes(w, &table[from..to])
 }
 
+// The first symbol that begins with a byte.
+fn first_symbol(b: u8) -> usize
+    ensures { λ r. ⌜ r ≡ beginning b 0 ⌝ }
+{
+    FIRST[b as usize] as usize - 48
+}
+
+// The next symbol that begins as the k-th does.
+fn next_symbol(k: usize) -> usize
+    requires { ⌜ k < 30 ⌝ }
+    ensures { λ r. ⌜ r ≡ beginning (getD (getD symbols k []) 0 0) (k + 1) ⌝ }
+    ensures { λ r. ⌜ k < r ⌝ }
+{
+    NEXT[k] as usize - 48
+}
+
 // The kind of the bytes w: a symbol's place in the table, or a name's kind.
 fn symbol(w: &[u8]) -> usize
     ensures { λ r. ⌜ r ≡ symbol (now (w .entry)) ⌝ }
 {
     let table = SYMBOLS;
-    let mut k = 0;
+    let mut k = first_symbol(byte_at(w, 0));
     while k < 30 {
         if is_symbol(w, &table, k) {
             return k;
         }
-        k += 1;
+        k = next_symbol(k);
     }
     k
 }
@@ -297,8 +320,8 @@ fn named(kind: usize, start: usize, from: usize, end: usize) -> Token
 fn word_at(text: &[u8], i: usize) -> Token
     ensures { λ r. ⌜ r ≡ wordAt (now (text .entry)) i ⌝ }
 {
-    let k = symbol(name_of(text, i));
     let e = name_end(text, i);
+    let k = symbol(part(text, i, e - i));
     named(k, i, i, e)
 }
 

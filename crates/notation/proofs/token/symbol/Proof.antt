@@ -1,58 +1,64 @@
 use borrow.Author.Needs.{needs}
 use mathlib.Core.Path.{refl, sym, _∙_}
-use mathlib.Core.List.{[]}
-use Prim.Native.Nat.{_-_, _≤_}
-use Rattle.notation.specs.Bytes.{same}
-use Rattle.notation.specs.Token.{symbols, symbol}
-use Rattle.notation.proofs.Scans.{Scan, scan-hit, scan-next, scan-end}
+use Prim.Native.Nat.{_-_}
+use native.Mathlib.Omega.{arith}
+use Rattle.notation.specs.Token.{symbols}
+use Rattle.notation.proofs.Symbols.{Sought, sought-first, sought-next, sought-hit, sought-end}
 use Rattle.notation.proofs.token.symbol.Statement.{statement}
 use Rattle.notation.proofs.token.symbol.Tie as tie
 use Rattle.notation.proofs.token.symbol.Reads as reads
 use Rattle.notation.proofs.token.symbol.Lts as lts
+use Rattle.notation.proofs.token.byte_at.Reads as byte-at-reads
+use Rattle.notation.proofs.token.first_symbol.Reads as first-symbol-reads
 use Rattle.notation.proofs.token.is_symbol.Reads as is-symbol-reads
+use Rattle.notation.proofs.token.next_symbol.Reads as next-symbol-reads
 
 abbrev Inv-loop : tie.InvT-loop
-Inv-loop w table k₀ k = (k ≤ 30) × Scan (same w) symbols 0 k
+Inv-loop w table k₀ k = Sought w k
 
 abbrev μ-loop : tie.MeasureT-loop
 μ-loop w table k₀ k = 30 - k
 
--- src/token.rt:225:5
-loop-holds : tie.Need-loop-holds Inv-loop μ-loop
-unfolding symbols
-loop-holds c = (search needs, record { left = refl })
+-- src/token.rt:247:30
+byte-at-requires : tie.Need-byte-at-requires Inv-loop μ-loop
+byte-at-requires c κs = search needs
 
--- src/token.rt:226:25
+-- src/token.rt:247:9
+first-symbol-requires : tie.Need-first-symbol-requires Inv-loop μ-loop
+first-symbol-requires c κs = search needs
+
+-- src/token.rt:248:5
+loop-holds : tie.Need-loop-holds Inv-loop μ-loop
+loop-holds c = sought-first (c .before .before .before .args .w .now) _ _ (c .before .byte-at .ensures) (c .first-symbol .ensures)
+
+-- src/token.rt:249:25
 slice-aggregate-is-symbol : tie.Need-slice-aggregate-is-symbol Inv-loop μ-loop
 slice-aggregate-is-symbol c = search needs
 
--- src/token.rt:226:12
+-- src/token.rt:249:12
 is-symbol-requires : tie.Need-is-symbol-requires Inv-loop μ-loop
 unfolding symbols
 is-symbol-requires c κs = (search needs, refl)
 
--- src/token.rt:227:13
+-- src/token.rt:250:13
 returns : tie.Need-returns Inv-loop μ-loop
-unfolding symbols symbol
-returns c = scan-hit (c .before .before .before .before .loop .inv .1) [] (search needs) (sym (c .before .is-symbol .ensures) ∙ c .if1 .taken)
+returns c = sought-hit (c .before .before .before .before .before .before .before .before .args .w .now) _ (c .before .before .before .before .loop .inv) (search needs) (sym (c .before .is-symbol .ensures) ∙ c .if1 .taken)
 
--- src/token.rt:229:9
-add-k : tie.Need-add-k Inv-loop μ-loop
-add-k c = search needs
+-- src/token.rt:252:9
+next-symbol-requires : tie.Need-next-symbol-requires Inv-loop μ-loop
+next-symbol-requires c κs = search needs
 
--- src/token.rt:225:5
+-- src/token.rt:248:5
 loop-less : tie.Need-loop-less Inv-loop μ-loop
-loop-less c = search needs
+loop-less c = omega (arith, c .next-symbol .ensures .1)
 
--- src/token.rt:225:5
+-- src/token.rt:248:5
 loop-again : tie.Need-loop-again Inv-loop μ-loop
-unfolding symbols
-loop-again c = (search needs, scan-next (c .before .before .before .before .loop .inv .1) [] (search needs) (sym (c .before .is-symbol .ensures) ∙ c .if1 .left))
+loop-again c = sought-next (c .before .before .before .before .before .before .before .before .before .args .w .now) _ (c .before .before .before .before .before .loop .inv) _ (search needs) (sym (c .before .before .is-symbol .ensures) ∙ c .before .if1 .left) (c .next-symbol .ensures .0)
 
--- src/token.rt:220:1
+-- src/token.rt:243:1
 returns-2 : tie.Need-returns-2 Inv-loop μ-loop
-unfolding symbols symbol
-returns-2 c = scan-end (c .before .loop .inv .1) (search needs)
+returns-2 c = sought-end (c .before .before .before .before .before .args .w .now) _ (c .before .loop .inv) (search needs)
 
 pub symbol-spec : {M : Type 1} → statement M
 symbol-spec =
@@ -60,11 +66,13 @@ symbol-spec =
     (tie.spec
     Inv-loop
     μ-loop
+    byte-at-requires
+    first-symbol-requires
     loop-holds
     slice-aggregate-is-symbol
     is-symbol-requires
     returns
-    add-k
+    next-symbol-requires
     loop-less
     loop-again
     returns-2)
