@@ -1,0 +1,2 @@
+// Output: a text's pieces written to standard output.
+pub mod text;
