@@ -57,32 +57,32 @@ heldThere ws i = processOf (processRow ws i) .held
 abbrev pub heldFrom : ℕ → ℕ → List ℕ → ℕ → ℕ → Found
 heldFrom channel side ws i k = firstFrom (isEnd channel (sideOf side)) (heldThere ws i) k
 
-module _ (ws : List ℕ) (i channel side k at : ℕ) (s : side < 2) (h : k < processRow ws i 2) (e : at ≡ 83 + 40 * i + 2 * k) where
+pub length-there : (ws : List ℕ) (i : ℕ) → length (heldThere ws i) ≡ processRow ws i 2
+length-there ws i = length-tab (λ j. endOf (λ t. processRow ws i (3 + 2 * j + t))) (processRow ws i 2)
+
+module _ (ws : List ℕ) (i k at : ℕ) (h : k < processRow ws i 2) (e : at ≡ 83 + 40 * i + 2 * k) where
   abbrev endThere : End
   endThere = record { name = word ws at / 2; side = word ws at % 2; node = word ws (at + 1) / 512; channel = word ws (at + 1) % 512 }
 
-  end-there : getElem? (heldThere ws i) k ≡ some (endIn endThere)
+  pub end-there : getElem? (heldThere ws i) k ≡ some (endIn endThere)
   end-there =
       let x : 80 + 40 * i + (3 + 2 * k + 0) ≡ at = omega arith in
       let y : 80 + 40 * i + (3 + 2 * k + 1) ≡ at + 1 = omega arith in
       at-tab _ (processRow ws i 2) k h ∙ ap {B = Option RawEnd} some (end-of (λ t. processRow ws i (3 + 2 * k + t)) (ap (word ws) x) (ap (word ws) y))
 
-  side-there : endThere .side < 2
-  side-there = omega arith
+  module _ (channel side : ℕ) (s : side < 2) where
+    pub there-stops : channel ≡ word ws (at + 1) % 512 → side ≡ word ws at % 2 → heldFrom channel side ws i k ≡ found.At k
+    there-stops p q = stops-here (isEnd channel (sideOf side)) (heldThere ws i) k end-there (end-found channel side endThere s (omega arith) p q)
 
-  pub there-stops : channel ≡ word ws (at + 1) % 512 → side ≡ word ws at % 2 → heldFrom channel side ws i k ≡ found.At k
-  there-stops p q = stops-here (isEnd channel (sideOf side)) (heldThere ws i) k end-there (end-found channel side endThere s side-there p q)
+    pub there-other-side : channel ≡ word ws (at + 1) % 512 → (side ≡ word ws at % 2 → ⊥) → heldFrom channel side ws i k ≡ heldFrom channel side ws i (k + 1)
+    there-other-side p q = goes-on (isEnd channel (sideOf side)) (heldThere ws i) k end-there (end-other-side channel side endThere s (omega arith) p q)
 
-  pub there-other-side : channel ≡ word ws (at + 1) % 512 → (side ≡ word ws at % 2 → ⊥) → heldFrom channel side ws i k ≡ heldFrom channel side ws i (k + 1)
-  there-other-side p q = goes-on (isEnd channel (sideOf side)) (heldThere ws i) k end-there (end-other-side channel side endThere s side-there p q)
-
-  pub there-elsewhere : (channel ≡ word ws (at + 1) % 512 → ⊥) → heldFrom channel side ws i k ≡ heldFrom channel side ws i (k + 1)
-  there-elsewhere p = goes-on (isEnd channel (sideOf side)) (heldThere ws i) k end-there (end-elsewhere channel side endThere s side-there p)
+    pub there-elsewhere : (channel ≡ word ws (at + 1) % 512 → ⊥) → heldFrom channel side ws i k ≡ heldFrom channel side ws i (k + 1)
+    there-elsewhere p = goes-on (isEnd channel (sideOf side)) (heldThere ws i) k end-there (end-elsewhere channel side endThere s (omega arith) p)
 
 pub there-ends : (channel side : ℕ) (ws : List ℕ) (i k : ℕ) → processRow ws i 2 ≤ k → heldFrom channel side ws i k ≡ found.Nothing
 there-ends channel side ws i k h =
-    scan-end (firstStep (isEnd channel (sideOf side))) found.Nothing (heldThere ws i) k
-    (omega (arith, length-tab (λ j. endOf (λ t. processRow ws i (3 + 2 * j + t))) (processRow ws i 2)))
+    scan-end (firstStep (isEnd channel (sideOf side))) found.Nothing (heldThere ws i) k (omega (arith, length-there ws i))
 
 -- the search for a holder from a place on
 abbrev pub holderFrom : ℕ → Side → List RawProcess → ℕ → Holder

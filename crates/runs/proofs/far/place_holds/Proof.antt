@@ -69,7 +69,7 @@ returns : tie.Need-returns Inv-loop μ-loop
 returns c =
     let a = c .before .before .before .before .before .before .before .before .before .args in
     let b = c .before .before .before .before .before .loop in
-    sym (b .inv .1 ∙ there-stops (a .run .now) (a .i) (a .channel) (a .side) (b .k) _ (c .before .before .before .before .before .before .before .before .before .pre .0 .2) (omega arith) refl (c .before .before .if1 .taken) (c .if2 .taken))
+    sym (b .inv .1 ∙ there-stops (a .run .now) (a .i) (b .k) _ (omega arith) refl (a .channel) (a .side) (c .before .before .before .before .before .before .before .before .before .pre .0 .2) (c .before .before .if1 .taken) (c .if2 .taken))
 
 add-k : tie.Need-add-k Inv-loop μ-loop
 add-k c = search needs
@@ -83,8 +83,8 @@ loop-again c =
     let b = c .before .before .before .loop in (
       b .inv .0,
       b .inv .1 ∙ ⊎-elim
-          (λ w. there-other-side (a .run .now) (a .i) (a .channel) (a .side) (b .k) _ (c .before .before .before .before .before .before .before .pre .0 .2) (omega arith) refl (w .0 .taken) (w .2 .left))
-          (λ w. there-elsewhere (a .run .now) (a .i) (a .channel) (a .side) (b .k) _ (c .before .before .before .before .before .before .before .pre .0 .2) (omega arith) refl (w .left))
+          (λ w. there-other-side (a .run .now) (a .i) (b .k) _ (omega arith) refl (a .channel) (a .side) (c .before .before .before .before .before .before .before .pre .0 .2) (w .0 .taken) (w .2 .left))
+          (λ w. there-elsewhere (a .run .now) (a .i) (b .k) _ (omega arith) refl (a .channel) (a .side) (c .before .before .before .before .before .before .before .pre .0 .2) (w .left))
           (c .if1 .came),
     )
 
