@@ -2,16 +2,15 @@
 use Prim.Native.Nat.{ℕ, suc, _+_, _-_, _≤_, _<_}
 use mathlib.Core.Path.{_≡_, refl, sym, ap, subst, _∙_}
 use mathlib.Core.List.{List, [], _∷_}
-use mathlib.Core.Bool.{Bool, true, false, false≢true}
-use native.Mathlib.Nat.{zero-add}
+use mathlib.Core.Bool.{Bool, true, false, false≢true, _||_}
 use native.Mathlib.Omega.{arith}
 use lib.Dec.{T, eqb, eqb→eq}
-use lib.ListN.{length, getD, drop, length-drop}
+use lib.ListN.{getD, drop, length-drop}
 use lib.Seq.{drop-drop, getD-drop}
 use borrow.Author.Tests.{eq-eqb}
-use Rattle.notation.specs.Bytes.{find, same}
+use Rattle.notation.specs.Bytes.{bytes, find, same}
 use Rattle.notation.specs.Token.{symbols, symbol, beginning}
-use Rattle.notation.proofs.ByteTables.{same→eq, tab, tab-from}
+use Rattle.notation.proofs.ByteTables.{below, below-at, same→eq}
 use Rattle.notation.proofs.Scans.{Scan, scan-next, scan-hit, scan-end}
 use Rattle.notation.proofs.Tokens.{find-case, find-ge, find-le, find-at}
 
@@ -41,11 +40,7 @@ module _ {A : Type 0} (p q : A → Bool) (weaker : (x : A) → q x ≡ false →
       record { left = ap (λ l. find p l j) (sym d) ∙ find-leap (drop i xs) i ∙ v .left }
 
 -- ── the symbols
-pub beginning-later : (b k : ℕ) → k ≤ beginning b k
-unfolding beginning
-beginning-later b k = find-ge _ (drop k symbols) k
-
-pub beginning-most : (b k : ℕ) → k ≤ 30 → beginning b k ≤ 30
+beginning-most : (b k : ℕ) → k ≤ 30 → beginning b k ≤ 30
 unfolding beginning symbols
 beginning-most b k h = omega (arith, find-le (λ v. eqb b (getD v 0 0)) (drop k symbols) k, length-drop k symbols)
 
@@ -81,11 +76,9 @@ sought w i h v =
           eqb→eq (getD w 0 0) (getD (getD symbols j []) 0 0) (subst T (sym (ap q (sym e) ∙ t)) tt);
     }
 
-pub sought-first : (w : List ℕ) (b k : ℕ) → b ≡ getD w 0 0 → k ≡ beginning b 0 → Sought w k
+pub sought-from : (w : List ℕ) (k : ℕ) → k ≡ beginning (getD w 0 0) 0 → Sought w k
 unfolding symbols
-sought-first w b k e f =
-    let z : k ≡ beginning (getD w 0 0) 0 = f ∙ ap (λ c. beginning c 0) e in
-    subst (Sought w) (sym z) (sought w 0 (omega arith) (record { left = refl }))
+sought-from w k e = subst (Sought w) (sym e) (sought w 0 (omega arith) (record { left = refl }))
 
 module _ (w : List ℕ) (k : ℕ) (v : Sought w k) where
   pub sought-next : (j : ℕ) → k < 30 → same w (getD symbols k []) ≡ false → j ≡ beginning (getD (getD symbols k []) 0 0) (k + 1) → Sought w j
@@ -102,35 +95,24 @@ module _ (w : List ℕ) (k : ℕ) (v : Sought w k) where
   unfolding symbols symbol
   sought-end h = scan-end (v .scan) h
 
--- ── the tables of places, each added to the byte 0
-abbrev pub firsts : List ℕ
-firsts = tab (λ b. 48 + beginning b 0) 0 256
+-- ── the places in the code: what is so for every number but the listed ones
+abbrev pub among : ℕ → List ℕ → Bool
+among b [] = false
+among b (k ∷ ks) = eqb b k || among b ks
 
-abbrev pub nexts : List ℕ
-nexts = tab (λ k. 48 + beginning (getD (getD symbols k []) 0 0) (k + 1)) 0 30
+other-than : (f : ℕ → ℕ) (ks : List ℕ) (v n : ℕ) → T (below (λ b. among b ks || eqb v (f b)) n) → (b : ℕ) → b < n → among b ks ≡ false → v ≡ f b
+other-than f ks v n t b h e = eqb→eq v (f b) (subst T (ap (λ a. a || eqb v (f b)) e) (below-at (λ b. among b ks || eqb v (f b)) n t b h))
 
-pub first-is : (b : ℕ) → b < 256 → getD firsts b 0 ≡ 48 + beginning b 0
-first-is b h = tab-from (λ b. 48 + beginning b 0) 0 256 b h ∙ ap (λ c. 48 + beginning c 0) (zero-add b)
+abbrev pub firstBytes : List ℕ
+firstBytes = bytes "tpesrfc-<=()[]{}:,;|1*@+&"
 
-pub next-is : (k : ℕ) → k < 30 → getD nexts k 0 ≡ 48 + beginning (getD (getD symbols k []) 0 0) (k + 1)
-next-is k h =
-    tab-from (λ k. 48 + beginning (getD (getD symbols k []) 0 0) (k + 1)) 0 30 k h
-    ∙ ap (λ j. 48 + beginning (getD (getD symbols j []) 0 0) (j + 1)) (zero-add k)
+pub begins-none : (b : ℕ) → b < 256 → among b firstBytes ≡ false → 30 ≡ beginning b 0
+unfolding beginning symbols find
+begins-none b h e = other-than (λ b. beginning b 0) firstBytes 30 256 tt b h e
 
-pub first-small : (b : ℕ) → b < 256 → getD firsts b 0 < 256
-first-small b h = omega (arith, first-is b h, beginning-most b 0 (omega arith))
+abbrev pub followed : List ℕ
+followed = 0 ∷ 4 ∷ 6 ∷ 7 ∷ 13 ∷ []
 
-pub first-large : (b : ℕ) → b < 256 → 48 ≤ getD firsts b 0
-first-large b h = omega (arith, first-is b h)
-
-pub first-place : (b : ℕ) → b < 256 → getD firsts b 0 - 48 ≡ beginning b 0
-first-place b h = omega (arith, first-is b h)
-
-pub next-small : (k : ℕ) → k < 30 → getD nexts k 0 < 256
-next-small k h = omega (arith, next-is k h, beginning-most (getD (getD symbols k []) 0 0) (k + 1) (omega arith))
-
-pub next-large : (k : ℕ) → k < 30 → 48 ≤ getD nexts k 0
-next-large k h = omega (arith, next-is k h)
-
-pub next-place : (k : ℕ) → k < 30 → (getD nexts k 0 - 48 ≡ beginning (getD (getD symbols k []) 0 0) (k + 1)) × (k < getD nexts k 0 - 48)
-next-place k h = (omega (arith, next-is k h), omega (arith, next-is k h, beginning-later (getD (getD symbols k []) 0 0) (k + 1)))
+pub follows-none : (k : ℕ) → k < 30 → among k followed ≡ false → 30 ≡ beginning (getD (getD symbols k []) 0 0) (k + 1)
+unfolding beginning symbols find
+follows-none k h e = other-than (λ k. beginning (getD (getD symbols k []) 0 0) (k + 1)) followed 30 30 tt k h e

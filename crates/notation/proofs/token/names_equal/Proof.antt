@@ -1,8 +1,8 @@
-use mathlib.Core.Path.{_≡_, refl, sym, ap, _∙_}
+use mathlib.Core.Path.{refl, sym, ap, _∙_}
 use mathlib.Core.Bool.{true, false, not}
 use native.Mathlib.Omega.{arith}
 use Prim.Native.Nat.{_-_}
-use lib.ListN.{length, getD}
+use lib.ListN.{length}
 use Rattle.notation.specs.Bytes.{nameByte}
 use Rattle.notation.proofs.Names.{same-names, negated, Matched, matched-end, matched-past, matched-differ, matched-in, matched-next}
 use borrow.Author.Needs.{needs}
