@@ -1,13 +1,13 @@
--- The constant tables of the code: each one's rule is a test that is computed over the whole table.
+-- The constant table of the symbols: its rule is a test that is computed over the whole table.
 use Prim.Native.Nat.{ℕ, zero, suc, _+_, _*_, _≤_, _<_}
-use mathlib.Core.Path.{_≡_, refl, sym, ap, _∙_, subst}
-use mathlib.Core.List.{List, [], _∷_, _++_}
-use mathlib.Core.Bool.{Bool, true, false, cond, not, _&&_}
+use mathlib.Core.Path.{_≡_, refl, sym, ap, subst}
+use mathlib.Core.List.{List, [], _∷_}
+use mathlib.Core.Bool.{Bool, true, false, _&&_}
 use mathlib.Core.Logic.{⊎-elim}
-use native.Mathlib.Nat.{le-of-suc-le-suc, not-suc-le-zero, eq-or-lt-of-le, add-zero, zero-add, add-suc, suc-add}
+use native.Mathlib.Nat.{le-of-suc-le-suc, not-suc-le-zero, eq-or-lt-of-le}
 use lib.Dec.{T, leb, eqb, eqb→eq, leb→le}
 use lib.ListN.{length, getD, take, drop}
-use Rattle.notation.specs.Bytes.{letter, nameByte, blank, same}
+use Rattle.notation.specs.Bytes.{same}
 use Rattle.notation.specs.Token.{symbols, rows}
 
 and-left : (a b : Bool) → T (a && b) → T a
@@ -28,37 +28,6 @@ below-at f zero t k h = absurd (not-suc-le-zero h)
 below-at f (suc n) t k h =
     ⊎-elim (λ e. subst (λ (m : ℕ). T (f m)) (sym e) (and-left (f n) (below f n) t))
     (λ l. below-at f n (and-right (f n) (below f n) t) k l) (eq-or-lt-of-le (le-of-suc-le-suc h))
-
--- f's values at n numbers from i: a table that the code writes out
-abbrev pub tab : (ℕ → ℕ) → ℕ → ℕ → List ℕ
-tab f i zero = []
-tab f i (suc n) = f i ∷ tab f (suc i) n
-
-tab-from : (f : ℕ → ℕ) (i n k : ℕ) → k < n → getD (tab f i n) k 0 ≡ f (i + k)
-tab-from f i zero k h = absurd (not-suc-le-zero h)
-tab-from f i (suc n) zero h = rw add-zero
-tab-from f i (suc n) (suc k) h = rw (add-suc, ← suc-add) (tab-from f (suc i) n k (le-of-suc-le-suc h))
-
--- ── the classes of bytes
-unfoldable pub classOf : ℕ → ℕ
-classOf b = cond (letter b) 97 (cond (nameByte b) 98 (cond (blank b) 100 99))
-
--- two tests agree
-abbrev pub alike : Bool → Bool → Bool
-alike true b = b
-alike false b = not b
-
-alike-eq : (a b : Bool) → T (alike a b) → a ≡ b
-alike-eq true true t = refl
-alike-eq true false t = absurd t
-alike-eq false true t = absurd t
-alike-eq false false t = refl
-
--- a test f of a byte's class, read from the table, is the test g of the byte
-pub by-class : (f g : ℕ → Bool) → T (below (λ b. alike (f (classOf b)) (g b)) 256) → (b : ℕ) → b < 256 → f (getD (tab classOf 0 256) b 0) ≡ g b
-by-class f g t b h =
-    ap f (tab-from classOf 0 256 b h ∙ ap classOf (zero-add b))
-    ∙ alike-eq (f (classOf b)) (g b) (below-at (λ b. alike (f (classOf b)) (g b)) 256 t b h)
 
 pub same→eq : (xs ys : List ℕ) → T (same xs ys) → xs ≡ ys
 unfolding same

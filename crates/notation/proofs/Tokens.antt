@@ -17,7 +17,7 @@ use Rattle.notation.specs.declared.token.Token.{Token}
 use Rattle.notation.proofs.ByteTables.{below, below-at, same→eq}
 
 module _ {A : Type 0} (p : A → Bool) where
-  find-case : (P : ℕ → Type 0) (x : A) (xs : List A) (k : ℕ) → (p x ≡ true → P k) → (p x ≡ false → P (find p xs (suc k))) → P (find p (x ∷ xs) k)
+  pub find-case : (P : ℕ → Type 0) (x : A) (xs : List A) (k : ℕ) → (p x ≡ true → P k) → (p x ≡ false → P (find p xs (suc k))) → P (find p (x ∷ xs) k)
   unfolding find
   find-case P x xs k f g = go (p x) refl
     where
@@ -35,7 +35,7 @@ module _ {A : Type 0} (p : A → Bool) where
   find-le [] k = omega arith
   find-le (x ∷ xs) k = find-case (λ j. j ≤ k + length (x ∷ xs)) x xs k (λ _. omega arith) (λ _. omega (arith, find-le xs (suc k)))
 
-  find-at : (d : A) (xs : List A) (k : ℕ) → find p xs k < k + length xs → p (getD xs (find p xs k - k) d) ≡ true
+  pub find-at : (d : A) (xs : List A) (k : ℕ) → find p xs k < k + length xs → p (getD xs (find p xs k - k) d) ≡ true
   unfolding find
   find-at d [] k = λ h. absurd (omega arith)
   find-at d (x ∷ xs) k =

@@ -162,6 +162,10 @@ rows (w ∷ ws) = length w ∷ pad 6 w ++ rows ws
 unfoldable pub symbol : List ℕ → ℕ
 symbol w = find (same w) symbols 0
 
+-- the first symbol from the k-th on that begins with a byte, by which the code searches
+unfoldable pub beginning : ℕ → ℕ → ℕ
+beginning b k = find (λ v. eqb b (getD v 0 0)) (drop k symbols) k
+
 -- "Space, tab, LF and CR separate tokens": where the next byte stands that is none of them
 unfoldable pub skip : List ℕ → ℕ → ℕ
 skip s at = find (λ b. not (blank b)) (drop at s) at

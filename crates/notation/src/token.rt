@@ -4,8 +4,8 @@ ghost use Prim.Native.Nat.{ℕ, _+_, _-_, _≤_, _<_};
 ghost use mathlib.Core.Bool.{not};
 ghost use mathlib.Core.List.{[]};
 ghost use lib.ListN.{length, getD, take, drop};
-ghost use Rattle.notation.specs.Bytes.{letter, nameByte, blank, same};
-ghost use Rattle.notation.specs.Token.{symbols, rows, symbol, skip, nameEnd, nameAt, named, wordAt, labelAt, markAt, firstAt, tokenAt, Onward};
+ghost use Rattle.notation.specs.Bytes.{within, letter, nameByte, blank, same};
+ghost use Rattle.notation.specs.Token.{symbols, rows, symbol, beginning, skip, nameEnd, nameAt, named, wordAt, labelAt, markAt, firstAt, tokenAt, Onward};
 use crate::script::Script;
 
 // A token: its kind, where its first byte stands, and where the byte after its last one stands.
@@ -126,30 +126,54 @@ pub enum DeclarationHead {
     Other,
 }
 
-// The class of each byte: a letter a, another byte of a name b, a blank d, any other c.
-const CLASS: [u8; 256] =
-    *b"cccccccccddccdccccccccccccccccccdcccccccccccccccbbbbbbbbbbcccccccaaaaaaaaaaaaaaaaaaaaaaaaaaccccbcaaaaaaaaaaaaaaaaaaaaaaaaaaccccccccccccccccccccccccccccccccccccccccccccccccccccccccccccccccccccccccccccccccccccccccccccccccccccccccccccccccccccccccccccccccccccc";
-
 // "The eleven reserved words stand in one table": each with its length, in a row of seven bytes; then the marks.
 const SYMBOLS: [u8; 210] =
     *b"\x04type\x00\x00\x04proc\x00\x00\x04exec\x00\x00\x04send\x00\x00\x04recv\x00\x00\x03fwd\x00\x00\x00\x04call\x00\x00\x06cancel\x05raise\x00\x03try\x00\x00\x00\x05catch\x00\x02-o\x00\x00\x00\x00\x02<-\x00\x00\x00\x00\x02=>\x00\x00\x00\x00\x01(\x00\x00\x00\x00\x00\x01)\x00\x00\x00\x00\x00\x01[\x00\x00\x00\x00\x00\x01]\x00\x00\x00\x00\x00\x01{\x00\x00\x00\x00\x00\x01}\x00\x00\x00\x00\x00\x01:\x00\x00\x00\x00\x00\x01,\x00\x00\x00\x00\x00\x01;\x00\x00\x00\x00\x00\x01=\x00\x00\x00\x00\x00\x01|\x00\x00\x00\x00\x00\x011\x00\x00\x00\x00\x00\x01*\x00\x00\x00\x00\x00\x01@\x00\x00\x00\x00\x00\x01+\x00\x00\x00\x00\x00\x01&\x00\x00\x00\x00\x00";
 
+// Tests of bytes are comparisons: a table would be made anew on the stack for each byte.
+fn within(low: u8, high: u8, b: u8) -> bool
+    ensures { λ r. ⌜ r ≡ within low high b ⌝ }
+{
+    if low <= b {
+        return b <= high;
+    }
+    false
+}
+
 fn is_letter(b: u8) -> bool
     ensures { λ r. ⌜ r ≡ letter b ⌝ }
 {
-    CLASS[b as usize] == b'a'
+    if within(65, 90, b) {
+        return true;
+    }
+    within(97, 122, b)
 }
 
 fn is_name_byte(b: u8) -> bool
     ensures { λ r. ⌜ r ≡ nameByte b ⌝ }
 {
-    CLASS[b as usize] <= b'b'
+    if is_letter(b) {
+        return true;
+    }
+    if within(48, 57, b) {
+        return true;
+    }
+    b == b'_'
 }
 
 fn is_blank(b: u8) -> bool
     ensures { λ r. ⌜ r ≡ blank b ⌝ }
 {
-    CLASS[b as usize] == b'd'
+    if b == b' ' {
+        return true;
+    }
+    if b == b'\t' {
+        return true;
+    }
+    if b == b'\n' {
+        return true;
+    }
+    b == b'\r'
 }
 
 // The byte at i, and 0 past the end.
@@ -216,17 +240,79 @@ fn is_symbol(w: &[u8], table: &[u8], k: usize) -> bool
     same_bytes(w, &table[from..to])
 }
 
-// The kind of the bytes w: a symbol's place in the table, or a name's kind.
-fn symbol(w: &[u8]) -> usize
+// The first symbol that begins with a byte.
+fn first_symbol(b: u8) -> usize
+    ensures { λ r. ⌜ r ≡ beginning b 0 ⌝ }
+{
+    match b {
+        b't' => 0,
+        b'p' => 1,
+        b'e' => 2,
+        b's' => 3,
+        b'r' => 4,
+        b'f' => 5,
+        b'c' => 6,
+        b'-' => 11,
+        b'<' => 12,
+        b'=' => 13,
+        b'(' => 14,
+        b')' => 15,
+        b'[' => 16,
+        b']' => 17,
+        b'{' => 18,
+        b'}' => 19,
+        b':' => 20,
+        b',' => 21,
+        b';' => 22,
+        b'|' => 24,
+        b'1' => 25,
+        b'*' => 26,
+        b'@' => 27,
+        b'+' => 28,
+        b'&' => 29,
+        _ => 30,
+    }
+}
+
+// The next symbol that begins as the k-th does.
+fn next_symbol(k: usize) -> usize
+    requires { ⌜ k < 30 ⌝ }
+    ensures { λ r. ⌜ r ≡ beginning (getD (getD symbols k []) 0 0) (k + 1) ⌝ }
+    ensures { λ r. ⌜ k < r ⌝ }
+{
+    match k {
+        0 => 9,
+        4 => 8,
+        6 => 7,
+        7 => 10,
+        13 => 23,
+        _ => 30,
+    }
+}
+
+// The kind of the bytes w, which begin as the symbol `from` does and are none before it.
+fn symbol_from(w: &[u8], from: usize) -> usize
+    requires { ⌜ from ≡ beginning (getD (now w) 0 0) 0 ⌝ }
     ensures { λ r. ⌜ r ≡ symbol (now (w .entry)) ⌝ }
 {
     let table = SYMBOLS;
-    let mut k = 0;
+    let mut k = from;
     while k < 30 {
         if is_symbol(w, &table, k) {
             return k;
         }
-        k += 1;
+        k = next_symbol(k);
+    }
+    k
+}
+
+// The kind of the bytes w: a symbol's place in the table, or a name's kind, which most have for their first byte alone.
+fn symbol(w: &[u8]) -> usize
+    ensures { λ r. ⌜ r ≡ symbol (now (w .entry)) ⌝ }
+{
+    let k = first_symbol(byte_at(w, 0));
+    if k < 30 {
+        return symbol_from(w, k);
     }
     k
 }
@@ -257,7 +343,24 @@ pub fn name_of(text: &[u8], at: usize) -> &[u8]
 pub fn names_equal(text: &[u8], a: usize, b: usize) -> bool
     ensures { λ r. ⌜ r ≡ same (nameAt (now (text .entry)) a) (nameAt (now (text .entry)) b) ⌝ }
 {
-    same_bytes(name_of(text, a), name_of(text, b))
+    if a == b {
+        return true;
+    }
+    let mut x = a;
+    let mut y = b;
+    while x < text.len() {
+        let c = text[x];
+        let d = byte_at(text, y);
+        if !is_name_byte(c) {
+            return !is_name_byte(d);
+        }
+        if c != d {
+            return false;
+        }
+        x += 1;
+        y += 1;
+    }
+    !is_name_byte(byte_at(text, y))
 }
 
 // A token of this kind whose name stands from `from` to `end`; a name that is too long is at fault.
@@ -280,8 +383,8 @@ fn named(kind: usize, start: usize, from: usize, end: usize) -> Token
 fn word_at(text: &[u8], i: usize) -> Token
     ensures { λ r. ⌜ r ≡ wordAt (now (text .entry)) i ⌝ }
 {
-    let k = symbol(name_of(text, i));
     let e = name_end(text, i);
+    let k = symbol(part(text, i, e - i));
     named(k, i, i, e)
 }
 

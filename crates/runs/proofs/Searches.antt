@@ -1,19 +1,21 @@
 -- Laws of searches in lists.
-use Prim.Native.Nat.{ℕ, zero, suc, _+_, _-_, _≤_, _<_}
+use Prim.Native.Nat.{ℕ, zero, suc, _+_, _-_, _*_, _/_, _%_, _≤_, _<_}
 use native.Mathlib.Omega.{arith}
 use mathlib.Core.List.{List}
 use mathlib.Core.Path.{_≡_, refl, sym, ap, ap₂, _∙_}
-use mathlib.Core.Option.{some}
+use mathlib.Core.Option.{Option, some}
 use mathlib.Core.Bool.{Bool, true, false, cond, _&&_}
 use borrow.Author.Tests.{eq-eqb, ne-eqb}
 use lib.Dec.{eqb}
 use lib.ListN.{length, getElem?, drop}
 use Rattle.calculus.specs.Types.{Side, provided, used, other}
 use Rattle.runs.specs.Lists.{scan}
-use Rattle.runs.specs.ListLaws.{scan-step, scan-end}
-use Rattle.runs.specs.Raw.{RawProcess, RawConfig, sideOf}
+use Rattle.runs.specs.ListLaws.{length-tab, at-tab, scan-step, scan-end}
+use Rattle.runs.specs.Raw.{RawEnd, RawProcess, RawConfig, sideOf, endOf, processOf}
 use Rattle.runs.specs.Values.{endIn}
 use Rattle.runs.specs.Operations.{firstStep, isEnd, heldAt, holderHere, holderStep, holderOf, outsideAt, orOutside, farFrom, farEnd}
+use Rattle.runs.specs.RowLaws.{end-of}
+use Rattle.runs.specs.SliceLaws.{word, processRow}
 use Rattle.runs.specs.declared.records.End.{End}
 use Rattle.notation.specs.declared.reading.Found.{Found}
 use Rattle.notation.specs.declared.reading.Found.the-variants as found
@@ -47,6 +49,40 @@ module _ (channel side : ℕ) (e : End) (s : side < 2) (t : e .side < 2) where
 
   pub end-elsewhere : (channel ≡ e .channel → ⊥) → isEnd channel (sideOf side) (endIn e) ≡ false
   end-elsewhere p = rw (end-test, ne-eqb _ _ p)
+
+-- the same search in the words of the process at a place: its end k begins at the word `at`
+abbrev pub heldThere : List ℕ → ℕ → List RawEnd
+heldThere ws i = processOf (processRow ws i) .held
+
+abbrev pub heldFrom : ℕ → ℕ → List ℕ → ℕ → ℕ → Found
+heldFrom channel side ws i k = firstFrom (isEnd channel (sideOf side)) (heldThere ws i) k
+
+pub length-there : (ws : List ℕ) (i : ℕ) → length (heldThere ws i) ≡ processRow ws i 2
+length-there ws i = length-tab (λ j. endOf (λ t. processRow ws i (3 + 2 * j + t))) (processRow ws i 2)
+
+module _ (ws : List ℕ) (i k at : ℕ) (h : k < processRow ws i 2) (e : at ≡ 83 + 40 * i + 2 * k) where
+  abbrev endThere : End
+  endThere = record { name = word ws at / 2; side = word ws at % 2; node = word ws (at + 1) / 512; channel = word ws (at + 1) % 512 }
+
+  pub end-there : getElem? (heldThere ws i) k ≡ some (endIn endThere)
+  end-there =
+      let x : 80 + 40 * i + (3 + 2 * k + 0) ≡ at = omega arith in
+      let y : 80 + 40 * i + (3 + 2 * k + 1) ≡ at + 1 = omega arith in
+      at-tab _ (processRow ws i 2) k h ∙ ap {B = Option RawEnd} some (end-of (λ t. processRow ws i (3 + 2 * k + t)) (ap (word ws) x) (ap (word ws) y))
+
+  module _ (channel side : ℕ) (s : side < 2) where
+    pub there-stops : channel ≡ word ws (at + 1) % 512 → side ≡ word ws at % 2 → heldFrom channel side ws i k ≡ found.At k
+    there-stops p q = stops-here (isEnd channel (sideOf side)) (heldThere ws i) k end-there (end-found channel side endThere s (omega arith) p q)
+
+    pub there-other-side : channel ≡ word ws (at + 1) % 512 → (side ≡ word ws at % 2 → ⊥) → heldFrom channel side ws i k ≡ heldFrom channel side ws i (k + 1)
+    there-other-side p q = goes-on (isEnd channel (sideOf side)) (heldThere ws i) k end-there (end-other-side channel side endThere s (omega arith) p q)
+
+    pub there-elsewhere : (channel ≡ word ws (at + 1) % 512 → ⊥) → heldFrom channel side ws i k ≡ heldFrom channel side ws i (k + 1)
+    there-elsewhere p = goes-on (isEnd channel (sideOf side)) (heldThere ws i) k end-there (end-elsewhere channel side endThere s (omega arith) p)
+
+pub there-ends : (channel side : ℕ) (ws : List ℕ) (i k : ℕ) → processRow ws i 2 ≤ k → heldFrom channel side ws i k ≡ found.Nothing
+there-ends channel side ws i k h =
+    scan-end (firstStep (isEnd channel (sideOf side))) found.Nothing (heldThere ws i) k (omega (arith, length-there ws i))
 
 -- the search for a holder from a place on
 abbrev pub holderFrom : ℕ → Side → List RawProcess → ℕ → Holder

@@ -1,18 +1,15 @@
 // Channel places: the lowest that is free, and of how many an end is held.
 ghost use mathlib.Core.Path.{_≡_};
-ghost use Prim.Native.Nat.{ℕ, _≤_, _<_};
+ghost use Prim.Native.Nat.{ℕ, _+_, _*_, _≤_, _<_};
 ghost use mathlib.Core.List.{List, [], map};
-ghost use lib.ListN.{length};
+ghost use lib.ListN.{length, getD};
 ghost use Rattle.notation.specs.Limits.{runWords};
-ghost use Rattle.runs.specs.Raw.{RawOutside, rawIn, Bounded};
-ghost use Rattle.runs.specs.Values.{heldIn, Marked};
+ghost use Rattle.runs.specs.Raw.{RawOutside, rawIn, processOf, Bounded};
+ghost use Rattle.runs.specs.Values.{Marked};
 ghost use Rattle.runs.specs.Operations.{heldChannels, processChannels, channelsHeld, freshChannel, busyPlaces, foundIn};
-use crate::held::end_at;
 use crate::outside::outside_at;
 use crate::outside::outside_count;
 use crate::processes::count;
-use crate::processes::load;
-use crate::records::Held;
 use crate::words::wide;
 use notation::reading::Found;
 use notation::script::Script;
@@ -31,16 +28,17 @@ fn mark_outside(marks: &mut [u32; 512], run: &[u32])
     }
 }
 
-// Marks the channels that a process holds.
-fn mark_held(marks: &mut [u32; 512], h: Held)
-    requires { ⌜ h .count ≤ 16 ⌝ }
-    ensures { λ r. ⌜ ((l : List ℕ) → Marked (now (marks .entry)) l → Marked (now (marks .exit)) (heldChannels (heldIn h) l)) ⌝ }
+// Marks the channels that the process at a place holds, read off its words.
+fn mark_held(marks: &mut [u32; 512], run: &[u32], i: usize)
+    requires { ⌜ (runWords ≤ length (now run)) × (i < 128) ⌝ }
+    requires { ⌜ getD (now run) (80 + 40 * i + 2) 0 ≤ 16 ⌝ }
+    ensures { λ r. ⌜ ((l : List ℕ) → Marked (now (marks .entry)) l → Marked (now (marks .exit)) (heldChannels (processOf (λ t. getD (now (run .entry)) (80 + 40 * i + t) 0) .held) l)) ⌝ }
 {
-    let mut k = h.count;
+    let mut k = wide(run[80 + 40 * i + 2]);
     while 0 < k {
         k -= 1;
-        let e = end_at(h, k);
-        marks[wide(e.channel)] = 1;
+        let at = 83 + 40 * i + 2 * k;
+        marks[wide(run[at + 1] % 512)] = 1;
     }
 }
 
@@ -53,9 +51,7 @@ fn mark_processes(marks: &mut [u32; 512], run: &[u32])
     let mut i = count(run);
     while 0 < i {
         i -= 1;
-        let p = load(run, i);
-        let h = p.held;
-        mark_held(marks, h);
+        mark_held(marks, run, i);
     }
 }
 

@@ -1,17 +1,36 @@
 // Who holds an end, and the far end of one.
 ghost use mathlib.Core.Path.{_≡_};
-ghost use Prim.Native.Nat.{ℕ, _-_, _≤_, _<_};
-ghost use lib.ListN.{length};
+ghost use Prim.Native.Nat.{ℕ, _+_, _-_, _*_, _≤_, _<_};
+ghost use lib.ListN.{length, getD};
 ghost use Rattle.notation.specs.Limits.{runWords};
-ghost use Rattle.runs.specs.Raw.{rawIn, sideOf, Bounded};
-ghost use Rattle.runs.specs.Operations.{holderOf, farEnd};
-use crate::held::position;
+ghost use Rattle.runs.specs.Raw.{rawIn, sideOf, processOf, Bounded};
+ghost use Rattle.runs.specs.Operations.{heldAt, holderOf, farEnd};
 use crate::outside::find_outside;
 use crate::processes::count;
-use crate::processes::load;
 use crate::records::Far;
 use crate::records::Holder;
+use crate::words::wide;
 use notation::reading::Found;
+
+// The first position at which the process at a place holds an end, read off its words: to load the process would copy them all.
+fn place_holds(run: &[u32], i: usize, channel: u32, side: u32) -> Found
+    requires { ⌜ (runWords ≤ length (now run)) × (i < 128) × (side < 2) ⌝ }
+    requires { ⌜ getD (now run) (80 + 40 * i + 2) 0 ≤ 16 ⌝ }
+    ensures { λ r. ⌜ r ≡ heldAt channel (sideOf side) (processOf (λ t. getD (now (run .entry)) (80 + 40 * i + t) 0) .held) ⌝ }
+{
+    let n = wide(run[80 + 40 * i + 2]);
+    let mut k: usize = 0;
+    while k < n {
+        let at = 83 + 40 * i + 2 * k;
+        if channel == run[at + 1] % 512 {
+            if side == run[at] % 2 {
+                return Found::At(k);
+            }
+        }
+        k += 1;
+    }
+    Found::Nothing
+}
 
 // The first process that holds an end.
 pub fn holder(run: &[u32], channel: u32, side: u32) -> Holder
@@ -23,9 +42,7 @@ pub fn holder(run: &[u32], channel: u32, side: u32) -> Holder
     let n = count(run);
     let mut i: usize = 0;
     while i < n {
-        let p = load(run, i);
-        let h = p.held;
-        let f = position(h, channel, side);
+        let f = place_holds(run, i, channel, side);
         match f {
             Found::At(k) => return Holder::At(i, k),
             Found::Nothing => {}

@@ -1,20 +1,27 @@
-use lib.Dec.{eqb}
-use Rattle.notation.specs.Bytes.{letter, nameByte, blank}
-use Rattle.notation.proofs.ByteTables.{classOf, by-class}
-use borrow.Author.Needs.{needs}
+use borrow.Author.Tests.{eq-eqb, ne-eqb}
+use Rattle.notation.specs.Bytes.{blank}
 use Rattle.notation.proofs.token.is_blank.Statement.{statement}
 use Rattle.notation.proofs.token.is_blank.Tie as tie
-use Rattle.notation.proofs.token.is_blank.Reads as reads
-use Rattle.notation.proofs.token.is_blank.Lts as lts
 
--- src/token.rt:93:5
-array-read-result : tie.Need-array-read-result
-array-read-result c = search needs
-
--- src/token.rt:90:1
+-- src/token.rt:168:9
 returns : tie.Need-returns
-unfolding classOf letter nameByte blank
-returns c = by-class (λ k. eqb k 100) blank tt (c .args .b) (search needs)
+unfolding blank
+returns c = rw (eq-eqb _ _ (c .if1 .taken))
+
+-- src/token.rt:171:9
+returns-2 : tie.Need-returns-2
+unfolding blank
+returns-2 c = rw (ne-eqb _ _ (c .before .if1 .left), eq-eqb _ _ (c .if2 .taken))
+
+-- src/token.rt:174:9
+returns-3 : tie.Need-returns-3
+unfolding blank
+returns-3 c = rw (ne-eqb _ _ (c .before .before .if1 .left), ne-eqb _ _ (c .before .if2 .left), eq-eqb _ _ (c .if3 .taken))
+
+-- src/token.rt:164:1
+returns-4 : tie.Need-returns-4
+unfolding blank
+returns-4 c = rw (ne-eqb _ _ (c .before .before .if1 .left), ne-eqb _ _ (c .before .if2 .left), ne-eqb _ _ (c .if3 .left))
 
 pub is-blank-spec : {M : Type 1} → statement M
-is-blank-spec = tie.close (tie.spec array-read-result returns)
+is-blank-spec = tie.close (tie.spec returns returns-2 returns-3 returns-4)

@@ -1,20 +1,31 @@
-use lib.Dec.{leb}
-use Rattle.notation.specs.Bytes.{letter, nameByte, blank}
-use Rattle.notation.proofs.ByteTables.{classOf, by-class}
 use borrow.Author.Needs.{needs}
+use Rattle.notation.specs.Bytes.{nameByte}
 use Rattle.notation.proofs.token.is_name_byte.Statement.{statement}
 use Rattle.notation.proofs.token.is_name_byte.Tie as tie
-use Rattle.notation.proofs.token.is_name_byte.Reads as reads
-use Rattle.notation.proofs.token.is_name_byte.Lts as lts
 
--- src/token.rt:87:5
-array-read-result : tie.Need-array-read-result
-array-read-result c = search needs
+-- src/token.rt:155:8
+is-letter-requires : tie.Need-is-letter-requires
+is-letter-requires c κs = search needs
 
--- src/token.rt:84:1
+-- src/token.rt:156:9
 returns : tie.Need-returns
-unfolding classOf letter nameByte blank
-returns c = by-class (λ k. leb k 98) nameByte tt (c .args .b) (search needs)
+unfolding nameByte
+returns c = rw (← c .before .is-letter .ensures, c .if1 .taken)
+
+-- src/token.rt:158:8
+within-requires : tie.Need-within-requires
+within-requires c κs = search needs
+
+-- src/token.rt:159:9
+returns-2 : tie.Need-returns-2
+unfolding nameByte
+returns-2 c = rw (← c .before .before .before .is-letter .ensures, c .before .before .if1 .left, ← c .before .within .ensures, c .if2 .taken)
+
+-- src/token.rt:152:1
+returns-3 : tie.Need-returns-3
+unfolding nameByte
+returns-3 c = rw (← c .before .before .before .is-letter .ensures, c .before .before .if1 .left, ← c .before .within .ensures, c .if2 .left)
 
 pub is-name-byte-spec : {M : Type 1} → statement M
-is-name-byte-spec = tie.close (tie.spec array-read-result returns)
+is-name-byte-spec =
+    tie.close (tie.spec is-letter-requires returns within-requires returns-2 returns-3)

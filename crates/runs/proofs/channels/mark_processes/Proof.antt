@@ -1,11 +1,12 @@
 use borrow.Author.Needs.{needs}
 use native.Mathlib.Omega.{arith}
-use Prim.Native.Nat.{ℕ, _-_, _≤_}
+use Prim.Native.Nat.{ℕ, _-_, _≤_, _<_}
 use mathlib.Core.Path.{sym, ap}
 use mathlib.Core.List.{List}
 use lib.ListN.{length, drop}
 use Rattle.runs.specs.Raw.{RawProcess, rawIn}
 use Rattle.runs.specs.Values.{Marked}
+use Rattle.runs.specs.SliceLaws.{process-at, held-few}
 use Rattle.runs.specs.Operations.{processChannels}
 use Rattle.runs.proofs.Marks.{marked-as, drop-none, drop-all, process-turn}
 use Rattle.runs.proofs.channels.mark_processes.Statement.{statement}
@@ -28,20 +29,22 @@ loop-holds c =
 sub-i : tie.Need-sub-i Inv-loop μ-loop
 sub-i c = search needs
 
-load-requires : tie.Need-load-requires Inv-loop μ-loop
-load-requires c κs = search needs
-
 mark-held-requires : tie.Need-mark-held-requires Inv-loop μ-loop
-mark-held-requires c κs = search needs
+mark-held-requires c κs =
+    let a = c .before .before .before .before .before .args in
+    let b = c .before .before .loop in
+    let w = c .before .before .before .before .before .pre .1 in
+    let here : b .i - 1 < length (rawIn (a .run .now) .processes) = omega arith in
+    ((c .before .before .before .before .before .pre .0, omega (arith, w .places)), held-few (a .run .now) (b .i - 1) w here)
 
 loop-less : tie.Need-loop-less Inv-loop μ-loop
 loop-less c = search needs
 
 loop-again : tie.Need-loop-again Inv-loop μ-loop
 loop-again c =
-    let a = c .before .before .before .before .before .before .before .before .args in
-    let b = c .before .before .before .before .before .loop in
-    (omega arith, λ l m. marked-as _ (process-turn (rawIn (a .run .now) .processes) (b .i - 1) (b .i) l (c .before .before .before .load .ensures .0) (omega arith)) (c .mark-held .ensures _ (b .inv .1 l m)))
+    let a = c .before .before .before .before .before .before .args in
+    let b = c .before .before .before .loop in
+    (omega arith, λ l m. marked-as _ (process-turn (rawIn (a .run .now) .processes) (b .i - 1) (b .i) l (process-at (a .run .now) (b .i - 1) (omega arith)) (omega arith)) (c .mark-held .ensures _ (b .inv .1 l m)))
 
 returns : tie.Need-returns Inv-loop μ-loop
 returns c =
@@ -58,7 +61,6 @@ mark-processes-spec =
     count-requires
     loop-holds
     sub-i
-    load-requires
     mark-held-requires
     loop-less
     loop-again

@@ -1,9 +1,10 @@
 use borrow.Author.Needs.{needs}
 use native.Mathlib.Omega.{arith}
-use Prim.Native.Nat.{_-_}
+use Prim.Native.Nat.{_-_, _<_}
 use mathlib.Core.Path.{_≡_, refl, sym, _∙_}
 use lib.ListN.{length}
 use Rattle.runs.specs.Raw.{rawIn, sideOf}
+use Rattle.runs.specs.SliceLaws.{process-at, held-few}
 use Rattle.runs.specs.Operations.{holderOf}
 use Rattle.runs.proofs.Searches.{holderFrom, holder-turn, holder-end}
 use Rattle.runs.proofs.far.holder.Statement.{statement}
@@ -22,20 +23,21 @@ loop-holds : tie.Need-loop-holds Inv-loop μ-loop
 unfolding holderOf
 loop-holds c = (c .count .ensures, refl)
 
-load-requires : tie.Need-load-requires Inv-loop μ-loop
-load-requires c κs = let s = c .before .before .before .before in (s .pre .0, (s .pre .1 .0, omega arith))
-
-position-requires : tie.Need-position-requires Inv-loop μ-loop
-position-requires c κs = search needs
+place-holds-requires : tie.Need-place-holds-requires Inv-loop μ-loop
+place-holds-requires c κs =
+    let s = c .before .before .before .before in
+    let b = c .before .loop in
+    let here : b .i < length (rawIn (s .args .run .now) .processes) = omega arith in
+    ((s .pre .0, omega (arith, s .pre .1 .0 .places), s .pre .1 .1), held-few (s .args .run .now) (b .i) (s .pre .1 .0) here)
 
 enum-known-f : tie.Need-enum-known-f Inv-loop μ-loop
 enum-known-f c = search needs
 
 returns : tie.Need-returns Inv-loop μ-loop
 returns c =
-    let a = c .before .before .before .before .before .before .before .before .before .before .args in
-    let b = c .before .before .before .before .before .before .before .loop in
-    sym (b .inv .1 ∙ holder-turn (a .channel) (sideOf (a .side)) (rawIn (a .run .now) .processes) (b .i) _ (c .before .before .before .before .before .load .ensures .0) (sym (c .before .before .before .position .ensures) ∙ c .before .f .given .1))
+    let a = c .before .before .before .before .before .before .before .before .args in
+    let b = c .before .before .before .before .before .loop in
+    sym (b .inv .1 ∙ holder-turn (a .channel) (sideOf (a .side)) (rawIn (a .run .now) .processes) (b .i) _ (process-at (a .run .now) (b .i) (omega arith)) (sym (c .before .before .before .place-holds .ensures) ∙ c .before .f .given .1))
 
 enum-told : tie.Need-enum-told Inv-loop μ-loop
 enum-told c = search needs
@@ -48,9 +50,9 @@ loop-less c = search needs
 
 loop-again : tie.Need-loop-again Inv-loop μ-loop
 loop-again c =
-    let a = c .before .before .before .before .before .before .before .before .before .args in
-    let b = c .before .before .before .before .before .before .loop in
-    (b .inv .0, b .inv .1 ∙ holder-turn (a .channel) (sideOf (a .side)) (rawIn (a .run .now) .processes) (b .i) _ (c .before .before .before .before .load .ensures .0) (sym (c .before .before .position .ensures) ∙ c .enum-told .given .1))
+    let a = c .before .before .before .before .before .before .before .args in
+    let b = c .before .before .before .before .loop in
+    (b .inv .0, b .inv .1 ∙ holder-turn (a .channel) (sideOf (a .side)) (rawIn (a .run .now) .processes) (b .i) _ (process-at (a .run .now) (b .i) (omega arith)) (sym (c .before .before .place-holds .ensures) ∙ c .enum-told .given .1))
 
 returns-2 : tie.Need-returns-2 Inv-loop μ-loop
 returns-2 c = let b = c .before .loop in sym (b .inv .1 ∙ holder-end _ _ _ (b .i) (omega arith))
@@ -63,8 +65,7 @@ holder-spec =
     μ-loop
     count-requires
     loop-holds
-    load-requires
-    position-requires
+    place-holds-requires
     enum-known-f
     returns
     enum-told

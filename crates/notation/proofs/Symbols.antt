@@ -1,0 +1,118 @@
+-- The search among the symbols: from one that begins with a byte to the next that does.
+use Prim.Native.Nat.{ℕ, suc, _+_, _-_, _≤_, _<_}
+use mathlib.Core.Path.{_≡_, refl, sym, ap, subst, _∙_}
+use mathlib.Core.List.{List, [], _∷_}
+use mathlib.Core.Bool.{Bool, true, false, false≢true, _||_}
+use native.Mathlib.Omega.{arith}
+use lib.Dec.{T, eqb, eqb→eq}
+use lib.ListN.{getD, drop, length-drop}
+use lib.Seq.{drop-drop, getD-drop}
+use borrow.Author.Tests.{eq-eqb}
+use Rattle.notation.specs.Bytes.{bytes, find, same}
+use Rattle.notation.specs.Token.{symbols, symbol, beginning}
+use Rattle.notation.proofs.ByteTables.{below, below-at, same→eq}
+use Rattle.notation.proofs.Scans.{Scan, scan-next, scan-hit, scan-end}
+use Rattle.notation.proofs.Tokens.{find-case, find-ge, find-le, find-at}
+
+-- ── a search may leap over what fails a weaker test
+module _ {A : Type 0} (p q : A → Bool) (weaker : (x : A) → q x ≡ false → p x ≡ false) where
+  find-past : (x : A) (xs : List A) (k : ℕ) → p x ≡ false → find p xs (suc k) ≡ find p (x ∷ xs) k
+  unfolding find
+  find-past x xs k e = rw (find, e)
+
+  find-leap : (xs : List A) (k : ℕ) → find p (drop (find q xs k - k) xs) (find q xs k) ≡ find p xs k
+  unfolding find
+  find-leap [] k = let z : k - k ≡ 0 = omega arith in rw z
+  find-leap (x ∷ xs) k =
+      find-case q (λ j. find p (drop (j - k) (x ∷ xs)) j ≡ find p (x ∷ xs) k) x xs k
+      (λ _. let z : k - k ≡ 0 = omega arith in rw z)
+      (λ e.
+      let g = find-ge q xs (suc k) in
+      let z : find q xs (suc k) - k ≡ suc (find q xs (suc k) - suc k) = omega arith in
+      rw z (find-leap xs (suc k) ∙ find-past x xs k (weaker x e)))
+
+  scan-leap : (xs : List A) (at i : ℕ) → Scan p xs at i → Scan p xs at (find q (drop i xs) i)
+  scan-leap xs at i v =
+      let j = find q (drop i xs) i in
+      let g = find-ge q (drop i xs) i in
+      let z : i + (j - i) ≡ j = omega arith in
+      let d : drop (j - i) (drop i xs) ≡ drop j xs = drop-drop (j - i) i xs ∙ ap (λ m. drop m xs) z in
+      record { left = ap (λ l. find p l j) (sym d) ∙ find-leap (drop i xs) i ∙ v .left }
+
+-- ── the symbols
+beginning-most : (b k : ℕ) → k ≤ 30 → beginning b k ≤ 30
+unfolding beginning symbols
+beginning-most b k h = omega (arith, find-le (λ v. eqb b (getD v 0 0)) (drop k symbols) k, length-drop k symbols)
+
+-- a symbol that begins with another byte is not w
+otherwise : (w v : List ℕ) → eqb (getD w 0 0) (getD v 0 0) ≡ false → same w v ≡ false
+otherwise w v e = go (same w v) refl
+  where
+    go : (t : Bool) → same w v ≡ t → t ≡ false
+    go true r =
+        let q : w ≡ v = same→eq w v (subst T (sym r) tt) in
+        absurd (false≢true (sym e ∙ eq-eqb (getD w 0 0) (getD v 0 0) (ap (λ l. getD l 0 0) q)))
+    go false r = refl
+
+-- w is none of the symbols before the k-th, which begins as w does
+pub record Sought (w : List ℕ) (k : ℕ) : Type 0 where
+  pub most : k ≤ 30
+  pub scan : Scan (same w) symbols 0 k
+  pub begins : k < 30 → getD w 0 0 ≡ getD (getD symbols k []) 0 0
+
+sought : (w : List ℕ) (i : ℕ) → i ≤ 30 → Scan (same w) symbols 0 i → Sought w (beginning (getD w 0 0) i)
+unfolding beginning symbols
+sought w i h v =
+    let q : List ℕ → Bool = λ v. eqb (getD w 0 0) (getD v 0 0) in
+    let j = find q (drop i symbols) i in
+    let g = find-ge q (drop i symbols) i in
+    record {
+      most = beginning-most (getD w 0 0) i h;
+      scan = scan-leap (same w) q (otherwise w) symbols 0 i v;
+      begins = λ l.
+          let z : i + (j - i) ≡ j = omega arith in
+          let t : q (getD (drop i symbols) (j - i) []) ≡ true = find-at q [] (drop i symbols) i (omega (arith, length-drop i symbols)) in
+          let e : getD (drop i symbols) (j - i) [] ≡ getD symbols j [] = getD-drop i symbols (j - i) [] ∙ ap (λ m. getD symbols m []) z in
+          eqb→eq (getD w 0 0) (getD (getD symbols j []) 0 0) (subst T (sym (ap q (sym e) ∙ t)) tt);
+    }
+
+pub sought-from : (w : List ℕ) (k : ℕ) → k ≡ beginning (getD w 0 0) 0 → Sought w k
+unfolding symbols
+sought-from w k e = subst (Sought w) (sym e) (sought w 0 (omega arith) (record { left = refl }))
+
+module _ (w : List ℕ) (k : ℕ) (v : Sought w k) where
+  pub sought-next : (j : ℕ) → k < 30 → same w (getD symbols k []) ≡ false → j ≡ beginning (getD (getD symbols k []) 0 0) (k + 1) → Sought w j
+  unfolding symbols
+  sought-next j h e f =
+      let z : j ≡ beginning (getD w 0 0) (k + 1) = f ∙ ap (λ c. beginning c (k + 1)) (sym (v .begins h)) in
+      subst (Sought w) (sym z) (sought w (k + 1) (omega arith) (scan-next (v .scan) [] h e))
+
+  pub sought-hit : k < 30 → same w (getD symbols k []) ≡ true → k ≡ symbol w
+  unfolding symbols symbol
+  sought-hit h e = scan-hit (v .scan) [] h e
+
+  pub sought-end : 30 ≤ k → k ≡ symbol w
+  unfolding symbols symbol
+  sought-end h = scan-end (v .scan) h
+
+-- ── the places in the code: what is so for every number but the listed ones
+abbrev pub among : ℕ → List ℕ → Bool
+among b [] = false
+among b (k ∷ ks) = eqb b k || among b ks
+
+other-than : (f : ℕ → ℕ) (ks : List ℕ) (v n : ℕ) → T (below (λ b. among b ks || eqb v (f b)) n) → (b : ℕ) → b < n → among b ks ≡ false → v ≡ f b
+other-than f ks v n t b h e = eqb→eq v (f b) (subst T (ap (λ a. a || eqb v (f b)) e) (below-at (λ b. among b ks || eqb v (f b)) n t b h))
+
+abbrev pub firstBytes : List ℕ
+firstBytes = bytes "tpesrfc-<=()[]{}:,;|1*@+&"
+
+pub begins-none : (b : ℕ) → b < 256 → among b firstBytes ≡ false → 30 ≡ beginning b 0
+unfolding beginning symbols find
+begins-none b h e = other-than (λ b. beginning b 0) firstBytes 30 256 tt b h e
+
+abbrev pub followed : List ℕ
+followed = 0 ∷ 4 ∷ 6 ∷ 7 ∷ 13 ∷ []
+
+pub follows-none : (k : ℕ) → k < 30 → among k followed ≡ false → 30 ≡ beginning (getD (getD symbols k []) 0 0) (k + 1)
+unfolding beginning symbols find
+follows-none k h e = other-than (λ k. beginning (getD (getD symbols k []) 0 0) (k + 1)) followed 30 30 tt k h e
