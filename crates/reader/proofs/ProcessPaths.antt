@@ -22,7 +22,7 @@ use Rattle.notation.specs.declared.token.TermHead.{TermHead}
 use Rattle.notation.specs.declared.token.TermHead.the-variants.{Send, Recv, Fwd, Cancel, Raise, Try, Spawn, Empty}
 use Rattle.typereader.specs.declared.steps.Out.{Out}
 use Rattle.typereader.specs.declared.steps.Out.the-variants.{Got, Not}
-use Rattle.typereader.specs.Filling.{TypeRead, Stepped, asOut, misfitOut, Put, Room, Form, Made, Meets, unread}
+use Rattle.typereader.specs.Filling.{TypeRead, Stepped, Closes, not-read, not-closed, read, asOut, misfitOut, Put, Room, Form, Made, Meets, unread}
 use Rattle.reader.specs.Processes.{payloadTaken, payloadThen, labelThen, nameColon, sentOf, sentNode, recvdOf, recvdNode, FineProcess, FineBranches, processForm, branchesForm, partsForm, termBy, handlerBy, TermRead, SentRead, HandlerRead, OneRead, LabelsRead, BracketedRead, PartsRead, ProcessRead, RestRead, BranchesRead, MoreBranchesRead}
 use Rattle.notation.specs.declared.token.Payload.{Payload}
 use Rattle.notation.specs.declared.token.Payload.the-variants.{Unit as UnitPayload, Channel, Label, Other}
@@ -229,21 +229,21 @@ module _ (s w : List ℕ) (c : Cursor) (k : Tally) (room : Room s w c k) {q : Ta
   bracketed-no g h = meets-no s w c k (refused-out g h) same (λ m _. rw (took u g))
 
   module _ {i : ℕ} {d : Cursor} (e : q ≡ At i d) {p : Out} {v : List ℕ} (t : ProcessRead s w d k p v) where
-    pub bracketed-inner-no : {n j : ℕ} → p ≡ Not n j → BracketedRead s w c k p v
+    bracketed-inner-no : {n j : ℕ} → p ≡ Not n j → BracketedRead s w c k p v
     unfolding bracketedBy
     bracketed-inner-no g =
         let o = u .on i d e in
         meets-no s w c k g (t .kept) (λ m lo. rw (took u e, stopped (readProcess m s d) (t .is m (omega arith)) g))
 
     module _ {f : Cursor} {l : Tally} (g : p ≡ Got f l) {x : Taken} (y : Stepped s f 1 0 0 (expect s kRoundClose f) x) where
-      pub bracketed-close-no : {r : Out} {n j : ℕ} → x ≡ Refused n j → r ≡ asOut x → BracketedRead s w c k r v
+      bracketed-close-no : {r : Out} {n j : ℕ} → x ≡ Refused n j → r ≡ asOut x → BracketedRead s w c k r v
       unfolding bracketedBy
       bracketed-close-no z h =
           let o = u .on i d e in
           meets-no s w c k (refused-out z h) (t .kept)
           (λ m lo. gone-on (readProcess m s d) (t .is m (omega arith)) g λ P a _ _ _. rw (took u e, a, took y z))
 
-      pub bracketed-got : {j : ℕ} {b : Cursor} → x ≡ At j b → BracketedRead s w c k (Got (closed c b) l) v
+      bracketed-got : {j : ℕ} {b : Cursor} → x ≡ At j b → BracketedRead s w c k (Got (closed c b) l) v
       unfolding bracketedBy
       bracketed-got {j} {b} z =
           let o = u .on i d e in
@@ -252,6 +252,11 @@ module _ (s w : List ℕ) (c : Cursor) (k : Tally) (room : Room s w c k) {q : Ta
           meets-got s w c k (omega arith) (t .kept)
           (λ m lo. gone-on (readProcess m s d) (t .is m (omega arith)) g λ P a al av fi.
           made-got P (rw (took u e, a, took y z)) (ap (Got (closed c b)) al) av fi)
+
+    pub bracketed-closed : {r : Out} → Closes s c p r → BracketedRead s w c k r v
+    bracketed-closed (not-read g h) = rw h (bracketed-inner-no g)
+    bracketed-closed (not-closed g y z h) = bracketed-close-no g y z h
+    bracketed-closed (read g y z h) = rw h (bracketed-got g y z)
 
 -- ── cancel
 module _ (s w : List ℕ) (c : Cursor) (k : Tally) (room : Room s w c k) {q : Taken} (u : Stepped s c 1 0 1 (processTerm s kCancel c) q) where

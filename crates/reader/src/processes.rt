@@ -8,6 +8,7 @@ use notation::token::TermHead;
 use notation::token::Token;
 use notation::token::next_token;
 use typereader::steps::Out;
+use typereader::steps::closing;
 use typereader::steps::expect;
 use typereader::steps::kind_at;
 use typereader::steps::label_term;
@@ -595,22 +596,7 @@ fn read_bracketed(text: &[u8], scratch: &mut [u32], c: Cursor, k: Tally) -> Out
         return refusal(opened);
     };
     let inner = read_process(text, scratch, d, k);
-    let Out::Got(e, l) = inner else {
-        return inner;
-    };
-    let closed = expect(text, e, Token::ROUND_CLOSE);
-    let Taken::At(_, f) = closed else {
-        return refusal(closed);
-    };
-    Out::Got(
-        Cursor {
-            at: f.at,
-            types: f.types,
-            terms: f.terms,
-            depth: c.depth,
-        },
-        l,
-    )
+    closing(text, c, inner)
 }
 
 // try (P) catch (Q)

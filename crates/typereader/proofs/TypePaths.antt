@@ -20,7 +20,7 @@ use Rattle.notation.specs.declared.token.TypeHead.{TypeHead}
 use Rattle.notation.specs.declared.token.TypeHead.the-variants.{One, Name, Round, Plus, With, Other}
 use Rattle.typereader.specs.declared.steps.Out.{Out}
 use Rattle.typereader.specs.declared.steps.Out.the-variants.{Got, Not}
-use Rattle.typereader.specs.Filling.{Stepped, labelColon, choiceOpening, asOut, misfitOut, Put, Room, Meets, FineType, FineAlternatives, Some, typeForm, alternativesForm, infixKind, choiceOf, unread, TypeRead, AtomRead, RightRead, AlternativesRead, MoreRead, OneRead, NameRead, RoundRead, ChoiceRead}
+use Rattle.typereader.specs.Filling.{Stepped, Closes, not-read, not-closed, read, labelColon, choiceOpening, asOut, misfitOut, Put, Room, Meets, FineType, FineAlternatives, Some, typeForm, alternativesForm, infixKind, choiceOf, unread, TypeRead, AtomRead, RightRead, AlternativesRead, MoreRead, OneRead, NameRead, RoundRead, ChoiceRead}
 use Rattle.typereader.proofs.Taking.{never}
 use Rattle.typereader.proofs.Filled.{same, _upon_, put-kept, took, refused-out, made-got, gone-on, stopped, meets-no, meets-got, more-no, more-got, more-made}
 
@@ -99,19 +99,19 @@ module _ (s w : List ℕ) (c : Cursor) (k : Tally) (room : Room s w c k) where
     round-no g h = meets-no s w c k (refused-out g h) same (λ m _. rw (took u g))
 
     module _ {i : ℕ} {d : Cursor} (e : q ≡ At i d) {p : Out} {v : List ℕ} (t : TypeRead s w d k p v) where
-      pub round-inner-no : {n j : ℕ} → p ≡ Not n j → RoundRead s w c k p v
+      round-inner-no : {n j : ℕ} → p ≡ Not n j → RoundRead s w c k p v
       round-inner-no g =
           let o = u .on i d e in
           meets-no s w c k g (t .kept) (λ m lo. rw (took u e, stopped (readType m s d) (t .is m (omega arith)) g))
 
       module _ {f : Cursor} {l : Tally} (g : p ≡ Got f l) {x : Taken} (y : Stepped s f 1 0 0 (expect s kRoundClose f) x) where
-        pub round-close-no : {r : Out} {n j : ℕ} → x ≡ Refused n j → r ≡ asOut x → RoundRead s w c k r v
+        round-close-no : {r : Out} {n j : ℕ} → x ≡ Refused n j → r ≡ asOut x → RoundRead s w c k r v
         round-close-no z h =
             let o = u .on i d e in
             meets-no s w c k (refused-out z h) (t .kept)
             (λ m lo. gone-on (readType m s d) (t .is m (omega arith)) g λ A a _ _ _. rw (took u e, a, took y z))
 
-        pub round-got : {j : ℕ} {b : Cursor} → x ≡ At j b → RoundRead s w c k (Got (closed c b) l) v
+        round-got : {j : ℕ} {b : Cursor} → x ≡ At j b → RoundRead s w c k (Got (closed c b) l) v
         round-got {j} {b} z =
             let o = u .on i d e in
             let o₂ = t .on f l g in
@@ -119,6 +119,11 @@ module _ (s w : List ℕ) (c : Cursor) (k : Tally) (room : Room s w c k) where
             meets-got s w c k (omega arith) (t .kept)
             (λ m lo. gone-on (readType m s d) (t .is m (omega arith)) g λ A a al av fi.
             made-got A (rw (took u e, a, took y z)) (ap (Got (closed c b)) al) av fi)
+
+      pub round-closed : {r : Out} → Closes s c p r → RoundRead s w c k r v
+      round-closed (not-read g h) = rw h (round-inner-no g)
+      round-closed (not-closed g y z h) = round-close-no g y z h
+      round-closed (read g y z h) = rw h (round-got g y z)
 
   -- ── an infix mark and what stands to its right
   module _ (kind : ℕ) {q : Taken} {n′ : ℕ} (u : Stepped s c n′ 1 0 (typeTerm s kind c) q) (pos : 1 ≤ n′) where

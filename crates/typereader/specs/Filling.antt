@@ -6,9 +6,9 @@ use mathlib.Core.Bool.{cond}
 use lib.ListN.{length, drop, set}
 use lib.Dec.{eqb}
 use Rattle.notation.specs.Limits.{textLimit, typeTermLimit, processTermLimit}
-use Rattle.notation.specs.Token.{tokenAt, width, kColon, kBraceOpen, kStar, kAt, kOne, kName, kPlus}
+use Rattle.notation.specs.Token.{tokenAt, width, kColon, kRoundClose, kBraceOpen, kStar, kAt, kOne, kName, kPlus}
 use Rattle.notation.specs.Tree.{Located, Ty, unit, named, tensor, par, lolli, plus, with, Alternatives, alternative}
-use Rattle.notation.specs.Reader.{Result, got, refused, take, fault, expect, opening, typeTerm, thenToken, nameIn}
+use Rattle.notation.specs.Reader.{Result, got, refused, take, fault, expect, opening, typeTerm, closed, thenToken, nameIn}
 use Rattle.notation.specs.Types.{readType, readAtom, readAlternatives, labelTerm, rightBy, roundBy, choiceBy, moreBy}
 use Rattle.notation.specs.Tables.{afterType, afterAlternatives, writeType, writeAlternatives, moreNodes, putInfix}
 use Rattle.notation.specs.declared.reading.Tally.{Tally}
@@ -50,6 +50,12 @@ pub record Followed (s : List ℕ) (p : Taken) (kind : ℕ) (r : Taken) : Type 0
 abbrev pub asOut : Taken → Out
 asOut (At i c) = Not 0 0
 asOut (Refused n i) = Not n i
+
+-- r is the answer p, and then the bracket that closes: p's refusal, the bracket's, or p with as many open as at c
+pub data Closes (s : List ℕ) (c : Cursor) (p r : Out) : Type 0 where
+  not-read : {n j : ℕ} → p ≡ Not n j → r ≡ p → Closes s c p r
+  not-closed : {e : Cursor} {l : Tally} {x : Taken} {n j : ℕ} → p ≡ Got e l → Stepped s e 1 0 0 (expect s kRoundClose e) x → x ≡ Refused n j → r ≡ asOut x → Closes s c p r
+  read : {e b : Cursor} {l : Tally} {x : Taken} {j : ℕ} → p ≡ Got e l → Stepped s e 1 0 0 (expect s kRoundClose e) x → x ≡ At j b → r ≡ Got (closed c b) l → Closes s c p r
 
 -- no token fits here
 abbrev pub misfitTaken : List ℕ → Cursor → Taken

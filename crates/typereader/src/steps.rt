@@ -14,7 +14,7 @@ ghost use Rattle.notation.specs.Token.{kindAt, width};
 ghost use Rattle.notation.specs.Reader.{fault, expect, opening, typeTerm, processTerm};
 ghost use Rattle.notation.specs.Types.{typeHead, isInfix, labelTerm};
 ghost use Rattle.notation.specs.Processes.{termHead, payload};
-ghost use Rattle.typereader.specs.Filling.{Stepped, Followed, asOut, misfitTaken, misfitOut};
+ghost use Rattle.typereader.specs.Filling.{Stepped, Followed, Closes, asOut, misfitTaken, misfitOut};
 
 // Where a reading went on to, with the fill of the tables; or the refusal's number and offset.
 pub enum Out {
@@ -176,6 +176,28 @@ pub fn refusal(t: Taken) -> Out
         Taken::At(_, _) => Out::Not(0, 0),
         Taken::Refused(n, i) => Out::Not(n, i),
     }
+}
+
+// What was read between round brackets, and then the bracket that closes; as many are open as at c.
+pub fn closing(text: &[u8], c: Cursor, inner: Out) -> Out
+    ensures { λ r. ⌜ Closes (now (text .entry)) c inner r ⌝ }
+{
+    let Out::Got(e, l) = inner else {
+        return inner;
+    };
+    let closed = expect(text, e, Token::ROUND_CLOSE);
+    let Taken::At(_, f) = closed else {
+        return refusal(closed);
+    };
+    Out::Got(
+        Cursor {
+            at: f.at,
+            types: f.types,
+            terms: f.terms,
+            depth: c.depth,
+        },
+        l,
+    )
 }
 
 // No token fits here, as an answer.

@@ -1,5 +1,6 @@
 // The reading of types: "a type is an atom, or an atom, an infix mark and a type".
 use crate::steps::Out;
+use crate::steps::closing;
 use crate::steps::expect;
 use crate::steps::is_infix;
 use crate::steps::kind_at;
@@ -129,22 +130,7 @@ fn read_round(text: &[u8], scratch: &mut [u32], c: Cursor, k: Tally) -> Out
         return refusal(opened);
     };
     let inner = read_type(text, scratch, d, k);
-    let Out::Got(e, l) = inner else {
-        return inner;
-    };
-    let closed = expect(text, e, Token::ROUND_CLOSE);
-    let Taken::At(_, f) = closed else {
-        return refusal(closed);
-    };
-    Out::Got(
-        Cursor {
-            at: f.at,
-            types: f.types,
-            terms: f.terms,
-            depth: c.depth,
-        },
-        l,
-    )
+    closing(text, c, inner)
 }
 
 // A choice whose mark has this kind: `+`, 28, or `&`, 29.

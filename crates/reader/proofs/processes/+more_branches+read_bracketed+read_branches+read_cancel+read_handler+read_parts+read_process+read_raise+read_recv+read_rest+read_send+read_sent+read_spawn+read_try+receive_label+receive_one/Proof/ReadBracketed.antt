@@ -2,8 +2,8 @@
 use borrow.Author.Needs.{needs}
 use Prim.Native.Nat.{ℕ}
 use native.Mathlib.Omega.{arith}
-use Rattle.reader.proofs.ProcessPaths.{bracketed-no, bracketed-inner-no, bracketed-close-no, bracketed-got}
-use Rattle.typereader.proofs.steps.expect.Reads as expect-reads
+use Rattle.reader.proofs.ProcessPaths.{bracketed-no, bracketed-closed}
+use Rattle.typereader.proofs.steps.closing.Reads as closing-reads
 use Rattle.typereader.proofs.steps.opening.Reads as opening-reads
 use Rattle.reader.proofs.processes.read_bracketed.Reads as read-bracketed
 use Rattle.reader.proofs.processes.+more_branches+read_bracketed+read_branches+read_cancel+read_handler+read_parts+read_process+read_raise+read_recv+read_rest+read_send+read_sent+read_spawn+read_try+receive_label+receive_one.Lts-read_bracketed as read-bracketed-lts
@@ -11,9 +11,9 @@ use Rattle.reader.proofs.processes.read_process.Reads as read-process
 use Rattle.typereader.proofs.steps.refusal.Reads as refusal-reads
 use Rattle.reader.proofs.processes.+more_branches+read_bracketed+read_branches+read_cancel+read_handler+read_parts+read_process+read_raise+read_recv+read_rest+read_send+read_sent+read_spawn+read_try+receive_label+receive_one.Proof.Measures.{read-bracketed-at, read-process-below}
 
-pub read-bracketed-met : {M : Type 1} (t : ℕ) → read-bracketed-lts.Closed (opening-reads.Asked, opening-reads.Learnt, refusal-reads.Asked, refusal-reads.Learnt, read-process-below t, read-process.Post, expect-reads.Asked, expect-reads.Learnt) (read-bracketed-at t) read-bracketed.Post M
+pub read-bracketed-met : {M : Type 1} (t : ℕ) → read-bracketed-lts.Closed (opening-reads.Asked, opening-reads.Learnt, refusal-reads.Asked, refusal-reads.Learnt, read-process-below t, read-process.Post, closing-reads.Asked, closing-reads.Learnt) (read-bracketed-at t) read-bracketed.Post M
 read-bracketed-met t =
-    read-bracketed-lts.spec (opening-reads.Asked, opening-reads.Learnt, refusal-reads.Asked, refusal-reads.Learnt, read-process-below t, read-process.Post, expect-reads.Asked, expect-reads.Learnt) (read-bracketed-at t) read-bracketed.Post
+    read-bracketed-lts.spec (opening-reads.Asked, opening-reads.Learnt, refusal-reads.Asked, refusal-reads.Learnt, read-process-below t, read-process.Post, closing-reads.Asked, closing-reads.Learnt) (read-bracketed-at t) read-bracketed.Post
     -- opening-requires
     (λ c κs. search needs)
     -- enum-known-opened
@@ -26,27 +26,9 @@ read-bracketed-met t =
     (λ c. bracketed-no _ _ _ _ (c .before .before .before .before .before .before .pre .1) (c .before .before .before .opening .ensures) (c .before .enum-told .given .1) (c .refusal .ensures))
     -- read-process-requires
     (λ c κs. (omega (arith, c .before .before .before .before .before .before .before .pre, c .before .before .before .before .opening .ensures .on _ _ (c .before .before .opened .given .1)), omega (arith, c .before .before .before .before .before .before .before .pre, c .before .before .before .before .opening .ensures .on _ _ (c .before .before .opened .given .1))))
-    -- enum-known-inner
-    (λ c. search needs)
-    -- enum-told-2
-    (λ c. search needs)
+    -- closing-requires
+    (λ c κs. search needs)
     -- same-length
     (λ c. search needs)
     -- returns-2
-    (λ c. bracketed-inner-no _ _ _ _ (c .before .before .before .before .before .before .before .before .before .before .before .before .pre .1) (c .before .before .before .before .before .before .before .before .before .opening .ensures) (c .before .before .before .before .before .before .before .opened .given .1) (c .before .before .before .before .read-process .ensures) (c .enum-told2 .given .1))
-    -- expect-requires
-    (λ c κs. search needs)
-    -- enum-known-closed
-    (λ c. search needs)
-    -- enum-told-3
-    (λ c. search needs)
-    -- refusal-requires-2
-    (λ c κs. search needs)
-    -- same-length-2
-    (λ c. search needs)
-    -- returns-3
-    (λ c. bracketed-close-no _ _ _ _ (c .before .before .before .before .before .before .before .before .before .before .before .before .before .before .before .before .before .pre .1) (c .before .before .before .before .before .before .before .before .before .before .before .before .before .before .opening .ensures) (c .before .before .before .before .before .before .before .before .before .before .before .before .opened .given .1) (c .before .before .before .before .before .before .before .before .before .read-process .ensures) (c .before .before .before .before .before .inner .given .1) (c .before .before .before .expect .ensures) (c .before .enum-told3 .given .1) (c .refusal2 .ensures))
-    -- same-length-3
-    (λ c. search needs)
-    -- returns-4
-    (λ c. bracketed-got _ _ _ _ (c .before .before .before .before .before .before .before .before .before .before .before .before .before .before .before .before .before .pre .1) (c .before .before .before .before .before .before .before .before .before .before .before .before .before .before .opening .ensures) (c .before .before .before .before .before .before .before .before .before .before .before .before .opened .given .1) (c .before .before .before .before .before .before .before .before .before .read-process .ensures) (c .before .before .before .before .before .inner .given .1) (c .before .before .before .expect .ensures) (c .before .closed .given .1))
+    (λ c. bracketed-closed _ _ _ _ (c .before .before .before .before .before .before .before .before .before .before .before .pre .1) (c .before .before .before .before .before .before .before .before .opening .ensures) (c .before .before .before .before .before .before .opened .given .1) (c .before .before .before .read-process .ensures) (c .closing .ensures))

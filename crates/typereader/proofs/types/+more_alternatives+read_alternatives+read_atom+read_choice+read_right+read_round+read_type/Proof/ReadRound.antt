@@ -2,8 +2,8 @@
 use borrow.Author.Needs.{needs}
 use Prim.Native.Nat.{ℕ}
 use native.Mathlib.Omega.{arith}
-use Rattle.typereader.proofs.TypePaths.{round-no, round-inner-no, round-close-no, round-got}
-use Rattle.typereader.proofs.steps.expect.Reads as expect-reads
+use Rattle.typereader.proofs.TypePaths.{round-no, round-closed}
+use Rattle.typereader.proofs.steps.closing.Reads as closing-reads
 use Rattle.typereader.proofs.steps.opening.Reads as opening-reads
 use Rattle.typereader.proofs.types.read_round.Reads as read-round
 use Rattle.typereader.proofs.types.+more_alternatives+read_alternatives+read_atom+read_choice+read_right+read_round+read_type.Lts-read_round as read-round-lts
@@ -11,9 +11,9 @@ use Rattle.typereader.proofs.types.read_type.Reads as read-type
 use Rattle.typereader.proofs.steps.refusal.Reads as refusal-reads
 use Rattle.typereader.proofs.types.+more_alternatives+read_alternatives+read_atom+read_choice+read_right+read_round+read_type.Proof.Measures.{read-round-at, read-type-below}
 
-pub read-round-met : {M : Type 1} (t : ℕ) → read-round-lts.Closed (opening-reads.Asked, opening-reads.Learnt, refusal-reads.Asked, refusal-reads.Learnt, read-type-below t, read-type.Post, expect-reads.Asked, expect-reads.Learnt) (read-round-at t) read-round.Post M
+pub read-round-met : {M : Type 1} (t : ℕ) → read-round-lts.Closed (opening-reads.Asked, opening-reads.Learnt, refusal-reads.Asked, refusal-reads.Learnt, read-type-below t, read-type.Post, closing-reads.Asked, closing-reads.Learnt) (read-round-at t) read-round.Post M
 read-round-met t =
-    read-round-lts.spec (opening-reads.Asked, opening-reads.Learnt, refusal-reads.Asked, refusal-reads.Learnt, read-type-below t, read-type.Post, expect-reads.Asked, expect-reads.Learnt) (read-round-at t) read-round.Post
+    read-round-lts.spec (opening-reads.Asked, opening-reads.Learnt, refusal-reads.Asked, refusal-reads.Learnt, read-type-below t, read-type.Post, closing-reads.Asked, closing-reads.Learnt) (read-round-at t) read-round.Post
     -- opening-requires
     (λ c κs. search needs)
     -- enum-known-opened
@@ -26,27 +26,9 @@ read-round-met t =
     (λ c. round-no _ _ _ _ (c .before .before .before .before .before .before .pre .1) (c .before .before .before .opening .ensures) (c .before .enum-told .given .1) (c .refusal .ensures))
     -- read-type-requires
     (λ c κs. (omega (arith, c .before .before .before .before .before .before .before .pre, c .before .before .before .before .opening .ensures .on _ _ (c .before .before .opened .given .1)), omega (arith, c .before .before .before .before .before .before .before .pre, c .before .before .before .before .opening .ensures .on _ _ (c .before .before .opened .given .1))))
-    -- enum-known-inner
-    (λ c. search needs)
-    -- enum-told-2
-    (λ c. search needs)
+    -- closing-requires
+    (λ c κs. search needs)
     -- same-length
     (λ c. search needs)
     -- returns-2
-    (λ c. round-inner-no _ _ _ _ (c .before .before .before .before .before .before .before .before .before .before .before .before .pre .1) (c .before .before .before .before .before .before .before .before .before .opening .ensures) (c .before .before .before .before .before .before .before .opened .given .1) (c .before .before .before .before .read-type .ensures) (c .enum-told2 .given .1))
-    -- expect-requires
-    (λ c κs. search needs)
-    -- enum-known-closed
-    (λ c. search needs)
-    -- enum-told-3
-    (λ c. search needs)
-    -- refusal-requires-2
-    (λ c κs. search needs)
-    -- same-length-2
-    (λ c. search needs)
-    -- returns-3
-    (λ c. round-close-no _ _ _ _ (c .before .before .before .before .before .before .before .before .before .before .before .before .before .before .before .before .before .pre .1) (c .before .before .before .before .before .before .before .before .before .before .before .before .before .before .opening .ensures) (c .before .before .before .before .before .before .before .before .before .before .before .before .opened .given .1) (c .before .before .before .before .before .before .before .before .before .read-type .ensures) (c .before .before .before .before .before .inner .given .1) (c .before .before .before .expect .ensures) (c .before .enum-told3 .given .1) (c .refusal2 .ensures))
-    -- same-length-3
-    (λ c. search needs)
-    -- returns-4
-    (λ c. round-got _ _ _ _ (c .before .before .before .before .before .before .before .before .before .before .before .before .before .before .before .before .before .pre .1) (c .before .before .before .before .before .before .before .before .before .before .before .before .before .before .opening .ensures) (c .before .before .before .before .before .before .before .before .before .before .before .before .opened .given .1) (c .before .before .before .before .before .before .before .before .before .read-type .ensures) (c .before .before .before .before .before .inner .given .1) (c .before .before .before .expect .ensures) (c .before .closed .given .1))
+    (λ c. round-closed _ _ _ _ (c .before .before .before .before .before .before .before .before .before .before .before .pre .1) (c .before .before .before .before .before .before .before .before .opening .ensures) (c .before .before .before .before .before .before .opened .given .1) (c .before .before .before .read-type .ensures) (c .closing .ensures))
