@@ -48,6 +48,43 @@ config l o n = record { processes = l; outside = o; given = n }
 abbrev pub process : Doing → List (Name × End) → Option ℕ → Process
 process d h o = record { doing = d; held = h; link = o }
 
+-- ── one part of a configuration changed, the rest as it was
+abbrev pub withProcesses : List Process → Config → Config
+withProcesses l C = record { processes = l; outside = C .outside; given = C .given }
+
+abbrev pub withOutside : List Outside → Config → Config
+withOutside o C = record { processes = C .processes; outside = o; given = C .given }
+
+abbrev pub withGiven : ℕ → Config → Config
+withGiven n C = record { processes = C .processes; outside = C .outside; given = n }
+
+-- one more outside number is given
+abbrev pub oneMoreGiven : Config → Config
+oneMoreGiven C = withGiven (suc (C .given)) C
+
+-- the process q stands at place i
+abbrev pub replaced : ℕ → Process → Config → Config
+replaced i q C = withProcesses (set (C .processes) i q) C
+
+-- ── what a process does next, and holds then, its link kept; another link
+abbrev pub goesOn : Process → Proc → List (Name × End) → Process
+goesOn q P l = process (running P) l (q .link)
+
+abbrev pub foldsUp : Process → List (Name × End) → Process
+foldsUp q l = process folding l (q .link)
+
+abbrev pub becoming : Doing → List (Name × End) → Process → Process
+becoming d l q = process d l (q .link)
+
+abbrev pub doingNow : Doing → Process → Process
+doingNow d q = process d (q .held) (q .link)
+
+abbrev pub holding : List (Name × End) → Process → Process
+holding l q = process (q .doing) l (q .link)
+
+abbrev pub linkedBy : Option ℕ → Process → Process
+linkedBy h q = process (q .doing) (q .held) h
+
 -- the process at a place
 abbrev pub at : Config → ℕ → Option Process
 at C i = getElem? (C .processes) i
@@ -127,7 +164,7 @@ abbrev pub movedDown : ℕ → ℕ → ℕ
 movedDown i h = cond (ltb i h) (h - 1) h
 
 abbrev pub relinked : (ℕ → ℕ) → Process → Process
-relinked f q = process (q .doing) (q .held) (Option·map f (q .link))
+relinked f q = linkedBy (Option·map f (q .link)) q
 
 -- "a new one stands directly after its maker": the process q after place i
 unfoldable pub inserted : ℕ → Process → List Process → List Process
@@ -135,9 +172,6 @@ inserted i q l = let m = map (relinked (movedUp i)) l in take (suc i) m ++ (q �
 
 unfoldable pub removed : ℕ → List Process → List Process
 removed i l = let m = map (relinked (movedDown i)) l in take i m ++ drop (suc i) m
-
-abbrev pub replaced : ℕ → Process → Config → Config
-replaced i q C = config (set (C .processes) i q) (C .outside) (C .given)
 
 -- ── the outside
 unfoldable pub letGo : ℕ → List Outside → List Outside

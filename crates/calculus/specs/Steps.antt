@@ -1,19 +1,19 @@
 -- The step at a place: "Which rule applies is decided by the term's kind". One definition for each rule of document 01.
-use Prim.Native.Nat.{ℕ, zero, suc, _+_}
+use Prim.Native.Nat.{ℕ, suc}
 use mathlib.Core.List.{List, [], _∷_, _++_}
-use mathlib.Core.Bool.{Bool, true, false, cond, not, _&&_}
+use mathlib.Core.Bool.{Bool, true, false, cond, _&&_}
 use mathlib.Core.Option.{Option, some, none, Option·map, Option·getD}
 use lib.ListN.{length, set, getElem?}
 use lib.Dec.{ltb, eqb}
 use Rattle.notation.specs.Limits.{processPlaces, outsideNumbers}
 use Rattle.notation.specs.Bytes.{same}
-use Rattle.notation.specs.Tree.{Name, Located, Ty, unit, Alternatives, Proc, empty, sendUnit, sendChannel, sendLabel, cancel, spawn, recvUnit, recvChannel, recvLabel, fwd, call, raise, try, Branches, branch, plain}
+use Rattle.notation.specs.Tree.{Name, Located, Ty, Proc, empty, sendUnit, sendChannel, sendLabel, cancel, spawn, recvUnit, recvChannel, recvLabel, fwd, call, raise, try, Branches, branch, plain}
 use Rattle.calculus.specs.Named.{lookup, without, changed}
 use Rattle.calculus.specs.Types.{Side, provided, used, other, sameSide, standing, Passing, passing, Choosing, choosing, labelled}
 use Rattle.calculus.specs.Program.{Slot, Context, Signature, Program, signatureContext}
 use Rattle.calculus.specs.Mentions.{spawnTakes, spawnLeaves, tryTakes}
 use Rattle.calculus.specs.Typing.{namesOf}
-use Rattle.calculus.specs.Configuration.{End, end, Doing, running, folding, waiting, Process, process, Outside, Config, config, at, Holder, Far, atProcess, atOutside, givenUp, farEnd, freshChannel, movedUp, relinked, inserted, removed, replaced, letGo, changedOutside, retypedOutside, movedOutside}
+use Rattle.calculus.specs.Configuration.{End, end, Doing, running, folding, waiting, Process, process, Outside, Config, withProcesses, withOutside, oneMoreGiven, replaced, goesOn, foldsUp, doingNow, holding, linkedBy, at, Holder, Far, atProcess, atOutside, givenUp, farEnd, freshChannel, movedUp, inserted, removed, letGo, retypedOutside, movedOutside}
 use Rattle.calculus.specs.declared.answers.Seen.{Seen}
 use Rattle.calculus.specs.declared.answers.Seen.the-variants.{Nothing, Label, Close, Passed, Cancelled}
 
@@ -94,7 +94,7 @@ branchOf l (branch m P B) = cond (same l (m .name)) (some P) (branchOf l B)
 
 -- the receiver afterwards, where its term wants the message: d is the end that is passed
 abbrev pub takesClose : Wanted → Name → Process → Option Process
-takesClose (onClose P) c q = some (process (running P) (without c (q .held)) (q .link))
+takesClose (onClose P) c q = some (goesOn q P (without c (q .held)))
 takesClose (onChannel x P) c q = none
 takesClose (onLabel B) c q = none
 
@@ -104,13 +104,13 @@ bound x (some d) = (x, d) ∷ []
 
 abbrev pub takesChannel : Wanted → Name → Ty Name → Option End → Process → Option Process
 takesChannel (onClose P) c A d q = none
-takesChannel (onChannel x P) c A d q = some (process (running P) (retypedEnd c A (q .held) ++ bound (x .name) d) (q .link))
+takesChannel (onChannel x P) c A d q = some (goesOn q P (retypedEnd c A (q .held) ++ bound (x .name) d))
 takesChannel (onLabel B) c A d q = none
 
 abbrev pub takesLabel : Wanted → Name → Ty Name → Name → Process → Option Process
 takesLabel (onClose P) c A l q = none
 takesLabel (onChannel x P) c A l q = none
-takesLabel (onLabel B) c A l q = Option·map (λ P. process (running P) (retypedEnd c A (q .held)) (q .link)) (branchOf l B)
+takesLabel (onLabel B) c A l q = Option·map (λ P. goesOn q P (retypedEnd c A (q .held))) (branchOf l B)
 
 unfoldable pub afterReceive : Program → Message → Wanted → Name → End → Option End → Process → Option Process
 afterReceive p closing w c e d q = takesClose w c q
@@ -135,12 +135,12 @@ outsideAfter givenUp k o = o
 
 -- the process q stands at place i, and has let go of the end e
 unfoldable pub parting : Config → ℕ → Process → End → Outcome
-parting C i q e = carried (seenAt (farEnd C e)) (config (set (C .processes) i q) (outsideAfter (farEnd C e) (e .channel) (C .outside)) (C .given))
+parting C i q e = carried (seenAt (farEnd C e)) (withOutside (outsideAfter (farEnd C e) (e .channel) (C .outside)) (replaced i q C))
 
 -- ── "A matching send and recv on one channel step together"
 abbrev pub bothTo : Config → ℕ → Process → ℕ → Option Process → Outcome
 bothTo C i p′ j none = notOpen
-bothTo C i p′ j (some q′) = carried Nothing (config (set (set (C .processes) i p′) j q′) (C .outside) (C .given))
+bothTo C i p′ j (some q′) = carried Nothing (replaced j q′ (replaced i p′ C))
 
 abbrev pub meeting : Program → Config → ℕ → Process → Process → Message → End → Holder → Turn → Outcome
 meeting p C i q q′ m e h (sends c′ m′ P) = notOpen
@@ -158,17 +158,17 @@ isGivenUp givenUp = true
 abbrev pub passedOut : Config → ℕ → Process → ℕ → ℕ → Ty Name → End → Bool → Outcome
 passedOut C i q′ n k A d gone =
     carried (Passed n (C .given) gone)
-    (config (set (C .processes) i q′)
-    (retypedOutside k A (C .outside) ++ cond gone [] (record { number = C .given; channel = d .channel; type = d .type } ∷ []))
-    (suc (C .given)))
+    (oneMoreGiven
+    (withOutside (retypedOutside k A (C .outside) ++ cond gone [] (record { number = C .given; channel = d .channel; type = d .type } ∷ []))
+    (replaced i q′ C)))
 
 abbrev pub toOutside : Program → Config → ℕ → Process → Process → Message → End → ℕ → Outcome
-toOutside p C i q q′ closing e n = carried (Close n) (config (set (C .processes) i q′) (letGo (e .channel) (C .outside)) (C .given))
+toOutside p C i q q′ closing e n = carried (Close n) (withOutside (letGo (e .channel) (C .outside)) (replaced i q′ C))
 toOutside p C i q q′ (passes a) e n =
     onHeld (lookup (a .name) (q .held)) λ d.
     cond (ltb (C .given) outsideNumbers) (passedOut C i q′ n (e .channel) (afterMessage p (passes a) (e .type)) d (isGivenUp (farEnd C d))) lacking
 toOutside p C i q q′ (chooses l) e n =
-    carried (Label n (l .at)) (config (set (C .processes) i q′) (retypedOutside (e .channel) (afterMessage p (chooses l) (e .type)) (C .outside)) (C .given))
+    carried (Label n (l .at)) (withOutside (retypedOutside (e .channel) (afterMessage p (chooses l) (e .type)) (C .outside)) (replaced i q′ C))
 
 -- ── "When the far end was given up: a send goes on, and gives up a channel it would have passed"
 abbrev pub unheard : Config → ℕ → Process → Process → Message → Outcome
@@ -185,7 +185,7 @@ sending p C i q q′ m e givenUp = unheard C i q q′ m
 unfoldable pub send : Program → Config → ℕ → Process → Located → Message → Proc → Outcome
 send p C i q c m P =
     onHeld (lookup (c .name) (q .held)) λ e.
-    sending p C i q (process (running P) (afterSend p (c .name) e m (q .held)) (q .link)) m e (farEnd C e)
+    sending p C i q (goesOn q P (afterSend p (c .name) e m (q .held))) m e (farEnd C e)
 
 -- "either one's place names the step": a recv steps as the send at its far end does
 abbrev pub answering : Program → Config → Holder → Turn → Outcome
@@ -197,14 +197,14 @@ answering p C h alone = notOpen
 abbrev pub receiving : Program → Config → ℕ → Process → Name → Far → Outcome
 receiving p C i q c (atProcess h) = answering p C h (turnOf (h .process .doing))
 receiving p C i q c (atOutside n) = notOpen
-receiving p C i q c givenUp = carried Nothing (replaced i (process folding (without c (q .held)) (q .link)) C)
+receiving p C i q c givenUp = carried Nothing (replaced i (foldsUp q (without c (q .held))) C)
 
 unfoldable pub receive : Program → Config → ℕ → Process → Located → Outcome
 receive p C i q c = onHeld (lookup (c .name) (q .held)) λ e. receiving p C i q (c .name) (farEnd C e)
 
 -- ── alone: cancel
 unfoldable pub cancelling : Config → ℕ → Process → Located → Proc → Outcome
-cancelling C i q c P = onHeld (lookup (c .name) (q .held)) λ e. parting C i (process (running P) (without (c .name) (q .held)) (q .link)) e
+cancelling C i q c P = onHeld (lookup (c .name) (q .held)) λ e. parting C i (goesOn q P (without (c .name) (q .held))) e
 
 -- ── alone: spawn. "A spawn's new process is P"
 abbrev pub placeFor : Config → Outcome → Outcome
@@ -214,10 +214,10 @@ abbrev pub spawned : Config → ℕ → Process → Name → Ty Name → Proc �
 spawned C i q x A P Q none = lacking
 spawned C i q x A P Q (some k) =
     carried Nothing
-    (config
+    (withProcesses
     (inserted i (process (running P) (spawnTakes x P (q .held) ++ ((x, end provided k A) ∷ [])) none)
-    (set (C .processes) i (process (running Q) (spawnLeaves x P (q .held) ++ ((x, end used k A) ∷ [])) (q .link))))
-    (C .outside) (C .given))
+    (set (C .processes) i (goesOn q Q (spawnLeaves x P (q .held) ++ ((x, end used k A) ∷ [])))))
+    C)
 
 unfoldable pub spawning : Config → ℕ → Process → Located → Ty Located → Proc → Proc → Outcome
 spawning C i q x A P Q = placeFor C (spawned C i q (x .name) (plain A) P Q (freshChannel C))
@@ -227,10 +227,10 @@ unfoldable pub trying : Config → ℕ → Process → Proc → Proc → Outcome
 trying C i q P Q =
     placeFor C
     (carried Nothing
-    (config
+    (withProcesses
     (set (inserted i (process (waiting Q) (tryTakes Q (q .held)) (Option·map (movedUp i) (q .link))) (C .processes)) i
-    (process (running P) (tryTakes P (q .held)) (some (suc i))))
-    (C .outside) (C .given)))
+    (linkedBy (some (suc i)) (goesOn q P (tryTakes P (q .held)))))
+    C))
 
 -- ── alone: call. The body with the channels of the lists, in signature order
 abbrev pub renamedEnd : Name × Slot → Option End → List (Name × End)
@@ -244,7 +244,7 @@ renamed (a ∷ ns) (s ∷ G) l = renamedEnd s (lookup a l) ++ renamed ns G l
 
 abbrev pub entering : Config → ℕ → Process → List Name → Option Signature → Outcome
 entering C i q ns none = notOpen
-entering C i q ns (some s) = carried Nothing (replaced i (process (running (s .body)) (renamed ns (signatureContext s) (q .held)) (q .link)) C)
+entering C i q ns (some s) = carried Nothing (replaced i (goesOn q (s .body) (renamed ns (signatureContext s) (q .held))) C)
 
 unfoldable pub calling : Program → Config → ℕ → Process → Located → List Located → List Located → Outcome
 calling p C i q f xs ys = entering C i q (namesOf xs ++ namesOf ys) (lookup (f .name) (p .processes))
@@ -256,10 +256,10 @@ startedDoing folding = folding
 startedDoing (waiting Q) = running Q
 
 abbrev pub startedHandler : Process → Process
-startedHandler h = process (startedDoing (h .doing)) (h .held) (h .link)
+startedHandler h = doingNow (startedDoing (h .doing)) h
 
 abbrev pub foldedHandler : Process → Process
-foldedHandler h = process folding (h .held) (h .link)
+foldedHandler h = doingNow folding h
 
 abbrev pub putAt : List Process → ℕ → Option Process → List Process
 putAt l j none = l
@@ -272,12 +272,12 @@ changedAt f (some j) l = putAt l j (Option·map f (getElem? l j))
 unfoldable pub raising : Config → ℕ → Process → Proc → Outcome
 raising C i q P =
     carried Nothing
-    (config (set (changedAt startedHandler (q .link) (C .processes)) i (process (running P) (q .held) none)) (C .outside) (C .given))
+    (replaced i (linkedBy none (goesOn q P (q .held))) (withProcesses (changedAt startedHandler (q .link) (C .processes)) C))
 
 -- ── alone: fwd. It "makes the two far ends one channel and leaves its process empty; if one was given up, the other finds its far end given up,
 -- and if that other is the outside, the step shows cancelled": e is the end of x, d that of c
 abbrev pub emptied : Process → Process
-emptied q = process folding [] (q .link)
+emptied q = foldsUp q []
 
 -- the end of channel k on side s becomes one of channel m, under whatever name it is held
 unfoldable pub movedEnd : ℕ → Side → ℕ → List (Name × End) → List (Name × End)
@@ -286,13 +286,13 @@ movedEnd k s m (e ∷ l) = cond (eqb k (e .1 .channel) && sameSide s (e .1 .side
 
 -- the process r holds the far end of e, which takes the place of d: so the far ends of e and d are one channel
 abbrev pub farMoved : End → End → Process → Process
-farMoved e d r = process (r .doing) (movedEnd (e .channel) (other (e .side)) (d .channel) (r .held)) (r .link)
+farMoved e d r = holding (movedEnd (e .channel) (other (e .side)) (d .channel) (r .held)) r
 
 abbrev pub joinedTo : Config → ℕ → Process → End → End → Far → Outcome
 joinedTo C i q e d (atProcess h) =
     carried Nothing
-    (config (set (set (C .processes) i (emptied q)) (h .place) (farMoved e d (h .process))) (C .outside) (C .given))
-joinedTo C i q e d (atOutside n) = carried Nothing (config (set (C .processes) i (emptied q)) (movedOutside (e .channel) (d .channel) (C .outside)) (C .given))
+    (replaced (h .place) (farMoved e d (h .process)) (replaced i (emptied q) C))
+joinedTo C i q e d (atOutside n) = carried Nothing (withOutside (movedOutside (e .channel) (d .channel) (C .outside)) (replaced i (emptied q) C))
 joinedTo C i q e d givenUp = carried Nothing (replaced i (emptied q) C)
 
 abbrev pub joining : Config → ℕ → Process → End → End → Far → Outcome
@@ -308,12 +308,12 @@ forwarding C i q x c =
 
 -- ── "An empty process steps by leaving the list. Its handler, if linked, then folds up, keeping its own link."
 unfoldable pub leaving : Config → ℕ → Process → Outcome
-leaving C i q = carried Nothing (config (removed i (changedAt foldedHandler (q .link) (C .processes))) (C .outside) (C .given))
+leaving C i q = carried Nothing (withProcesses (removed i (changedAt foldedHandler (q .link) (C .processes))) C)
 
 -- "A process that folds up cancels one held channel a step, oldest first, then is empty." With nothing held it is empty at once.
 unfoldable pub foldingUp : Config → ℕ → Process → List (Name × End) → Outcome
 foldingUp C i q [] = leaving C i q
-foldingUp C i q (e ∷ l) = parting C i (process folding l (q .link)) (e .1)
+foldingUp C i q (e ∷ l) = parting C i (foldsUp q l) (e .1)
 
 -- ── the rule of a term's kind
 unfoldable pub stepTerm : Program → Config → ℕ → Process → Proc → Outcome

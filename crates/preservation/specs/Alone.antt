@@ -15,7 +15,7 @@ use Rattle.calculus.specs.Types.{provided, used, sameType}
 use Rattle.calculus.specs.Program.{slot, Context, Program}
 use Rattle.calculus.specs.Mentions.{mentions, halfMentions, spawnTakes, spawnLeaves, tryTakes, exactlyOne}
 use Rattle.calculus.specs.Typing.{Typed, Brought, bringing}
-use Rattle.calculus.specs.Configuration.{End, end, Doing, running, folding, waiting, Process, process, Outside, Config, config, Far, atProcess, atOutside, givenUp, farEnd, freshChannel, movedUp, relinked, inserted, removed}
+use Rattle.calculus.specs.Configuration.{End, end, Doing, running, folding, waiting, Process, process, Outside, Config, withProcesses, withOutside, Far, atProcess, atOutside, givenUp, farEnd, freshChannel, movedUp, relinked, inserted, removed, doingNow, foldsUp, goesOn, becoming}
 use Rattle.calculus.specs.Steps.{lacking, outsideAfter, parting, cancelling, spawned, spawning, trying, changedAt, putAt, startedHandler, startedDoing, foldedHandler, movedEnd, joinedTo, joining, forwarding, raising, leaving, foldingUp}
 use Rattle.calculus.specs.WellFormed.{In, contextOf, isWaiting, NoneTwice}
 use Rattle.derivations.specs.Booleans.{ltb-iff, all-iff}
@@ -46,7 +46,7 @@ module _ {p : Program} {C : Config} (I : Inv p C) (i : ℕ) (q : Process) (at : 
 
   -- the process at i has let go of the end e, and perhaps of others
   pub parting-keeps : (d : Doing) → Goes (q .doing) d → {l : List (Name × End)} → Sublistᴰ l (q .held) → TypedDoing p (contextOf l) b d → (e : End)
-      → Keeps p (parting C i (process d l (q .link)) e)
+      → Keeps p (parting C i (becoming d l q) e)
   unfolding parting
   parting-keeps d w s t e = inv-less I i q at d w s t (outside-after-sub (farEnd C e) (e .channel) (C .outside))
 
@@ -63,23 +63,23 @@ module _ {p : Program} {C : Config} (I : Inv p C) (i : ℕ) (q : Process) (at : 
   -- the handler r at h goes on by g
   module _ (w : isWaiting (q .doing) ≡ false) (h : ℕ) (lk : q .link ≡ some h) (r : Process) (rh : getElem? (C .processes) h ≡ some r) (rw : isWaiting (r .doing) ≡ true) (d : Doing) where
     abbrev l₁ : List Process
-    l₁ = set (C .processes) h (process d (r .held) (r .link))
+    l₁ = set (C .processes) h (doingNow d r)
 
     len₁ : length l₁ ≡ length (C .processes)
-    len₁ = length-set (C .processes) h (process d (r .held) (r .link))
+    len₁ = length-set (C .processes) h (doingNow d r)
 
-    s₁ : Shows (I .id) l₁ (put (I .id h) (some (relinked (I .id) (process d (r .held) (r .link)))) (I .roster))
-    s₁ = shows-set (I .shows) h (found-below (C .processes) h rh) (process d (r .held) (r .link)) (I .shows .within h r rh)
+    s₁ : Shows (I .id) l₁ (put (I .id h) (some (relinked (I .id) (doingNow d r))) (I .roster))
+    s₁ = shows-set (I .shows) h (found-below (C .processes) h rh) (doingNow d r) (I .shows .within h r rh)
 
     link-id : Option·map (I .id) (q .link) ≡ some (I .id h)
     link-id = ap (Option·map (I .id)) lk
 
     raised-inv : isWaiting d ≡ false → NamesOf d (names (r .held)) → TypedDoing p (contextOf (r .held)) (isSome (Option·map (I .id) (r .link))) d → (P : Proc)
         → NoneTwice (names (q .held)) → Typed p (contextOf (q .held)) false P
-        → Inv p (config (set l₁ i (process (running P) (q .held) none)) (C .outside) (C .given))
+        → Inv p (withProcesses (set l₁ i (process (running P) (q .held) none)) C)
     raised-inv wd nd td P n t = record {
       id = I .id;
-      roster = put (I .id i) (some (process (running P) (q .held) none)) (put (I .id h) (some (process d (r .held) (Option·map (I .id) (r .link)))) (I .roster));
+      roster = put (I .id i) (some (process (running P) (q .held) none)) (put (I .id h) (some (relinked (I .id) (becoming d (r .held) r))) (I .roster));
       next = I .next;
       shows = shows-set s₁ i (omega (arith, inside, len₁)) (process (running P) (q .held) none) (λ k e. absurd (Option·none-ne-some k e));
       good = raised (I .good) (I .id i) (I .id h) (relinked (I .id) q) (relinked (I .id) r) (at-roster I i q at) (at-roster I h r rh) w link-id rw d wd nd td P n t;
@@ -88,10 +88,10 @@ module _ {p : Program} {C : Config} (I : Inv p C) (i : ℕ) (q : Process) (at : 
     }
 
     left-inv : isWaiting d ≡ false → NamesOf d (names (r .held)) → TypedDoing p (contextOf (r .held)) (isSome (Option·map (I .id) (r .link))) d
-        → Inv p (config (removed i l₁) (C .outside) (C .given))
+        → Inv p (withProcesses (removed i l₁) C)
     left-inv wd nd td = record {
       id = idOut s₁ i;
-      roster = put (I .id i) none (put (I .id h) (some (process d (r .held) (Option·map (I .id) (r .link)))) (I .roster));
+      roster = put (I .id i) none (put (I .id h) (some (relinked (I .id) (becoming d (r .held) r))) (I .roster));
       next = I .next;
       shows = shows-out s₁ i (omega (arith, inside, len₁)) alone;
       good = left (I .good) (I .id i) (I .id h) (relinked (I .id) q) (relinked (I .id) r) (at-roster I i q at) (at-roster I h r rh) w link-id rw d wd nd td;
@@ -100,9 +100,9 @@ module _ {p : Program} {C : Config} (I : Inv p C) (i : ℕ) (q : Process) (at : 
     }
       where
         alone : (j : ℕ) (s : Process) → getElem? l₁ j ≡ some s → s .link ≢ some i
-        alone j s e z = go (set-cases (C .processes) h (process d (r .held) (r .link)) (found-below (C .processes) h rh) j s e)
+        alone j s e z = go (set-cases (C .processes) h (doingNow d r) (found-below (C .processes) h rh) j s e)
           where
-            go : ((j ≡ h) × (process d (r .held) (r .link) ≡ s)) ⊎ ((j ≢ h) × (getElem? (C .processes) j ≡ some s)) → ⊥
+            go : ((j ≡ h) × (doingNow d r ≡ s)) ⊎ ((j ≢ h) × (getElem? (C .processes) j ≡ some s)) → ⊥
             go (inl y) = unlinked I i q at w h r rh (ap (λ (s : Process). s .link) (y .1) ∙ z)
             go (inr y) = unlinked I i q at w j s (y .1) z
 
@@ -125,11 +125,11 @@ module _ {p : Program} {C : Config} (I : Inv p C) (i : ℕ) (q : Process) (at : 
   unfolding raising
   raise-keeps w P e t = go (q .link) refl
     where
-      go : (o : Option ℕ) → q .link ≡ o → Inv p (config (set (changedAt startedHandler o (C .processes)) i (process (running P) (q .held) none)) (C .outside) (C .given))
+      go : (o : Option ℕ) → q .link ≡ o → Inv p (withProcesses (set (changedAt startedHandler o (C .processes)) i (process (running P) (q .held) none)) C)
       go none z = absurd (false≢true (sym (ap (λ o. isSome (Option·map (I .id) o)) z) ∙ e))
       go (some h) z =
           let r = handler I i q at h z in
-          subst (λ o. Inv p (config (set (putAt (C .processes) h (Option·map startedHandler o)) i (process (running P) (q .held) none)) (C .outside) (C .given))) (sym (r .1))
+          subst (λ o. Inv p (withProcesses (set (putAt (C .processes) h (Option·map startedHandler o)) i (process (running P) (q .held) none)) C)) (sym (r .1))
           (raised-inv (runs-awake w) h z (r .0) (r .1) (r .2) (startedDoing (r .0 .doing)) (started-waits-not (r .0 .doing))
           (started-names _ (r .0 .doing) (fine-at I h (r .0) (r .1) .names))
           (started-typed _ _ (r .0 .doing) (fine-at I h (r .0) (r .1) .typed)) P (runs-on w P .names _ (fine-at I i q at .names)) t)
@@ -138,7 +138,7 @@ module _ {p : Program} {C : Config} (I : Inv p C) (i : ℕ) (q : Process) (at : 
   unfolding leaving
   leave-keeps w = go (q .link) refl
     where
-      go : (o : Option ℕ) → q .link ≡ o → Inv p (config (removed i (changedAt foldedHandler o (C .processes))) (C .outside) (C .given))
+      go : (o : Option ℕ) → q .link ≡ o → Inv p (withProcesses (removed i (changedAt foldedHandler o (C .processes))) C)
       go none z = record {
         id = idOut (I .shows) i;
         roster = put (I .id i) none (I .roster);
@@ -150,7 +150,7 @@ module _ {p : Program} {C : Config} (I : Inv p C) (i : ℕ) (q : Process) (at : 
       }
       go (some h) z =
           let r = handler I i q at h z in
-          subst (λ o. Inv p (config (removed i (putAt (C .processes) h (Option·map foldedHandler o))) (C .outside) (C .given))) (sym (r .1))
+          subst (λ o. Inv p (withProcesses (removed i (putAt (C .processes) h (Option·map foldedHandler o))) C)) (sym (r .1))
           (left-inv w h z (r .0) (r .1) (r .2) folding refl tt tt)
 
   pub fold-keeps : q .doing ≡ folding → (l : List (Name × End)) → q .held ≡ l → Keeps p (foldingUp C i q l)
@@ -200,7 +200,7 @@ module _ {p : Program} {C : Config} (I : Inv p C) (i : ℕ) (q : Process) (at : 
       }
         where
           maker : Process
-          maker = process (running Q) (kept (λ m. not (t m)) (q .held) ++ ((n, end used k (plain A)) ∷ [])) (q .link)
+          maker = goesOn q Q (kept (λ m. not (t m)) (q .held) ++ ((n, end used k (plain A)) ∷ []))
 
           made : Process
           made = process (running P) (kept t (q .held) ++ ((n, end provided k (plain A)) ∷ [])) none
@@ -220,7 +220,7 @@ module _ {p : Program} {C : Config} (I : Inv p C) (i : ℕ) (q : Process) (at : 
   try-keeps w P Q one tP tQ = keeps-cond p (ltb (length (C .processes)) processPlaces) _ lacking go tt
     where
       waiter : Process
-      waiter = process (waiting Q) (kept (mentions Q) (q .held)) (Option·map (movedUp i) (q .link))
+      waiter = relinked (movedUp i) (becoming (waiting Q) (kept (mentions Q) (q .held)) q)
 
       tryer : Process
       tryer = process (running P) (kept (mentions P) (q .held)) (some (suc i))
@@ -252,7 +252,7 @@ module _ {p : Program} {C : Config} (I : Inv p C) (i : ℕ) (q : Process) (at : 
       fi : f i ≡ I .id i
       fi = id-in-low (I .shows) i (I .next)
 
-      go : ltb (length (C .processes)) processPlaces ≡ true → Inv p (config (set (inserted i waiter (C .processes)) i tryer) (C .outside) (C .given))
+      go : ltb (length (C .processes)) processPlaces ≡ true → Inv p (withProcesses (set (inserted i waiter (C .processes)) i tryer) C)
       go lt = record {
         id = f;
         roster = put (f i) (some (relinked f tryer)) (put (I .next) (some (relinked f waiter)) (I .roster));
@@ -266,7 +266,7 @@ module _ {p : Program} {C : Config} (I : Inv p C) (i : ℕ) (q : Process) (at : 
       }
         where
           same : put (I .id i) (some (process (running P) (kept (mentions P) (q .held)) (some (I .next))))
-              (put (I .next) (some (process (waiting Q) (kept (mentions Q) (q .held)) (Option·map (I .id) (q .link)))) (I .roster))
+              (put (I .next) (some (relinked (I .id) (becoming (waiting Q) (kept (mentions Q) (q .held)) q))) (I .roster))
               ≡ put (f i) (some (relinked f tryer)) (put (I .next) (some (relinked f waiter)) (I .roster))
           same j =
               put (sym fi j) (some (process (running P) (kept (mentions P) (q .held)) (some (sym (id-in-new (I .shows) i (I .next)) j))))
@@ -280,7 +280,7 @@ module _ {p : Program} {C : Config} (I : Inv p C) (i : ℕ) (q : Process) (at : 
   forward-keeps w x c A B hx hc ab =
       keeps-held p (lookup (x .name) (q .held)) _ λ e le. keeps-held p (lookup (c .name) (q .held)) _ λ d ld. joins e d le ld (farEnd C d)
     where
-      emptied-inv : {o : List Outside} → Sublistᴰ o (C .outside) → Inv p (config (set (C .processes) i (process folding [] (q .link))) o (C .given))
+      emptied-inv : {o : List Outside} → Sublistᴰ o (C .outside) → Inv p (withOutside o (withProcesses (set (C .processes) i (foldsUp q [])) C))
       emptied-inv = inv-less I i q at folding (folds w) (Sublistᴰ·nil-sublist (q .held)) tt
 
       module-of : (e d : End) → lookup (x .name) (q .held) ≡ some e → lookup (c .name) (q .held) ≡ some d → (e .side ≡ provided) × (d .side ≡ used) × (e .type ≡ d .type)

@@ -11,7 +11,7 @@ use Rattle.calculus.specs.Named.{lookup, names, distinct, isSome}
 use Rattle.calculus.specs.Types.{Side, provided, used, sameSide, sameType}
 use Rattle.calculus.specs.Program.{Slot, slot, Context, Signature, Program, onSide, signatureContext}
 use Rattle.calculus.specs.Typing.{Typed, TypedBody, namesOf, entryFits, listFits}
-use Rattle.calculus.specs.Configuration.{End, end, running, Process, process, relinked, Config}
+use Rattle.calculus.specs.Configuration.{End, end, running, Process, process, relinked, Config, becoming}
 use Rattle.calculus.specs.Steps.{renamedEnd, renamed, entering, calling}
 use Rattle.calculus.specs.WellFormed.{In, NoneTwice, contextOf, key, isWaiting}
 use Rattle.derivations.specs.Booleans.{never}
@@ -124,7 +124,7 @@ module _ {p : Program} {C : Config} (I : Inv p C) (i : ℕ) (q : Process) (at : 
       same : contextOf l ≡ G
       same = renamed-context (q .held) ns G fits
 
-      fine : Fine p (process (running (s .body)) l (Option·map (I .id) (q .link)))
+      fine : Fine p (relinked (I .id) (becoming (running (s .body)) l q))
       fine = record {
         typed = subst (λ H. Typed p H (isSome (Option·map (I .id) (q .link))) (s .body)) (sym same) (weakened (t .body) _);
         names = subst NoneTwice (sym (sym (context-names l) ∙ ap names same)) (distinct-iff (names G) .0 ds);

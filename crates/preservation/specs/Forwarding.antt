@@ -12,7 +12,7 @@ use Rattle.calculus.specs.Named.{lookup, isSome}
 use Rattle.calculus.specs.Types.{provided, used, other}
 use Rattle.calculus.specs.Program.{Program}
 use Rattle.calculus.specs.Declarations.{outward}
-use Rattle.calculus.specs.Configuration.{End, end, folding, Process, process, Outside, changedOutside, movedOutside}
+use Rattle.calculus.specs.Configuration.{End, end, folding, Process, process, Outside, changedOutside, movedOutside, holding, foldsUp}
 use Rattle.calculus.specs.WellFormed.{In, NoneTwice, Rising, key, isWaiting}
 use Rattle.holding.specs.Names.{lookup-in}
 use Rattle.holding.specs.Ends.{side-clash, keyAt}
@@ -58,7 +58,7 @@ module _ {p : Program} {S : Roster} {o : List Outside} {given next : ℕ} (G : G
     stays : (v w : ℕ) (t : Tip) → v ≢ u → Has S o v t → R w v t
     stays v w t n h = inl ((λ m. n (owner G v u (keyOf d) (t .1) (some (d .type)) (subst (λ q. Has S o v (q, t .1)) (List·Memᴰ·eq-of-singleton m) h) hc)), h)
 
-    emptied : (w : ℕ) → Change p (R w) u (S u) (some (process folding [] (r .link)))
+    emptied : (w : ℕ) → Change p (R w) u (S u) (some (foldsUp r []))
     emptied w =
         becomes G (R w) u r su folding [] wr (fine-less (G .fine u r su) folding (folds wr) (Sublistᴰ·nil-sublist (r .held)) tt) (λ y i. absurd (List·Memᴰ·not-nil i))
         (λ h s t. inl ((λ m. channel-no-link (d .channel) h (sym (ap keyNumber (List·Memᴰ·eq-of-singleton m)))), t))
@@ -100,7 +100,7 @@ module _ {p : Program} {S : Roster} {o : List Outside} {given next : ℕ} (G : G
           off (inl h) = side-clash (sym se ∙ ap keySide (sym h) ∙ sd)
           off (inr h) = uw (owner G u w (keyOf d) (some (d .type)) (some (f .type)) hc (subst (λ k. Has S o w (k, some (f .type))) ((λ i. (channelKey (z i), s i)) ∙ sym h) hw))
 
-      q-fine : Fine p (process (q .doing) l′ (q .link))
+      q-fine : Fine p (holding l′ q)
       q-fine = record {
         typed = subst (λ C. TypedDoing p C (isSome (q .link)) (q .doing)) (sym (rl .context)) (g .typed);
         names = subst (NamesOf (q .doing)) (sym (rl .names)) (g .names);
@@ -122,9 +122,9 @@ module _ {p : Program} {S : Roster} {o : List Outside} {given next : ℕ} (G : G
           chan y (inl h) = subst (λ (e : End). e .channel < channelPlaces) (sym h) (G .fine u r su .channels (c, d) (lookup-in c (r .held) lc))
           chan y (inr h) = g .channels y (h .0)
 
-      pub forwarded : Good p (put w (some (process (q .doing) l′ (q .link))) (put u (some (process folding [] (r .link))) S)) o given next
+      pub forwarded : Good p (put w (some (holding l′ q)) (put u (some (foldsUp r [])) S)) o given next
       forwarded =
-          two-good G W u w (process folding [] (r .link)) (process (q .doing) l′ (q .link)) (emptied w)
+          two-good G W u w (foldsUp r []) (holding l′ q) (emptied w)
           (becomes G (R w) w q sw (q .doing) l′ refl q-fine (λ y i. end-at y (rl .entry y i)) (λ h s t. stays w w (linkTip h s) (λ y. uw (sym y)) t))
           (λ v t nu nw h. stays v w t nu h) u0 w0
         where
@@ -133,9 +133,9 @@ module _ {p : Program} {S : Roster} {o : List Outside} {given next : ℕ} (G : G
           end-at y (inr h) = stays w w (tipOf (y .1)) (λ y. uw (sym y)) (held-tip G w q sw y (h .0))
 
     -- ── the far end of e is the outside's
-    pub forwarded-out : Good p (put u (some (process folding [] (r .link))) S) (movedOutside (e .channel) (d .channel) o) given next
+    pub forwarded-out : Good p (put u (some (foldsUp r [])) S) (movedOutside (e .channel) (d .channel) o) given next
     forwarded-out =
-        one-good G (outing (G .witness) (keyOf d) u u0 (G .witness .sound u (tipOf d) hc)) u (process folding [] (r .link)) (emptied 0) (λ v t nu _ h. stays v 0 t nu h)
+        one-good G (outing (G .witness) (keyOf d) u u0 (G .witness .sound u (tipOf d) hc)) u (foldsUp r []) (emptied 0) (λ v t nu _ h. stays v 0 t nu h)
         (λ y i. out y (cases y i)) (record {
           outwards = λ y i. outw y (cases y i);
           below = λ y i. num y (cases y i);

@@ -13,7 +13,7 @@ use Rattle.calculus.specs.Named.{lookup, kept, names, isSome}
 use Rattle.calculus.specs.Types.{Side, provided, used}
 use Rattle.calculus.specs.Program.{Program}
 use Rattle.calculus.specs.Typing.{Typed}
-use Rattle.calculus.specs.Configuration.{End, end, Doing, running, folding, waiting, Process, process, Outside}
+use Rattle.calculus.specs.Configuration.{End, end, Doing, running, folding, waiting, Process, process, Outside, goesOn, becoming}
 use Rattle.calculus.specs.WellFormed.{In, NoneTwice, contextOf, key, isWaiting}
 use Rattle.holding.specs.Lists.{once-by, sub-in, sub-once, once-snoc, length-snoc, map-append}
 use Rattle.holding.specs.Names.{absent, kept-sub, kept-in, names-map, names-in, names-append}
@@ -233,7 +233,7 @@ module _ {p : Program} {S : Roster} {o : List Outside} {given next : ℕ} (G : G
     rest m = not (t m)
 
     abbrev maker : Process
-    maker = process (running Q) (kept rest (r .held) ++ ((x, end used n A) ∷ [])) (r .link)
+    maker = goesOn r Q (kept rest (r .held) ++ ((x, end used n A) ∷ []))
 
     abbrev made : Process
     made = process (running P) (kept t (r .held) ++ ((x, end provided n A) ∷ [])) none
@@ -308,7 +308,7 @@ module _ {p : Program} {S : Roster} {o : List Outside} {given next : ℕ} (G : G
     tryer = process (running P) (kept t₁ (r .held)) (some next)
 
     abbrev waiter : Process
-    waiter = process (waiting Q) (kept t₂ (r .held)) (r .link)
+    waiter = becoming (waiting Q) (kept t₂ (r .held)) r
 
     abbrev fork′ : Fork S o
     fork′ = record {

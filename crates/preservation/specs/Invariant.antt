@@ -13,7 +13,7 @@ use Rattle.notation.specs.Limits.{processPlaces, outsideNumbers}
 use Rattle.notation.specs.Tree.{Name}
 use Rattle.calculus.specs.Named.{isSome}
 use Rattle.calculus.specs.Program.{Program}
-use Rattle.calculus.specs.Configuration.{End, Doing, Process, process, relinked, Outside, Config, config}
+use Rattle.calculus.specs.Configuration.{End, Doing, Process, process, relinked, Outside, Config, withProcesses, withOutside, withGiven, becoming}
 use Rattle.calculus.specs.Steps.{Outcome, carried, notOpen, lacking, onHeld}
 use Rattle.calculus.specs.WellFormed.{contextOf, isWaiting}
 use Rattle.holding.specs.Lists.{found-below, below-found}
@@ -59,20 +59,20 @@ module _ {p : Program} {C : Config} (I : Inv p C) where
 
     -- it does d and holds l from now on
     pub inv-set : (d : Doing) (l : List (Name × End)) {o : List Outside} {given : ℕ} → given ≤ outsideNumbers
-        → Good p (put (I .id i) (some (process d l (Option·map (I .id) (q .link)))) (I .roster)) o given (I .next) → Inv p (config (set (C .processes) i (process d l (q .link))) o given)
+        → Good p (put (I .id i) (some (relinked (I .id) (becoming d l q))) (I .roster)) o given (I .next) → Inv p (withGiven given (withOutside o (withProcesses (set (C .processes) i (becoming d l q)) C)))
     inv-set d l le g = record {
       id = I .id;
-      roster = put (I .id i) (some (process d l (Option·map (I .id) (q .link)))) (I .roster);
+      roster = put (I .id i) (some (relinked (I .id) (becoming d l q))) (I .roster);
       next = I .next;
-      shows = shows-set (I .shows) i (found-below (C .processes) i at) (process d l (q .link)) (I .shows .within i q at);
+      shows = shows-set (I .shows) i (found-below (C .processes) i at) (becoming d l q) (I .shows .within i q at);
       good = g;
-      places = subst (λ n. n ≤ processPlaces) (sym (length-set (C .processes) i (process d l (q .link)))) (I .places);
+      places = subst (λ n. n ≤ processPlaces) (sym (length-set (C .processes) i (becoming d l q))) (I .places);
       numbers = le;
     }
 
     -- it lets go of some of what it holds, and so does the outside
     pub inv-less : (d : Doing) → Goes (q .doing) d → {l : List (Name × End)} → Sublistᴰ l (q .held) → TypedDoing p (contextOf l) (isSome (Option·map (I .id) (q .link))) d
-        → {o : List Outside} → Sublistᴰ o (C .outside) → Inv p (config (set (C .processes) i (process d l (q .link))) o (C .given))
+        → {o : List Outside} → Sublistᴰ o (C .outside) → Inv p (withOutside o (withProcesses (set (C .processes) i (becoming d l q)) C))
     inv-less d w {l} s t k = inv-set d l (I .numbers) (lessen (I .good) (I .id i) (relinked (I .id) q) at-roster d w s t k)
 
     -- its handler stands where its link says, and waits
@@ -90,19 +90,19 @@ module _ {p : Program} {C : Config} (I : Inv p C) where
 
   -- those at i and j change
   pub inv-two : (i j : ℕ) (q r : Process) → getElem? (C .processes) i ≡ some q → getElem? (C .processes) j ≡ some r → (d d′ : Doing) (l l′ : List (Name × End))
-      → Good p (put (I .id j) (some (process d′ l′ (Option·map (I .id) (r .link)))) (put (I .id i) (some (process d l (Option·map (I .id) (q .link)))) (I .roster)))
+      → Good p (put (I .id j) (some (relinked (I .id) (becoming d′ l′ r))) (put (I .id i) (some (relinked (I .id) (becoming d l q))) (I .roster)))
       (C .outside) (C .given) (I .next)
-      → Inv p (config (set (set (C .processes) i (process d l (q .link))) j (process d′ l′ (r .link))) (C .outside) (C .given))
+      → Inv p (withProcesses (set (set (C .processes) i (becoming d l q)) j (becoming d′ l′ r)) C)
   inv-two i j q r a b d d′ l l′ g = record {
     id = I .id;
-    roster = put (I .id j) (some (process d′ l′ (Option·map (I .id) (r .link)))) (put (I .id i) (some (process d l (Option·map (I .id) (q .link)))) (I .roster));
+    roster = put (I .id j) (some (relinked (I .id) (becoming d′ l′ r))) (put (I .id i) (some (relinked (I .id) (becoming d l q))) (I .roster));
     next = I .next;
-    shows = shows-set (shows-set (I .shows) i (found-below (C .processes) i a) (process d l (q .link)) (I .shows .within i q a)) j
-        (omega (arith, found-below (C .processes) j b, len)) (process d′ l′ (r .link)) (λ h e. let x = I .shows .within j r b h e in omega (arith, len));
+    shows = shows-set (shows-set (I .shows) i (found-below (C .processes) i a) (becoming d l q) (I .shows .within i q a)) j
+        (omega (arith, found-below (C .processes) j b, len)) (becoming d′ l′ r) (λ h e. let x = I .shows .within j r b h e in omega (arith, len));
     good = g;
-    places = subst (λ n. n ≤ processPlaces) (sym (length-set (set (C .processes) i (process d l (q .link))) j (process d′ l′ (r .link)) ∙ len)) (I .places);
+    places = subst (λ n. n ≤ processPlaces) (sym (length-set (set (C .processes) i (becoming d l q)) j (becoming d′ l′ r) ∙ len)) (I .places);
     numbers = I .numbers;
   }
     where
-      len : length (set (C .processes) i (process d l (q .link))) ≡ length (C .processes)
-      len = length-set (C .processes) i (process d l (q .link))
+      len : length (set (C .processes) i (becoming d l q)) ≡ length (C .processes)
+      len = length-set (C .processes) i (becoming d l q)

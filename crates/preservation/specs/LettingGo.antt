@@ -12,7 +12,7 @@ use Rattle.notation.specs.Tree.{Name, Proc}
 use Rattle.calculus.specs.Named.{isSome, names}
 use Rattle.calculus.specs.Program.{Program}
 use Rattle.calculus.specs.Typing.{Typed}
-use Rattle.calculus.specs.Configuration.{End, Doing, running, Process, process, Outside, letGo}
+use Rattle.calculus.specs.Configuration.{End, Doing, running, Process, process, Outside, letGo, doingNow, becoming}
 use Rattle.calculus.specs.WellFormed.{In, Rising, contextOf, isWaiting, NoneTwice}
 use Rattle.holding.specs.Lists.{sub-in, sub-once}
 use Rattle.preservation.specs.Witness.{Tip, fewer}
@@ -63,15 +63,15 @@ put-twice u x y F v = go (ℕ-discrete v u)
 
 module _ {p : Program} {S : Roster} {o : List Outside} {given next : ℕ} (G : Good p S o given next) where
   -- ── the process r of u now does d and holds l, of what it held
-  pub less : (u : ℕ) (r : Process) → S u ≡ some r → (d : Doing) (l : List (Name × End)) → isWaiting (r .doing) ≡ isWaiting d → Fine p (process d l (r .link))
-      → ((x : Name × End) → In x l → (n : Name) × In (n, x .1) (r .held)) → {o′ : List Outside} → Sublistᴰ o′ o → Good p (put u (some (process d l (r .link))) S) o′ given next
+  pub less : (u : ℕ) (r : Process) → S u ≡ some r → (d : Doing) (l : List (Name × End)) → isWaiting (r .doing) ≡ isWaiting d → Fine p (becoming d l r)
+      → ((x : Name × End) → In x l → (n : Name) × In (n, x .1) (r .held)) → {o′ : List Outside} → Sublistᴰ o′ o → Good p (put u (some (becoming d l r)) S) o′ given next
   less u r su d l w f s k =
-      one-good G (G .witness) u (process d l (r .link))
+      one-good G (G .witness) u (becoming d l r)
       (becomes G (Has S o) u r su d l w f (λ x i. let m = s x i in inside r su (holds (m .0, x .1) (m .1) refl)) (λ h s t. t))
       (λ v e n z t. t) (λ y i. outside refl y (sub-in k i) refl) (fair-less (G .fair) k)
 
   pub lessen : (u : ℕ) (r : Process) → S u ≡ some r → (d : Doing) → Goes (r .doing) d → {l : List (Name × End)} → Sublistᴰ l (r .held)
-      → TypedDoing p (contextOf l) (isSome (r .link)) d → {o′ : List Outside} → Sublistᴰ o′ o → Good p (put u (some (process d l (r .link))) S) o′ given next
+      → TypedDoing p (contextOf l) (isSome (r .link)) d → {o′ : List Outside} → Sublistᴰ o′ o → Good p (put u (some (becoming d l r)) S) o′ given next
   lessen u r su d w {l} s t k = less u r su d l (w .waits) (fine-less (G .fine u r su) d w s t) (λ x i. (x .0, sub-in s i)) k
 
   -- ── links go too: y is what stands at v afterwards
@@ -126,27 +126,27 @@ module _ {p : Program} {S : Roster} {o : List Outside} {given next : ℕ} (G : G
     cut-mates : Mates (put u (some (none, false)) (put h (some (s .link, false)) (λ v. profile (S v))))
     cut-mates = mates-cut (G .mates) u h (s .link) (profile-at u r su false w ∙ ap (λ l. some (l, false)) lk) (profile-at h s sh true wh)
 
-    handler : Shrinks h (some (process d (s .held) (s .link)))
+    handler : Shrinks h (some (doingNow d s))
     handler = shrinks h s sh d (s .link) wd (λ _ e. e) nd td
 
     rest-same : (x : Option Process) (y : Profile) → profile x ≡ y → (v : ℕ)
-        → put u y (put h (some (s .link, false)) (λ v. profile (S v))) v ≡ profile (put u x (put h (some (process d (s .held) (s .link))) S) v)
+        → put u y (put h (some (s .link, false)) (λ v. profile (S v))) v ≡ profile (put u x (put h (some (doingNow d s)) S) v)
     rest-same x y e v =
-        sym (profile-put-two u h x (some (process d (s .held) (s .link))) S v
+        sym (profile-put-two u h x (some (doingNow d s)) S v
         ∙ (λ i. put u (e i) (put h (some (s .link, wd i)) (λ v. profile (S v))) v))
 
     pub raised : (P : Proc) → NoneTwice (names (r .held)) → Typed p (contextOf (r .held)) false P
-        → Good p (put u (some (process (running P) (r .held) none)) (put h (some (process d (s .held) (s .link))) S)) o given next
+        → Good p (put u (some (process (running P) (r .held) none)) (put h (some (doingNow d s)) S)) o given next
     raised P n t =
         shrunk-good
-        (put-elim Shrinks u _ (put h (some (process d (s .held) (s .link))) S) (shrinks u r su (running P) none refl (λ k e. absurd (Option·none-ne-some k e)) n t)
+        (put-elim Shrinks u _ (put h (some (doingNow d s)) S) (shrinks u r su (running P) none refl (λ k e. absurd (Option·none-ne-some k e)) n t)
         (λ v _. put-elim Shrinks h _ S handler (λ v _. stays v) v))
         (mates-same (rest-same (some (process (running P) (r .held) none)) (some (none, false)) refl) cut-mates)
 
-    pub left : Good p (put u none (put h (some (process d (s .held) (s .link))) S)) o given next
+    pub left : Good p (put u none (put h (some (doingNow d s)) S)) o given next
     left =
         shrunk-good
-        (put-elim Shrinks u none (put h (some (process d (s .held) (s .link))) S) (leaves u) (λ v _. put-elim Shrinks h _ S handler (λ v _. stays v) v))
+        (put-elim Shrinks u none (put h (some (doingNow d s)) S) (leaves u) (λ v _. put-elim Shrinks h _ S handler (λ v _. stays v) v))
         (mates-same (λ v. put-twice u none (some (none, false)) (put h (some (s .link, false)) (λ v. profile (S v))) v ∙ rest-same none none refl v)
         (mates-put cut-mates u none (subst Quiet (sym (put-at u (some (none, false)) (put h (some (s .link, false)) (λ v. profile (S v))) u refl)) quiet-some) quiet-none))
 

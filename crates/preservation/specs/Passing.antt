@@ -14,7 +14,7 @@ use Rattle.calculus.specs.Named.{lookup, without, names, isSome}
 use Rattle.calculus.specs.Types.{Side, provided, used, other}
 use Rattle.calculus.specs.Program.{Program}
 use Rattle.calculus.specs.Declarations.{outward}
-use Rattle.calculus.specs.Configuration.{End, end, Doing, Process, process, Outside, retypedOutside}
+use Rattle.calculus.specs.Configuration.{End, end, Doing, Process, process, Outside, retypedOutside, becoming}
 use Rattle.calculus.specs.Steps.{retypedEnd}
 use Rattle.calculus.specs.WellFormed.{In, NoneTwice, Rising, contextOf, key}
 use Rattle.holding.specs.Lists.{sub-in, sub-once, once-snoc, length-snoc, map-append}
@@ -81,11 +81,11 @@ module _ {p : Program} {S : Roster} {o : List Outside} {given next : ℕ} (G : G
       passed-end : R u (tipOf d)
       passed-end = retyped-tip (Has S o) u e B hu far d (inr (ha, λ z. ed (sym z)))
 
-      sender-fine : Fine p (process P (retypedEnd c B (without a (r .held))) (r .link))
+      sender-fine : Fine p (becoming P (retypedEnd c B (without a (r .held))) r)
       sender-fine = fine-retyped (G .fine u r su) P wP (without-sub a (r .held)) c B tP
 
       -- to v, by whatever way
-      sender : (v : ℕ) → Change p (Moved R (keyOf d ∷ []) u v) u (S u) (some (process P (retypedEnd c B (without a (r .held))) (r .link)))
+      sender : (v : ℕ) → Change p (Moved R (keyOf d ∷ []) u v) u (S u) (some (becoming P (retypedEnd c B (without a (r .held))) r))
       sender v =
           becomes G (Moved R (keyOf d ∷ []) u v) u r su P (retypedEnd c B (without a (r .held))) (wP .waits) sender-fine
           (λ x i. let t = sender-end x i in inl ((λ m. t .1 (key-from-key (x .1) d (List·Memᴰ·eq-of-singleton m))), t .0))
@@ -140,7 +140,7 @@ module _ {p : Program} {S : Roster} {o : List Outside} {given next : ℕ} (G : G
       taken y (inr i) =
           subst (λ (y : Name × End). Moved R (keyOf d ∷ []) u w w (tipOf (y .1))) (sym (List·Memᴰ·eq-of-singleton i)) (inr (List·Memᴰ·head refl, refl, passed-end far-u))
 
-      taker-fine : Fine p (process Q (retypedEnd c′ B (q .held) ++ ((x, d) ∷ [])) (q .link))
+      taker-fine : Fine p (becoming Q (retypedEnd c′ B (q .held) ++ ((x, d) ∷ [])) q)
       unfolding names
       taker-fine = record {
         typed = tQ;
@@ -168,7 +168,7 @@ module _ {p : Program} {S : Roster} {o : List Outside} {given next : ℕ} (G : G
           chan y (inl i) = retyped-channels c′ B (q .held) channelPlaces (g .channels) y i
           chan y (inr i) = subst (λ (y : Name × End). y .1 .channel < channelPlaces) (sym (List·Memᴰ·eq-of-singleton i)) (G .fine u r su .channels (a, d) (lookup-in a (r .held) la))
 
-      taker : Change p (Moved R (keyOf d ∷ []) u w) w (S w) (some (process Q (retypedEnd c′ B (q .held) ++ ((x, d) ∷ [])) (q .link)))
+      taker : Change p (Moved R (keyOf d ∷ []) u w) w (S w) (some (becoming Q (retypedEnd c′ B (q .held) ++ ((x, d) ∷ [])) q))
       taker =
           becomes G (Moved R (keyOf d ∷ []) u w) w q sw Q (retypedEnd c′ B (q .held) ++ ((x, d) ∷ [])) (wQ .waits) taker-fine
           (λ y i. taken y (List·Memᴰ·append-cases (retypedEnd c′ B (q .held)) i))
@@ -207,10 +207,10 @@ module _ {p : Program} {S : Roster} {o : List Outside} {given next : ℕ} (G : G
                 ∙ near-owner G u w e f z s hu hw u0 w0,
           )
 
-      pub passed : Good p (put w (some (process Q (retypedEnd c′ B (q .held) ++ ((x, d) ∷ [])) (q .link)))
-          (put u (some (process P (retypedEnd c B (without a (r .held))) (r .link))) S)) o given next
+      pub passed : Good p (put w (some (becoming Q (retypedEnd c′ B (q .held) ++ ((x, d) ∷ [])) q))
+          (put u (some (becoming P (retypedEnd c B (without a (r .held))) r)) S)) o given next
       passed =
-          two-good G moving u w (process P (retypedEnd c B (without a (r .held))) (r .link)) (process Q (retypedEnd c′ B (q .held) ++ ((x, d) ∷ [])) (q .link))
+          two-good G moving u w (becoming P (retypedEnd c B (without a (r .held))) r) (becoming Q (retypedEnd c′ B (q .held) ++ ((x, d) ∷ [])) q)
           (sender far-u w) taker (λ v t nu nw h. else-stays v w t nu h (λ y. rest v t nu nw (whose G u v e hu t h y))) u0 w0
         where
           rest : (v : ℕ) (t : Tip) → v ≢ u → v ≢ w → (v ≡ u) ⊎ Has S o v ((k, other (e .side)), t .1) → ⊥
@@ -219,9 +219,9 @@ module _ {p : Program} {S : Roster} {o : List Outside} {given next : ℕ} (G : G
 
     -- ── to nobody: the channel is given up
     pub passed-unheard : ((v : ℕ) (t : Option (Ty Name)) → ¬ Has S o v ((k, other (e .side)), t)) → {o′ : List Outside} → Sublistᴰ o′ o
-        → Good p (put u (some (process P (retypedEnd c B (without a (r .held))) (r .link))) S) o′ given next
+        → Good p (put u (some (becoming P (retypedEnd c B (without a (r .held))) r)) S) o′ given next
     passed-unheard far {o′} sub =
-        one-good G (retyping (G .witness) k (some B)) u (process P (retypedEnd c B (without a (r .held))) (r .link))
+        one-good G (retyping (G .witness) k (some B)) u (becoming P (retypedEnd c B (without a (r .held))) r)
         (becomes G R u r su P (retypedEnd c B (without a (r .held))) (wP .waits) (sender-fine (far u)) (λ x i. sender-end (far u) x i .0)
         (λ h s t. retyped-off (Has S o) u (linkTip h s) t (λ z. channel-no-link (e .channel) h (sym z))))
         (λ v t nu _ h. retyped-off (Has S o) v t h (λ y. rest v t nu (whose G u v e hu t h y)))
@@ -260,9 +260,9 @@ module _ {p : Program} {S : Roster} {o : List Outside} {given next : ℕ} (G : G
       new-out = inr (List·Memᴰ·head (sym d-out), refl, subst (λ q. R u (q, some (d .type))) d-out (passed-end far-not))
 
       passed-to : (o′ : List Outside) → ((x : Outside) → In x o′ → Moved R (keyOf d ∷ []) u 0 0 (outsideTip x)) → Fair p (suc given) o′
-          → Good p (put u (some (process P (retypedEnd c B (without a (r .held))) (r .link))) S) o′ (suc given) next
+          → Good p (put u (some (becoming P (retypedEnd c B (without a (r .held))) r)) S) o′ (suc given) next
       passed-to o′ out f =
-          one-good G W u (process P (retypedEnd c B (without a (r .held))) (r .link)) (sender far-not 0)
+          one-good G W u (becoming P (retypedEnd c B (without a (r .held))) r) (sender far-not 0)
           (λ v t nu n0 h. else-stays v 0 t nu h (λ j. rest v t nu n0 (whose G u v e hu t h j))) out f
         where
           rest : (v : ℕ) (t : Tip) → v ≢ u → v ≢ 0 → (v ≡ u) ⊎ Has S o v ((k, other (e .side)), t .1) → ⊥
@@ -275,12 +275,12 @@ module _ {p : Program} {S : Roster} {o : List Outside} {given next : ℕ} (G : G
       f₁ : Fair p given o₁
       f₁ = fair-retyped (G .fair) (e .channel) B oB
 
-      pub passed-gone : Good p (put u (some (process P (retypedEnd c B (without a (r .held))) (r .link))) S) (o₁ ++ []) (suc given) next
+      pub passed-gone : Good p (put u (some (becoming P (retypedEnd c B (without a (r .held))) r)) S) (o₁ ++ []) (suc given) next
       passed-gone =
-          subst (λ o. Good p (put u (some (process P (retypedEnd c B (without a (r .held))) (r .link))) S) o (suc given) next) (sym (append-nil o₁))
+          subst (λ o. Good p (put u (some (becoming P (retypedEnd c B (without a (r .held))) r)) S) o (suc given) next) (sym (append-nil o₁))
           (passed-to o₁ old-out (record { outwards = f₁ .outwards; below = λ x j. let b = f₁ .below x j in omega arith; rising = f₁ .rising; keys = f₁ .keys; channels = f₁ .channels }))
 
-      pub passed-out : Good p (put u (some (process P (retypedEnd c B (without a (r .held))) (r .link))) S) (o₁ ++ (shown ∷ [])) (suc given) next
+      pub passed-out : Good p (put u (some (becoming P (retypedEnd c B (without a (r .held))) r)) S) (o₁ ++ (shown ∷ [])) (suc given) next
       passed-out = passed-to (o₁ ++ (shown ∷ [])) (λ x j. out x (List·Memᴰ·append-cases o₁ j)) (record {
         outwards = λ x j. last (λ x. outward p (x .type) ≡ true) (f₁ .outwards) oA x (List·Memᴰ·append-cases o₁ j);
         below = λ x j. last (λ x. x .number < suc given) (λ x j. let b = f₁ .below x j in omega arith) (omega arith) x (List·Memᴰ·append-cases o₁ j);

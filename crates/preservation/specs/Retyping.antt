@@ -13,7 +13,7 @@ use Rattle.calculus.specs.Named.{lookup, names, isSome}
 use Rattle.calculus.specs.Types.{Side, provided, used, other}
 use Rattle.calculus.specs.Program.{Program}
 use Rattle.calculus.specs.Declarations.{outward}
-use Rattle.calculus.specs.Configuration.{End, end, Doing, Process, process, Outside, changedOutside, retypedOutside}
+use Rattle.calculus.specs.Configuration.{End, end, Doing, Process, process, Outside, changedOutside, retypedOutside, becoming}
 use Rattle.calculus.specs.Steps.{retypedEnd}
 use Rattle.calculus.specs.WellFormed.{In, NoneTwice, Rising, contextOf, key}
 use Rattle.graphs.specs.Moves.{no-loop}
@@ -81,7 +81,7 @@ retyped-channels c A l n h x i =
     subst (λ k. k < n) (ap keyNumber (r .2)) (h (r .0) (r .1))
 
 pub fine-retyped : {p : Program} {r : Process} → Fine p r → (d : Doing) → Goes (r .doing) d → {l : List (Name × End)} → Sublistᴰ l (r .held) → (c : Name) (A : Ty Name)
-    → TypedDoing p (contextOf (retypedEnd c A l)) (isSome (r .link)) d → Fine p (process d (retypedEnd c A l) (r .link))
+    → TypedDoing p (contextOf (retypedEnd c A l)) (isSome (r .link)) d → Fine p (becoming d (retypedEnd c A l) r)
 fine-retyped {p} {r} f d w {l} s c A t = record {
   typed = t;
   names = subst (NamesOf d) (sym (changed-names c _ l)) (names-less d s (w .names (names (r .held)) (f .names)));
@@ -204,7 +204,7 @@ module _ {p : Program} {S : Roster} {o : List Outside} {given next : ℕ} (G : G
   -- the process r of u with the end e of c retyped, where the far end is not at u
   pub retypes : (u : ℕ) (r : Process) (su : S u ≡ some r) (d : Doing) → Goes (r .doing) d → (c : Name) (e : End) (A : Ty Name) → lookup c (r .held) ≡ some e
       → ((t : Option (Ty Name)) → ¬ Has S o u ((channelKey (e .channel), other (e .side)), t)) → TypedDoing p (contextOf (retypedEnd c A (r .held))) (isSome (r .link)) d
-      → Change p (Retyped (Has S o) (channelKey (e .channel)) (some A)) u (S u) (some (process d (retypedEnd c A (r .held)) (r .link)))
+      → Change p (Retyped (Has S o) (channelKey (e .channel)) (some A)) u (S u) (some (becoming d (retypedEnd c A (r .held)) r))
   retypes u r su d w c e A lc far t =
       becomes G (Retyped (Has S o) (channelKey (e .channel)) (some A)) u r su d (retypedEnd c A (r .held)) (w .waits) (fine-retyped (G .fine u r su) d w (Sublistᴰ·refl (r .held)) c A t)
       (λ x i. retyped-tip (Has S o) u e A (held-tip u r su (c, e) (lookup-in c (r .held) lc)) far (x .1)
@@ -225,11 +225,11 @@ module _ {p : Program} {S : Roster} {o : List Outside} {given next : ℕ} (G : G
     -- to the process q of w
     pub chosen : (w : ℕ) (q : Process) → S w ≡ some q → (d′ : Doing) → Goes (q .doing) d′ → (c′ : Name) (f : End) → lookup c′ (q .held) ≡ some f → f .channel ≡ e .channel
         → f .side ≡ other (e .side) → TypedDoing p (contextOf (retypedEnd c′ A (q .held))) (isSome (q .link)) d′
-        → Good p (put w (some (process d′ (retypedEnd c′ A (q .held)) (q .link))) (put u (some (process d (retypedEnd c A (r .held)) (r .link))) S)) o given next
+        → Good p (put w (some (becoming d′ (retypedEnd c′ A (q .held)) q)) (put u (some (becoming d (retypedEnd c A (r .held)) r)) S)) o given next
     chosen w q sw d′ wd′ c′ f lf z s td′ =
-        two-good G (retyping (G .witness) (channelKey (e .channel)) (some A)) u w (process d (retypedEnd c A (r .held)) (r .link)) (process d′ (retypedEnd c′ A (q .held)) (q .link))
+        two-good G (retyping (G .witness) (channelKey (e .channel)) (some A)) u w (becoming d (retypedEnd c A (r .held)) r) (becoming d′ (retypedEnd c′ A (q .held)) q)
         (retypes u r su d wd c e A lc (λ t h. uw (owner u w _ t (some (f .type)) h far)) td)
-        (subst (λ k. Change p (Retyped (Has S o) (channelKey k) (some A)) w (S w) (some (process d′ (retypedEnd c′ A (q .held)) (q .link)))) z
+        (subst (λ k. Change p (Retyped (Has S o) (channelKey k) (some A)) w (S w) (some (becoming d′ (retypedEnd c′ A (q .held)) q))) z
         (retypes w q sw d′ wd′ c′ f A lf (λ t h. uw
         (owner u w _ (some (e .type)) t hu (subst (λ k. Has S o w (k, t)) (λ i. (channelKey (z i), (ap other s ∙ other-other (e .side)) i)) h))) td′))
         (λ v t nu nw h. retyped-off (Has S o) v t h (λ y. rest v t nu nw h (whose u v e hu t h y))) u0 w0
@@ -255,9 +255,9 @@ module _ {p : Program} {S : Roster} {o : List Outside} {given next : ℕ} (G : G
 
     -- to nobody
     pub chosen-unheard : ((v : ℕ) (t : Option (Ty Name)) → ¬ Has S o v ((channelKey (e .channel), other (e .side)), t))
-        → Good p (put u (some (process d (retypedEnd c A (r .held)) (r .link))) S) o given next
+        → Good p (put u (some (becoming d (retypedEnd c A (r .held)) r)) S) o given next
     chosen-unheard far =
-        one-good G (retyping (G .witness) (channelKey (e .channel)) (some A)) u (process d (retypedEnd c A (r .held)) (r .link)) (retypes u r su d wd c e A lc (far u) td)
+        one-good G (retyping (G .witness) (channelKey (e .channel)) (some A)) u (becoming d (retypedEnd c A (r .held)) r) (retypes u r su d wd c e A lc (far u) td)
         (λ v t nu _ h. retyped-off (Has S o) v t h (λ y. rest v t nu (whose u v e hu t h y)))
         (λ y i. let h : Has S o 0 (outsideTip y) = outside refl y i refl in retyped-off (Has S o) 0 (outsideTip y) h
         (λ z. rest 0 (outsideTip y) (λ k. above u r su (sym k)) (whose u 0 e hu (outsideTip y) h z))) (G .fair)
@@ -285,9 +285,9 @@ module _ {p : Program} {S : Roster} {o : List Outside} {given next : ℕ} (G : G
 
   pub chosen-out : (u : ℕ) (r : Process) → S u ≡ some r → (d : Doing) → Goes (r .doing) d → (c : Name) (e : End) (A : Ty Name) → lookup c (r .held) ≡ some e
       → TypedDoing p (contextOf (retypedEnd c A (r .held))) (isSome (r .link)) d → (y : Outside) → In y o → y .channel ≡ e .channel → e .side ≡ provided → outward p A ≡ true
-      → Good p (put u (some (process d (retypedEnd c A (r .held)) (r .link))) S) (retypedOutside (e .channel) A o) given next
+      → Good p (put u (some (becoming d (retypedEnd c A (r .held)) r)) S) (retypedOutside (e .channel) A o) given next
   chosen-out u r su d wd c e A lc td y i z s a =
-      one-good G (retyping (G .witness) (channelKey (e .channel)) (some A)) u (process d (retypedEnd c A (r .held)) (r .link))
+      one-good G (retyping (G .witness) (channelKey (e .channel)) (some A)) u (becoming d (retypedEnd c A (r .held)) r)
       (retypes u r su d wd c e A lc (λ t h. above u r su (owner u 0 _ t (some (y .type)) h far)) td)
       (λ v t nu n0 h. retyped-off (Has S o) v t h (λ k. rest v t nu n0 (whose u v e (held-tip u r su (c, e) (lookup-in c (r .held) lc)) t h k)))
       (out-retyped (e .channel) A) (fair-retyped (G .fair) (e .channel) A a)

@@ -14,7 +14,7 @@ use Rattle.calculus.specs.Types.{Side, provided, used}
 use Rattle.calculus.specs.Program.{Context, Program}
 use Rattle.calculus.specs.Declarations.{outward}
 use Rattle.calculus.specs.Typing.{Typed}
-use Rattle.calculus.specs.Configuration.{End, end, Doing, running, folding, waiting, Process, process, Outside}
+use Rattle.calculus.specs.Configuration.{End, end, Doing, running, folding, waiting, Process, process, Outside, becoming}
 use Rattle.calculus.specs.WellFormed.{In, NoneTwice, Rising, contextOf, isWaiting}
 use Rattle.holding.specs.Lists.{sub-in, sub-once, sub-length, once-snoc}
 use Rattle.holding.specs.Names.{names-map}
@@ -161,15 +161,15 @@ module _ {p : Program} {S : Roster} {o : List Outside} {given next : ℕ} (G : G
 
   -- the process r of u now does d and holds l; its ends of links are as before
   pub becomes : (R : Rel) (u : ℕ) (r : Process) → S u ≡ some r → (d : Doing) (l : List (Name × End)) → isWaiting (r .doing) ≡ isWaiting d
-      → Fine p (process d l (r .link)) → ((x : Name × End) → In x l → R u (tipOf (x .1))) → ((h : ℕ) (s : Side) → Has S o u (linkTip h s) → R u (linkTip h s))
-      → Change p R u (S u) (some (process d l (r .link)))
+      → Fine p (becoming d l r) → ((x : Name × End) → In x l → R u (tipOf (x .1))) → ((h : ℕ) (s : Side) → Has S o u (linkTip h s) → R u (linkTip h s))
+      → Change p R u (S u) (some (becoming d l r))
   becomes R u r su d l w f hl hk = record {
     alike = ap (λ b. some (r .link, b)) (sym w) ∙ ap profile (sym su);
     fine = λ q e. subst (Fine p) (Option·some-injective _ _ e) f;
     tips = λ q e. subst (λ q. (t : Tip) → Tips u q t → R u t) (Option·some-injective _ _ e) here;
   }
     where
-      here : (e : Tip) → Tips u (process d l (r .link)) e → R u e
+      here : (e : Tip) → Tips u (becoming d l r) e → R u e
       here e (holds x i z) = rw z (hl x i)
       here e (links h k z) = rw z (hk h provided (inside r su (links h k refl)))
       here e (waits k z) = rw z (hk u used (inside r su (waits (w ∙ k) refl)))
@@ -195,7 +195,7 @@ module _ {p : Program} {S : Roster} {o : List Outside} {given next : ℕ} (G : G
 
 -- ── a process that holds less
 pub fine-less : {p : Program} {r : Process} → Fine p r → (d : Doing) → Goes (r .doing) d → {l : List (Name × End)} → Sublistᴰ l (r .held) → TypedDoing p (contextOf l) (isSome (r .link)) d
-    → Fine p (process d l (r .link))
+    → Fine p (becoming d l r)
 fine-less {p} {r} f d w s t = record {
   typed = t;
   names = names-less d s (w .names (names (r .held)) (f .names));

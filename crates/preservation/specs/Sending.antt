@@ -15,7 +15,7 @@ use Rattle.calculus.specs.Types.{Side, used, other, standing, sameType, Passing
 use Rattle.calculus.specs.Program.{slot, Context, Program}
 use Rattle.calculus.specs.Declarations.{outward}
 use Rattle.calculus.specs.Typing.{acting, Typed, sends-unit, recvs-unit, sends-channel, recvs-channel, sends-label, recvs-label, TypedBranches, last-branch, one-branch, bringing, retyped}
-use Rattle.calculus.specs.Configuration.{End, end, Doing, running, folding, waiting, Process, process, relinked, Outside, Config, config, Holder, Far, farEnd}
+use Rattle.calculus.specs.Configuration.{End, end, Doing, running, folding, waiting, Process, process, relinked, Outside, Config, withProcesses, withOutside, Holder, Far, farEnd, goesOn}
 use Rattle.calculus.specs.Steps.{notOpen, lacking, Message, closing, passes, chooses, Wanted, onClose, onChannel, onLabel, Turn, sends, receives, alone, turnOf, afterPassing, afterChoosing, afterMessage, retypedEnd, afterSend, branchOf, takesClose, takesChannel, takesLabel, afterReceive, parting, bothTo, meeting, isGivenUp, passedOut, sending, send, answering, receiving, receive}
 use Rattle.calculus.specs.WellFormed.{In, contextOf, isWaiting}
 use Rattle.derivations.specs.Booleans.{ltb-iff}
@@ -126,29 +126,29 @@ module _ {p : Program} {C : Config} (I : Inv p C) where
       t′ : Typed p (contextOf (without c (q .held))) b P
       t′ = subst (λ G. Typed p G b P) (context-without c (q .held)) t
 
-      closed : {o : List Outside} → Sublistᴰ o (C .outside) → Inv p (config (set (C .processes) i (process (running P) (without c (q .held)) (q .link))) o (C .given))
+      closed : {o : List Outside} → Sublistᴰ o (C .outside) → Inv p (withOutside o (withProcesses (set (C .processes) i (goesOn q P (without c (q .held)))) C))
       closed = inv-less I i q at (running P) (runs-on w P) (without-sub c (q .held)) t′
 
-      close-keeps : (g : Far) → FarIs C e g → Keeps p (sending p C i q (process (running P) (without c (q .held)) (q .link)) closing e g)
+      close-keeps : (g : Far) → FarIs C e g → Keeps p (sending p C i q (goesOn q P (without c (q .held))) closing e g)
       unfolding afterReceive
       close-keeps _ (at-outside n y _ _ _) = closed (let-go-sub (e .channel) (C .outside))
       close-keeps _ (at-nobody _ _) = closed (Sublistᴰ·refl (C .outside))
-      close-keeps _ (at-process h f) = turn-elim (λ T. Keeps p (meeting p C i q (process (running P) (without c (q .held)) (q .link)) closing e h T)) (h .process .doing) (λ _ _ _ _. tt)
+      close-keeps _ (at-process h f) = turn-elim (λ T. Keeps p (meeting p C i q (goesOn q P (without c (q .held))) closing e h T)) (h .process .doing) (λ _ _ _ _. tt)
           (λ c′ v k. keeps-cond p (same (c′ .name) (h .name)) _ notOpen (λ z. both (h .process .doing) refl c′ v k (same-iff (c′ .name) (h .name) .0 z)) tt) tt
         where
           both : (d : Doing) → h .process .doing ≡ d → (c′ : Located) (v : Wanted) → Receives d c′ v → c′ .name ≡ h .name
-              → Keeps p (bothTo C i (process (running P) (without c (q .held)) (q .link)) (h .place) (takesClose v (h .name) (h .process)))
+              → Keeps p (bothTo C i (goesOn q P (without c (q .held))) (h .place) (takesClose v (h .name) (h .process)))
           both _ z c′ _ (for-close {o = o} {P = P′}) n = go (typed-at J (h .place) (h .process) at′ (running (recvUnit o c′ P′)) z)
             where
-              J : Inv p (config (set (C .processes) i (process (running P) (without c (q .held)) (q .link))) (C .outside) (C .given))
+              J : Inv p (withProcesses (set (C .processes) i (goesOn q P (without c (q .held)))) C)
               J = closed (Sublistᴰ·refl (C .outside))
 
-              at′ : getElem? (set (C .processes) i (process (running P) (without c (q .held)) (q .link))) (h .place) ≡ some (h .process)
+              at′ : getElem? (set (C .processes) i (goesOn q P (without c (q .held)))) (h .place) ≡ some (h .process)
               at′ = set-off (C .processes) i (h .place) _ (two-places h f) ∙ f .stands
 
               go : Typed p (contextOf (h .process .held)) (isSome (Option·map (J .id) (h .process .link))) (recvUnit o c′ P′)
-                  → Inv p (config (set (set (C .processes) i (process (running P) (without c (q .held)) (q .link))) (h .place)
-                  (process (running P′) (without (h .name) (h .process .held)) (h .process .link))) (C .outside) (C .given))
+                  → Inv p (withProcesses (set (set (C .processes) i (goesOn q P (without c (q .held)))) (h .place)
+                  (goesOn (h .process) P′ (without (h .name) (h .process .held)))) C)
               go (recvs-unit a d) =
                   inv-less J (h .place) (h .process) at′ (running P′) (runs-on (record { term = recvUnit o c′ P′; runs = z }) P′) (without-sub (h .name) (h .process .held))
                   (subst (λ G. Typed p G (isSome (Option·map (J .id) (h .process .link))) P′)
@@ -172,7 +172,7 @@ module _ {p : Program} {C : Config} (I : Inv p C) where
       d′ = subst (λ G. Typed p G b P) (ap (λ A. retyped c A (contextOf (q .held))) (sym BA) ∙ context-retyped c B (q .held)) d
 
       abbrev q₁ : Process
-      q₁ = process (running P) (retypedEnd c B (q .held)) (q .link)
+      q₁ = goesOn q P (retypedEnd c B (q .held))
 
       label-keeps : (g : Far) → FarIs C e g → Keeps p (sending p C i q q₁ (chooses l) e g)
       unfolding afterReceive
@@ -199,7 +199,7 @@ module _ {p : Program} {C : Config} (I : Inv p C) where
               rr = record { term = recvLabel o c′ bs; runs = z }
 
               on : Typed p (contextOf (h .process .held)) (b′ h f) (recvLabel o c′ bs)
-                  → Keeps p (bothTo C i q₁ (h .place) (Option·map (λ P. process (running P) (retypedEnd (h .name) B (h .process .held)) (h .process .link))
+                  → Keeps p (bothTo C i q₁ (h .place) (Option·map (λ P. goesOn (h .process) P (retypedEnd (h .name) B (h .process .held)))
                   (branchOf (l .name) bs)))
               on (recvs-label T′ t′ ch′ ac′ fit ds) = go (branchOf (l .name) bs) refl
                 where
@@ -210,7 +210,7 @@ module _ {p : Program} {C : Config} (I : Inv p C) where
                       ∙ ap (standing (p .types)) (far-type h f) ∙ eT) ∙ ch)
 
                   go : (o : Option Proc) → branchOf (l .name) bs ≡ o
-                      → Keeps p (bothTo C i q₁ (h .place) (Option·map (λ P. process (running P) (retypedEnd (h .name) B (h .process .held)) (h .process .link)) o))
+                      → Keeps p (bothTo C i q₁ (h .place) (Option·map (λ P. goesOn (h .process) P (retypedEnd (h .name) B (h .process .held))) o))
                   go none y = tt
                   go (some P′) y =
                       let x = branch-typed ds (l .name) P′ y in
@@ -238,7 +238,7 @@ module _ {p : Program} {C : Config} (I : Inv p C) where
       l₂ = retypedEnd c D (without (a .name) (q .held))
 
       abbrev q₂ : Process
-      q₂ = process (running P) l₂ (q .link)
+      q₂ = goesOn q P l₂
 
       d₂ : Typed p (contextOf l₂) b P
       d₂ = subst (λ G. Typed p G b P) ((λ j. retyped c (sym DA j) (context-without (a .name) (q .held) j)) ∙ context-retyped c D (without (a .name) (q .held))) d
@@ -310,7 +310,7 @@ module _ {p : Program} {C : Config} (I : Inv p C) where
               l₃ = retypedEnd (h .name) D (h .process .held) ++ ((x .name, g) ∷ [])
 
               on : Typed p (contextOf (h .process .held)) (b′ h f) (recvChannel o c′ x P′)
-                  → Inv p (config (set (set (C .processes) i q₂) (h .place) (process (running P′) l₃ (h .process .link))) (C .outside) (C .given))
+                  → Inv p (withProcesses (set (set (C .processes) i q₂) (h .place) (goesOn (h .process) P′ l₃)) C)
               on (recvs-channel T′ t′ ps′ ac′ br dr) =
                   inv-two I i (h .place) q (h .process) at (f .stands) (running P) (running P′) l₂ l₃
                   (passed (I .good) (I .id i) (relinked (I .id) q) (at-roster I i q at) (running P) (runs-on w P) c (a .name) c≢a e g D le lg d₂ (I .id (h .place))
