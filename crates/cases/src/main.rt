@@ -1,6 +1,6 @@
 // For each file that an argument names: a line with the name, and what `epass` prints for the script in it.
 use libc::STDOUT_FILENO;
-use output::text::print_text;
+use print_output::text::print_text;
 
 fn print_file(path: &[u8]) {
     io::write_all(STDOUT_FILENO, path);

@@ -1,6 +1,6 @@
 // Reads a script from standard input and prints what its execs show, or its refusal.
 use libc::STDIN_FILENO;
-use output::text::print_text;
+use print_output::text::print_text;
 
 fn main() {
     // One byte more than a text may have.

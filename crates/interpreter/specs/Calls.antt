@@ -18,7 +18,7 @@ use Rattle.calculus.specs.declared.answers.Started.the-variants.{Begun}
 use Rattle.calculus.specs.declared.answers.Stepped.{Stepped}
 use Rattle.calculus.specs.declared.answers.RanOn.{RanOn}
 use Rattle.calculus.specs.declared.answers.Report.{Report}
-use Rattle.numbered.specs.Refusals.{refusalOf}
+use Rattle.theory_refusals.specs.Refusals.{refusalOf}
 use Rattle.interpreter.specs.Entries.{configOf, HoldsRun, Starts, Steps, RunsOn, counted, Reports, Names}
 
 -- a moment: a call of an entry with the words that it was lent, its answer, and those words afterwards

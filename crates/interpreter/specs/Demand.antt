@@ -19,15 +19,15 @@ use Rattle.calculus.specs.Machine.{Call, callStart, callStep, callRunOn, callRe
 use Rattle.calculus.specs.Program.{Program, programOf}
 use Rattle.calculus.specs.WellFormed.{WellFormed}
 use Rattle.calculus.specs.declared.answers.Started.the-variants.{Begun}
-use Rattle.safety.specs.Replies.{unchanged-by, replied}
-use Rattle.safety.specs.Safety.{has-begun, reply-keeps, begun-well-formed, moment-kept, start-kept}
-use Rattle.tables.specs.Decode.{processIn}
-use Rattle.tables.specs.Program.{plainIn}
-use Rattle.runs.specs.Raw.{RawConfig, rawIn}
-use Rattle.runs.specs.Decode.{decoded}
-use Rattle.runs.specs.SliceLaws.{raw-taken, raw-of-taken}
-use Rattle.wellformed.specs.Formed.{Formed}
-use Rattle.numbered.specs.Refusals.{refusalOf}
+use Rattle.theory_safety.specs.Replies.{unchanged-by, replied}
+use Rattle.theory_safety.specs.Safety.{has-begun, reply-keeps, begun-well-formed, moment-kept, start-kept}
+use Rattle.read_tables.specs.Decode.{processIn}
+use Rattle.read_tables.specs.Program.{plainIn}
+use Rattle.run_words.specs.Raw.{RawConfig, rawIn}
+use Rattle.run_words.specs.Decode.{decoded}
+use Rattle.run_words.specs.SliceLaws.{raw-taken, raw-of-taken}
+use Rattle.run_wellformed.specs.Formed.{Formed}
+use Rattle.theory_refusals.specs.Refusals.{refusalOf}
 use Rattle.interpreter.specs.Entries.{configOf, HoldsRun, Leaves, Gives, runAfter, RunAfter, Reached, Answers, Starts, Names}
 use Rattle.interpreter.specs.Calls.{Moment, start, step, runOn, report, execName, Kept, callOf, answerOf, Lent, Lends, left, leftBy, leftByAll, Linked, replayed, Agrees, Demand3}
 use Rattle.interpreter.specs.Unread.{Short, short-answer, short-config, start-anew, name-anew}

@@ -21,10 +21,10 @@ use Rattle.calculus.specs.declared.answers.RanOn.{RanOn}
 use Rattle.calculus.specs.declared.answers.Reported.{Reported}
 use Rattle.calculus.specs.declared.answers.Reported.the-variants.{Open, Refused}
 use Rattle.calculus.specs.declared.answers.Report.{Report}
-use Rattle.runs.specs.Raw.{rawIn}
-use Rattle.machine.specs.Run.{configIn}
-use Rattle.checker.specs.Texts.{wordsIn}
-use Rattle.wellformed.specs.Formed.{Formed}
+use Rattle.run_words.specs.Raw.{rawIn}
+use Rattle.run_alone.specs.Run.{configIn}
+use Rattle.check_text.specs.Texts.{wordsIn}
+use Rattle.run_wellformed.specs.Formed.{Formed}
 
 -- ── the slices
 -- "After 1 no lent slice is touched; after 2 to 15 the first 8,192 scratch words are zero; otherwise they hold the checked tables"

@@ -9,7 +9,7 @@ use Rattle.calculus.specs.Answers.{startedAs, steppedAs, ranOnAs, reportedAs}
 use Rattle.calculus.specs.Configuration.{Config}
 use Rattle.calculus.specs.Demands.{isRefused}
 use Rattle.calculus.specs.Machine.{Call, callStart, callStep, callRunOn, callReport, callExecName, Answer, Reply, refusal, respond, idle}
-use Rattle.numbered.specs.Refusals.{refusalOf, offsetOf, ByArguments, Refuses, refuses-as, respond-numbered, respond-unrefused}
+use Rattle.theory_refusals.specs.Refusals.{refusalOf, offsetOf, ByArguments, Refuses, refuses-as, respond-numbered, respond-unrefused}
 use Rattle.interpreter.specs.Entries.{configOf, HoldsRun, runAfter, RunAfter, Reached, Answers}
 use Rattle.interpreter.specs.Calls.{Moment, start, step, runOn, report, execName, Kept, answerOf, RunKept, Demand1}
 

@@ -17,11 +17,11 @@ use Rattle.calculus.specs.Machine.{callReport, reported}
 use Rattle.calculus.specs.Runs.{report}
 use Rattle.calculus.specs.declared.answers.Reported.the-variants.{Open, Refused}
 use Rattle.calculus.specs.declared.answers.Report.{Report}
-use Rattle.reader.specs.Reading.{FitsTables}
-use Rattle.tables.specs.Decode.{processIn}
-use Rattle.tables.specs.Program.{plainIn}
-use Rattle.runs.specs.Raw.{RawOutside, RawConfig, rawIn}
-use Rattle.runs.specs.Decode.{decodedOutside}
+use Rattle.read_text.specs.Reading.{FitsTables}
+use Rattle.read_tables.specs.Decode.{processIn}
+use Rattle.read_tables.specs.Program.{plainIn}
+use Rattle.run_words.specs.Raw.{RawOutside, RawConfig, rawIn}
+use Rattle.run_words.specs.Decode.{decodedOutside}
 use Rattle.interpreter.specs.Entries.{HoldsRun, configOf, counted, Answers, Reports}
 use Rattle.interpreter.specs.Inside.{AnswersIn, answers-short, answers-stranger}
 use Rattle.interpreter.specs.RunningOn.{report-kind, report-told}

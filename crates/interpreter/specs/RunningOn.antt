@@ -18,13 +18,13 @@ use Rattle.calculus.specs.declared.answers.RanOn.{RanOn}
 use Rattle.calculus.specs.declared.answers.RanOn.the-variants as runs
 use Rattle.calculus.specs.declared.answers.Reported.{Reported}
 use Rattle.calculus.specs.declared.answers.Reported.the-variants.{Open, Refused}
-use Rattle.safety.specs.Safety.{run-keeps}
-use Rattle.safety.specs.Replies.{run-never-refused}
-use Rattle.reader.specs.Reading.{FitsTables}
-use Rattle.tables.specs.Program.{programIn}
-use Rattle.machine.specs.Run.{configIn, Becomes}
-use Rattle.machine.specs.Running as machine
-use Rattle.accepted.specs.Texts.{program-is}
+use Rattle.theory_safety.specs.Safety.{run-keeps}
+use Rattle.theory_safety.specs.Replies.{run-never-refused}
+use Rattle.read_text.specs.Reading.{FitsTables}
+use Rattle.read_tables.specs.Program.{programIn}
+use Rattle.run_alone.specs.Run.{configIn, Becomes}
+use Rattle.run_steps.specs.Running as machine
+use Rattle.check_accepted.specs.Texts.{program-is}
 use Rattle.interpreter.specs.Entries.{HoldsRun, configOf, Leaves, runAfter, RunAfter}
 use Rattle.interpreter.specs.Inside.{AnswersIn, Refusing, Kind, enough-text, answers-known}
 use Rattle.interpreter.specs.Runs.{leaves}

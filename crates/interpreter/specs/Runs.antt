@@ -10,18 +10,18 @@ use Rattle.calculus.specs.Accepted.{accepted, checked}
 use Rattle.calculus.specs.Configuration.{Config}
 use Rattle.calculus.specs.Program.{Program, programOf}
 use Rattle.calculus.specs.WellFormed.{WellFormed}
-use Rattle.reader.specs.Reading.{FitsTables}
-use Rattle.tables.specs.Program.{programIn}
-use Rattle.tables.specs.Roots.{TypeIn}
-use Rattle.tables.specs.Whole.{Tables}
-use Rattle.tables.specs.Everywhere.{Everywhere}
-use Rattle.runs.specs.Lists.{All}
-use Rattle.runs.specs.ListLaws.{all-weaken}
-use Rattle.runs.specs.Raw.{RawProcess, RawOutside, rawIn, BoundedProcess}
-use Rattle.machine.specs.Run.{configIn, Fits, RunOf, Becomes}
-use Rattle.wellformed.specs.OfText.{ProcessOf, OutsideOf, pointer-in, ends-in, process-of, of-text}
-use Rattle.wellformed.specs.Formed.{Formed}
-use Rattle.accepted.specs.Texts.{tables-stand, tables-everywhere, program-is}
+use Rattle.read_text.specs.Reading.{FitsTables}
+use Rattle.read_tables.specs.Program.{programIn}
+use Rattle.read_tables.specs.Roots.{TypeIn}
+use Rattle.read_tables.specs.Whole.{Tables}
+use Rattle.read_tables.specs.Everywhere.{Everywhere}
+use Rattle.run_words.specs.Lists.{All}
+use Rattle.run_words.specs.ListLaws.{all-weaken}
+use Rattle.run_words.specs.Raw.{RawProcess, RawOutside, rawIn, BoundedProcess}
+use Rattle.run_alone.specs.Run.{configIn, Fits, RunOf, Becomes}
+use Rattle.run_wellformed.specs.OfText.{ProcessOf, OutsideOf, pointer-in, ends-in, process-of, of-text}
+use Rattle.run_wellformed.specs.Formed.{Formed}
+use Rattle.check_accepted.specs.Texts.{tables-stand, tables-everywhere, program-is}
 use Rattle.interpreter.specs.Entries.{HoldsRun, configOf, Leaves}
 
 -- ── what the numbers of a run stand for

@@ -19,12 +19,12 @@ use Rattle.calculus.specs.Runs.{startConfig, execOf}
 use Rattle.calculus.specs.WellFormed.{WellFormed}
 use Rattle.calculus.specs.declared.answers.Started.{Started}
 use Rattle.calculus.specs.declared.answers.Started.the-variants.{Begun, Refused}
-use Rattle.holding.specs.Lists.{found-below}
-use Rattle.preservation.specs.Accepted.{accepted-start}
-use Rattle.reader.specs.Reading.{FitsTables}
-use Rattle.tables.specs.Program.{programIn}
-use Rattle.machine.specs.Starting.{BeginsBy, Begins}
-use Rattle.accepted.specs.Texts.{program-is}
+use Rattle.theory_ends.specs.Lists.{found-below}
+use Rattle.theory_preservation.specs.Accepted.{accepted-start}
+use Rattle.read_text.specs.Reading.{FitsTables}
+use Rattle.read_tables.specs.Program.{programIn}
+use Rattle.run_steps.specs.Starting.{BeginsBy, Begins}
+use Rattle.check_accepted.specs.Texts.{program-is}
 use Rattle.interpreter.specs.Entries.{RunAfter}
 use Rattle.interpreter.specs.Inside.{StartsIn, NamesIn, enough-text}
 use Rattle.interpreter.specs.Runs.{leaves}

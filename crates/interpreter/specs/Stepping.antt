@@ -16,16 +16,16 @@ use Rattle.calculus.specs.Steps.{Outcome, carried, notOpen, lacking, step}
 use Rattle.calculus.specs.declared.answers.Seen.{Seen}
 use Rattle.calculus.specs.declared.answers.Stepped.{Stepped}
 use Rattle.calculus.specs.declared.answers.Stepped.the-variants.{Carried, Refused}
-use Rattle.holding.specs.Lists.{none-past, found-below}
-use Rattle.preservation.specs.Preserved.{preserved}
-use Rattle.reader.specs.Reading.{FitsTables}
-use Rattle.tables.specs.Program.{programIn}
-use Rattle.runs.specs.Raw.{rawIn}
-use Rattle.machine.specs.declared.outcome.Outcome.{Outcome as OutcomeWords}
-use Rattle.machine.specs.declared.outcome.Outcome.the-variants as words
-use Rattle.machine.specs.Run.{configIn, Carries}
-use Rattle.machine.specs.Changes.{places-in}
-use Rattle.accepted.specs.Texts.{program-is, bodies-typed}
+use Rattle.theory_ends.specs.Lists.{none-past, found-below}
+use Rattle.theory_preservation.specs.Preserved.{preserved}
+use Rattle.read_text.specs.Reading.{FitsTables}
+use Rattle.read_tables.specs.Program.{programIn}
+use Rattle.run_words.specs.Raw.{rawIn}
+use Rattle.run_alone.specs.declared.outcome.Outcome.{Outcome as OutcomeWords}
+use Rattle.run_alone.specs.declared.outcome.Outcome.the-variants as words
+use Rattle.run_alone.specs.Run.{configIn, Carries}
+use Rattle.run_alone.specs.Changes.{places-in}
+use Rattle.check_accepted.specs.Texts.{program-is, bodies-typed}
 use Rattle.interpreter.specs.Entries.{HoldsRun, configOf, Leaves, RunAfter}
 use Rattle.interpreter.specs.Inside.{AnswersIn, Refusing, Kind, enough-text, answers-known}
 use Rattle.interpreter.specs.Runs.{leaves}

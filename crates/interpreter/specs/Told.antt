@@ -20,16 +20,16 @@ use Rattle.calculus.specs.declared.answers.Reported.the-variants as reports
 use Rattle.calculus.specs.declared.answers.Report.{Report}
 use Rattle.calculus.specs.declared.answers.Started.the-variants as begins
 use Rattle.calculus.specs.declared.answers.Stepped.the-variants as steps
-use Rattle.tables.specs.Decode.{tallyIn}
-use Rattle.tables.specs.Program.{programIn}
-use Rattle.runs.specs.Raw.{rawIn}
-use Rattle.machine.specs.declared.outcome.Outcome.{Outcome as OutcomeWords}
-use Rattle.machine.specs.Run.{configIn, RunOf, Carries}
-use Rattle.machine.specs.Running as machine
-use Rattle.machine.specs.Dispatch.{SmallSignatures, small-signatures}
-use Rattle.machine.specs.Starting.{Begins}
-use Rattle.wellformed.specs.Formed.{Formed}
-use Rattle.accepted.specs.Texts.{TextIn, over, under, tables-in, everywhere-in, bodies-in}
+use Rattle.read_tables.specs.Decode.{tallyIn}
+use Rattle.read_tables.specs.Program.{programIn}
+use Rattle.run_words.specs.Raw.{rawIn}
+use Rattle.run_alone.specs.declared.outcome.Outcome.{Outcome as OutcomeWords}
+use Rattle.run_alone.specs.Run.{configIn, RunOf, Carries}
+use Rattle.run_steps.specs.Running as machine
+use Rattle.run_steps.specs.Dispatch.{SmallSignatures, small-signatures}
+use Rattle.run_steps.specs.Starting.{Begins}
+use Rattle.run_wellformed.specs.Formed.{Formed}
+use Rattle.check_accepted.specs.Texts.{TextIn, over, under, tables-in, everywhere-in, bodies-in}
 use Rattle.interpreter.specs.Entries.{HoldsRun, configOf}
 use Rattle.interpreter.specs.Inside.{AnswersIn, StartsIn, NamesIn, answers-short, answers-stranger}
 use Rattle.interpreter.specs.Runs as slices

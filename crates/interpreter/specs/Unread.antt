@@ -16,7 +16,7 @@ use Rattle.calculus.specs.Machine.{Call, callStart, callStep, callRunOn, callRe
 use Rattle.calculus.specs.Program.{Signature, Program, programOf}
 use Rattle.calculus.specs.Runs.{startConfig, execOf}
 use Rattle.calculus.specs.declared.answers.Started.the-variants as begins
-use Rattle.safety.specs.Replies.{refusal-config}
+use Rattle.theory_safety.specs.Replies.{refusal-config}
 
 -- ── a refusal's answer, and that the configuration stays
 same-refusal : (c : Call) (C D : Config) (k i : ℕ) → refusal C c k i .answer ≡ refusal D c k i .answer

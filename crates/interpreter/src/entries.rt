@@ -10,8 +10,8 @@ use calculus::answers::RanOn;
 use calculus::answers::Report;
 use calculus::answers::Started;
 use calculus::answers::Stepped;
-use checker::check::check;
-use declared::verdict::Verdict;
+use check_declarations::verdict::Verdict;
+use check_text::check::check;
 
 // Begins the run of an exec line anew.
 pub fn start(text: &[u8], scratch: &mut [u32], run: &mut [u32], line: u32) -> Started

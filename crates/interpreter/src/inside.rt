@@ -4,20 +4,20 @@ ghost use lib.ListN.{length};
 ghost use Rattle.notation.specs.Limits.{runWords};
 ghost use Rattle.calculus.specs.Machine.{callStep, callRunOn, stepped, ranOn};
 ghost use Rattle.interpreter.specs.Entries.{HoldsRun};
-ghost use Rattle.accepted.specs.Texts.{TextIn};
+ghost use Rattle.check_accepted.specs.Texts.{TextIn};
 ghost use Rattle.interpreter.specs.Inside.{AnswersIn, StartsIn, NamesIn};
 use calculus::answers::RanOn;
 use calculus::answers::Started;
 use calculus::answers::Stepped;
-use machine::dispatch::step_at;
-use machine::outcome::Outcome;
-use machine::running::steps_until;
-use machine::starting::begin_line;
 use notation::script::Script;
 use notation::token::name_of;
-use runs::processes::count;
-use tables::access::exec_at;
-use tables::access::exec_count;
+use read_tables::access::exec_at;
+use read_tables::access::exec_count;
+use run_alone::outcome::Outcome;
+use run_steps::dispatch::step_at;
+use run_steps::running::steps_until;
+use run_steps::starting::begin_line;
+use run_words::processes::count;
 use wellformed::well_formed;
 
 pub(crate) fn start_in(text: &[u8], tables: &[u32], run: &mut [u32], line: u32) -> Started

@@ -3,14 +3,14 @@ ghost use mathlib.Core.Path.{_≡_};
 ghost use Prim.Native.Nat.{ℕ, _≤_};
 ghost use lib.ListN.{length, getD, take};
 ghost use Rattle.notation.specs.Limits.{runWords};
-ghost use Rattle.runs.specs.Raw.{rawIn, Bounded};
-ghost use Rattle.accepted.specs.Texts.{TextIn};
+ghost use Rattle.run_words.specs.Raw.{rawIn, Bounded};
+ghost use Rattle.check_accepted.specs.Texts.{TextIn};
 ghost use Rattle.interpreter.specs.Reporting.{numbersOf, Listed, ReportsIn, Refuses};
 use calculus::answers::Report;
 use calculus::answers::Reported;
 use notation::script::Script;
-use runs::outside::outside_at;
-use runs::outside::outside_count;
+use run_words::outside::outside_at;
+use run_words::outside::outside_count;
 use wellformed::well_formed;
 
 // The numbers, in the order of the run; zeros after them.

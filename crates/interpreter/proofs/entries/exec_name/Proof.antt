@@ -2,14 +2,14 @@ use mathlib.Core.Path.{_≡_}
 use Prim.Native.Nat.{_≤_}
 use native.Mathlib.Omega.{arith}
 use lib.ListN.{length}
-use Rattle.accepted.specs.Verdicts.{scratch-enough, text-accepted}
+use Rattle.check_accepted.specs.Verdicts.{scratch-enough, text-accepted}
 use Rattle.interpreter.specs.Inside.{names-accepted, names-refused}
 use borrow.Author.Needs.{needs}
 use Rattle.interpreter.proofs.entries.exec_name.Statement.{statement}
 use Rattle.interpreter.proofs.entries.exec_name.Tie as tie
 use Rattle.interpreter.proofs.entries.exec_name.Reads as reads
 use Rattle.interpreter.proofs.entries.exec_name.Lts as lts
-use Rattle.checker.proofs.check.check.Reads as check-reads
+use Rattle.check_text.proofs.check.check.Reads as check-reads
 use Rattle.interpreter.proofs.inside.name_in.Reads as name-in-reads
 
 -- src/entries.rt:70:9

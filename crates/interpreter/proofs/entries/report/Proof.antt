@@ -3,7 +3,7 @@ use Prim.Native.Nat.{_≤_}
 use native.Mathlib.Omega.{arith}
 use lib.ListN.{length}
 use Rattle.calculus.specs.Machine.{callReport}
-use Rattle.accepted.specs.Verdicts.{scratch-enough, text-accepted}
+use Rattle.check_accepted.specs.Verdicts.{scratch-enough, text-accepted}
 use Rattle.interpreter.specs.Inside.{answers-accepted, answers-refused}
 use Rattle.interpreter.specs.RunningOn.{report-refusing}
 use Rattle.interpreter.specs.Reporting.{text-refused-report}
@@ -12,7 +12,7 @@ use Rattle.interpreter.proofs.entries.report.Statement.{statement}
 use Rattle.interpreter.proofs.entries.report.Tie as tie
 use Rattle.interpreter.proofs.entries.report.Reads as reads
 use Rattle.interpreter.proofs.entries.report.Lts as lts
-use Rattle.checker.proofs.check.check.Reads as check-reads
+use Rattle.check_text.proofs.check.check.Reads as check-reads
 use Rattle.interpreter.proofs.reports.no_report.Reads as no-report-reads
 use Rattle.interpreter.proofs.reports.report_in.Reads as report-in-reads
 

@@ -2,7 +2,7 @@ use mathlib.Core.Path.{_≡_}
 use Prim.Native.Nat.{_≤_}
 use native.Mathlib.Omega.{arith}
 use lib.ListN.{length}
-use Rattle.accepted.specs.Verdicts.{scratch-enough, text-accepted}
+use Rattle.check_accepted.specs.Verdicts.{scratch-enough, text-accepted}
 use Rattle.interpreter.specs.Inside.{answers-accepted, answers-refused}
 use Rattle.calculus.specs.Machine.{callRunOn}
 use Rattle.interpreter.specs.RunningOn.{run-refusing}
@@ -11,7 +11,7 @@ use Rattle.interpreter.proofs.entries.run_on.Statement.{statement}
 use Rattle.interpreter.proofs.entries.run_on.Tie as tie
 use Rattle.interpreter.proofs.entries.run_on.Reads as reads
 use Rattle.interpreter.proofs.entries.run_on.Lts as lts
-use Rattle.checker.proofs.check.check.Reads as check-reads
+use Rattle.check_text.proofs.check.check.Reads as check-reads
 use Rattle.interpreter.proofs.inside.run_on_in.Reads as run-on-in-reads
 
 -- src/entries.rt:42:9

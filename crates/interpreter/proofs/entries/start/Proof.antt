@@ -2,14 +2,14 @@ use mathlib.Core.Path.{_≡_}
 use Prim.Native.Nat.{_≤_}
 use native.Mathlib.Omega.{arith}
 use lib.ListN.{length}
-use Rattle.accepted.specs.Verdicts.{scratch-enough, text-accepted}
+use Rattle.check_accepted.specs.Verdicts.{scratch-enough, text-accepted}
 use Rattle.interpreter.specs.Inside.{starts-accepted, starts-refused}
 use borrow.Author.Needs.{needs}
 use Rattle.interpreter.proofs.entries.start.Statement.{statement}
 use Rattle.interpreter.proofs.entries.start.Tie as tie
 use Rattle.interpreter.proofs.entries.start.Reads as reads
 use Rattle.interpreter.proofs.entries.start.Lts as lts
-use Rattle.checker.proofs.check.check.Reads as check-reads
+use Rattle.check_text.proofs.check.check.Reads as check-reads
 use Rattle.interpreter.proofs.inside.start_in.Reads as start-in-reads
 
 -- src/entries.rt:20:9

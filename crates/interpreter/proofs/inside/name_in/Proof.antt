@@ -1,6 +1,6 @@
 use native.Mathlib.Omega.{arith}
-use Rattle.machine.specs.Starting.{execs-many, exec-name}
-use Rattle.accepted.specs.Texts.{tables-in}
+use Rattle.run_steps.specs.Starting.{execs-many, exec-name}
+use Rattle.check_accepted.specs.Texts.{tables-in}
 use Rattle.interpreter.specs.Told.{name-none, name-told}
 use borrow.Author.Needs.{needs}
 use Rattle.interpreter.proofs.inside.name_in.Statement.{statement}
@@ -8,8 +8,8 @@ use Rattle.interpreter.proofs.inside.name_in.Tie as tie
 use Rattle.interpreter.proofs.inside.name_in.Reads as reads
 use Rattle.interpreter.proofs.inside.name_in.Lts as lts
 use Rattle.notation.proofs.token.name_of.Reads as name-of-reads
-use Rattle.tables.proofs.access.exec_at.Reads as exec-at-reads
-use Rattle.tables.proofs.access.exec_count.Reads as exec-count-reads
+use Rattle.read_tables.proofs.access.exec_at.Reads as exec-at-reads
+use Rattle.read_tables.proofs.access.exec_count.Reads as exec-count-reads
 
 -- src/inside.rt:91:8
 exec-count-requires : tie.Need-exec-count-requires

@@ -1,12 +1,12 @@
-use Rattle.accepted.specs.Texts.{tables-in, everywhere-in, bodies-in}
+use Rattle.check_accepted.specs.Texts.{tables-in, everywhere-in, bodies-in}
 use Rattle.interpreter.specs.Told.{holds-in, formed-in, run-in, well-formed-in, run-short, run-stranger, run-told}
 use borrow.Author.Needs.{needs}
 use Rattle.interpreter.proofs.inside.run_on_in.Statement.{statement}
 use Rattle.interpreter.proofs.inside.run_on_in.Tie as tie
 use Rattle.interpreter.proofs.inside.run_on_in.Reads as reads
 use Rattle.interpreter.proofs.inside.run_on_in.Lts as lts
-use Rattle.machine.proofs.running.steps_until.Reads as steps-until-reads
-use Rattle.wellformed.proofs.well_formed.Reads as well-formed-reads
+use Rattle.run_steps.proofs.running.steps_until.Reads as steps-until-reads
+use Rattle.run_wellformed.proofs.well_formed.Reads as well-formed-reads
 
 -- src/inside.rt:71:9
 returns : tie.Need-returns

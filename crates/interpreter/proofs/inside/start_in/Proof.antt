@@ -1,11 +1,11 @@
-use Rattle.accepted.specs.Texts.{tables-in}
+use Rattle.check_accepted.specs.Texts.{tables-in}
 use Rattle.interpreter.specs.Told.{small-in, start-short, start-told}
 use borrow.Author.Needs.{needs}
 use Rattle.interpreter.proofs.inside.start_in.Statement.{statement}
 use Rattle.interpreter.proofs.inside.start_in.Tie as tie
 use Rattle.interpreter.proofs.inside.start_in.Reads as reads
 use Rattle.interpreter.proofs.inside.start_in.Lts as lts
-use Rattle.machine.proofs.starting.begin_line.Reads as begin-line-reads
+use Rattle.run_steps.proofs.starting.begin_line.Reads as begin-line-reads
 
 -- src/inside.rt:28:9
 returns : tie.Need-returns

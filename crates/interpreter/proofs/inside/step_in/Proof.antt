@@ -1,4 +1,4 @@
-use Rattle.accepted.specs.Texts.{tables-in, everywhere-in}
+use Rattle.check_accepted.specs.Texts.{tables-in, everywhere-in}
 use Rattle.interpreter.specs.Told.{holds-in, formed-in, step-short, step-stranger}
 use borrow.Author.Needs.{needs}
 use Rattle.interpreter.proofs.inside.step_in.Statement.{statement}
@@ -6,7 +6,7 @@ use Rattle.interpreter.proofs.inside.step_in.Tie as tie
 use Rattle.interpreter.proofs.inside.step_in.Reads as reads
 use Rattle.interpreter.proofs.inside.step_in.Lts as lts
 use Rattle.interpreter.proofs.inside.step_placed.Reads as step-placed-reads
-use Rattle.wellformed.proofs.well_formed.Reads as well-formed-reads
+use Rattle.run_wellformed.proofs.well_formed.Reads as well-formed-reads
 
 -- src/inside.rt:41:9
 returns : tie.Need-returns

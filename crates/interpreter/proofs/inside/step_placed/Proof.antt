@@ -6,8 +6,8 @@ use Rattle.interpreter.proofs.inside.step_placed.Statement.{statement}
 use Rattle.interpreter.proofs.inside.step_placed.Tie as tie
 use Rattle.interpreter.proofs.inside.step_placed.Reads as reads
 use Rattle.interpreter.proofs.inside.step_placed.Lts as lts
-use Rattle.machine.proofs.dispatch.step_at.Reads as step-at-reads
-use Rattle.runs.proofs.processes.count.Reads as count-reads
+use Rattle.run_steps.proofs.dispatch.step_at.Reads as step-at-reads
+use Rattle.run_words.proofs.processes.count.Reads as count-reads
 
 -- src/inside.rt:55:8
 count-requires : tie.Need-count-requires

@@ -1,5 +1,5 @@
 use Rattle.interpreter.specs.Reporting.{numbersOf, Listing, listing-start, listing-on, listing-end}
-use Rattle.runs.specs.Raw.{rawIn}
+use Rattle.run_words.specs.Raw.{rawIn}
 use native.Mathlib.Omega.{arith}
 use borrow.Author.Needs.{needs}
 use mathlib.Core.Path.{refl}
@@ -9,8 +9,8 @@ use Rattle.interpreter.proofs.reports.list_numbers.Statement.{statement
 use Rattle.interpreter.proofs.reports.list_numbers.Tie as tie
 use Rattle.interpreter.proofs.reports.list_numbers.Reads as reads
 use Rattle.interpreter.proofs.reports.list_numbers.Lts as lts
-use Rattle.runs.proofs.outside.outside_at.Reads as outside-at-reads
-use Rattle.runs.proofs.outside.outside_count.Reads as outside-count-reads
+use Rattle.run_words.proofs.outside.outside_at.Reads as outside-at-reads
+use Rattle.run_words.proofs.outside.outside_count.Reads as outside-count-reads
 
 abbrev Inv-loop : tie.InvT-loop
 Inv-loop run numbers₀ n k₀ numbers k = Listing (numbersOf (rawIn run)) numbers k × (k ≤ n)

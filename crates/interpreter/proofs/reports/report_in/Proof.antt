@@ -1,5 +1,5 @@
 use native.Mathlib.Omega.{arith}
-use Rattle.accepted.specs.Texts.{tables-in, everywhere-in}
+use Rattle.check_accepted.specs.Texts.{tables-in, everywhere-in}
 use Rattle.interpreter.specs.Told.{holds-in, formed-in, report-short, report-stranger, report-open}
 use borrow.Author.Needs.{needs}
 use Rattle.interpreter.proofs.reports.report_in.Statement.{statement}
@@ -8,8 +8,8 @@ use Rattle.interpreter.proofs.reports.report_in.Reads as reads
 use Rattle.interpreter.proofs.reports.report_in.Lts as lts
 use Rattle.interpreter.proofs.reports.list_numbers.Reads as list-numbers-reads
 use Rattle.interpreter.proofs.reports.no_report.Reads as no-report-reads
-use Rattle.runs.proofs.outside.outside_count.Reads as outside-count-reads
-use Rattle.wellformed.proofs.well_formed.Reads as well-formed-reads
+use Rattle.run_words.proofs.outside.outside_count.Reads as outside-count-reads
+use Rattle.run_wellformed.proofs.well_formed.Reads as well-formed-reads
 
 -- src/reports.rt:48:9
 no-report-requires : tie.Need-no-report-requires

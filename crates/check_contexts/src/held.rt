@@ -1,0 +1,105 @@
+// What a process holds, by name.
+use notation::reading::Found;
+use notation::token::names_equal;
+use run_words::held::end_at;
+use run_words::held::replaced;
+use run_words::held::with;
+use run_words::held::without;
+use run_words::records::End;
+use run_words::records::Held;
+use run_words::words::wide;
+ghost use mathlib.Core.Path.{_≡_};
+ghost use Prim.Native.Nat.{ℕ, _<_, _≤_};
+ghost use Rattle.check_contexts.specs.Held.{isNamed, Sees, Drops, Retypes, Brings};
+ghost use Rattle.run_words.specs.Operations.{first};
+ghost use Rattle.run_words.specs.Raw.{BoundedEnd};
+ghost use Rattle.run_words.specs.Lists.{All};
+ghost use Rattle.run_words.specs.Values.{heldIn};
+
+// What a search by name found.
+pub enum Lookup {
+    Found(End),
+    Nothing,
+}
+
+// The first position that has the name at `at`.
+fn position_named(text: &[u8], h: Held, at: usize) -> Found
+    requires { ⌜ h .count ≤ 16 ⌝ }
+    ensures { λ r. ⌜ r ≡ first (isNamed (now (text .entry)) at) (heldIn h) ⌝ }
+{
+    let n = h.count;
+    let mut k: usize = 0;
+    while k < n {
+        let e = end_at(h, k);
+        let there = wide(e.name);
+        if names_equal(text, at, there) {
+            return Found::At(k);
+        }
+        k += 1;
+    }
+    Found::Nothing
+}
+
+// The channel whose name is the one at `at`.
+pub fn find_end(text: &[u8], h: Held, at: usize) -> Lookup
+    requires { ⌜ h .count ≤ 16 ⌝ }
+    ensures { λ r. ⌜ Sees (now (text .entry)) h at r ⌝ }
+{
+    let f = position_named(text, h, at);
+    let Found::At(k) = f else {
+        return Lookup::Nothing;
+    };
+    let e = end_at(h, k);
+    Lookup::Found(e)
+}
+
+// Without that channel.
+pub fn drop_end(text: &[u8], h: Held, at: usize) -> Held
+    requires { ⌜ h .count ≤ 16 ⌝ }
+    ensures { λ r. ⌜ Drops (now (text .entry)) h at r ⌝ }
+{
+    let f = position_named(text, h, at);
+    let Found::At(k) = f else {
+        return h;
+    };
+    without(h, k)
+}
+
+// With another type for that channel.
+pub fn retype_end(text: &[u8], h: Held, at: usize, node: u32) -> Held
+    requires { ⌜ (h .count ≤ 16) × (node < 512) ⌝ }
+    requires { ⌜ All BoundedEnd (heldIn h) ⌝ }
+    ensures { λ r. ⌜ Retypes (now (text .entry)) h at node r ⌝ }
+{
+    let f = position_named(text, h, at);
+    let Found::At(k) = f else {
+        return h;
+    };
+    let e = end_at(h, k);
+    replaced(
+        h,
+        k,
+        End {
+            name: e.name,
+            side: e.side,
+            node,
+            channel: e.channel,
+        },
+    )
+}
+
+// With one channel more: its name is the one at `at`.
+pub fn bring_end(h: Held, at: u32, side: u32, node: u32, channel: u32) -> Held
+    requires { ⌜ (h .count < 16) × (at < 8192) × (side < 2) × (node < 512) × (channel < 512) ⌝ }
+    ensures { λ r. ⌜ Brings h at side node channel r ⌝ }
+{
+    with(
+        h,
+        End {
+            name: at,
+            side,
+            node,
+            channel,
+        },
+    )
+}

@@ -1,0 +1,115 @@
+// Refusals 6 and 7: the walk over processes.
+use crate::faults::Pass;
+use crate::faults::list_faults;
+use crate::faults::type_faults;
+use crate::faults::undefined_process;
+use crate::lowest::Lowest;
+use crate::names::Names;
+use notation::reading::TermNode;
+use read_tables::access::branch;
+use read_tables::access::term_node;
+ghost use mathlib.Core.Path.{_≡_};
+ghost use Prim.Native.Nat.{ℕ, _<_};
+ghost use Rattle.notation.specs.Reader.{nameIn};
+ghost use Rattle.read_tables.specs.Access.{TermOf};
+ghost use Rattle.read_tables.specs.Program.{programIn};
+ghost use Rattle.read_tables.specs.Roots.{ProcessIn};
+ghost use Rattle.read_tables.specs.Whole.{Tables};
+ghost use Rattle.check_declarations.specs.ProcessFaults.{callFaults, partsOf, nodeFaults, processFaultsIn};
+ghost use Rattle.check_declarations.specs.Lowest.{Lowered};
+
+// Which parts of a node are processes: none, the third, the second and the third, or those of its branches.
+pub enum Parts {
+    Leaf,
+    Third,
+    Both,
+    Branches,
+}
+
+fn parts_of(kind: usize) -> Parts
+    ensures { λ r. ⌜ r ≡ partsOf kind ⌝ }
+{
+    if kind == 5 {
+        return Parts::Both;
+    }
+    if kind == 8 {
+        return Parts::Branches;
+    }
+    if kind == 9 {
+        return Parts::Leaf;
+    }
+    if kind == 10 {
+        return Parts::Leaf;
+    }
+    if kind == 12 {
+        return Parts::Both;
+    }
+    Parts::Third
+}
+
+// A call of the process whose name is at `at`.
+fn call_faults(text: &[u8], scratch: &[u32], pass: Pass, at: usize, low: Lowest) -> Lowest
+    requires { ⌜ Tables (now text) (now scratch) ⌝ }
+    ensures { λ r. ⌜ Lowered low (callFaults pass (programIn (now (text .entry)) (now (scratch .entry))) (nameIn (now (text .entry)) at)) r ⌝ }
+{
+    match pass {
+        Pass::Repeated => low,
+        Pass::Undefined => undefined_process(text, scratch, at, low),
+    }
+}
+
+// What a node has itself: a spawn its type, a branch list its labels, a call its name.
+fn node_faults(text: &[u8], scratch: &[u32], pass: Pass, n: TermNode, low: Lowest) -> Lowest
+    requires { ⌜ Tables (now text) (now scratch) × ((p : ℕ) × (p < 1024) × ProcessIn (now text) (now scratch) p × TermOf (now scratch) p n) ⌝ }
+    ensures { λ r. ⌜ Lowered low (nodeFaults (now (text .entry)) (now (scratch .entry)) pass n) r ⌝ }
+{
+    if n.kind == 5 {
+        return type_faults(text, scratch, pass, n.first, low);
+    }
+    if n.kind == 8 {
+        let list = Names::Branches(n.second);
+        return list_faults(text, scratch, pass, list, n.third, low);
+    }
+    if n.kind == 10 {
+        return call_faults(text, scratch, pass, n.first, low);
+    }
+    low
+}
+
+// The process at the pointer p and its parts.
+pub(crate) fn process_faults(
+    text: &[u8],
+    scratch: &[u32],
+    pass: Pass,
+    p: usize,
+    low: Lowest,
+) -> Lowest
+    requires { ⌜ Tables (now text) (now scratch) × ProcessIn (now text) (now scratch) p ⌝ }
+    ensures { λ r. ⌜ Lowered low (processFaultsIn (now (text .entry)) (now (scratch .entry)) pass p) r ⌝ }
+{
+    if 1024 <= p {
+        return low;
+    }
+    let n = term_node(scratch, p);
+    let mut l = node_faults(text, scratch, pass, n, low);
+    let parts = parts_of(n.kind);
+    match parts {
+        Parts::Leaf => l,
+        Parts::Third => process_faults(text, scratch, pass, n.third, l),
+        Parts::Both => {
+            let m = process_faults(text, scratch, pass, n.second, l);
+            process_faults(text, scratch, pass, n.third, m)
+        }
+        Parts::Branches => {
+            let e = n.second;
+            let count = n.third;
+            let mut k: usize = 0;
+            while k < count {
+                let b = branch(scratch, e - k);
+                l = process_faults(text, scratch, pass, b.number, l);
+                k += 1;
+            }
+            l
+        }
+    }
+}

@@ -1,0 +1,112 @@
+// Which types reach @, -o or &, through names as well: a mark for each declared type.
+use notation::token::names_equal;
+use read_tables::access::alternative;
+use read_tables::access::declared_type;
+use read_tables::access::type_count;
+use read_tables::access::type_node;
+ghost use mathlib.Core.Path.{_≡_};
+ghost use mathlib.Core.Bool.{false};
+ghost use Prim.Native.Nat.{_<_};
+ghost use Rattle.notation.specs.Bytes.{same};
+ghost use Rattle.notation.specs.Token.{nameAt};
+ghost use Rattle.calculus.specs.Declarations.{hasOther};
+ghost use Rattle.calculus.specs.Named.{any};
+ghost use Rattle.read_tables.specs.Program.{plainIn};
+ghost use Rattle.read_tables.specs.Roots.{TypeIn};
+ghost use Rattle.read_tables.specs.Whole.{Tables};
+ghost use Rattle.check_declarations.specs.Reach.{isMarked, marked, Next, Reaches};
+
+// The type i is marked, and its name is the one at `at`.
+fn marked_so(text: &[u8], scratch: &[u32], marks: [bool; 64], i: usize, at: usize) -> bool
+    requires { ⌜ Tables (now text) (now scratch) × (i < 64) ⌝ }
+    ensures { λ r. ⌜ r ≡ isMarked (now (text .entry)) (now (scratch .entry)) marks (nameAt (now (text .entry)) at) i ⌝ }
+{
+    if marks[i] {
+        let t = declared_type(scratch, i);
+        let there = t.at;
+        return names_equal(text, at, there);
+    }
+    false
+}
+
+// A marked type has the name at `at`.
+fn is_marked(text: &[u8], scratch: &[u32], marks: [bool; 64], at: usize) -> bool
+    requires { ⌜ Tables (now text) (now scratch) ⌝ }
+    ensures { λ r. ⌜ r ≡ any (same (nameAt (now (text .entry)) at)) (marked (now (text .entry)) (now (scratch .entry)) marks) ⌝ }
+{
+    let n = type_count(scratch);
+    let mut i: usize = 0;
+    while i < n {
+        if marked_so(text, scratch, marks, i, at) {
+            return true;
+        }
+        i += 1;
+    }
+    false
+}
+
+// The type i has @, -o or &, or a marked name.
+pub fn has_other(text: &[u8], scratch: &[u32], marks: [bool; 64], i: usize) -> bool
+    requires { ⌜ Tables (now text) (now scratch) × TypeIn (now text) (now scratch) i ⌝ }
+    ensures { λ r. ⌜ r ≡ hasOther (marked (now (text .entry)) (now (scratch .entry)) marks) (plainIn (now (text .entry)) (now (scratch .entry)) i) ⌝ }
+{
+    let n = type_node(scratch, i);
+    if n.kind == 0 {
+        return false;
+    }
+    if n.kind == 1 {
+        return is_marked(text, scratch, marks, n.second);
+    }
+    if n.kind == 2 {
+        if has_other(text, scratch, marks, n.first) {
+            return true;
+        }
+        return has_other(text, scratch, marks, n.second);
+    }
+    if n.kind != 5 {
+        return true;
+    }
+    let e = n.first;
+    let count = n.second;
+    let mut k: usize = 0;
+    while k < count {
+        let a = alternative(scratch, e - k);
+        if has_other(text, scratch, marks, a.number) {
+            return true;
+        }
+        k += 1;
+    }
+    false
+}
+
+// The marks after one round: of each type whose definition has @, -o or &, or a marked name.
+fn next_marks(text: &[u8], scratch: &[u32], marks: [bool; 64]) -> [bool; 64]
+    requires { ⌜ Tables (now text) (now scratch) ⌝ }
+    ensures { λ r. ⌜ Next (now (text .entry)) (now (scratch .entry)) marks r ⌝ }
+{
+    let n = type_count(scratch);
+    let mut next = marks;
+    let mut i: usize = 0;
+    while i < n {
+        let t = declared_type(scratch, i);
+        next[i] = has_other(text, scratch, marks, t.number);
+        i += 1;
+    }
+    next
+}
+
+// The marks after as many rounds as there are types.
+pub fn reach(text: &[u8], scratch: &[u32]) -> [bool; 64]
+    requires { ⌜ Tables (now text) (now scratch) ⌝ }
+    ensures { λ r. ⌜ Reaches (now (text .entry)) (now (scratch .entry)) r ⌝ }
+{
+    let n = type_count(scratch);
+    let mut marks = [false; 64];
+    let mut k: usize = 0;
+    while k < n {
+        let next = next_marks(text, scratch, marks);
+        marks = next;
+        k += 1;
+    }
+    marks
+}

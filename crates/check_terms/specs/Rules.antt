@@ -1,0 +1,125 @@
+-- What the typing rules ask of one term that goes on, one definition for each; the check of such a term is the rule's step, then the rest.
+use Prim.Native.Nat.{ℕ}
+use mathlib.Core.Path.{_≡_, refl, sym, _∙_, ap}
+use mathlib.Core.Bool.{Bool, true, false, cond, not, _&&_}
+use mathlib.Core.Option.{Option, some, none}
+use Rattle.notation.specs.Bytes.{same}
+use Rattle.notation.specs.Tree.{Name, Located, Ty, Proc, sendUnit, sendChannel, sendLabel, cancel, recvUnit, recvChannel}
+use Rattle.calculus.specs.Named.{lookup, without}
+use Rattle.calculus.specs.Types.{Side, provided, used, other, sameSide, Passing, passing, Choosing, choosing, labelled}
+use Rattle.calculus.specs.Program.{Slot, slot, Context, Program}
+use Rattle.calculus.specs.Typing.{acting, retyped, bringing}
+use Rattle.calculus.specs.Checking.{mayBring, isUnitOn, fitsSlot, check}
+use Rattle.calculus.specs.Verdict.{Verdict, refused, demand, having}
+use Rattle.check_terms.specs.Next.{Step, stop, go, asking, granted, resume, having-asks, demand-asks}
+
+-- ── a close
+unfoldable pub closes : Program → Side → Name → Context → Step
+closes p s c G = asking 10 (acting p c G) λ h. granted 11 (isUnitOn s h) (go (without c G))
+
+-- ── a channel passed: the type of c after the channel e has gone over it
+abbrev pub passedBy : Slot → Slot → Option Passing → Option (Ty Name)
+passedBy h e none = none
+passedBy h e (some t) = cond (sameSide (h .side) (t .sender) && fitsSlot (t .side) (t .what) e) (some (t .after)) none
+
+abbrev pub passesOver : Slot → Slot → Option (Ty Name)
+passesOver h e = passedBy h e (passing (h .type))
+
+unfoldable pub passes : Program → Name → Name → Context → Step
+passes p c a G =
+    asking 10 (acting p c G) λ h.
+    asking 10 (lookup a G) λ e.
+    granted 11 (not (same c a)) (asking 11 (passesOver h e) λ A. go (retyped c A (without a G)))
+
+-- ── a label sent: the type of c after it
+abbrev pub chosenBy : Slot → Name → Option Choosing → Option (Ty Name)
+chosenBy h l none = none
+chosenBy h l (some t) = cond (sameSide (h .side) (t .sender)) (labelled l (t .labels)) none
+
+abbrev pub choosesOver : Slot → Name → Option (Ty Name)
+choosesOver h l = chosenBy h l (choosing (h .type))
+
+unfoldable pub chooses : Program → Name → Name → Context → Step
+chooses p c l G = asking 10 (acting p c G) λ h. asking 11 (choosesOver h l) λ A. go (retyped c A G)
+
+-- ── a channel given up
+unfoldable pub givesUp : Name → Context → Step
+givesUp c G = asking 10 (lookup c G) λ _. go (without c G)
+
+-- ── a channel received
+abbrev pub takenBy : Slot → Option Passing → Option Passing
+takenBy h none = none
+takenBy h (some t) = cond (sameSide (h .side) (other (t .sender))) (some t) none
+
+abbrev pub takesFrom : Slot → Option Passing
+takesFrom h = takenBy h (passing (h .type))
+
+unfoldable pub receives : Program → Name → Name → Context → Step
+receives p c x G =
+    asking 10 (acting p c G) λ h.
+    asking 11 (takesFrom h) λ t. granted 15 (mayBring x G G) (go (bringing x (slot (t .side) (t .what)) (retyped c (t .after) G)))
+
+-- ── the check of a term is the rule's step, then the rest
+module _ (p : Program) (G : Context) (link : Bool) (at : ℕ) where
+  abbrev rest : Proc → Context → Verdict
+  rest P H = check p H link P
+
+  pub check-send-unit : (c : Located) (P : Proc) → check p G link (sendUnit at c P) ≡ resume at (closes p provided (c .name) G) (rest P)
+  unfolding check closes
+  check-send-unit c P = having-asks 10 at (acting p (c .name) G) _ _ (rest P) λ h. demand-asks 11 at (isUnitOn provided h) _ _ (rest P) refl
+
+  pub check-recv-unit : (c : Located) (P : Proc) → check p G link (recvUnit at c P) ≡ resume at (closes p used (c .name) G) (rest P)
+  unfolding check closes
+  check-recv-unit c P = having-asks 10 at (acting p (c .name) G) _ _ (rest P) λ h. demand-asks 11 at (isUnitOn used h) _ _ (rest P) refl
+
+  pub check-cancel : (c : Located) (P : Proc) → check p G link (cancel at c P) ≡ resume at (givesUp (c .name) G) (rest P)
+  unfolding check givesUp
+  check-cancel c P = having-asks 10 at (lookup (c .name) G) _ _ (rest P) λ h. refl
+
+  -- a thing and a test of it are one thing asked for
+  pass-so : (c : Name) (h e : Slot) (K : Ty Name → Context) (P : Proc) (o : Option Passing)
+      → having 11 at o (λ t. demand 11 at (sameSide (h .side) (t .sender) && fitsSlot (t .side) (t .what) e) (rest P (K (t .after)))) ≡ resume at (asking 11 (passedBy h e o) λ A. go (K A)) (rest P)
+  pass-so c h e K P none = refl
+  pass-so c h e K P (some t) = test (sameSide (h .side) (t .sender) && fitsSlot (t .side) (t .what) e)
+    where
+      test : (b : Bool) → demand 11 at b (rest P (K (t .after))) ≡ resume at (asking 11 (cond b (some (t .after)) none) λ A. go (K A)) (rest P)
+      test true = refl
+      test false = refl
+
+  pub check-send-channel : (c a : Located) (P : Proc) → check p G link (sendChannel at c a P) ≡ resume at (passes p (c .name) (a .name) G) (rest P)
+  unfolding check passes
+  check-send-channel c a P =
+      having-asks 10 at (acting p (c .name) G) _ _ (rest P) λ h.
+      having-asks 10 at (lookup (a .name) G) _ _ (rest P) λ e.
+      demand-asks 11 at (not (same (c .name) (a .name))) _ _ (rest P)
+      (pass-so (c .name) h e (λ A. retyped (c .name) A (without (a .name) G)) P (passing (h .type)))
+
+  choose-so : (c : Name) (h : Slot) (l : Name) (P : Proc) (o : Option Choosing)
+      → having 11 at o (λ t. demand 11 at (sameSide (h .side) (t .sender)) (having 11 at (labelled l (t .labels)) λ A. rest P (retyped c A G))) ≡ resume at (asking 11 (chosenBy h l o) λ A. go (retyped c A G)) (rest P)
+  choose-so c h l P none = refl
+  choose-so c h l P (some t) = test (sameSide (h .side) (t .sender)) (labelled l (t .labels))
+    where
+      test : (b : Bool) (o : Option (Ty Name)) → demand 11 at b (having 11 at o λ A. rest P (retyped c A G)) ≡ resume at (asking 11 (cond b o none) λ A. go (retyped c A G)) (rest P)
+      test true none = refl
+      test true (some A) = refl
+      test false o = refl
+
+  pub check-send-label : (c l : Located) (P : Proc) → check p G link (sendLabel at c l P) ≡ resume at (chooses p (c .name) (l .name) G) (rest P)
+  unfolding check chooses
+  check-send-label c l P = having-asks 10 at (acting p (c .name) G) _ _ (rest P) λ h. choose-so (c .name) h (l .name) P (choosing (h .type))
+
+  take-so : (c x : Name) (h : Slot) (P : Proc) (o : Option Passing)
+      → having 11 at o (λ t. demand 11 at (sameSide (h .side) (other (t .sender))) (demand 15 at (mayBring x G G) (rest P (bringing x (slot (t .side) (t .what)) (retyped c (t .after) G)))))
+      ≡ resume at (asking 11 (takenBy h o) λ t. granted 15 (mayBring x G G) (go (bringing x (slot (t .side) (t .what)) (retyped c (t .after) G)))) (rest P)
+  take-so c x h P none = refl
+  take-so c x h P (some t) = test (sameSide (h .side) (other (t .sender)))
+    where
+      test : (b : Bool)
+          → demand 11 at b (demand 15 at (mayBring x G G) (rest P (bringing x (slot (t .side) (t .what)) (retyped c (t .after) G))))
+          ≡ resume at (asking 11 (cond b (some t) none) λ u. granted 15 (mayBring x G G) (go (bringing x (slot (u .side) (u .what)) (retyped c (u .after) G)))) (rest P)
+      test true = demand-asks 15 at (mayBring x G G) _ _ (rest P) refl
+      test false = refl
+
+  pub check-recv-channel : (c x : Located) (P : Proc) → check p G link (recvChannel at c x P) ≡ resume at (receives p (c .name) (x .name) G) (rest P)
+  unfolding check receives
+  check-recv-channel c x P = having-asks 10 at (acting p (c .name) G) _ _ (rest P) λ h. take-so (c .name) (x .name) h P (passing (h .type))

@@ -1,0 +1,108 @@
+// What the rules ask of one term, by the kind of its node.
+use check_contexts::halves::Half;
+use check_contexts::halves::divides;
+use check_contexts::halves::keep;
+use check_contexts::halves::side_of;
+use check_contexts::held::bring_end;
+use check_terms::acting::narrow;
+use check_terms::calls::call_refusal;
+use check_terms::forwards::forward_refusal;
+use check_terms::next::Next;
+use check_terms::sends::cancel_next;
+use check_terms::sends::choose_next;
+use check_terms::sends::close_next;
+use check_terms::sends::is_new;
+use check_terms::sends::pass_next;
+use check_terms::sends::receive_next;
+use notation::reading::TermNode;
+use notation::script::Script;
+use run_words::records::Held;
+ghost use mathlib.Core.Path.{_≡_};
+ghost use Prim.Native.Nat.{ℕ, _<_, _≤_};
+ghost use Rattle.check_contexts.specs.Held.{HeldIn};
+ghost use Rattle.read_tables.specs.Program.{programIn};
+ghost use Rattle.read_tables.specs.Decode.{argumentsAt};
+ghost use Rattle.read_tables.specs.Names.{CallAt};
+ghost use Rattle.read_tables.specs.Roots.{TypeIn, ProcessIn};
+ghost use Rattle.read_tables.specs.Whole.{Tables};
+ghost use Rattle.check_terms.specs.Next.{contextIn, Goes};
+ghost use Rattle.check_terms.specs.Endings.{numberOf};
+ghost use Rattle.check_text.specs.Nodes.{sendStep, receiveStep, endStep, spawnStep, SpawnHalf};
+
+// A send, or a cancel: what is held after it.
+pub(crate) fn send_next(text: &[u8], scratch: &[u32], h: Held, n: TermNode) -> Next
+    requires { ⌜ Tables (now text) (now scratch) × HeldIn (now text) (now scratch) h ⌝ }
+    ensures { λ r. ⌜ Goes (now (text .entry)) (now (scratch .entry)) r (sendStep (now (text .entry)) (now (scratch .entry)) n (contextIn (now (text .entry)) (now (scratch .entry)) h)) ⌝ }
+{
+    if n.kind == 1 {
+        return close_next(text, scratch, h, n.first, 0);
+    }
+    if n.kind == 2 {
+        return pass_next(text, scratch, h, n.first, n.second);
+    }
+    if n.kind == 3 {
+        return choose_next(text, scratch, h, n.first, n.second);
+    }
+    cancel_next(text, scratch, h, n.first)
+}
+
+// A receive of a close or of a channel.
+pub(crate) fn receive_one(text: &[u8], scratch: &[u32], h: Held, n: TermNode) -> Next
+    requires { ⌜ Tables (now text) (now scratch) × HeldIn (now text) (now scratch) h × (n .kind ≡ 7 → n .second < 8192) × (6 ≤ n .kind) × (n .kind ≤ 7) ⌝ }
+    ensures { λ r. ⌜ Goes (now (text .entry)) (now (scratch .entry)) r (receiveStep (now (text .entry)) (now (scratch .entry)) n (contextIn (now (text .entry)) (now (scratch .entry)) h)) ⌝ }
+{
+    if n.kind == 6 {
+        return close_next(text, scratch, h, n.first, 1);
+    }
+    receive_next(text, scratch, h, n.first, n.second)
+}
+
+// A term that ends its process: the refusal's number, or 0.
+pub(crate) fn ending_refusal(text: &[u8], scratch: &[u32], h: Held, n: TermNode) -> u32
+    requires { ⌜ Tables (now text) (now scratch) × HeldIn (now text) (now scratch) h ⌝ }
+    requires { ⌜ ((n .kind ≡ 9 → ⊥) → CallAt (now text) (n .second) (argumentsAt (now text) (n .second) .0) (argumentsAt (now text) (n .second) .1)) ⌝ }
+    ensures { λ r. ⌜ r ≡ numberOf (endStep (now (text .entry)) (now (scratch .entry)) n (contextIn (now (text .entry)) (now (scratch .entry)) h)) ⌝ }
+{
+    if n.kind == 9 {
+        return forward_refusal(text, scratch, h, n.first, n.second);
+    }
+    call_refusal(text, scratch, h, n.first, n.second)
+}
+
+// A spawn's halves may be divided so, and its new name joins both: the refusal's number, or 0.
+pub(crate) fn spawn_refusal(text: &[u8], scratch: &[u32], h: Held, n: TermNode) -> u32
+    requires { ⌜ Tables (now text) (now scratch) × HeldIn (now text) (now scratch) h × ProcessIn (now text) (now scratch) (n .second) × ProcessIn (now text) (now scratch) (n .third) ⌝ }
+    ensures { λ r. ⌜ r ≡ numberOf (spawnStep (now (text .entry)) (now (scratch .entry)) n (contextIn (now (text .entry)) (now (scratch .entry)) h)) ⌝ }
+{
+    let first = Half::OfSpawn(n.at, n.second);
+    let second = Half::OfSpawn(n.at, n.third);
+    if !divides(text, scratch, h, first, second, false) {
+        return 13;
+    }
+    if !is_new(text, h, n.at) {
+        return 15;
+    }
+    let a = keep(text, scratch, h, first, true);
+    if a.count == Script::HELD {
+        return 15;
+    }
+    let b = keep(text, scratch, h, first, false);
+    if b.count == Script::HELD {
+        return 15;
+    }
+    0
+}
+
+// What a half of a spawn holds: what it takes, or what the first half leaves, and the new channel.
+pub(crate) fn spawn_half(text: &[u8], scratch: &[u32], h: Held, n: TermNode, first: bool) -> Held
+    requires { ⌜ Tables (now text) (now scratch) × HeldIn (now text) (now scratch) h × ProcessIn (now text) (now scratch) (n .second) × TypeIn (now text) (now scratch) (n .first) × (n .at < 8192) ⌝ }
+    requires { ⌜ numberOf (spawnStep (now text) (now scratch) n (contextIn (now text) (now scratch) h)) ≡ 0 ⌝ }
+    ensures { λ r. ⌜ SpawnHalf (now (text .entry)) (now (scratch .entry)) h n first r ⌝ }
+{
+    let half = Half::OfSpawn(n.at, n.second);
+    let a = keep(text, scratch, h, half, first);
+    let side = side_of(first);
+    let at = narrow(n.at);
+    let node = narrow(n.first);
+    bring_end(a, at, side, node, 0)
+}

@@ -1,2 +1,0 @@
-// The labels of a branch list against those of a type.
-pub mod fit;

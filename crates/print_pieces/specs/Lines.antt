@@ -1,0 +1,83 @@
+-- The lines that the program prints, as their parts are put one after another.
+use Prim.Native.Nat.{ℕ, _+_, _-_, _≤_}
+use mathlib.Core.Path.{_≡_, refl, sym, _∙_, ap}
+use mathlib.Core.List.{List, [], _∷_, _++_, append-assoc}
+use mathlib.Core.Bool.{Bool, true, false}
+use native.Mathlib.Omega.{arith}
+use lib.ListN.{length, drop, length-take, length-drop}
+use Rattle.notation.specs.Bytes.{bytes}
+use Rattle.notation.specs.Token.{nameEnd, nameAt}
+use Rattle.calculus.specs.Printed.{decimal, line, shows, secondLine, sighting, ending}
+use Rattle.calculus.specs.declared.answers.Seen.{Seen}
+use Rattle.calculus.specs.declared.answers.Seen.the-variants.{Nothing, Label, Close, Passed, Cancelled}
+use Rattle.print_pieces.specs.Writing.{Appended, appended-on, appended-as}
+
+-- a name is no longer than its text
+pub name-within : (s : List ℕ) (at : ℕ) {x : List ℕ} → x ≡ nameAt s at → length x ≤ length s
+unfolding nameAt
+name-within s at e = omega (arith, ap length e, length-take (nameEnd s at - at) (drop at s), length-drop at s)
+
+abbrev pub channel : ℕ → List ℕ
+channel n = bytes "#" ++ (decimal n ++ bytes " -> ")
+
+pub channel-put : (n : ℕ) {o a b c : List ℕ} {at i j r : ℕ} → Appended o a at i (bytes "#") → Appended a b i j (decimal n) × (j ≤ i + 10) → Appended b c j r (bytes " -> ") → Appended o c at r (channel n) × (r ≤ at + 15)
+channel-put n p (q, l) u = (appended-on p (appended-on q u), omega (arith, p .ends, l, u .ends))
+
+-- what came over the channel n
+pub shows-put : (n : ℕ) (what : List ℕ) {o a b c : List ℕ} {at i j r : ℕ} → Appended o a at i (channel n) → Appended a b i j what → Appended b c j r (10 ∷ []) → Appended o c at r (shows n what)
+shows-put n what p q u =
+    let e : channel n ++ what ≡ bytes "#" ++ (decimal n ++ (bytes " -> " ++ what)) = ap (λ l. bytes "#" ++ l) (append-assoc (decimal n) (bytes " -> ") what) in
+    appended-on (appended-as e (appended-on p q)) u
+
+pub label-put : (n : ℕ) {name x o a b c d : List ℕ} {at i j k r : ℕ} → Appended o a at i (channel n) → Appended a b i j (bytes "'") → x ≡ name → Appended b c j k x → Appended c d k r (10 ∷ []) → Appended o d at r (shows n (bytes "'" ++ name))
+label-put n {name} p q e u v = shows-put n (bytes "'" ++ name) p (appended-on q (appended-as e u)) v
+
+pub passed-put : (n m : ℕ) {o a b c d : List ℕ} {at i j k r : ℕ} → Appended o a at i (channel n) × (i ≤ at + 15) → Appended a b i j (bytes "#") → Appended b c j k (decimal m) × (k ≤ j + 10) → Appended c d k r (10 ∷ []) → Appended o d at r (shows n (bytes "#" ++ decimal m)) × (r ≤ at + 27)
+passed-put n m (p, x) q (u, y) v = (shows-put n (bytes "#" ++ decimal m) p (appended-on q u) v, omega (arith, x, q .ends, y, v .ends))
+
+pub append-nil : (l : List ℕ) → l ++ [] ≡ l
+append-nil [] = refl
+append-nil (x ∷ l) = ap (_∷_ x) (append-nil l)
+
+-- a passed channel, given up already or not
+pub passed-gone : (n m : ℕ) {gone : Bool} → gone ≡ true → {o a b : List ℕ} {i r : ℕ} → Appended o a 0 i (shows n (bytes "#" ++ decimal m)) → Appended a b i r (shows m (bytes "cancelled")) → Appended o b 0 r (shows n (bytes "#" ++ decimal m) ++ secondLine m gone)
+passed-gone n m e p q = appended-as (ap (λ g. shows n (bytes "#" ++ decimal m) ++ secondLine m g) (sym e)) (appended-on p q)
+
+pub passed-there : (n m : ℕ) {gone : Bool} → gone ≡ false → {o a : List ℕ} {r : ℕ} → Appended o a 0 r (shows n (bytes "#" ++ decimal m)) → Appended o a 0 r (shows n (bytes "#" ++ decimal m) ++ secondLine m gone)
+passed-there n m e p = appended-as (sym (append-nil (shows n (bytes "#" ++ decimal m))) ∙ ap (λ g. shows n (bytes "#" ++ decimal m) ++ secondLine m g) (sym e)) p
+
+-- ── the sighting, by what was seen
+module _ (s : List ℕ) {seen : Seen} where
+  pub sees-nothing : (o : List ℕ) → seen ≡ Nothing → Appended o o 0 0 (sighting s seen)
+  unfolding sighting
+  sees-nothing o e = appended-as (ap (sighting s) (sym e)) (record { ends = refl; front = refl; long = refl })
+
+  pub sees-label : (n l : ℕ) {o a : List ℕ} {r : ℕ} → seen ≡ Label n l → Appended o a 0 r (shows n (bytes "'" ++ nameAt s (l + 1))) → Appended o a 0 r (sighting s seen)
+  unfolding sighting
+  sees-label n l e p = appended-as (ap (sighting s) (sym e)) p
+
+  pub sees-close : (n : ℕ) {o a : List ℕ} {r : ℕ} → seen ≡ Close n → Appended o a 0 r (shows n (bytes "()")) → Appended o a 0 r (sighting s seen)
+  unfolding sighting
+  sees-close n e p = appended-as (ap (sighting s) (sym e)) p
+
+  pub sees-passed : (n m : ℕ) (gone : Bool) {o a : List ℕ} {r : ℕ} → seen ≡ Passed n m gone → Appended o a 0 r (shows n (bytes "#" ++ decimal m) ++ secondLine m gone) → Appended o a 0 r (sighting s seen)
+  unfolding sighting
+  sees-passed n m gone e p = appended-as (ap (sighting s) (sym e)) p
+
+  pub sees-cancelled : (n : ℕ) {o a : List ℕ} {r : ℕ} → seen ≡ Cancelled n → Appended o a 0 r (shows n (bytes "cancelled")) → Appended o a 0 r (sighting s seen)
+  unfolding sighting
+  sees-cancelled n e p = appended-as (ap (sighting s) (sym e)) p
+
+-- ── headers, endings, refusals
+pub header-put : {name x o a b c : List ℕ} {at i j r : ℕ} → Appended o a at i (bytes "Executing process ") → x ≡ name → Appended a b i j x → Appended b c j r (bytes ":" ++ (10 ∷ [])) → Appended o c at r (line (bytes "Executing process " ++ (name ++ bytes ":")))
+header-put {name} p m q u =
+    let e : name ++ (bytes ":" ++ (10 ∷ [])) ≡ (name ++ bytes ":") ++ (10 ∷ []) = sym (append-assoc name (bytes ":") (10 ∷ [])) in
+    appended-as (ap (λ l. bytes "Executing process " ++ l) e) (appended-on p (appended-on (appended-as m q) u))
+
+pub ending-put : (word : List ℕ) (steps : ℕ) {o a b c d : List ℕ} {at i j k r : ℕ} → Appended o a at i word → Appended a b i j (bytes " after ") → Appended b c j k (decimal steps) → Appended c d k r (bytes " steps" ++ (10 ∷ [])) → Appended o d at r (ending word steps)
+ending-put word steps p q u v =
+    let e : decimal steps ++ (bytes " steps" ++ (10 ∷ [])) ≡ (decimal steps ++ bytes " steps") ++ (10 ∷ []) = sym (append-assoc (decimal steps) (bytes " steps") (10 ∷ [])) in
+    appended-as (ap (λ l. word ++ (bytes " after " ++ l)) e ∙ sym (append-assoc word (bytes " after " ++ (decimal steps ++ bytes " steps")) (10 ∷ []))) (appended-on p (appended-on q (appended-on u v)))
+
+pub refusal-put : (n m : ℕ) {o a b c d f : List ℕ} {at i j k h r : ℕ} → Appended o a at i (bytes "refused ") → Appended a b i j (decimal n) → Appended b c j k (bytes " at ") → Appended c d k h (decimal m) → Appended d f h r (10 ∷ []) → Appended o f at r (line (bytes "refused " ++ (decimal n ++ (bytes " at " ++ decimal m))))
+refusal-put n m p q u v w = appended-on (appended-on p (appended-on q (appended-on u v))) w

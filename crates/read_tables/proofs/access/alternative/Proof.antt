@@ -1,0 +1,28 @@
+use Rattle.read_tables.specs.Access.{alternative-of}
+use Rattle.read_tables.specs.Decode.{alternativeAt}
+use borrow.Author.Needs.{needs}
+use Rattle.read_tables.proofs.access.alternative.Statement.{statement}
+use Rattle.read_tables.proofs.access.alternative.Tie as tie
+use Rattle.read_tables.proofs.access.alternative.Reads as reads
+use Rattle.read_tables.proofs.access.alternative.Lts as lts
+use Rattle.read_tables.proofs.access.pair.Reads as pair-reads
+
+-- src/access.rt:75:27
+sub-pair : tie.Need-sub-pair
+sub-pair c = search needs
+
+-- src/access.rt:75:19
+add-pair : tie.Need-add-pair
+add-pair c = search needs
+
+-- src/access.rt:75:5
+pair-requires : tie.Need-pair-requires
+pair-requires c κs = search needs
+
+-- src/access.rt:71:1
+returns : tie.Need-returns
+unfolding alternativeAt
+returns c = alternative-of _ _ _ (c .pair .ensures)
+
+pub alternative-spec : {M : Type 1} → statement M
+alternative-spec = tie.close (tie.spec sub-pair add-pair pair-requires returns)

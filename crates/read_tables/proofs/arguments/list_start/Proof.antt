@@ -1,0 +1,19 @@
+use mathlib.Core.Path.{ap}
+use Rattle.notation.specs.declared.token.Token.{Token}
+use borrow.Author.Needs.{needs}
+use Rattle.read_tables.proofs.arguments.list_start.Statement.{statement}
+use Rattle.read_tables.proofs.arguments.list_start.Tie as tie
+use Rattle.read_tables.proofs.arguments.list_start.Reads as reads
+use Rattle.read_tables.proofs.arguments.list_start.Lts as lts
+use Rattle.notation.proofs.token.next_token.Reads as next-token-reads
+
+-- src/arguments.rt:18:9
+next-token-requires : tie.Need-next-token-requires
+next-token-requires c κs = search needs
+
+-- src/arguments.rt:15:1
+returns : tie.Need-returns
+returns c = ap (λ (t : Token). t .end) (c .next-token .ensures .0)
+
+pub list-start-spec : {M : Type 1} → statement M
+list-start-spec = tie.close (tie.spec next-token-requires returns)

@@ -1,0 +1,81 @@
+use borrow.Author.Needs.{needs}
+use native.Mathlib.Omega.{arith}
+use Prim.Native.Nat.{_-_}
+use mathlib.Core.Path.{_≡_, refl}
+use Rattle.notation.specs.Token.{nameAt}
+use Rattle.read_tables.specs.Decode.{tallyIn}
+use Rattle.read_tables.specs.Program.{programIn, namedProcess, processes-in}
+use Rattle.read_tables.specs.Search.{Searching, seek-start, seek-on, seek-found, seek-end, named-so}
+use Rattle.read_tables.proofs.search.find_process.Statement.{statement}
+use Rattle.read_tables.proofs.search.find_process.Tie as tie
+use Rattle.read_tables.proofs.search.find_process.Reads as reads
+use Rattle.read_tables.proofs.search.find_process.Lts as lts
+use Rattle.notation.proofs.token.names_equal.Reads as names-equal-reads
+use Rattle.read_tables.proofs.access.declared_process.Reads as declared-process-reads
+use Rattle.read_tables.proofs.access.process_count.Reads as process-count-reads
+
+abbrev Inv-loop : tie.InvT-loop
+Inv-loop text scratch at n i₀ i = Searching (nameAt text at) (programIn text scratch .processes) (namedProcess text scratch) (tallyIn scratch .processes) i
+
+abbrev μ-loop : tie.MeasureT-loop
+μ-loop text scratch at n i₀ i = n - i
+
+-- src/search.rt:37:9
+process-count-requires : tie.Need-process-count-requires Inv-loop μ-loop
+process-count-requires c κs = search needs
+
+-- src/search.rt:39:5
+loop-holds : tie.Need-loop-holds Inv-loop μ-loop
+loop-holds c = seek-start _ _ _ _ (processes-in _ _)
+
+-- src/search.rt:40:13
+declared-process-requires : tie.Need-declared-process-requires Inv-loop μ-loop
+declared-process-requires c κs = search needs
+
+-- src/search.rt:42:12
+names-equal-requires : tie.Need-names-equal-requires Inv-loop μ-loop
+names-equal-requires c κs = search needs
+
+-- src/search.rt:43:13
+returns : tie.Need-returns Inv-loop μ-loop
+returns c =
+    let b = c .before .before .before .before .loop in
+    let n = c .before .names-equal in
+    seek-found _ _ _ _ (b .i) (b .inv) (omega (arith, c .before .before .before .loop-test .taken, c .before .before .before .before .before .process-count .ensures))
+    (named-so _ (c .before .before .declared-process .ensures .is _) (n .ensures) (c .if1 .taken))
+
+-- src/search.rt:45:9
+add-i : tie.Need-add-i Inv-loop μ-loop
+add-i c = search needs
+
+-- src/search.rt:39:5
+loop-less : tie.Need-loop-less Inv-loop μ-loop
+loop-less c = search needs
+
+-- src/search.rt:39:5
+loop-again : tie.Need-loop-again Inv-loop μ-loop
+loop-again c =
+    let b = c .before .before .before .before .loop in
+    let n = c .before .names-equal in
+    seek-on _ _ _ _ (b .i) _ refl (b .inv) (omega (arith, c .before .before .before .loop-test .taken, c .before .before .before .before .before .process-count .ensures))
+    (named-so _ (c .before .before .declared-process .ensures .is _) (n .ensures) (c .if1 .left))
+
+-- src/search.rt:33:1
+returns-2 : tie.Need-returns-2 Inv-loop μ-loop
+returns-2 c = let b = c .before .loop in seek-end _ _ _ _ (b .i) (b .inv) (omega (arith, c .loop-test .left, c .before .before .process-count .ensures))
+
+pub find-process-spec : {M : Type 1} → statement M
+find-process-spec =
+    tie.close
+    (tie.spec
+    Inv-loop
+    μ-loop
+    process-count-requires
+    loop-holds
+    declared-process-requires
+    names-equal-requires
+    returns
+    add-i
+    loop-less
+    loop-again
+    returns-2)

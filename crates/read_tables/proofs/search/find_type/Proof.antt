@@ -1,0 +1,81 @@
+use borrow.Author.Needs.{needs}
+use native.Mathlib.Omega.{arith}
+use Prim.Native.Nat.{_-_}
+use mathlib.Core.Path.{_≡_, refl}
+use Rattle.notation.specs.Token.{nameAt}
+use Rattle.read_tables.specs.Decode.{tallyIn}
+use Rattle.read_tables.specs.Program.{programIn, namedType, types-in}
+use Rattle.read_tables.specs.Search.{Searching, seek-start, seek-on, seek-found, seek-end, named-so}
+use Rattle.read_tables.proofs.search.find_type.Statement.{statement}
+use Rattle.read_tables.proofs.search.find_type.Tie as tie
+use Rattle.read_tables.proofs.search.find_type.Reads as reads
+use Rattle.read_tables.proofs.search.find_type.Lts as lts
+use Rattle.notation.proofs.token.names_equal.Reads as names-equal-reads
+use Rattle.read_tables.proofs.access.declared_type.Reads as declared-type-reads
+use Rattle.read_tables.proofs.access.type_count.Reads as type-count-reads
+
+abbrev Inv-loop : tie.InvT-loop
+Inv-loop text scratch at n i₀ i = Searching (nameAt text at) (programIn text scratch .types) (namedType text scratch) (tallyIn scratch .types) i
+
+abbrev μ-loop : tie.MeasureT-loop
+μ-loop text scratch at n i₀ i = n - i
+
+-- src/search.rt:19:9
+type-count-requires : tie.Need-type-count-requires Inv-loop μ-loop
+type-count-requires c κs = search needs
+
+-- src/search.rt:21:5
+loop-holds : tie.Need-loop-holds Inv-loop μ-loop
+loop-holds c = seek-start _ _ _ _ (types-in _ _)
+
+-- src/search.rt:22:13
+declared-type-requires : tie.Need-declared-type-requires Inv-loop μ-loop
+declared-type-requires c κs = search needs
+
+-- src/search.rt:24:12
+names-equal-requires : tie.Need-names-equal-requires Inv-loop μ-loop
+names-equal-requires c κs = search needs
+
+-- src/search.rt:25:13
+returns : tie.Need-returns Inv-loop μ-loop
+returns c =
+    let b = c .before .before .before .before .loop in
+    let n = c .before .names-equal in
+    seek-found _ _ _ _ (b .i) (b .inv) (omega (arith, c .before .before .before .loop-test .taken, c .before .before .before .before .before .type-count .ensures))
+    (named-so _ (c .before .before .declared-type .ensures .is _) (n .ensures) (c .if1 .taken))
+
+-- src/search.rt:27:9
+add-i : tie.Need-add-i Inv-loop μ-loop
+add-i c = search needs
+
+-- src/search.rt:21:5
+loop-less : tie.Need-loop-less Inv-loop μ-loop
+loop-less c = search needs
+
+-- src/search.rt:21:5
+loop-again : tie.Need-loop-again Inv-loop μ-loop
+loop-again c =
+    let b = c .before .before .before .before .loop in
+    let n = c .before .names-equal in
+    seek-on _ _ _ _ (b .i) _ refl (b .inv) (omega (arith, c .before .before .before .loop-test .taken, c .before .before .before .before .before .type-count .ensures))
+    (named-so _ (c .before .before .declared-type .ensures .is _) (n .ensures) (c .if1 .left))
+
+-- src/search.rt:15:1
+returns-2 : tie.Need-returns-2 Inv-loop μ-loop
+returns-2 c = let b = c .before .loop in seek-end _ _ _ _ (b .i) (b .inv) (omega (arith, c .loop-test .left, c .before .before .type-count .ensures))
+
+pub find-type-spec : {M : Type 1} → statement M
+find-type-spec =
+    tie.close
+    (tie.spec
+    Inv-loop
+    μ-loop
+    type-count-requires
+    loop-holds
+    declared-type-requires
+    names-equal-requires
+    returns
+    add-i
+    loop-less
+    loop-again
+    returns-2)

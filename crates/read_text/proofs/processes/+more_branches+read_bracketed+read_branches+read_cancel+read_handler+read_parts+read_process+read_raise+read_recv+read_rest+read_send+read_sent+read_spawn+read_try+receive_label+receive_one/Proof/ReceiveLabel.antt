@@ -1,0 +1,30 @@
+-- ReceiveLabel: each need of its walk.
+use borrow.Author.Needs.{needs}
+use Prim.Native.Nat.{ℕ}
+use native.Mathlib.Omega.{arith}
+use Rattle.read_text.proofs.ProcessPaths.{labels-no, labels-got}
+use Rattle.read_types.proofs.store.put_term.Reads as put-term-reads
+use Rattle.read_text.proofs.processes.read_branches.Reads as read-branches
+use Rattle.read_text.proofs.processes.receive_label.Reads as receive-label
+use Rattle.read_text.proofs.processes.+more_branches+read_bracketed+read_branches+read_cancel+read_handler+read_parts+read_process+read_raise+read_recv+read_rest+read_send+read_sent+read_spawn+read_try+receive_label+receive_one.Lts-receive_label as receive-label-lts
+use Rattle.read_text.proofs.processes.+more_branches+read_bracketed+read_branches+read_cancel+read_handler+read_parts+read_process+read_raise+read_recv+read_rest+read_send+read_sent+read_spawn+read_try+receive_label+receive_one.Proof.Measures.{read-branches-below, receive-label-at}
+
+pub receive-label-met : {M : Type 1} (t : ℕ) → receive-label-lts.Closed (read-branches-below t, read-branches.Post, put-term-reads.Asked, put-term-reads.Learnt) (receive-label-at t) receive-label.Post M
+receive-label-met t =
+    receive-label-lts.spec (read-branches-below t, read-branches.Post, put-term-reads.Asked, put-term-reads.Learnt) (receive-label-at t) receive-label.Post
+    -- read-branches-requires
+    (λ c κs. (omega (arith, c .before .before .before .pre), omega (arith, c .before .before .before .pre)))
+    -- enum-known-inner
+    (λ c. search needs)
+    -- enum-told
+    (λ c. search needs)
+    -- same-length
+    (λ c. search needs)
+    -- returns
+    (λ c. labels-no _ _ _ _ (c .before .before .before .before .before .before .before .before .pre .1 .0 .0) (c .before .before .before .before .before .before .before .before .pre .1 .0 .1) _ _ (c .before .before .before .before .before .before .before .before .pre .1 .1 .0) (c .before .before .before .before .before .before .before .before .pre .1 .1 .1) (c .before .before .before .before .read-branches .ensures) (c .enum-told .given .1))
+    -- put-term-requires
+    (λ c κs. (omega (arith, c .before .before .before .before .before .before .before .before .before .before .pre, c .before .before .before .before .before .before .read-branches .ensures .on _ _ (c .before .before .inner .given .1), c .before .before .before .before .before .before .read-branches .ensures .kept .long), omega (arith, c .before .before .before .before .before .before .before .before .before .before .pre, c .before .before .before .before .before .before .read-branches .ensures .on _ _ (c .before .before .inner .given .1), c .before .before .before .before .before .before .read-branches .ensures .kept .long)))
+    -- same-length-2
+    (λ c. search needs)
+    -- returns-2
+    (λ c. labels-got _ _ _ _ (c .before .before .before .before .before .before .before .before .before .before .before .before .before .pre .1 .0 .0) (c .before .before .before .before .before .before .before .before .before .before .before .before .before .pre .1 .0 .1) _ _ (c .before .before .before .before .before .before .before .before .before .before .before .before .before .pre .1 .1 .0) (c .before .before .before .before .before .before .before .before .before .before .before .before .before .pre .1 .1 .1) (c .before .before .before .before .before .before .before .before .before .read-branches .ensures) (c .before .before .before .before .before .inner .given .1) (c .before .before .put-term .ensures))

@@ -1,0 +1,132 @@
+use native.Mathlib.Omega.{arith}
+use Rattle.read_text.proofs.NamePaths.{call-no, call-name-no, call-provided-no, call-used-no, call-got}
+use borrow.Author.Needs.{needs}
+use Rattle.read_text.proofs.processes.read_call.Statement.{statement}
+use Rattle.read_text.proofs.processes.read_call.Tie as tie
+use Rattle.read_text.proofs.processes.read_call.Reads as reads
+use Rattle.read_text.proofs.processes.read_call.Lts as lts
+use Rattle.read_text.proofs.processes.name_list.Reads as name-list-reads
+use Rattle.read_types.proofs.steps.expect.Reads as expect-reads
+use Rattle.read_types.proofs.steps.process_term.Reads as process-term-reads
+use Rattle.read_types.proofs.steps.refusal.Reads as refusal-reads
+use Rattle.read_types.proofs.store.put_term.Reads as put-term-reads
+
+-- src/processes.rt:274:9
+process-term-requires : tie.Need-process-term-requires
+process-term-requires c κs = search needs
+
+-- src/processes.rt:275:19
+enum-known-term : tie.Need-enum-known-term
+enum-known-term c = search needs
+
+-- src/processes.rt:276:9
+enum-told : tie.Need-enum-told
+enum-told c = search needs
+
+-- src/processes.rt:276:9
+refusal-requires : tie.Need-refusal-requires
+refusal-requires c κs = search needs
+
+-- src/processes.rt:276:9
+returns : tie.Need-returns
+returns c = call-no _ _ _ _ (c .before .before .before .before .before .before .pre) (c .before .before .before .process-term .ensures) (c .before .enum-told .given .1) (c .refusal .ensures)
+
+-- src/processes.rt:278:9
+expect-requires : tie.Need-expect-requires
+expect-requires c κs = search needs
+
+-- src/processes.rt:279:19
+enum-known-named : tie.Need-enum-known-named
+enum-known-named c = search needs
+
+-- src/processes.rt:280:9
+enum-told-2 : tie.Need-enum-told-2
+enum-told-2 c = search needs
+
+-- src/processes.rt:280:9
+refusal-requires-2 : tie.Need-refusal-requires-2
+refusal-requires-2 c κs = search needs
+
+-- src/processes.rt:280:9
+returns-2 : tie.Need-returns-2
+returns-2 c = call-name-no _ _ _ _ (c .before .before .before .before .before .before .before .before .before .before .pre) (c .before .before .before .before .before .before .before .process-term .ensures) (c .before .before .before .before .before .term .given .1) (c .before .before .before .expect .ensures) (c .before .enum-told2 .given .1) (c .refusal2 .ensures)
+
+-- src/processes.rt:282:9
+name-list-requires : tie.Need-name-list-requires
+name-list-requires c κs = search needs
+
+-- src/processes.rt:283:19
+enum-known-provided : tie.Need-enum-known-provided
+enum-known-provided c = search needs
+
+-- src/processes.rt:284:9
+enum-told-3 : tie.Need-enum-told-3
+enum-told-3 c = search needs
+
+-- src/processes.rt:284:9
+refusal-requires-3 : tie.Need-refusal-requires-3
+refusal-requires-3 c κs = search needs
+
+-- src/processes.rt:284:9
+returns-3 : tie.Need-returns-3
+returns-3 c = call-provided-no _ _ _ _ (c .before .before .before .before .before .before .before .before .before .before .before .before .before .before .pre) (c .before .before .before .before .before .before .before .before .before .before .before .process-term .ensures) (c .before .before .before .before .before .before .before .before .before .term .given .1) (c .before .before .before .before .before .before .before .expect .ensures) (c .before .before .before .before .before .named .given .1) (c .before .before .before .name-list .ensures) (c .before .enum-told3 .given .1) (c .refusal3 .ensures)
+
+-- src/processes.rt:286:9
+name-list-requires-2 : tie.Need-name-list-requires-2
+name-list-requires-2 c κs = search needs
+
+-- src/processes.rt:287:22
+enum-known-used : tie.Need-enum-known-used
+enum-known-used c = search needs
+
+-- src/processes.rt:288:9
+enum-told-4 : tie.Need-enum-told-4
+enum-told-4 c = search needs
+
+-- src/processes.rt:288:9
+refusal-requires-4 : tie.Need-refusal-requires-4
+refusal-requires-4 c κs = search needs
+
+-- src/processes.rt:288:9
+returns-4 : tie.Need-returns-4
+returns-4 c = call-used-no _ _ _ _ (c .before .before .before .before .before .before .before .before .before .before .before .before .before .before .before .before .before .before .pre) (c .before .before .before .before .before .before .before .before .before .before .before .before .before .before .before .process-term .ensures) (c .before .before .before .before .before .before .before .before .before .before .before .before .before .term .given .1) (c .before .before .before .before .before .before .before .before .before .before .before .expect .ensures) (c .before .before .before .before .before .before .before .before .before .named .given .1) (c .before .before .before .before .before .before .before .name-list .ensures) (c .before .before .before .before .before .provided .given .1) (c .before .before .before .name-list2 .ensures) (c .before .enum-told4 .given .1) (c .refusal4 .ensures)
+
+-- src/processes.rt:290:9
+put-term-requires : tie.Need-put-term-requires
+put-term-requires c κs = omega (arith, c .before .before .before .before .before .before .before .before .before .before .before .before .before .before .before .before .before .before .before .pre, c .before .before .before .before .before .before .before .before .before .before .before .before .before .before .before .before .process-term .ensures .on _ _ (c .before .before .before .before .before .before .before .before .before .before .before .before .before .before .term .given .1), c .before .before .before .before .before .before .before .before .before .before .before .before .expect .ensures .on _ _ (c .before .before .before .before .before .before .before .before .before .before .named .given .1), c .before .before .before .before .before .before .before .before .name-list .ensures .on _ _ (c .before .before .before .before .before .before .provided .given .1), c .before .before .before .before .name-list2 .ensures .on _ _ (c .before .before .used .given .1))
+
+-- src/processes.rt:270:1
+same-length : tie.Need-same-length
+same-length c = search needs
+
+-- src/processes.rt:270:1
+returns-5 : tie.Need-returns-5
+returns-5 c = call-got _ _ _ _ (c .before .before .before .before .before .before .before .before .before .before .before .before .before .before .before .before .before .before .before .before .before .before .pre) (c .before .before .before .before .before .before .before .before .before .before .before .before .before .before .before .before .before .before .before .process-term .ensures) (c .before .before .before .before .before .before .before .before .before .before .before .before .before .before .before .before .before .term .given .1) (c .before .before .before .before .before .before .before .before .before .before .before .before .before .before .before .expect .ensures) (c .before .before .before .before .before .before .before .before .before .before .before .before .before .named .given .1) (c .before .before .before .before .before .before .before .before .before .before .before .name-list .ensures) (c .before .before .before .before .before .before .before .before .before .provided .given .1) (c .before .before .before .before .before .before .before .name-list2 .ensures) (c .before .before .before .before .before .used .given .1) (c .before .before .put-term .ensures)
+
+pub read-call-spec : {M : Type 1} → statement M
+read-call-spec =
+    tie.close
+    (tie.spec
+    process-term-requires
+    enum-known-term
+    enum-told
+    refusal-requires
+    returns
+    expect-requires
+    enum-known-named
+    enum-told-2
+    refusal-requires-2
+    returns-2
+    name-list-requires
+    enum-known-provided
+    enum-told-3
+    refusal-requires-3
+    returns-3
+    name-list-requires-2
+    enum-known-used
+    enum-told-4
+    refusal-requires-4
+    returns-4
+    put-term-requires
+    same-length
+    returns-5)

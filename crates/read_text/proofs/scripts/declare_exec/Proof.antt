@@ -1,0 +1,57 @@
+use native.Mathlib.Omega.{arith}
+use Rattle.notation.specs.Token.{kExec}
+use Rattle.notation.specs.Limits.{execLimit}
+use Rattle.read_text.proofs.ScriptPaths.{name-held, exec-no, exec-got}
+use borrow.Author.Needs.{needs}
+use Rattle.read_text.proofs.scripts.declare_exec.Statement.{statement}
+use Rattle.read_text.proofs.scripts.declare_exec.Tie as tie
+use Rattle.read_text.proofs.scripts.declare_exec.Reads as reads
+use Rattle.read_text.proofs.scripts.declare_exec.Lts as lts
+use Rattle.read_text.proofs.scripts.declared_name.Reads as declared-name-reads
+use Rattle.read_types.proofs.steps.refusal.Reads as refusal-reads
+use Rattle.read_types.proofs.store.put_exec.Reads as put-exec-reads
+
+-- src/scripts.rt:117:9
+declared-name-requires : tie.Need-declared-name-requires
+declared-name-requires c κs = search needs
+
+-- src/scripts.rt:118:19
+enum-known-named : tie.Need-enum-known-named
+enum-known-named c = search needs
+
+-- src/scripts.rt:119:9
+enum-told : tie.Need-enum-told
+enum-told c = search needs
+
+-- src/scripts.rt:119:9
+refusal-requires : tie.Need-refusal-requires
+refusal-requires c κs = search needs
+
+-- src/scripts.rt:119:9
+returns : tie.Need-returns
+returns c = exec-no _ _ _ _ (c .before .before .before .before .before .before .pre) (c .before .before .before .declared-name .ensures) (c .before .enum-told .given .1) (c .refusal .ensures)
+
+-- src/scripts.rt:121:9
+put-exec-requires : tie.Need-put-exec-requires
+put-exec-requires c κs = omega (arith, c .before .before .before .before .before .before .before .pre, c .before .before .before .before .declared-name .ensures .on _ _ (c .before .before .named .given .1), name-held kExec (c .before .before .before .before .before .before .before .args .k .execs) execLimit (c .before .before .before .before .declared-name .ensures) (c .before .before .named .given .1))
+
+-- src/scripts.rt:113:1
+same-length : tie.Need-same-length
+same-length c = search needs
+
+-- src/scripts.rt:113:1
+returns-2 : tie.Need-returns-2
+returns-2 c = exec-got _ _ _ _ (c .before .before .before .before .before .before .before .before .before .before .pre) (c .before .before .before .before .before .before .before .declared-name .ensures) (c .before .before .before .before .before .named .given .1) (c .before .before .put-exec .ensures)
+
+pub declare-exec-spec : {M : Type 1} → statement M
+declare-exec-spec =
+    tie.close
+    (tie.spec
+    declared-name-requires
+    enum-known-named
+    enum-told
+    refusal-requires
+    returns
+    put-exec-requires
+    same-length
+    returns-2)

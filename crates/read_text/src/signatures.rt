@@ -1,0 +1,112 @@
+// The reading of signatures: lists of channels with their types.
+use notation::reading::Cursor;
+use notation::reading::Taken;
+use notation::reading::Tally;
+use notation::token::Token;
+use read_types::steps::Out;
+use read_types::steps::expect;
+use read_types::steps::kind_at;
+use read_types::steps::opening;
+use read_types::steps::refusal;
+use read_types::steps::then_expect;
+use read_types::store::put_entry;
+use read_types::types::read_type;
+ghost use Prim.Native.Nat.{_≤_};
+ghost use Rattle.notation.specs.Scripts.{readEntries, entryList};
+ghost use Rattle.read_types.specs.Filling.{Stepped, Room};
+ghost use Rattle.read_text.specs.Scripts.{entryName, closeBy, moreEntriesBy, entriesOrNone, EntriesRead};
+
+// The name of an entry, and its colon.
+fn entry_name(text: &[u8], c: Cursor) -> Taken
+    ensures { λ r. ⌜ Stepped (now (text .entry)) c 2 0 0 (entryName (now (text .entry)) c) r ⌝ }
+{
+    then_expect(text, expect(text, c, Token::NAME), Token::COLON)
+}
+
+// The bracket that closes a list; nothing is appended.
+fn close_list(text: &[u8], scratch: &mut [u32], c: Cursor, k: Tally, close: usize) -> Out
+    requires { ⌜ Room (now text) (now scratch) c k × (close ≤ 31) ⌝ }
+    ensures { λ r. ⌜ EntriesRead (λ m. closeBy (now (text .entry)) close c) (now (text .entry)) (now (scratch .entry)) c k r (now (scratch .exit)) ⌝ }
+{
+    let closed = expect(text, c, close);
+    let Taken::At(_, d) = closed else {
+        return refusal(closed);
+    };
+    Out::Got(d, k)
+}
+
+// x : A, .. up to the bracket that closes.
+fn read_entries(text: &[u8], scratch: &mut [u32], c: Cursor, k: Tally, close: usize) -> Out
+    requires { ⌜ Room (now text) (now scratch) c k × (close ≤ 31) ⌝ }
+    ensures { λ r. ⌜ EntriesRead (λ m. readEntries m (now (text .entry)) close c) (now (text .entry)) (now (scratch .entry)) c k r (now (scratch .exit)) ⌝ }
+{
+    let named = entry_name(text, c);
+    let Taken::At(i, d) = named else {
+        return refusal(named);
+    };
+    let typed = read_type(text, scratch, d, k);
+    let Out::Got(e, l) = typed else {
+        return typed;
+    };
+    let m = put_entry(scratch, l, i, l.last);
+    more_entries(text, scratch, e, m, close)
+}
+
+// After an entry: a comma and more, or the bracket.
+fn more_entries(text: &[u8], scratch: &mut [u32], c: Cursor, k: Tally, close: usize) -> Out
+    requires { ⌜ Room (now text) (now scratch) c k × (close ≤ 31) ⌝ }
+    ensures { λ r. ⌜ EntriesRead (λ m. moreEntriesBy m (now (text .entry)) close c) (now (text .entry)) (now (scratch .entry)) c k r (now (scratch .exit)) ⌝ }
+{
+    let at = c.at;
+    if kind_at(text, at) == Token::COMMA {
+        let comma = expect(text, c, Token::COMMA);
+        let Taken::At(_, d) = comma else {
+            return refusal(comma);
+        };
+        return read_entries(text, scratch, d, k, close);
+    }
+    close_list(text, scratch, c, k, close)
+}
+
+// What stands in a list's brackets, and the one that closes it.
+fn entries_or_none(text: &[u8], scratch: &mut [u32], c: Cursor, k: Tally, close: usize) -> Out
+    requires { ⌜ Room (now text) (now scratch) c k × (close ≤ 31) ⌝ }
+    ensures { λ r. ⌜ EntriesRead (λ m. entriesOrNone m (now (text .entry)) close c) (now (text .entry)) (now (scratch .entry)) c k r (now (scratch .exit)) ⌝ }
+{
+    let at = c.at;
+    if kind_at(text, at) == Token::NAME {
+        return read_entries(text, scratch, c, k, close);
+    }
+    close_list(text, scratch, c, k, close)
+}
+
+// A signature's list in its brackets.
+pub(crate) fn entry_list(
+    text: &[u8],
+    scratch: &mut [u32],
+    c: Cursor,
+    k: Tally,
+    opens: usize,
+    closes: usize,
+) -> Out
+    requires { ⌜ Room (now text) (now scratch) c k × (opens ≤ 31) × (closes ≤ 31) ⌝ }
+    ensures { λ r. ⌜ EntriesRead (λ m. entryList m (now (text .entry)) opens closes c) (now (text .entry)) (now (scratch .entry)) c k r (now (scratch .exit)) ⌝ }
+{
+    let opened = opening(text, c, opens);
+    let Taken::At(_, d) = opened else {
+        return refusal(opened);
+    };
+    let inner = entries_or_none(text, scratch, d, k, closes);
+    let Out::Got(e, l) = inner else {
+        return inner;
+    };
+    Out::Got(
+        Cursor {
+            at: e.at,
+            types: e.types,
+            terms: e.terms,
+            depth: c.depth,
+        },
+        l,
+    )
+}

@@ -1,0 +1,31 @@
+use mathlib.Core.Path.{refl}
+use Rattle.read_types.proofs.Filled.{kept-set}
+use borrow.Author.Needs.{needs}
+use Rattle.read_types.proofs.store.put_word.Statement.{statement}
+use Rattle.read_types.proofs.store.put_word.Tie as tie
+use Rattle.read_types.proofs.store.put_word.Reads as reads
+use Rattle.read_types.proofs.store.put_word.Lts as lts
+
+-- src/store.rt:17:18
+cast-scratch : tie.Need-cast-scratch
+cast-scratch c = search needs
+
+-- src/store.rt:17:5
+mul-scratch : tie.Need-mul-scratch
+mul-scratch c = search needs
+
+-- src/store.rt:17:5
+slice-write-scratch : tie.Need-slice-write-scratch
+slice-write-scratch c = search needs
+
+-- src/store.rt:13:1
+same-length : tie.Need-same-length
+same-length c = search needs
+
+-- src/store.rt:13:1
+returns : tie.Need-returns
+returns c = record { words = refl; kept = kept-set _ _ _ (c .pre .1) }
+
+pub put-word-spec : {M : Type 1} → statement M
+put-word-spec =
+    tie.close (tie.spec cast-scratch mul-scratch slice-write-scratch same-length returns)

@@ -1,0 +1,57 @@
+-- ReadChoice: each need of its walk.
+use borrow.Author.Needs.{needs}
+use Prim.Native.Nat.{ℕ}
+use native.Mathlib.Omega.{arith}
+use Rattle.read_types.proofs.TypePaths.{choice-no, choice-list-no, choice-close-no, choice-got}
+use Rattle.read_types.proofs.types.choice_opening.Reads as choice-opening-reads
+use Rattle.read_types.proofs.steps.expect.Reads as expect-reads
+use Rattle.read_types.proofs.store.put_node.Reads as put-node-reads
+use Rattle.read_types.proofs.types.read_alternatives.Reads as read-alternatives
+use Rattle.read_types.proofs.types.read_choice.Reads as read-choice
+use Rattle.read_types.proofs.types.+more_alternatives+read_alternatives+read_atom+read_choice+read_right+read_round+read_type.Lts-read_choice as read-choice-lts
+use Rattle.read_types.proofs.steps.refusal.Reads as refusal-reads
+use Rattle.read_types.proofs.types.+more_alternatives+read_alternatives+read_atom+read_choice+read_right+read_round+read_type.Proof.Measures.{read-alternatives-below, read-choice-at}
+
+pub read-choice-met : {M : Type 1} (t : ℕ) → read-choice-lts.Closed (choice-opening-reads.Asked, choice-opening-reads.Learnt, refusal-reads.Asked, refusal-reads.Learnt, read-alternatives-below t, read-alternatives.Post, expect-reads.Asked, expect-reads.Learnt, put-node-reads.Asked, put-node-reads.Learnt) (read-choice-at t) read-choice.Post M
+read-choice-met t =
+    read-choice-lts.spec (choice-opening-reads.Asked, choice-opening-reads.Learnt, refusal-reads.Asked, refusal-reads.Learnt, read-alternatives-below t, read-alternatives.Post, expect-reads.Asked, expect-reads.Learnt, put-node-reads.Asked, put-node-reads.Learnt) (read-choice-at t) read-choice.Post
+    -- choice-opening-requires
+    (λ c κs. search needs)
+    -- enum-known-opened
+    (λ c. search needs)
+    -- enum-told
+    (λ c. search needs)
+    -- refusal-requires
+    (λ c κs. search needs)
+    -- returns
+    (λ c. choice-no _ _ _ _ (c .before .before .before .before .before .before .pre .1 .0) _ (c .before .before .before .before .before .before .pre .1 .1 .0) (c .before .before .before .before .before .before .pre .1 .1 .1) (c .before .before .before .choice-opening .ensures) (c .before .enum-told .given .1) (c .refusal .ensures))
+    -- read-alternatives-requires
+    (λ c κs. (omega (arith, c .before .before .before .before .before .before .before .pre, c .before .before .before .before .choice-opening .ensures .on _ _ (c .before .before .opened .given .1)), omega (arith, c .before .before .before .before .before .before .before .pre, c .before .before .before .before .choice-opening .ensures .on _ _ (c .before .before .opened .given .1))))
+    -- enum-known-inner
+    (λ c. search needs)
+    -- enum-told-2
+    (λ c. search needs)
+    -- same-length
+    (λ c. search needs)
+    -- returns-2
+    (λ c. choice-list-no _ _ _ _ (c .before .before .before .before .before .before .before .before .before .before .before .before .pre .1 .0) _ (c .before .before .before .before .before .before .before .before .before .before .before .before .pre .1 .1 .0) (c .before .before .before .before .before .before .before .before .before .before .before .before .pre .1 .1 .1) (c .before .before .before .before .before .before .before .before .before .choice-opening .ensures) (c .before .before .before .before .before .before .before .opened .given .1) (c .before .before .before .before .read-alternatives .ensures) (c .enum-told2 .given .1))
+    -- expect-requires
+    (λ c κs. search needs)
+    -- enum-known-closed
+    (λ c. search needs)
+    -- enum-told-3
+    (λ c. search needs)
+    -- refusal-requires-2
+    (λ c κs. search needs)
+    -- same-length-2
+    (λ c. search needs)
+    -- returns-3
+    (λ c. choice-close-no _ _ _ _ (c .before .before .before .before .before .before .before .before .before .before .before .before .before .before .before .before .before .pre .1 .0) _ (c .before .before .before .before .before .before .before .before .before .before .before .before .before .before .before .before .before .pre .1 .1 .0) (c .before .before .before .before .before .before .before .before .before .before .before .before .before .before .before .before .before .pre .1 .1 .1) (c .before .before .before .before .before .before .before .before .before .before .before .before .before .before .choice-opening .ensures) (c .before .before .before .before .before .before .before .before .before .before .before .before .opened .given .1) (c .before .before .before .before .before .before .before .before .before .read-alternatives .ensures) (c .before .before .before .before .before .inner .given .1) (c .before .before .before .expect .ensures) (c .before .enum-told3 .given .1) (c .refusal2 .ensures))
+    -- sub-t18
+    (λ c. omega (arith, c .before .before .before .before .before .before .before .before .before .before .before .before .before .before .before .before .before .before .pre))
+    -- put-node-requires
+    (λ c κs. (omega (arith, c .before .before .before .before .before .before .before .before .before .before .before .before .before .before .before .before .before .before .pre, c .before .before .before .before .before .before .before .before .before .before .before .before .before .before .before .choice-opening .ensures .on _ _ (c .before .before .before .before .before .before .before .before .before .before .before .before .before .opened .given .1), c .before .before .before .before .before .before .before .before .before .before .read-alternatives .ensures .on _ _ (c .before .before .before .before .before .before .inner .given .1), c .before .before .before .before .before .before .before .before .before .before .read-alternatives .ensures .kept .long, c .before .before .before .before .expect .ensures .on _ _ (c .before .before .closed .given .1)), omega (arith, c .before .before .before .before .before .before .before .before .before .before .before .before .before .before .before .before .before .before .pre, c .before .before .before .before .before .before .before .before .before .before .before .before .before .before .before .choice-opening .ensures .on _ _ (c .before .before .before .before .before .before .before .before .before .before .before .before .before .opened .given .1), c .before .before .before .before .before .before .before .before .before .before .read-alternatives .ensures .on _ _ (c .before .before .before .before .before .before .inner .given .1), c .before .before .before .before .before .before .before .before .before .before .read-alternatives .ensures .kept .long, c .before .before .before .before .expect .ensures .on _ _ (c .before .before .closed .given .1))))
+    -- same-length-3
+    (λ c. search needs)
+    -- returns-4
+    (λ c. choice-got _ _ _ _ (c .before .before .before .before .before .before .before .before .before .before .before .before .before .before .before .before .before .before .before .before .before .pre .1 .0) _ (c .before .before .before .before .before .before .before .before .before .before .before .before .before .before .before .before .before .before .before .before .before .pre .1 .1 .0) (c .before .before .before .before .before .before .before .before .before .before .before .before .before .before .before .before .before .before .before .before .before .pre .1 .1 .1) (c .before .before .before .before .before .before .before .before .before .before .before .before .before .before .before .before .before .before .choice-opening .ensures) (c .before .before .before .before .before .before .before .before .before .before .before .before .before .before .before .before .opened .given .1) (c .before .before .before .before .before .before .before .before .before .before .before .before .before .read-alternatives .ensures) (c .before .before .before .before .before .before .before .before .before .inner .given .1) (c .before .before .before .before .before .before .before .expect .ensures) (c .before .before .before .before .before .closed .given .1) (c .before .before .put-node .ensures))

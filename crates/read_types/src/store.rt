@@ -1,0 +1,141 @@
+// The words of the tables, entry by entry: each appends one and counts it.
+use notation::reading::ProcessEntry;
+use notation::reading::Tally;
+use notation::reading::TermNode;
+use notation::reading::TypeNode;
+ghost use mathlib.Core.Path.{_≡_};
+ghost use Prim.Native.Nat.{_<_};
+ghost use Rattle.notation.specs.Tables.{moreNodes, moreAlternatives, moreTerms, moreBranches, pairWord, putNode, putAlternative, putTerm, putBranch, putEntry, putType, putProcess, putExec, moreEntries, moreTypes, moreProcesses, moreExecs, lasting};
+ghost use Rattle.read_types.specs.Filling.{WordPut, Put, Fits, FitsTerm, FitsEntry, Area};
+
+// The word at i is n.
+pub fn put_word(scratch: &mut [u32], i: usize, n: usize)
+    requires { ⌜ Area (now scratch) × (i < 5640) × (n < 4294967296) ⌝ }
+    ensures { λ r. ⌜ WordPut (now (scratch .entry)) i n (now (scratch .exit)) ⌝ }
+{
+    scratch[i] = n as u32;
+}
+
+// The word at i is a name or label with the number that belongs to it.
+fn put_pair(scratch: &mut [u32], i: usize, at: usize, n: usize)
+    requires { ⌜ Area (now scratch) × (i < 5640) × (at < 8192) × (n < 16384) ⌝ }
+    ensures { λ r. ⌜ WordPut (now (scratch .entry)) i (pairWord at n) (now (scratch .exit)) ⌝ }
+{
+    put_word(scratch, i, at + 8192 * n);
+}
+
+// Appends a type node.
+pub fn put_node(scratch: &mut [u32], k: Tally, n: TypeNode) -> Tally
+    requires { ⌜ Area (now scratch) × (k .nodes < 512) ⌝ }
+    requires { ⌜ Fits n ⌝ }
+    ensures { λ r. ⌜ Put (now (scratch .entry)) (putNode (now (scratch .entry)) (k .nodes) n) (moreNodes k) r (now (scratch .exit)) ⌝ }
+{
+    put_word(
+        scratch,
+        928 + k.nodes,
+        n.kind + 8 * n.first + 8192 * n.second,
+    );
+    let mut l = k;
+    l.nodes = k.nodes + 1;
+    l.last = k.nodes;
+    l
+}
+
+// Appends an alternative: the label at `at` with a type's node.
+pub fn put_alternative(scratch: &mut [u32], k: Tally, at: usize, node: usize) -> Tally
+    requires { ⌜ Area (now scratch) × (k .alternatives < 512) × (k .last < 16) × (at < 8192) × (node < 512) ⌝ }
+    ensures { λ r. ⌜ Put (now (scratch .entry)) (putAlternative (now (scratch .entry)) (k .alternatives) at node) (moreAlternatives k) r (now (scratch .exit)) ⌝ }
+{
+    put_pair(scratch, 1440 + k.alternatives, at, node);
+    let mut l = k;
+    l.alternatives = k.alternatives + 1;
+    l.last = k.last + 1;
+    l
+}
+
+// Appends a process node.
+pub fn put_term(scratch: &mut [u32], k: Tally, n: TermNode) -> Tally
+    requires { ⌜ Area (now scratch) × (k .terms < 1024) ⌝ }
+    requires { ⌜ FitsTerm n ⌝ }
+    ensures { λ r. ⌜ Put (now (scratch .entry)) (putTerm (now (scratch .entry)) (k .terms) n) (moreTerms k) r (now (scratch .exit)) ⌝ }
+{
+    let i = 1952 + 2 * k.terms;
+    put_word(scratch, i, n.kind + 16 * n.at + 131072 * n.first);
+    put_word(scratch, i + 1, n.second + 16384 * n.third);
+    let mut l = k;
+    l.terms = k.terms + 1;
+    l.last = k.terms;
+    l
+}
+
+// Appends a branch: the label at `at` with a process's pointer.
+pub fn put_branch(scratch: &mut [u32], k: Tally, at: usize, pointer: usize) -> Tally
+    requires { ⌜ Area (now scratch) × (k .branches < 1640) × (k .last < 16) × (at < 8192) × (pointer < 16384) ⌝ }
+    ensures { λ r. ⌜ Put (now (scratch .entry)) (putBranch (now (scratch .entry)) (k .branches) at pointer) (moreBranches k) r (now (scratch .exit)) ⌝ }
+{
+    put_pair(scratch, 4000 + k.branches, at, pointer);
+    let mut l = k;
+    l.branches = k.branches + 1;
+    l.last = k.last + 1;
+    l
+}
+
+// Appends a signature entry: the name at `at` with its type's node.
+pub fn put_entry(scratch: &mut [u32], k: Tally, at: usize, node: usize) -> Tally
+    requires { ⌜ Area (now scratch) × (k .entries < 512) × (at < 8192) × (node < 512) ⌝ }
+    ensures { λ r. ⌜ Put (now (scratch .entry)) (putEntry (now (scratch .entry)) (k .entries) at node) (moreEntries k) r (now (scratch .exit)) ⌝ }
+{
+    put_pair(scratch, 416 + k.entries, at, node);
+    let mut l = k;
+    l.entries = k.entries + 1;
+    l
+}
+
+// Appends a type: its name at `at` with its definition's node.
+pub fn put_type(scratch: &mut [u32], k: Tally, at: usize, node: usize) -> Tally
+    requires { ⌜ Area (now scratch) × (k .types < 64) × (at < 8192) × (node < 512) ⌝ }
+    ensures { λ r. ⌜ Put (now (scratch .entry)) (putType (now (scratch .entry)) (k .types) at node) (moreTypes k) r (now (scratch .exit)) ⌝ }
+{
+    let i = 16 + 2 * k.types;
+    put_word(scratch, i, at);
+    put_word(scratch, i + 1, node);
+    let mut l = k;
+    l.types = k.types + 1;
+    l
+}
+
+// Appends a process.
+pub fn put_process(scratch: &mut [u32], k: Tally, p: ProcessEntry) -> Tally
+    requires { ⌜ Area (now scratch) × (k .processes < 64) ⌝ }
+    requires { ⌜ FitsEntry p ⌝ }
+    ensures { λ r. ⌜ Put (now (scratch .entry)) (putProcess (now (scratch .entry)) (k .processes) p) (moreProcesses k) r (now (scratch .exit)) ⌝ }
+{
+    let i = 144 + 4 * k.processes;
+    put_word(scratch, i, p.at);
+    put_word(scratch, i + 1, p.first);
+    put_word(scratch, i + 2, p.provided + 1024 * p.used);
+    put_word(scratch, i + 3, p.body);
+    let mut l = k;
+    l.processes = k.processes + 1;
+    l
+}
+
+// Appends an exec: its process's name at `at`.
+pub fn put_exec(scratch: &mut [u32], k: Tally, at: usize) -> Tally
+    requires { ⌜ Area (now scratch) × (k .execs < 16) × (at < 8192) ⌝ }
+    ensures { λ r. ⌜ Put (now (scratch .entry)) (putExec (now (scratch .entry)) (k .execs) at) (moreExecs k) r (now (scratch .exit)) ⌝ }
+{
+    put_word(scratch, 400 + k.execs, at);
+    let mut l = k;
+    l.execs = k.execs + 1;
+    l
+}
+
+// What was read last is n.
+pub fn lasting(k: Tally, n: usize) -> Tally
+    ensures { λ r. ⌜ r ≡ lasting n k ⌝ }
+{
+    let mut l = k;
+    l.last = n;
+    l
+}

@@ -1,0 +1,32 @@
+use native.Mathlib.Omega.{arith}
+use mathlib.Core.Bool.{true}
+use Rattle.run_alone.specs.Handlers.{as-many, raises}
+use Rattle.run_alone.specs.Changes.{runs-on, bounded-of}
+use borrow.Author.Needs.{needs}
+use Rattle.run_alone.proofs.handlers.raise.Statement.{statement}
+use Rattle.run_alone.proofs.handlers.raise.Tie as tie
+
+-- src/handlers.rt:89:5
+change-handler-requires : tie.Need-change-handler-requires
+change-handler-requires c κs =
+    let s = c .before .before .before .before in
+    (s .pre .0, s .pre .1 .0 .is .link)
+
+-- src/handlers.rt:91:5
+store-requires : tie.Need-store-requires
+store-requires c κs =
+    let s = c .before .before .before .before .before .before .before .before .before in
+    ((c .before .before .before .before .change-handler .ensures) .run .wide, ((c .before .before .before .before .change-handler .ensures) .run .bounds, (omega (arith, as-many (s .args .text .now) (s .args .scratch .now) (s .args .run .now) _ true (s .args .p .link) (c .before .before .before .before .change-handler .ensures), s .pre .1 .0 .below), bounded-of (s .args .text .now) (s .args .scratch .now) (runs-on ((c .before .before .before .before .change-handler .ensures) .run .tables) (s .args .pointer) 0 (s .args .p .held) tt (s .pre .1 .1) (s .pre .1 .0 .is .held)))))
+
+-- src/handlers.rt:76:1
+same-length : tie.Need-same-length
+same-length c = search needs
+
+-- src/handlers.rt:76:1
+returns : tie.Need-returns
+returns c =
+    let s = c .before .before .before .before .before .before .before .before .before .before .before .before in
+    raises (s .args .text .now) (s .args .scratch .now) (s .args .run .now) _ _ (s .args .place) (s .args .p) (s .args .pointer) (s .pre .1 .0 .is) (s .pre .1 .1) (c .before .before .before .before .before .before .before .change-handler .ensures) (c .before .before .store .ensures .0) (c .before .before .store .ensures .1)
+
+pub raise-spec : {M : Type 1} → statement M
+raise-spec = tie.close (tie.spec change-handler-requires store-requires same-length returns)

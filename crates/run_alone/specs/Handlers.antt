@@ -1,0 +1,132 @@
+-- A process and its handler.
+use Prim.Native.Nat.{ℕ, zero, suc, _-_, _<_}
+use mathlib.Core.Path.{_≡_, refl, sym, _∙_, ap, subst}
+use mathlib.Core.List.{List}
+use mathlib.Core.Bool.{Bool, true, false, cond}
+use mathlib.Core.Option.{Option, some, none, Option·map}
+use native.Mathlib.Omega.{arith}
+use lib.Dec.{eqb}
+use lib.ListN.{length, set, getElem?, length-set}
+use Rattle.calculus.specs.Configuration.{Process, process, Config, config, replaced}
+use Rattle.calculus.specs.Configuration as calculus
+use Rattle.calculus.specs.Steps.{startedDoing, startedHandler, foldedHandler, putAt, changedAt, leaving, raising}
+use Rattle.calculus.specs.declared.answers.Seen.the-variants.{Nothing}
+use Rattle.read_tables.specs.Roots.{ProcessIn}
+use Rattle.read_tables.specs.Decode.{processIn}
+use Rattle.run_words.specs.Lists.{All}
+use Rattle.run_words.specs.ListLaws.{all-set, all-at, all-map, all-of, map-at}
+use Rattle.run_words.specs.Raw.{rawIn, linkOf, linksBelow, Bounded}
+use Rattle.run_words.specs.Values.{Changed}
+use Rattle.run_words.specs.Values as values
+use Rattle.run_words.specs.Operations as raw
+use Rattle.run_words.specs.Bounds.{Unlinked}
+use Rattle.run_words.specs.declared.records.Process.{Process as ProcessWords}
+use Rattle.run_alone.specs.declared.outcome.Outcome.the-variants.{Carried}
+use Rattle.run_alone.specs.Run.{configIn, doingAs, processAs, RunOf, ProcessOf, StandsAt, Becomes, Carries}
+use Rattle.run_alone.specs.Changes.{then, stored, left, running-as, runs-on, places-after, places-in}
+
+-- ── what becomes of a handler
+abbrev pub handlerKind : Bool → ℕ → ℕ
+handlerKind raised k = cond raised (cond (eqb k 2) 0 k) 1
+
+abbrev pub handlerAs : Bool → Process → Process
+handlerAs true q = startedHandler q
+handlerAs false q = foldedHandler q
+
+abbrev pub withHandler : Bool → Option ℕ → Config → Config
+withHandler raised link C = config (changedAt (handlerAs raised) link (C .processes)) (C .outside) (C .given)
+
+abbrev handled : ℕ → ProcessWords → ProcessWords
+handled kind h = record { kind = kind; pointer = h .pointer; link = h .link; held = h .held }
+
+module _ (s w : List ℕ) where
+  started : (k pointer : ℕ) → k < 3 → doingAs s w (handlerKind true k) pointer ≡ startedDoing (doingAs s w k pointer)
+  started zero pointer h = refl
+  started (suc zero) pointer h = refl
+  started (suc (suc zero)) pointer h = refl
+  started (suc (suc (suc k))) pointer h = absurd (omega arith)
+
+  handled-as : (raised : Bool) (h : ProcessWords) → h .kind < 3 → processAs s w (handled (handlerKind raised (h .kind)) h) ≡ handlerAs raised (processAs s w h)
+  handled-as true h b = ap (λ d. process d (processAs s w h .held) (linkOf (h .link))) (started (h .kind) (h .pointer) b)
+  handled-as false h b = refl
+
+  handler-few : (k : ℕ) → k < 3 → handlerKind true k < 3
+  handler-few zero b = omega arith
+  handler-few (suc zero) b = omega arith
+  handler-few (suc (suc zero)) b = omega arith
+  handler-few (suc (suc (suc k))) b = absurd (omega arith)
+
+  handled-fine : (raised : Bool) (h : ProcessWords) (n : ℕ) → ProcessOf s w n h → ProcessOf s w n (handled (handlerKind raised (h .kind)) h)
+  handled-fine true h n t = record { kind = handler-few (h .kind) (t .kind); pointer = t .pointer; link = t .link; term = λ z. t .term (λ y. z (ap (handlerKind true) y)); held = t .held }
+  handled-fine false h n t = record { kind = omega arith; pointer = t .pointer; link = t .link; term = λ z. absurd (z refl); held = t .held }
+
+  module _ (old new : List ℕ) (t : RunOf s w old) (raised : Bool) (link : ℕ) where
+    pub handler-none : link ≡ 0 → Becomes s w old old (withHandler raised (linkOf link) (configIn s w old))
+    handler-none e = record { is = ap (λ l. withHandler raised (linkOf l) (configIn s w old)) (sym e); run = t; past = refl; long = refl }
+
+    pub handler-place : (j : ℕ) → (link ≡ 0 → ⊥) → j ≡ link - 1 → linkOf link ≡ some j
+    handler-place j z e = let q : link ≡ suc j = omega (arith, z) in ap linkOf q
+
+    pub handler-below : (j n : ℕ) → linkOf link ≡ some j → linksBelow n (linkOf link) → j < n
+    handler-below j n e l = subst (linksBelow n) e l
+
+    module _ (j : ℕ) (h : ProcessWords) (u : StandsAt s w old j h) (k : ℕ) (z : k ≡ handlerKind raised (h .kind)) where
+      pub handler-fine : ProcessOf s w (length (rawIn old .processes)) (handled k h)
+      handler-fine = subst (λ m. ProcessOf s w (length (rawIn old .processes)) (handled m h)) (sym z) (handled-fine raised h _ (u .is))
+
+      pub handler-changed : linkOf link ≡ some j → Changed old new (raw.onProcesses (λ l. set l j (values.processIn (handled k h))) (rawIn old)) → Bounded (rawIn new)
+          → Becomes s w old new (withHandler raised (linkOf link) (configIn s w old))
+      handler-changed e c b =
+          subst (Becomes s w old new) (ap (λ m. replaced j (processAs s w (handled m h)) (configIn s w old)) z ∙ ap (λ q. replaced j q (configIn s w old)) (handled-as raised h (u .is .kind)) ∙ sym there)
+          (stored s w old new t j (handled k h) handler-fine c b)
+        where
+          there : withHandler raised (linkOf link) (configIn s w old) ≡ replaced j (handlerAs raised (processAs s w h)) (configIn s w old)
+          there =
+              ap (λ (l : Option ℕ). withHandler raised l (configIn s w old)) e
+              ∙ ap (λ (o : Option Process). config (putAt (configIn s w old .processes) j (Option·map (handlerAs raised) o)) (configIn s w old .outside) (configIn s w old .given)) (u .there)
+
+  unlinked-as : (ws : List ℕ) (i : ℕ) → Unlinked i (rawIn ws .processes) → All (λ (q : Process). q .link ≡ some i → ⊥) (configIn s w ws .processes)
+  unlinked-as ws i u = all-map (λ p. p .link ≡ some i → ⊥) (λ q. q .link ≡ some i → ⊥) _ (λ p h. h) (rawIn ws .processes) u
+
+  unlinked-raw : (ws : List ℕ) (i : ℕ) → All (λ (q : Process). q .link ≡ some i → ⊥) (configIn s w ws .processes) → Unlinked i (rawIn ws .processes)
+  unlinked-raw ws i a = all-of (λ p. p .link ≡ some i → ⊥) (rawIn ws .processes) (λ k p g. all-at (λ q. q .link ≡ some i → ⊥) (configIn s w ws .processes) k a (map-at _ (rawIn ws .processes) k g))
+
+  changed-unlinked : (raised : Bool) (i : ℕ) (link : Option ℕ) (l : List Process) → All (λ (q : Process). q .link ≡ some i → ⊥) l → All (λ (q : Process). q .link ≡ some i → ⊥) (changedAt (handlerAs raised) link l)
+  changed-unlinked raised i none l a = a
+  changed-unlinked raised i (some j) l a = go (getElem? l j) refl
+    where
+      same-link : (raised : Bool) (q : Process) → handlerAs raised q .link ≡ q .link
+      same-link true q = refl
+      same-link false q = refl
+
+      go : (o : Option Process) → getElem? l j ≡ o → All (λ (q : Process). q .link ≡ some i → ⊥) (putAt l j (Option·map (handlerAs raised) o))
+      go none e = a
+      go (some q) e = all-set (λ q. q .link ≡ some i → ⊥) l j (handlerAs raised q) a (λ z. all-at (λ q. q .link ≡ some i → ⊥) l j a e (sym (same-link raised q) ∙ z))
+
+  changed-many : (raised : Bool) (link : Option ℕ) (l : List Process) → length (changedAt (handlerAs raised) link l) ≡ length l
+  changed-many raised none l = refl
+  changed-many raised (some j) l = go (getElem? l j)
+    where
+      go : (o : Option Process) → length (putAt l j (Option·map (handlerAs raised) o)) ≡ length l
+      go none = refl
+      go (some q) = length-set l j (handlerAs raised q)
+
+  module _ (old mid : List ℕ) (raised : Bool) (link : ℕ) (b : Becomes s w old mid (withHandler raised (linkOf link) (configIn s w old))) where
+    pub unlinked-still : (i : ℕ) → Unlinked i (rawIn old .processes) → Unlinked i (rawIn mid .processes)
+    unlinked-still i u = unlinked-raw mid i (subst (λ (C : Config). All (λ (q : Process). q .link ≡ some i → ⊥) (C .processes)) (sym (b .is)) (changed-unlinked raised i (linkOf link) (configIn s w old .processes) (unlinked-as old i u)))
+
+    pub as-many : length (rawIn mid .processes) ≡ length (rawIn old .processes)
+    as-many = places-after b ∙ changed-many raised (linkOf link) (configIn s w old .processes) ∙ places-in s w old
+
+  -- ── the rules
+  module _ (old mid new : List ℕ) (i : ℕ) (p : ProcessWords) where
+    pub leaves : Becomes s w old mid (withHandler false (linkOf (p .link)) (configIn s w old)) → Changed mid new (raw.onProcesses (raw.removed i) (rawIn mid)) → Bounded (rawIn new)
+        → Carries s w old new (Carried Nothing) (leaving (configIn s w old) i (processAs s w p))
+    unfolding leaving
+    leaves b c k = record { is = (refl, then (λ (C : Config). config (calculus.removed i (C .processes)) (C .outside) (C .given)) b (left s w mid new (b .run) i c k)) }
+
+    pub raises : (pointer : ℕ) → ProcessOf s w (length (rawIn old .processes)) p → ProcessIn s w pointer → Becomes s w old mid (withHandler true (linkOf (p .link)) (configIn s w old))
+        → Changed mid new (raw.onProcesses (λ l. set l i (values.processIn (running-as pointer 0 (p .held)))) (rawIn mid)) → Bounded (rawIn new)
+        → Carries s w old new (Carried Nothing) (raising (configIn s w old) i (processAs s w p) (processIn s w pointer))
+    unfolding raising
+    raises pointer t a b c k = record { is = (refl, then (replaced i (processAs s w (running-as pointer 0 (p .held)))) b (stored s w mid new (b .run) i _ (runs-on (b .run .tables) pointer 0 (p .held) tt a (t .held)) c k)) }

@@ -1,0 +1,158 @@
+-- An end is given up; a process folds up.
+use Prim.Native.Nat.{ℕ, _+_, _<_}
+use mathlib.Core.Path.{_≡_, refl, sym, _∙_, ap, subst}
+use mathlib.Core.List.{List, [], _∷_, map}
+use mathlib.Core.Bool.{Bool, true, false, false≢true}
+use mathlib.Core.Option.{Option, some, Option·some-injective, Option·none-ne-some}
+use native.Mathlib.Omega.{arith}
+use lib.ListN.{length, set, getElem?}
+use Rattle.notation.specs.Token.{nameAt}
+use Rattle.notation.specs.Reader.{nameIn}
+use Rattle.calculus.specs.Named.{lookup}
+use Rattle.calculus.specs.Configuration.{End, Process, process, Outside, Config, config, at, replaced, farEnd}
+use Rattle.calculus.specs.Configuration as calculus
+use Rattle.calculus.specs.Steps.{Outcome, onHeld, seenAt, outsideAfter, parting, cancelling, leaving, foldingUp}
+use Rattle.calculus.specs.declared.answers.Seen.{Seen}
+use Rattle.calculus.specs.declared.answers.Seen.the-variants.{Nothing, Cancelled}
+use Rattle.read_tables.specs.Decode.{processIn}
+use Rattle.read_tables.specs.Program.{plainIn}
+use Rattle.run_words.specs.Lists.{All, removeAt}
+use Rattle.run_words.specs.ListLaws.{all-remove}
+use Rattle.run_words.specs.Raw.{RawEnd, rawIn, linkOf, sideOf, Bounded}
+use Rattle.run_words.specs.Values.{Changed, endIn, heldIn, held-length, outsideIn}
+use Rattle.run_words.specs.Values as values
+use Rattle.run_words.specs.Operations as raw
+use Rattle.run_words.specs.SearchLaws.{far-outside, outside-below}
+use Rattle.run_words.specs.DecodeLaws.{FarAs, atProcess, atOutside, givenUp, decoded-far, decoded-far-outside}
+use Rattle.run_words.specs.declared.records.End.{End as EndWords}
+use Rattle.run_words.specs.declared.records.Held.{Held}
+use Rattle.run_words.specs.declared.records.Outside.{Outside as OutsideWords}
+use Rattle.run_words.specs.declared.records.Process.{Process as ProcessWords}
+use Rattle.run_words.specs.declared.records.Far.{Far}
+use Rattle.run_words.specs.declared.records.Far.the-variants as far
+use Rattle.check_contexts.specs.Held.{endIs, channelsOf, EndIn, HeldIn, endFound, FoundIn, Sees, Drops}
+use Rattle.check_contexts.specs.declared.held.Lookup.{Lookup}
+use Rattle.check_contexts.specs.declared.held.Lookup.the-variants as lookups
+use Rattle.run_alone.specs.declared.outcome.Outcome.the-variants.{Carried, NotOpen}
+use Rattle.run_alone.specs.declared.outcome.Outcome.{Outcome as OutcomeWords}
+use Rattle.run_alone.specs.Run.{configIn, processAs, RunOf, ProcessOf, Becomes, Carries}
+use Rattle.run_alone.specs.Changes.{then, stored, let-go, running-as}
+
+-- an end by value
+abbrev pub endAs : List ℕ → List ℕ → EndWords → End
+endAs s w e = endIs s w (endIn e) .1
+
+-- the outside lets go of a channel, if the far end of e is the outside's
+abbrev pub lettingGo : Config → End → Config
+lettingGo C e = config (C .processes) (outsideAfter (farEnd C e) (e .channel) (C .outside)) (C .given)
+
+pub record GivesUp (s w old new : List ℕ) (e : EndWords) (r : Seen) : Type 0 where
+  pub shows : r ≡ seenAt (farEnd (configIn s w old) (endAs s w e))
+  pub becomes : Becomes s w old new (lettingGo (configIn s w old) (endAs s w e))
+
+-- ── the far end
+abbrev isOutside : Far → Bool
+isOutside (far.Process i j) = false
+isOutside (far.Outside j) = true
+isOutside far.GivenUp = false
+
+module _ (s w old : List ℕ) (e : EndWords) where
+  abbrev farOf : calculus.Far
+  farOf = farEnd (configIn s w old) (endAs s w e)
+
+  abbrev Silent : calculus.Far → Type 0
+  Silent F = (seenAt F ≡ Nothing) × ((k : ℕ) (l : List Outside) → outsideAfter F k l ≡ l)
+
+  silent : (f : Far) {F : calculus.Far} → FarAs (nameAt s) (plainIn s w) (processIn s w) (rawIn old) f F → isOutside f ≡ false → Silent F
+  silent (far.Process i j) (atProcess g h) z = (refl, λ k l. refl)
+  silent (far.Outside j) (atOutside g) z = absurd (false≢true (sym z))
+  silent far.GivenUp givenUp z = (refl, λ k l. refl)
+
+  pub gives-silently : (f : Far) → RunOf s w old → f ≡ raw.farEnd (rawIn old) (e .channel) (sideOf (e .side)) → isOutside f ≡ false → GivesUp s w old old e Nothing
+  gives-silently f t q z =
+      let a : Silent farOf = silent f (subst (λ (x : Far). FarAs (nameAt s) (plainIn s w) (processIn s w) (rawIn old) x farOf) (sym q) (decoded-far (nameAt s) (plainIn s w) (processIn s w) (rawIn old) (e .channel) (sideOf (e .side)) (plainIn s w (e .node)))) z in
+      record {
+        shows = sym (a .0);
+        becomes = record { is = sym (ap (λ l. config (configIn s w old .processes) l (configIn s w old .given)) (a .1 (e .channel) (configIn s w old .outside))); run = t; past = refl; long = refl };
+      }
+
+  pub outside-there-below : (k : ℕ) → raw.farEnd (rawIn old) (e .channel) (sideOf (e .side)) ≡ far.Outside k → k < length (rawIn old .outside)
+  outside-there-below k f = outside-below (e .channel) (rawIn old .outside) k (far-outside (rawIn old) (e .channel) (sideOf (e .side)) k f .2)
+
+  pub gives-outside : (new : List ℕ) (k : ℕ) (o : OutsideWords) → RunOf s w old → raw.farEnd (rawIn old) (e .channel) (sideOf (e .side)) ≡ far.Outside k → getElem? (rawIn old .outside) k ≡ some (outsideIn o)
+      → Changed old new (raw.onOutside (raw.letGo (e .channel)) (rawIn old)) → Bounded (rawIn new) → GivesUp s w old new e (Cancelled (o .number))
+  gives-outside new k o t f g c b =
+      let q : farOf ≡ calculus.atOutside (o .number) = decoded-far-outside (nameAt s) (plainIn s w) (processIn s w) (rawIn old) (e .channel) (sideOf (e .side)) (plainIn s w (e .node)) k f g in
+      record {
+        shows = sym (ap seenAt q);
+        becomes = subst (Becomes s w old new) (sym (ap (λ F. config (configIn s w old .processes) (outsideAfter F (e .channel) (configIn s w old .outside)) (configIn s w old .given)) q)) (let-go s w old new t (e .channel) c b);
+      }
+
+-- ── the rules
+module _ (s w old mid new : List ℕ) (i : ℕ) (p : ProcessWords) (e : EndWords) where
+  pub parts : (r : Seen) → GivesUp s w old mid e r → ProcessOf s w (length (rawIn mid .processes)) p → Changed mid new (raw.onProcesses (λ l. set l i (values.processIn p)) (rawIn mid)) → Bounded (rawIn new)
+      → Carries s w old new (Carried r) (parting (configIn s w old) i (processAs s w p) (endAs s w e))
+  unfolding parting
+  parts r g o c b = record { is = (ap Carried (g .shows), then (replaced i (processAs s w p)) (g .becomes) (stored s w mid new (g .becomes .run) i p o c b)) }
+
+-- what is left of the oldest end
+module _ (s w : List ℕ) (h : Held) where
+  pub none-held : h .count ≡ 0 → channelsOf s w h ≡ []
+  unfolding channelsOf
+  none-held z = ap (map (endIs s w)) (go (heldIn h) (held-length h ∙ z))
+    where
+      go : (l : List RawEnd) → length l ≡ 0 → l ≡ []
+      go [] e = refl
+      go (x ∷ l) e = absurd (omega arith)
+
+  module _ (e : EndWords) (g : getElem? (heldIn h) 0 ≡ some (endIn e)) (r : Held) (q : heldIn r ≡ removeAt 0 (heldIn h)) where
+    pub oldest : channelsOf s w h ≡ endIs s w (endIn e) ∷ channelsOf s w r
+    unfolding channelsOf
+    oldest = go (heldIn h) g ∙ ap (λ l. endIs s w (endIn e) ∷ map (endIs s w) l) (sym q)
+      where
+        go : (l : List RawEnd) → getElem? l 0 ≡ some (endIn e) → map (endIs s w) l ≡ endIs s w (endIn e) ∷ map (endIs s w) (removeAt 0 l)
+        go [] z = absurd (Option·none-ne-some _ z)
+        go (x ∷ l) z = ap (λ y. endIs s w y ∷ map (endIs s w) l) (Option·some-injective _ _ z)
+
+    pub oldest-held : r .count + 1 ≡ h .count → HeldIn s w h → HeldIn s w r
+    oldest-held n t = record { many = omega (arith, t .many); each = subst (All (EndIn s w)) (sym q) (all-remove (EndIn s w) 0 (heldIn h) (t .each)) }
+
+-- a process that folds up
+abbrev pub folded : ProcessWords → Held → ProcessWords
+folded p h = record { kind = 1; pointer = p .pointer; link = p .link; held = h }
+
+pub folds : (s w : List ℕ) (p : ProcessWords) (h : Held) {n : ℕ} → ProcessOf s w n p → HeldIn s w h → ProcessOf s w n (folded p h)
+folds s w p h t u = record { kind = omega arith; pointer = t .pointer; link = t .link; term = λ z. absurd (z refl); held = u }
+
+module _ (s w old new : List ℕ) (i : ℕ) (p : ProcessWords) (r : OutcomeWords) where
+  pub folds-empty : p .held .count ≡ 0 → Carries s w old new r (leaving (configIn s w old) i (processAs s w p)) → Carries s w old new r (foldingUp (configIn s w old) i (processAs s w p) (channelsOf s w (p .held)))
+  unfolding foldingUp
+  folds-empty z c = subst (λ l. Carries s w old new r (foldingUp (configIn s w old) i (processAs s w p) l)) (sym (none-held s w (p .held) z)) c
+
+  pub folds-oldest : (e : EndWords) (h : Held) → getElem? (heldIn (p .held)) 0 ≡ some (endIn e) → heldIn h ≡ removeAt 0 (heldIn (p .held)) → Carries s w old new r (parting (configIn s w old) i (processAs s w (folded p h)) (endAs s w e))
+      → Carries s w old new r (foldingUp (configIn s w old) i (processAs s w p) (channelsOf s w (p .held)))
+  unfolding foldingUp
+  folds-oldest e h g q c = subst (λ l. Carries s w old new r (foldingUp (configIn s w old) i (processAs s w p) l)) (sym (oldest s w (p .held) e g h q)) c
+
+-- ── a rule that acts on a channel by its name
+module _ {s w old : List ℕ} {h : Held} {at : ℕ} {f : Lookup} (t : Sees s h at f) (k : End → Outcome) where
+  pub held-none : f ≡ lookups.Nothing → Carries s w old old NotOpen (onHeld (lookup (nameAt s at) (channelsOf s w h)) k)
+  held-none e = subst (λ (o : Option End). Carries s w old old NotOpen (onHeld o k)) (sym (t .is w ∙ ap (endFound s w) e)) (record { is = (refl, refl) })
+
+  pub held-some : {new : List ℕ} {e : EndWords} {r : OutcomeWords} → f ≡ lookups.Found e → Carries s w old new r (k (endAs s w e)) → Carries s w old new r (onHeld (lookup (nameAt s at) (channelsOf s w h)) k)
+  held-some {new} {r = r} e c = subst (λ (o : Option End). Carries s w old new r (onHeld o k)) (sym (t .is w ∙ ap (endFound s w) e)) c
+
+-- what was found is an end of the text
+pub end-found : {s w : List ℕ} {h : Held} {at : ℕ} {f : Lookup} {e : EndWords} → Sees s h at f → f ≡ lookups.Found e → HeldIn s w h → EndIn s w (endIn e) × (e .side < 2)
+end-found {s} {w} t e u = subst (FoundIn s w) e (t .fits w u)
+
+module _ (s w old new : List ℕ) (i : ℕ) (p : ProcessWords) (c pointer : ℕ) where
+  pub cancels : {f : Lookup} {e : EndWords} {h : Held} {r : OutcomeWords} → Sees s (p .held) c f → f ≡ lookups.Found e → Drops s (p .held) c h
+      → Carries s w old new r (parting (configIn s w old) i (processAs s w (running-as pointer (p .link) h)) (endAs s w e))
+      → Carries s w old new r (cancelling (configIn s w old) i (processAs s w p) (nameIn s c) (processIn s w pointer))
+  unfolding cancelling
+  cancels {e = e} {r = r} t q d k = held-some t _ q (subst (λ l. Carries s w old new r (parting (configIn s w old) i (process (calculus.running (processIn s w pointer)) l (linkOf (p .link))) (endAs s w e))) (d .is w) k)
+
+pub cancels-nothing : (s w old : List ℕ) (i : ℕ) (p : ProcessWords) (c pointer : ℕ) {f : Lookup} → Sees s (p .held) c f → f ≡ lookups.Nothing → Carries s w old old NotOpen (cancelling (configIn s w old) i (processAs s w p) (nameIn s c) (processIn s w pointer))
+unfolding cancelling
+cancels-nothing s w old i p c pointer t q = held-none t _ q

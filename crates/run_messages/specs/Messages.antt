@@ -1,0 +1,281 @@
+-- What goes over a channel, by the numbers of a term's node.
+use Prim.Native.Nat.{ℕ, zero, suc, _+_, _≤_, _<_}
+use mathlib.Core.Path.{_≡_, refl, sym, _∙_, ap, subst}
+use mathlib.Core.List.{List}
+use mathlib.Core.Bool.{Bool, true, false, cond}
+use mathlib.Core.Option.{Option, none, Option·map, Option·getD}
+use native.Mathlib.Omega.{arith}
+use Rattle.notation.specs.Bytes.{same}
+use Rattle.notation.specs.Limits.{textLimit, processTermLimit}
+use Rattle.notation.specs.Token.{nameAt}
+use Rattle.notation.specs.Reader.{nameIn, labelIn}
+use Rattle.notation.specs.Tree.{Name, Located, Ty, Proc, sendLabel}
+use Rattle.notation.specs.Tables.{termNode}
+use Rattle.notation.specs.declared.reading.TermNode.{TermNode}
+use Rattle.notation.specs.declared.reading.Found.{Found}
+use Rattle.notation.specs.declared.reading.Found.the-variants.{At, Nothing}
+use Rattle.calculus.specs.Types.{standing, passing, choosing}
+use Rattle.calculus.specs.Configuration.{End, Doing, running}
+use Rattle.calculus.specs.Steps.{Message, closing, passes, chooses, onClose, onChannel, onLabel, Turn, sends, receives, alone, turn, turnOf, afterPassing, afterChoosing, afterMessage, afterSend, retypedEnd}
+use Rattle.read_tables.specs.Access.{TermOf}
+use Rattle.read_tables.specs.Decode.{tallyIn, termAt, termNodeOf, processIn}
+use Rattle.read_tables.specs.Program.{plainIn, programIn}
+use Rattle.read_tables.specs.Roots.{TypeIn, AlternativesIn, ProcessIn, BranchesIn, branchesIn, Handlers, each-kind, processCases, process-tree, process-root}
+use Rattle.read_tables.specs.Stands.{ProcessAt}
+use Rattle.read_tables.specs.Search.{placeOf}
+use Rattle.read_tables.specs.Whole.{Tables}
+use Rattle.check_types.specs.Acting.{StandsFor, PassingOf, passingOf, passedIn, ChoosingOf, choosingOf, chosenIn}
+use Rattle.check_types.specs.Labels.{LeadsTo}
+use Rattle.check_types.specs.declared.messages.Passing.{Passing}
+use Rattle.check_types.specs.declared.messages.Passing.the-variants.{Passes}
+use Rattle.check_types.specs.declared.messages.Passing.the-variants as NoPassing
+use Rattle.check_types.specs.declared.messages.Choosing.{Choosing}
+use Rattle.check_types.specs.declared.messages.Choosing.the-variants.{Chooses}
+use Rattle.check_types.specs.declared.messages.Choosing.the-variants as NoChoosing
+use Rattle.run_words.specs.declared.records.Held.{Held}
+use Rattle.run_words.specs.declared.records.Process.{Process as ProcessWords}
+use Rattle.check_contexts.specs.Held.{channelsOf, HeldIn, Drops, Retypes}
+use Rattle.run_alone.specs.Run.{pointerLimit, doingAs, ProcessOf}
+
+-- the message of a send: kinds 1, 2 and 3
+abbrev pub messageBy : List ℕ → ℕ → ℕ → Message
+messageBy s second zero = closing
+messageBy s second (suc zero) = closing
+messageBy s second (suc (suc zero)) = passes (nameIn s second)
+messageBy s second (suc (suc (suc k))) = chooses (labelIn s second)
+
+abbrev pub message : List ℕ → TermNode → Message
+message s n = messageBy s (n .second) (n .kind)
+
+-- the node of a send
+pub record SendNode (n : TermNode) : Type 0 where
+  pub low : 1 ≤ n .kind
+  pub high : n .kind ≤ 3
+  pub label : n .kind ≡ 3 → n .second < pointerLimit
+
+-- ── the type afterwards
+pub record TypeAfter (s w : List ℕ) (A : Ty Name) (r : ℕ) : Type 0 where
+  pub is : plainIn s w r ≡ A
+  pub type : TypeIn s w r
+
+module _ (s w : List ℕ) (t : Tables s w) (i j : ℕ) (a : TypeIn s w i) (f : StandsFor s w i j) where
+  abbrev stood : Ty Name
+  stood = standing (programIn s w .types) (plainIn s w i)
+
+  module _ (q : Passing) (o : PassingOf w j q) where
+    passing-is : passing stood ≡ passingOf s w q
+    passing-is = ap passing (sym (f .is)) ∙ o .says s t (f .type) .is
+
+    pub passing-after : (u v x y : ℕ) → q ≡ Passes u v x y → TypeAfter s w (afterPassing (plainIn s w i) (passing stood)) y
+    passing-after u v x y e = record {
+      is = sym (ap (afterPassing (plainIn s w i)) (passing-is ∙ ap (passingOf s w) e));
+      type = subst (passedIn s w) e (o .says s t (f .type) .parts) .1;
+    }
+
+    pub passing-nothing : q ≡ NoPassing.Nothing → TypeAfter s w (afterPassing (plainIn s w i) (passing stood)) i
+    passing-nothing e = record { is = sym (ap (afterPassing (plainIn s w i)) (passing-is ∙ ap (passingOf s w) e)); type = a }
+
+  module _ (at : ℕ) (q : Choosing) (o : ChoosingOf w j q) where
+    abbrev chosenBy : Ty Name
+    chosenBy = afterChoosing (plainIn s w i) (nameAt s (at + 1)) (choosing stood)
+
+    choosing-is : choosing stood ≡ choosingOf s w q
+    choosing-is = ap choosing (sym (f .is)) ∙ o .says s t (f .type) .is
+
+    pub choosing-nothing : q ≡ NoChoosing.Nothing → TypeAfter s w chosenBy i
+    choosing-nothing e = record { is = sym (ap (afterChoosing (plainIn s w i) (nameAt s (at + 1))) (choosing-is ∙ ap (choosingOf s w) e)); type = a }
+
+    module _ (u e n : ℕ) (m : q ≡ Chooses u e n) where
+      pub choosing-labels : AlternativesIn s w j e n
+      choosing-labels = subst (chosenIn s w j) m (o .says s t (f .type) .parts) .1
+
+      chosen-is : (r : Found) → LeadsTo s w at e n r → chosenBy ≡ Option·getD (Option·map (plainIn s w) (placeOf r)) (plainIn s w i)
+      chosen-is r l = ap (afterChoosing (plainIn s w i) (nameAt s (at + 1))) (choosing-is ∙ ap (choosingOf s w) m) ∙ ap (λ (d : Option (Ty Name)). Option·getD d (plainIn s w i)) (l .is)
+
+      pub choosing-after : (r : Found) (y : ℕ) → LeadsTo s w at e n r → r ≡ At y → TypeAfter s w chosenBy y
+      choosing-after r y l z = record { is = sym (chosen-is r l ∙ ap (λ (x : Found). Option·getD (Option·map (plainIn s w) (placeOf x)) (plainIn s w i)) z); type = l .type y z }
+
+      pub choosing-none : (r : Found) → LeadsTo s w at e n r → r ≡ Nothing → TypeAfter s w chosenBy i
+      choosing-none r l z = record { is = sym (chosen-is r l ∙ ap (λ (x : Found). Option·getD (Option·map (plainIn s w) (placeOf x)) (plainIn s w i)) z); type = a }
+
+-- the message of a node's kind
+module _ (s w : List ℕ) (n : TermNode) (A : Ty Name) where
+  abbrev sentType : Ty Name
+  sentType = afterMessage (programIn s w) (message s n) A
+
+  module _ {r : ℕ} where
+    pub closed-type : n .kind ≡ 1 → TypeAfter s w A r → TypeAfter s w sentType r
+    unfolding afterMessage
+    closed-type e h = subst (λ k. TypeAfter s w (afterMessage (programIn s w) (message s (termNode k (n .at) (n .first) (n .second) (n .third))) A) r) (sym e) h
+
+    pub passed-type : n .kind ≡ 2 → TypeAfter s w (afterPassing A (passing (standing (programIn s w .types) A))) r → TypeAfter s w sentType r
+    unfolding afterMessage
+    passed-type e h = subst (λ k. TypeAfter s w (afterMessage (programIn s w) (message s (termNode k (n .at) (n .first) (n .second) (n .third))) A) r) (sym e) h
+
+    pub chosen-type : n .kind ≡ 3 → TypeAfter s w (afterChoosing A (nameAt s (n .second + 1)) (choosing (standing (programIn s w .types) A))) r → TypeAfter s w sentType r
+    unfolding afterMessage
+    chosen-type e h = subst (λ k. TypeAfter s w (afterMessage (programIn s w) (message s (termNode k (n .at) (n .first) (n .second) (n .third))) A) r) (sym e) h
+
+-- ── the sender's channels afterwards, where its end's type is then that of a node
+pub record SentHeld (s w : List ℕ) (h : Held) (n : TermNode) (node : ℕ) (r : Held) : Type 0 where
+  pub is : (e : End) → plainIn s w node ≡ afterMessage (programIn s w) (message s n) (e .type) → channelsOf s w r ≡ afterSend (programIn s w) (nameAt s (n .first)) e (message s n) (channelsOf s w h)
+  pub fits : TypeIn s w node → HeldIn s w h → HeldIn s w r
+
+module _ (s w : List ℕ) (h : Held) (n : TermNode) (node : ℕ) where
+  abbrev withKind : ℕ → TermNode
+  withKind k = termNode k (n .at) (n .first) (n .second) (n .third)
+
+  pub sent-close : (r : Held) → n .kind ≡ 1 → Drops s h (n .first) r → SentHeld s w h n node r
+  unfolding afterSend
+  sent-close r e d = subst (λ k. SentHeld s w h (withKind k) node r) (sym e) (record { is = λ x q. d .is w; fits = λ t u. d .fits w u })
+
+  pub sent-channel : (m r : Held) → n .kind ≡ 2 → Drops s h (n .second) m → Retypes s m (n .first) node r → SentHeld s w h n node r
+  unfolding afterSend
+  sent-channel m r e d c = subst (λ k. SentHeld s w h (withKind k) node r) (sym e) (record {
+    is = λ x q. c .is w ∙ λ j. retypedEnd (nameAt s (n .first)) (q j) (d .is w j);
+    fits = λ t u. c .fits w t (d .fits w u);
+  })
+
+  pub sent-label : (r : Held) → n .kind ≡ 3 → Retypes s h (n .first) node r → SentHeld s w h n node r
+  unfolding afterSend
+  sent-label r e c = subst (λ k. SentHeld s w h (withKind k) node r) (sym e) (record {
+    is = λ x q. c .is w ∙ ap (λ A. retypedEnd (nameAt s (n .first)) A (channelsOf s w h)) q;
+    fits = λ t u. c .fits w t u;
+  })
+
+-- ── a term by its kind
+abbrev pub turnBy : List ℕ → List ℕ → TermNode → ℕ → Turn
+turnBy s w n zero = alone
+turnBy s w n (suc zero) = sends (nameIn s (n .first)) closing (processIn s w (n .third))
+turnBy s w n (suc (suc zero)) = sends (nameIn s (n .first)) (passes (nameIn s (n .second))) (processIn s w (n .third))
+turnBy s w n (suc (suc (suc zero))) = sends (nameIn s (n .first)) (chooses (labelIn s (n .second))) (processIn s w (n .third))
+turnBy s w n (suc (suc (suc (suc zero)))) = alone
+turnBy s w n (suc (suc (suc (suc (suc zero))))) = alone
+turnBy s w n (suc (suc (suc (suc (suc (suc zero)))))) = receives (nameIn s (n .first)) (onClose (processIn s w (n .third)))
+turnBy s w n (suc (suc (suc (suc (suc (suc (suc zero))))))) = receives (nameIn s (n .first)) (onChannel (nameIn s (n .second)) (processIn s w (n .third)))
+turnBy s w n (suc (suc (suc (suc (suc (suc (suc (suc zero)))))))) = receives (nameIn s (n .first)) (onLabel (branchesIn s w (n .second) (n .third)))
+turnBy s w n (suc (suc (suc (suc (suc (suc (suc (suc (suc k))))))))) = alone
+
+-- what stands at its numbers
+abbrev pub partsBy : List ℕ → List ℕ → TermNode → ℕ → Type 0
+partsBy s w n zero = Unit {0}
+partsBy s w n (suc zero) = ProcessIn s w (n .third)
+partsBy s w n (suc (suc zero)) = ProcessIn s w (n .third)
+partsBy s w n (suc (suc (suc zero))) = (n .second < pointerLimit) × ProcessIn s w (n .third)
+partsBy s w n (suc (suc (suc (suc zero)))) = Unit {0}
+partsBy s w n (suc (suc (suc (suc (suc zero))))) = Unit {0}
+partsBy s w n (suc (suc (suc (suc (suc (suc zero)))))) = ProcessIn s w (n .third)
+partsBy s w n (suc (suc (suc (suc (suc (suc (suc zero))))))) = (n .second < textLimit) × ProcessIn s w (n .third)
+partsBy s w n (suc (suc (suc (suc (suc (suc (suc (suc zero)))))))) = (p : ℕ) × BranchesIn s w p (n .second) (n .third)
+partsBy s w n (suc (suc (suc (suc (suc (suc (suc (suc (suc k))))))))) = Unit {0}
+
+-- the turn of a term on the channel of a name; of another it has none
+abbrev pub heard : Name → Turn → Turn
+heard x (sends c m P) = cond (same (c .name) x) (sends c m P) alone
+heard x (receives c v) = cond (same (c .name) x) (receives c v) alone
+heard x alone = alone
+
+pub record Heard (s w : List ℕ) (x : ℕ) (d : Doing) (n : TermNode) : Type 0 where
+  pub is : heard (nameAt s x) (turnOf d) ≡ turnBy s w n (n .kind)
+  pub parts : partsBy s w n (n .kind)
+
+-- where the label of a send stands fits into its bits
+pub label-small : (s w : List ℕ) (p : ℕ) → Tables s w → ProcessIn s w p → (o : ℕ) (c : Located) (k : ℕ) (P : Proc) → processIn s w p ≡ sendLabel o c (labelIn s k) P → k < pointerLimit
+unfolding ProcessAt termAt termNodeOf
+label-small s w p t a o c k P e =
+    let there : ProcessAt w (tallyIn w) p (sendLabel o c (labelIn s k) P) = subst (ProcessAt w (tallyIn w) p) (sym (process-tree s w (t .within) p a) ∙ e) (a .is) in
+    let z : termAt w p .second ≡ k = ap (λ (n : TermNode). n .second) (there .1 .1) in
+    omega (arith, z)
+
+module _ (s w : List ℕ) (p : ℕ) (A : Proc) (small : (o : ℕ) (c : Located) (k : ℕ) (P : Proc) → A ≡ sendLabel o c (labelIn s k) P → k < pointerLimit) (at first second third : ℕ) where
+  abbrev node : ℕ → TermNode
+  node k = termNode k at first second third
+
+  abbrev Turns : ℕ → Type 0
+  Turns k = (turn A ≡ turnBy s w (node k) k) × partsBy s w (node k) k
+
+  turns : Handlers (processCases s w p (node 0) A) Turns
+  turns = (
+    λ e. absurd e,
+    (
+      λ ((m, f), e). (ap turn e, f),
+      (
+        λ ((m, f), e). (ap turn e, f),
+        (
+          λ ((m, f), e). (ap turn e, (small _ _ _ _ e, f)),
+          (
+            λ (f, e). (ap turn e, tt),
+            (
+              λ (t, f, (g, e)). (ap turn e, tt),
+              (
+                λ ((m, f), e). (ap turn e, f),
+                (
+                  λ (l, ((m, f), e)). (ap turn e, (l, f)),
+                  (
+                    λ (f, e). (ap turn e, (p, f)),
+                    (
+                      λ e. (ap turn e, tt),
+                      (λ (c, e). (ap turn e, tt), (λ (f, e). (ap turn e, tt), (λ (f, (g, e)). (ap turn e, tt), tt))),
+                    ),
+                  ),
+                ),
+              ),
+            ),
+          ),
+        ),
+      ),
+    ),
+  )
+
+module _ (s w : List ℕ) (x : ℕ) where
+  no-turn : (d : Doing) → turnOf d ≡ alone → Heard s w x d (termNode 0 0 0 0 0)
+  no-turn d e = record { is = ap (heard (nameAt s x)) e; parts = tt }
+
+  module _ (r : ProcessWords) {m : ℕ} (o : ProcessOf s w m r) (t : Tables s w) where
+    pub heard-idle : (r .kind ≡ 0 → ⊥) → Heard s w x (doingAs s w (r .kind) (r .pointer)) (termNode 0 0 0 0 0)
+    heard-idle z = no-turn (doingAs s w (r .kind) (r .pointer)) (go (r .kind) z)
+      where
+        go : (k : ℕ) → (k ≡ 0 → ⊥) → turnOf (doingAs s w k (r .pointer)) ≡ alone
+        go zero z = absurd (z refl)
+        go (suc zero) z = refl
+        go (suc (suc k)) z = refl
+
+    module _ (z : r .kind ≡ 0) where
+      runs-term : ProcessIn s w (r .pointer)
+      runs-term = o .term (λ e. let q : _≡_ {A = ℕ} 0 1 = sym z ∙ e in omega arith)
+
+      running-so : doingAs s w (r .kind) (r .pointer) ≡ running (processIn s w (r .pointer))
+      running-so = ap (λ k. doingAs s w k (r .pointer)) z
+
+      pub heard-empty : processTermLimit ≤ r .pointer → Heard s w x (doingAs s w (r .kind) (r .pointer)) (termNode 0 0 0 0 0)
+      heard-empty b = no-turn (doingAs s w (r .kind) (r .pointer)) (ap turnOf running-so ∙ ap turn (process-root s w (t .within) (r .pointer) runs-term .none b))
+
+      module _ (b : r .pointer < processTermLimit) (n : TermNode) (f : TermOf w (r .pointer) n) where
+        turn-so : (turn (processIn s w (r .pointer)) ≡ turnBy s w n (n .kind)) × partsBy s w n (n .kind)
+        turn-so = each-kind (processCases s w (r .pointer) n (processIn s w (r .pointer))) (Turns s w (r .pointer) (processIn s w (r .pointer)) (label-small s w (r .pointer) t runs-term) (n .at) (n .first) (n .second) (n .third))
+            (turns s w (r .pointer) (processIn s w (r .pointer)) (label-small s w (r .pointer) t runs-term) (n .at) (n .first) (n .second) (n .third)) (n .kind) (f .says s t runs-term .node b .1)
+
+        none-either : (c : Bool) → alone ≡ cond c alone alone
+        none-either true = refl
+        none-either false = refl
+
+        named : (k : ℕ) (c : Bool) → same (nameAt s (n .first)) (nameAt s x) ≡ c → heard (nameAt s x) (turnBy s w n k) ≡ cond c (turnBy s w n k) alone
+        named zero c e = none-either c
+        named (suc zero) c e = ap (λ d. cond d (turnBy s w n 1) alone) e
+        named (suc (suc zero)) c e = ap (λ d. cond d (turnBy s w n 2) alone) e
+        named (suc (suc (suc zero))) c e = ap (λ d. cond d (turnBy s w n 3) alone) e
+        named (suc (suc (suc (suc zero)))) c e = none-either c
+        named (suc (suc (suc (suc (suc zero))))) c e = none-either c
+        named (suc (suc (suc (suc (suc (suc zero)))))) c e = ap (λ d. cond d (turnBy s w n 6) alone) e
+        named (suc (suc (suc (suc (suc (suc (suc zero))))))) c e = ap (λ d. cond d (turnBy s w n 7) alone) e
+        named (suc (suc (suc (suc (suc (suc (suc (suc zero)))))))) c e = ap (λ d. cond d (turnBy s w n 8) alone) e
+        named (suc (suc (suc (suc (suc (suc (suc (suc (suc k))))))))) c e = none-either c
+
+        heard-so : (c : Bool) → same (nameAt s (n .first)) (nameAt s x) ≡ c → heard (nameAt s x) (turnOf (doingAs s w (r .kind) (r .pointer))) ≡ cond c (turnBy s w n (n .kind)) alone
+        heard-so c e = ap (λ d. heard (nameAt s x) (turnOf d)) running-so ∙ ap (heard (nameAt s x)) (turn-so .0) ∙ named (n .kind) c e
+
+        pub heard-there : same (nameAt s (n .first)) (nameAt s x) ≡ true → Heard s w x (doingAs s w (r .kind) (r .pointer)) n
+        heard-there e = record { is = heard-so true e; parts = turn-so .1 }
+
+        pub heard-other : same (nameAt s (n .first)) (nameAt s x) ≡ false → Heard s w x (doingAs s w (r .kind) (r .pointer)) (termNode 0 0 0 0 0)
+        heard-other e = record { is = heard-so false e; parts = tt }

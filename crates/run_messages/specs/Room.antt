@@ -1,0 +1,105 @@
+-- What a well-formed configuration gives its steps: nobody links to a process that does not wait, and there is room for what is brought in.
+use Prim.Native.Nat.{ℕ, suc, _+_, _≤_, _<_}
+use mathlib.Core.Path.{_≡_, refl, sym, _∙_, ap}
+use mathlib.Core.List.{List, [], _∷_, map, List·Memᴰ·head, List·Memᴰ·tail}
+use mathlib.Core.Bool.{Bool, true, false, true≢false, false≢true, cond}
+use mathlib.Core.Option.{Option·some-injective}
+use native.Mathlib.Omega.{arith}
+use lib.ListN.{length, length-map}
+use Rattle.notation.specs.Bytes.{same}
+use Rattle.notation.specs.Token.{nameAt}
+use Rattle.notation.specs.Tree.{Name, Proc}
+use Rattle.notation.specs.declared.reading.TermNode.{TermNode}
+use Rattle.calculus.specs.Named.{isSome}
+use Rattle.calculus.specs.Program.{Context, Program}
+use Rattle.calculus.specs.Typing.{Typed, sends-unit, recvs-unit, sends-channel, recvs-channel, sends-label, recvs-label, forwards, calls, spawns, tries, raises, cancels, empties}
+use Rattle.calculus.specs.Configuration.{End, Doing, running, folding, waiting, Process, Outside}
+use Rattle.calculus.specs.Steps.{onClose, onChannel, onLabel, Turn, sends, receives, alone, turn, turnOf}
+use Rattle.calculus.specs.WellFormed.{In, Rising, contextOf, isWaiting, TypedAs, WellFormed}
+use Rattle.read_tables.specs.Program.{programIn}
+use Rattle.run_words.specs.ListLaws.{all-of, map-at}
+use Rattle.run_words.specs.Raw.{rawIn, linkOf}
+use Rattle.run_words.specs.Bounds.{Unlinked}
+use Rattle.run_words.specs.declared.records.Process.{Process as ProcessWords}
+use Rattle.check_contexts.specs.Held.{channelsOf}
+use Rattle.run_alone.specs.Run.{configIn, doingAs, processAs, StandsAt}
+use Rattle.run_alone.specs.Making.{channels-many}
+use Rattle.run_messages.specs.Messages.{turnBy, heard, Heard}
+
+-- ── a recv of a channel has room for it
+abbrev wantsChannel : Turn → Bool
+wantsChannel (sends c m P) = false
+wantsChannel (receives c (onClose P)) = false
+wantsChannel (receives c (onChannel x P)) = true
+wantsChannel (receives c (onLabel B)) = false
+wantsChannel alone = false
+
+heard-wants : (x : Name) (T : Turn) → wantsChannel (heard x T) ≡ true → wantsChannel T ≡ true
+heard-wants x (sends c m P) e = absurd (go (same (c .name) x) e)
+  where
+    go : (b : Bool) → wantsChannel (cond b (sends c m P) alone) ≡ true → ⊥
+    go true e = false≢true e
+    go false e = false≢true e
+heard-wants x (receives c v) e = go (same (c .name) x) e
+  where
+    go : (b : Bool) → wantsChannel (cond b (receives c v) alone) ≡ true → wantsChannel (receives c v) ≡ true
+    go true e = e
+    go false e = absurd (false≢true e)
+heard-wants x alone e = absurd (false≢true e)
+
+receiver-room : {p : Program} {G : Context} {link : Bool} {P : Proc} → Typed p G link P → wantsChannel (turn P) ≡ true → length G < 16
+receiver-room (sends-unit a d) e = absurd (false≢true e)
+receiver-room (recvs-unit a d) e = absurd (false≢true e)
+receiver-room (sends-channel T A t n b a l m d) e = absurd (false≢true e)
+receiver-room (recvs-channel T t b a r d) e = r .room
+receiver-room (sends-label T A t b a l d) e = absurd (false≢true e)
+receiver-room (recvs-label T t b a f d) e = absurd (false≢true e)
+receiver-room (forwards A B a b c d) e = absurd (false≢true e)
+receiver-room (calls s a b c d f) e = absurd (false≢true e)
+receiver-room (spawns a b c d f) e = absurd (false≢true e)
+receiver-room (tries a b c) e = absurd (false≢true e)
+receiver-room (raises a b) e = absurd (false≢true e)
+receiver-room (cancels a b) e = absurd (false≢true e)
+receiver-room (empties a) e = absurd (false≢true e)
+
+context-many : (l : List (Name × End)) → length (contextOf l) ≡ length l
+context-many [] = refl
+context-many (e ∷ l) = ap suc (context-many l)
+
+doing-room : (p : Program) (G : Context) (link : Bool) (d : Doing) → TypedAs p G link d → wantsChannel (turnOf d) ≡ true → length G < 16
+doing-room p G link (running P) (a, t) e = receiver-room t e
+doing-room p G link folding t e = absurd (false≢true e)
+doing-room p G link (waiting Q) t e = absurd (false≢true e)
+
+module _ (s w ws : List ℕ) (F : WellFormed (programIn s w) (configIn s w ws)) where
+  pub room-to-hear : (j : ℕ) (r : ProcessWords) (x : ℕ) (t : TermNode) → StandsAt s w ws j r → Heard s w x (doingAs s w (r .kind) (r .pointer)) t → t .kind ≡ 7 → r .held .count < 16
+  room-to-hear j r x t u g z =
+      let e : wantsChannel (heard (nameAt s x) (turnOf (doingAs s w (r .kind) (r .pointer)))) ≡ true = ap wantsChannel (g .is) ∙ ap (λ k. wantsChannel (turnBy s w t k)) z in
+      let l = doing-room (programIn s w) (contextOf (channelsOf s w (r .held))) (isSome (linkOf (r .link))) (doingAs s w (r .kind) (r .pointer)) (F .typed j (processAs s w r) (record { there = u .there })) (heard-wants (nameAt s x) (turnOf (doingAs s w (r .kind) (r .pointer))) e) in
+      omega (arith, l, context-many (channelsOf s w (r .held)), channels-many s w (r .held))
+
+  -- ── fewer outside channels than numbers given
+  rising-few : (low top : ℕ) (l : List ℕ) → Rising low l → ((n : ℕ) → In n l → n < top) → low ≤ top → length l + low ≤ top
+  rising-few low top [] r b h = omega arith
+  rising-few low top (n ∷ l) (a, r) b h =
+      let m = b n (List·Memᴰ·head refl) in
+      let k = rising-few (suc n) top l r (λ x i. b x (List·Memᴰ·tail i)) (omega arith) in
+      omega arith
+
+  numbers-in : (l : List Outside) (n : ℕ) → In n (map (λ (o : Outside). o .number) l) → (o : Outside) × In o l × (o .number ≡ n)
+  numbers-in (o ∷ l) n (List·Memᴰ·head e) = (o, List·Memᴰ·head refl, sym e)
+  numbers-in (o ∷ l) n (List·Memᴰ·tail i) = let (x, j, e) = numbers-in l n i in (x, List·Memᴰ·tail j, e)
+
+  pub outside-few : length (rawIn ws .outside) ≤ rawIn ws .given
+  outside-few =
+      let l = configIn s w ws .outside in
+      let b : (n : ℕ) → In n (map (λ (o : Outside). o .number) l) → n < rawIn ws .given = λ n i. let (o, j, e) = numbers-in l n i in let k = F .outside o j .1 in omega arith in
+      let k = rising-few 0 (rawIn ws .given) (map (λ (o : Outside). o .number) l) (F .numbers) b (omega arith) in
+      let z : length l ≡ length (rawIn ws .outside) = length-map (rawIn ws .outside) _ in
+      omega (arith, k, z, length-map l (λ (o : Outside). o .number))
+
+  -- ── nobody's link is the place of a process that does not wait
+  pub unlinked-here : (i : ℕ) (p : ProcessWords) → StandsAt s w ws i p → isWaiting (doingAs s w (p .kind) (p .pointer)) ≡ false → Unlinked i (rawIn ws .processes)
+  unlinked-here i p u z = all-of _ (rawIn ws .processes) (λ k r g e.
+      let (q, f, y) = F .links k _ (record { there = map-at _ (rawIn ws .processes) k g }) i e in
+      true≢false (sym y ∙ ap (λ (x : Process). isWaiting (x .doing)) (Option·some-injective _ _ (sym (f .there) ∙ u .there)) ∙ z))

@@ -1,0 +1,114 @@
+// A recv: as the send at its far end, or with its far end given up.
+ghost use mathlib.Core.Path.{_≡_};
+ghost use Prim.Native.Nat.{_<_};
+ghost use Rattle.notation.specs.Reader.{nameIn};
+ghost use Rattle.calculus.specs.Steps.{receive};
+ghost use Rattle.calculus.specs.WellFormed.{WellFormed};
+ghost use Rattle.read_tables.specs.Program.{programIn};
+ghost use Rattle.run_words.specs.declared.records.Far.the-variants as far;
+ghost use Rattle.run_alone.specs.Run.{configIn, processAs, RunOf, StandsAt, Carries};
+ghost use Rattle.run_alone.specs.Forwarding.{farRaw};
+ghost use Rattle.run_messages.specs.Answering.{receivingBy};
+use crate::meeting::send;
+use crate::messages::turn_on;
+use calculus::answers::Seen;
+use check_contexts::held::Lookup;
+use check_contexts::held::drop_end;
+use check_contexts::held::find_end;
+use run_alone::outcome::Outcome;
+use run_words::far::far_end;
+use run_words::held::end_at;
+use run_words::processes::load;
+use run_words::processes::store;
+use run_words::records::End;
+use run_words::records::Far;
+use run_words::records::Process;
+
+// The far end is at position k of what the process at place j holds: the step is that process' send, if it sends there.
+fn answer(
+    text: &[u8],
+    scratch: &[u32],
+    run: &mut [u32],
+    place: usize,
+    p: Process,
+    c: usize,
+    e: End,
+    j: usize,
+    k: usize,
+) -> Outcome
+    requires { ⌜ RunOf (now text) (now scratch) (now run) ⌝ }
+    requires { ⌜ StandsAt (now text) (now scratch) (now run) place p ⌝ }
+    requires { ⌜ WellFormed (programIn (now text) (now scratch)) (configIn (now text) (now scratch) (now run)) ⌝ }
+    requires { ⌜ farRaw (now text) (now scratch) (now run) e ≡ far.Process j k ⌝ }
+    ensures { λ o. ⌜ Carries (now (text .entry)) (now (scratch .entry)) (now (run .entry)) (now (run .exit)) o (receivingBy (now (text .entry)) (now (scratch .entry)) (now (run .entry)) place p c e) ⌝ }
+{
+    let r = load(run, j);
+    let h = r.held;
+    let y = end_at(h, k);
+    let x = y.name as usize;
+    let t = turn_on(text, scratch, r, x);
+    if t.kind == 0 {
+        return Outcome::NotOpen;
+    }
+    if 3 < t.kind {
+        return Outcome::NotOpen;
+    }
+    send(text, scratch, run, j, r, t)
+}
+
+// "a recv drops its channel in that step and folds up".
+fn receive_nothing(
+    text: &[u8],
+    scratch: &[u32],
+    run: &mut [u32],
+    place: usize,
+    p: Process,
+    c: usize,
+    e: End,
+) -> Outcome
+    requires { ⌜ RunOf (now text) (now scratch) (now run) ⌝ }
+    requires { ⌜ StandsAt (now text) (now scratch) (now run) place p ⌝ }
+    requires { ⌜ farRaw (now text) (now scratch) (now run) e ≡ far.GivenUp ⌝ }
+    ensures { λ o. ⌜ Carries (now (text .entry)) (now (scratch .entry)) (now (run .entry)) (now (run .exit)) o (receivingBy (now (text .entry)) (now (scratch .entry)) (now (run .entry)) place p c e) ⌝ }
+{
+    let h = p.held;
+    let held = drop_end(text, h, c);
+    store(
+        run,
+        place,
+        Process {
+            kind: 1,
+            pointer: p.pointer,
+            link: p.link,
+            held,
+        },
+    );
+    Outcome::Carried(Seen::Nothing)
+}
+
+// A recv on the channel c of the process p at a place.
+pub fn receive(
+    text: &[u8],
+    scratch: &[u32],
+    run: &mut [u32],
+    place: usize,
+    p: Process,
+    c: usize,
+) -> Outcome
+    requires { ⌜ RunOf (now text) (now scratch) (now run) ⌝ }
+    requires { ⌜ StandsAt (now text) (now scratch) (now run) place p ⌝ }
+    requires { ⌜ WellFormed (programIn (now text) (now scratch)) (configIn (now text) (now scratch) (now run)) ⌝ }
+    ensures { λ o. ⌜ Carries (now (text .entry)) (now (scratch .entry)) (now (run .entry)) (now (run .exit)) o (receive (programIn (now (text .entry)) (now (scratch .entry))) (configIn (now (text .entry)) (now (scratch .entry)) (now (run .entry))) place (processAs (now (text .entry)) (now (scratch .entry)) p) (nameIn (now (text .entry)) c)) ⌝ }
+{
+    let h = p.held;
+    let f = find_end(text, h, c);
+    let Lookup::Found(e) = f else {
+        return Outcome::NotOpen;
+    };
+    let g = far_end(run, e.channel, e.side);
+    match g {
+        Far::Process(j, k) => return answer(text, scratch, run, place, p, c, e, j, k),
+        Far::Outside(k) => return Outcome::NotOpen,
+        Far::GivenUp => return receive_nothing(text, scratch, run, place, p, c, e),
+    }
+}

@@ -1,0 +1,146 @@
+// What goes over a channel, and what becomes of its type and of the sender's channels.
+ghost use mathlib.Core.Path.{_≡_};
+ghost use Prim.Native.Nat.{ℕ, _+_, _≤_, _<_};
+ghost use Rattle.notation.specs.Token.{nameAt};
+ghost use Rattle.notation.specs.Tables.{termNode};
+ghost use Rattle.calculus.specs.Types.{standing, passing, choosing};
+ghost use Rattle.calculus.specs.Steps.{afterPassing, afterChoosing, afterMessage};
+ghost use Rattle.read_tables.specs.Program.{plainIn, programIn};
+ghost use Rattle.read_tables.specs.Roots.{TypeIn};
+ghost use Rattle.read_tables.specs.Whole.{Tables};
+ghost use Rattle.check_contexts.specs.Held.{HeldIn};
+ghost use Rattle.run_alone.specs.Run.{doingAs, ProcessOf};
+ghost use Rattle.run_messages.specs.Messages.{message, TypeAfter, SentHeld, Heard};
+use check_contexts::held::drop_end;
+use check_contexts::held::retype_end;
+use check_types::acting::choosing;
+use check_types::acting::labelled;
+use check_types::acting::passing;
+use check_types::acting::standing;
+use check_types::messages::Choosing;
+use check_types::messages::Passing;
+use notation::reading::Found;
+use notation::reading::TermNode;
+use notation::script::Script;
+use notation::token::names_equal;
+use read_tables::access::term_node;
+use run_words::records::End;
+use run_words::records::Held;
+use run_words::records::Process;
+
+// A send under way: the process at a place before it and after it, its term, the end that it goes over, and the node of the type that
+// the channel then has.
+pub struct Sending {
+    pub place: usize,
+    pub before: Process,
+    pub after: Process,
+    pub term: TermNode,
+    pub over: End,
+    pub node: u32,
+}
+
+// A process that receives: its place, where its name for the channel stands, and its term.
+pub struct Receiver {
+    pub place: usize,
+    pub process: Process,
+    pub name: usize,
+    pub term: TermNode,
+}
+
+// The type of a channel of the type i, once a channel was passed over it.
+fn after_passing(text: &[u8], scratch: &[u32], i: usize) -> usize
+    requires { ⌜ Tables (now text) (now scratch) ⌝ }
+    requires { ⌜ TypeIn (now text) (now scratch) i ⌝ }
+    ensures { λ r. ⌜ TypeAfter (now (text .entry)) (now (scratch .entry)) (afterPassing (plainIn (now (text .entry)) (now (scratch .entry)) i) (passing (standing (programIn (now (text .entry)) (now (scratch .entry)) .types) (plainIn (now (text .entry)) (now (scratch .entry)) i)))) r ⌝ }
+{
+    let j = standing(text, scratch, i);
+    let q = passing(scratch, j);
+    match q {
+        Passing::Nothing => return i,
+        Passing::Passes(u, v, x, y) => return y,
+    }
+}
+
+// The same for the label at `at`.
+fn after_choosing(text: &[u8], scratch: &[u32], at: usize, i: usize) -> usize
+    requires { ⌜ Tables (now text) (now scratch) ⌝ }
+    requires { ⌜ TypeIn (now text) (now scratch) i ⌝ }
+    ensures { λ r. ⌜ TypeAfter (now (text .entry)) (now (scratch .entry)) (afterChoosing (plainIn (now (text .entry)) (now (scratch .entry)) i) (nameAt (now (text .entry)) (at + 1)) (choosing (standing (programIn (now (text .entry)) (now (scratch .entry)) .types) (plainIn (now (text .entry)) (now (scratch .entry)) i)))) r ⌝ }
+{
+    let j = standing(text, scratch, i);
+    let q = choosing(scratch, j);
+    let Choosing::Chooses(u, e, n) = q else {
+        return i;
+    };
+    let f = labelled(text, scratch, at, e, n);
+    match f {
+        Found::At(y) => return y,
+        Found::Nothing => return i,
+    }
+}
+
+// The type of a channel of the type i, once the message of the send n has gone over it.
+pub fn after_message(text: &[u8], scratch: &[u32], n: TermNode, i: usize) -> usize
+    requires { ⌜ Tables (now text) (now scratch) ⌝ }
+    requires { ⌜ TypeIn (now text) (now scratch) i ⌝ }
+    requires { ⌜ (1 ≤ n .kind) × (n .kind ≤ 3) ⌝ }
+    ensures { λ r. ⌜ TypeAfter (now (text .entry)) (now (scratch .entry)) (afterMessage (programIn (now (text .entry)) (now (scratch .entry))) (message (now (text .entry)) n) (plainIn (now (text .entry)) (now (scratch .entry)) i)) r ⌝ }
+{
+    if n.kind == 1 {
+        return i;
+    }
+    if n.kind == 2 {
+        return after_passing(text, scratch, i);
+    }
+    after_choosing(text, scratch, n.second, i)
+}
+
+// What the sender holds after the send n, if its channel is then of the type of a node.
+pub fn after_send(text: &[u8], scratch: &[u32], h: Held, n: TermNode, node: u32) -> Held
+    requires { ⌜ HeldIn (now text) (now scratch) h ⌝ }
+    requires { ⌜ node < 512 ⌝ }
+    requires { ⌜ (1 ≤ n .kind) × (n .kind ≤ 3) ⌝ }
+    ensures { λ r. ⌜ SentHeld (now (text .entry)) (now (scratch .entry)) h n node r ⌝ }
+{
+    if n.kind == 1 {
+        return drop_end(text, h, n.first);
+    }
+    if n.kind == 3 {
+        return retype_end(text, h, n.first, node);
+    }
+    let kept = drop_end(text, h, n.second);
+    retype_end(text, kept, n.first, node)
+}
+
+// A node that is no turn.
+fn idle() -> TermNode
+    ensures { λ r. ⌜ r ≡ termNode 0 0 0 0 0 ⌝ }
+{
+    TermNode {
+        kind: 0,
+        at: 0,
+        first: 0,
+        second: 0,
+        third: 0,
+    }
+}
+
+// The node of the term that a process runs, where it acts on the channel whose name is the one at `x`.
+pub fn turn_on(text: &[u8], scratch: &[u32], r: Process, x: usize) -> TermNode
+    requires { ⌜ Tables (now text) (now scratch) ⌝ }
+    requires { ⌜ ((m : ℕ) × ProcessOf (now text) (now scratch) m r) ⌝ }
+    ensures { λ t. ⌜ Heard (now (text .entry)) (now (scratch .entry)) x (doingAs (now (text .entry)) (now (scratch .entry)) (r .kind) (r .pointer)) t ⌝ }
+{
+    if r.kind != 0 {
+        return idle();
+    }
+    let p = r.pointer as usize;
+    if Script::PROCESS_TERMS <= p {
+        return idle();
+    }
+    let n = term_node(scratch, p);
+    if names_equal(text, n.first, x) {
+        return n;
+    }
+    idle()
+}

@@ -1,0 +1,45 @@
+use native.Mathlib.Omega.{arith}
+use mathlib.Core.Path.{ap}
+use lib.ListN.{length}
+use Rattle.run_words.specs.Raw.{RawConfig}
+use Rattle.run_steps.specs.Starting.{ends-bounded, begun}
+use borrow.Author.Needs.{needs}
+use Rattle.run_steps.proofs.starting.begin_process.Statement.{statement}
+use Rattle.run_steps.proofs.starting.begin_process.Tie as tie
+
+start-ends-requires : tie.Need-start-ends-requires
+start-ends-requires c κs = (c .before .before .pre .0 .0, c .before .before .pre .0 .1, c .before .before .pre .0 .2)
+
+cast-set-given : tie.Need-cast-set-given
+cast-set-given c = omega (arith, c .before .before .before .before .before .pre .0 .3)
+
+begin-requires : tie.Need-begin-requires
+begin-requires c κs = let b = ends-bounded _ (c .before .before .start-ends .ensures) (c .before .before .before .before .before .pre .0 .1) (c .before .before .before .before .before .pre .0 .2) in (c .before .before .before .before .before .pre .1, record { kind = omega arith; pointer = c .before .before .before .before .before .pre .0 .3; many = b .0; each = b .1; link = tt })
+
+use-channels-requires : tie.Need-use-channels-requires
+use-channels-requires c κs = ((c .before .before .before .before .before .before .before .before .before .pre .0 .0, c .before .before .before .before .before .before .before .before .before .pre .0 .1), (omega (arith, c .before .before .before .before .before .before .before .before .before .pre .1, c .before .before .before .begin .ensures .0 .long), c .before .before .before .begin .ensures .1, omega (arith, c .before .before .before .before .before .before .before .before .before .pre .0 .2, ap (λ (C : RawConfig). length (C .outside)) (c .before .before .before .begin .ensures .0 .is))))
+
+cast-set-given-2 : tie.Need-cast-set-given-2
+cast-set-given-2 c = omega (arith, c .before .before .before .before .before .before .before .before .before .before .before .before .before .before .pre .0 .2)
+
+set-given-requires : tie.Need-set-given-requires
+set-given-requires c κs = (omega (arith, c .before .before .before .before .before .before .before .before .before .before .before .before .before .before .pre .1, c .before .before .before .before .before .before .before .before .begin .ensures .0 .long, c .before .before .before .before .use-channels .ensures .0 .long), (c .before .before .before .before .use-channels .ensures .1, omega (arith, c .before .before .before .before .before .before .before .before .before .before .before .before .before .before .pre .0 .2)))
+
+same-length : tie.Need-same-length
+same-length c = search needs
+
+returns : tie.Need-returns
+returns c = (begun (c .before .before .before .before .before .before .before .before .before .before .before .before .before .before .before .before .before .args .scratch .now) (c .before .before .before .before .before .before .before .before .before .before .before .before .before .before .before .before .before .args .d .first) (c .before .before .before .before .before .before .before .before .before .before .before .before .before .before .before .before .before .args .d .provided) (c .before .before .before .before .before .before .before .before .before .before .before .before .before .before .before .before .before .args .d .body) _ (c .before .before .before .before .before .before .before .before .before .before .before .before .before .before .start-ends .ensures) (c .before .before .before .before .before .before .before .before .before .before .before .begin .ensures .0) (c .before .before .before .before .before .before .before .use-channels .ensures .0) (c .before .before .set-given .ensures .0), c .before .before .set-given .ensures .1)
+
+pub begin-process-spec : {M : Type 1} → statement M
+begin-process-spec =
+    tie.close
+    (tie.spec
+    start-ends-requires
+    cast-set-given
+    begin-requires
+    use-channels-requires
+    cast-set-given-2
+    set-given-requires
+    same-length
+    returns)

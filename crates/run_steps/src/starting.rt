@@ -1,0 +1,120 @@
+// "Start makes one process, the exec process's body with its signature's channels."
+ghost use mathlib.Core.Path.{_≡_};
+ghost use mathlib.Core.List.{_++_};
+ghost use Prim.Native.Nat.{_+_, _≤_, _<_};
+ghost use lib.ListN.{length};
+ghost use Rattle.notation.specs.Limits.{heldLimit, outsideNumbers, runWords};
+ghost use Rattle.calculus.specs.Runs.{execOf};
+ghost use Rattle.read_types.specs.Filling.{Area};
+ghost use Rattle.read_tables.specs.Program.{programIn};
+ghost use Rattle.read_tables.specs.Whole.{Tables};
+ghost use Rattle.run_words.specs.Lists.{tab};
+ghost use Rattle.run_words.specs.Raw.{rawIn, Bounded};
+ghost use Rattle.run_words.specs.Operations.{onOutside};
+ghost use Rattle.run_words.specs.Values.{heldIn, Changed};
+ghost use Rattle.run_alone.specs.Run.{pointerLimit};
+ghost use Rattle.run_steps.specs.Dispatch.{SmallSignatures};
+ghost use Rattle.run_steps.specs.Starting.{startEnd, startChannel, EntriesFit, startRaw, Begins};
+use notation::reading::Found;
+use read_tables::access::Declared;
+use read_tables::access::declared_process;
+use read_tables::access::entry;
+use read_tables::access::exec_at;
+use read_tables::access::exec_count;
+use read_tables::search::find_process;
+use run_words::held::no_ends;
+use run_words::held::with;
+use run_words::outside::append_outside;
+use run_words::outside::set_given;
+use run_words::places::begin;
+use run_words::records::End;
+use run_words::records::Held;
+use run_words::records::Outside;
+use run_words::records::Process;
+
+// The ends that a process provides at start: those of n signature entries, on the channels from 0 on.
+fn start_ends(scratch: &[u32], first: usize, n: usize) -> Held
+    requires { ⌜ Area (now scratch) × EntriesFit (now scratch) first n × (n ≤ heldLimit) ⌝ }
+    ensures { λ r. ⌜ heldIn r ≡ tab (startEnd (now (scratch .entry)) first) n ⌝ }
+{
+    let none = no_ends();
+    let mut q = none;
+    let mut k: usize = 0;
+    while k < n {
+        let e = entry(scratch, first + k);
+        q = with(
+            q,
+            End {
+                name: e.at as u32,
+                side: 0,
+                node: e.number as u32,
+                channel: k as u32,
+            },
+        );
+        k += 1;
+    }
+    q
+}
+
+// "The outside uses these channels, numbered from 0 in list order."
+fn use_channels(scratch: &[u32], run: &mut [u32], first: usize, n: usize)
+    requires { ⌜ Area (now scratch) × EntriesFit (now scratch) first n ⌝ }
+    requires { ⌜ (runWords ≤ length (now run)) × Bounded (rawIn (now run)) × (length (rawIn (now run) .outside) + n ≤ outsideNumbers) ⌝ }
+    ensures { λ r. ⌜ Changed (now (run .entry)) (now (run .exit)) (onOutside (λ l. l ++ tab (startChannel (now (scratch .entry)) first) n) (rawIn (now (run .entry)))) ⌝ }
+    ensures { λ r. ⌜ Bounded (rawIn (now (run .exit))) ⌝ }
+{
+    let mut number: usize = 0;
+    while number < n {
+        let e = entry(scratch, first + number);
+        append_outside(
+            run,
+            Outside {
+                number: number as u32,
+                node: e.number as u32,
+                channel: number as u32,
+            },
+        );
+        number += 1;
+    }
+}
+
+// The run of a process alone, with what it provides, which the outside uses.
+fn begin_process(scratch: &[u32], run: &mut [u32], d: Declared)
+    requires { ⌜ Area (now scratch) × EntriesFit (now scratch) (d .first) (d .provided) × (d .provided ≤ heldLimit) × (d .body < pointerLimit) ⌝ }
+    requires { ⌜ runWords ≤ length (now run) ⌝ }
+    ensures { λ r. ⌜ Changed (now (run .entry)) (now (run .exit)) (startRaw (now (scratch .entry)) (d .first) (d .provided) (d .body)) ⌝ }
+    ensures { λ r. ⌜ Bounded (rawIn (now (run .exit))) ⌝ }
+{
+    let held = start_ends(scratch, d.first, d.provided);
+    begin(
+        run,
+        Process {
+            kind: 0,
+            pointer: d.body as u32,
+            link: 0,
+            held,
+        },
+    );
+    use_channels(scratch, run, d.first, d.provided);
+    set_given(run, d.provided as u32);
+}
+
+// Writes the run of an exec line; false, and nothing written, where the line has no process.
+pub fn begin_line(text: &[u8], scratch: &[u32], run: &mut [u32], line: usize) -> bool
+    requires { ⌜ Tables (now text) (now scratch) ⌝ }
+    requires { ⌜ runWords ≤ length (now run) ⌝ }
+    requires { ⌜ SmallSignatures (programIn (now text) (now scratch)) ⌝ }
+    ensures { λ r. ⌜ Begins (now (text .entry)) (now (scratch .entry)) (now (run .entry)) (now (run .exit)) r (execOf (programIn (now (text .entry)) (now (scratch .entry))) line) ⌝ }
+{
+    if exec_count(scratch) <= line {
+        return false;
+    }
+    let at = exec_at(scratch, line);
+    let f = find_process(text, scratch, at);
+    let Found::At(k) = f else {
+        return false;
+    };
+    let d = declared_process(scratch, k);
+    begin_process(scratch, run, d);
+    true
+}

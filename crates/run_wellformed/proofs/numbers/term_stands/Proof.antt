@@ -1,0 +1,22 @@
+use borrow.Author.Needs.{needs}
+use mathlib.Core.Path.{sym, subst}
+use denote.Ref.{now}
+use Rattle.run_words.proofs.Decisions.{accepted, decided-by}
+use Rattle.run_wellformed.specs.OfText.{Pointer}
+use Rattle.run_wellformed.proofs.numbers.term_stands.Statement.{statement}
+use Rattle.run_wellformed.proofs.numbers.term_stands.Tie as tie
+
+returns : tie.Need-returns
+returns c = accepted (λ d. absurd (d (c .if1 .taken)))
+
+wide-requires : tie.Need-wide-requires
+wide-requires c κs = search needs
+
+pointer-stands-requires : tie.Need-pointer-stands-requires
+pointer-stands-requires c κs = search needs
+
+returns-2 : tie.Need-returns-2
+returns-2 c = decided-by (λ p _. subst (Pointer (now (c .before .before .before .before .args .scratch))) (c .before .wide .ensures) p) (λ f. subst (Pointer (now (c .before .before .before .before .args .scratch))) (sym (c .before .wide .ensures)) (f (c .before .before .if1 .left))) (c .pointer-stands .ensures)
+
+pub term-stands-spec : {M : Type 1} → statement M
+term-stands-spec = tie.close (tie.spec returns wide-requires pointer-stands-requires returns-2)

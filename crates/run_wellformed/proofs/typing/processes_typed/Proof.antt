@@ -1,0 +1,49 @@
+use borrow.Author.Needs.{needs}
+use native.Mathlib.Omega.{arith}
+use borrow.Author.Tests.{not-true, not-false}
+use mathlib.Core.Path.{sym, _∙_}
+use Prim.Native.Nat.{_-_}
+use denote.Ref.{now}
+use Rattle.run_wellformed.specs.Typing.{typedIn}
+use Rattle.run_words.specs.Raw.{rawIn}
+use Rattle.run_words.specs.ListLaws.{all-at}
+use Rattle.run_wellformed.specs.OfText.{ProcessOf}
+use Rattle.run_joints.specs.Tests.{Each, each-start, each-passed, each-failed, each-end, all-from}
+use Rattle.run_wellformed.proofs.typing.processes_typed.Statement.{statement}
+use Rattle.run_wellformed.proofs.typing.processes_typed.Tie as tie
+
+abbrev Inv-loop : tie.InvT-loop
+Inv-loop text scratch run n i₀ i = Each (λ _. typedIn text scratch) (rawIn run .processes) n i
+
+abbrev μ-loop : tie.MeasureT-loop
+μ-loop text scratch run n i₀ i = n - i
+
+count-requires : tie.Need-count-requires Inv-loop μ-loop
+count-requires c κs = search needs
+
+loop-holds : tie.Need-loop-holds Inv-loop μ-loop
+loop-holds c = each-start (c .count .ensures)
+
+load-requires : tie.Need-load-requires Inv-loop μ-loop
+load-requires c κs = (c .before .before .before .before .before .before .pre .1 .0, (c .before .before .before .before .before .before .pre .1 .1 .0, omega (arith, c .loop-test .taken, c .before .before .count .ensures)))
+
+process-typed-requires : tie.Need-process-typed-requires Inv-loop μ-loop
+process-typed-requires c κs = (c .before .before .before .before .before .before .before .pre .0, (all-at (ProcessOf (now (c .before .before .before .before .before .before .before .args .scratch))) ((rawIn (now (c .before .before .before .before .before .before .before .args .run))) .processes) (c .before .before .loop .i) (c .before .before .before .before .before .before .before .pre .1 .1 .1 .processes) (c .load .ensures .0), (_, c .load .ensures .1 .0), c .load .ensures .1 .1))
+
+returns : tie.Need-returns Inv-loop μ-loop
+returns c = sym (all-from (typedIn (now (c .before .before .before .before .before .before .before .before .before .args .text)) (now (c .before .before .before .before .before .before .before .before .before .args .scratch))) 0 ((rawIn (now (c .before .before .before .before .before .before .before .before .before .args .run))) .processes) ∙ each-failed (c .before .before .before .before .loop .inv) (c .before .before .load .ensures .0) (sym (c .before .process-typed .ensures) ∙ not-true _ (c .if1 .taken)))
+
+add-i : tie.Need-add-i Inv-loop μ-loop
+add-i c = search needs
+
+loop-less : tie.Need-loop-less Inv-loop μ-loop
+loop-less c = search needs
+
+loop-again : tie.Need-loop-again Inv-loop μ-loop
+loop-again c = each-passed (c .before .before .before .before .loop .inv) (c .before .before .load .ensures .0) (sym (c .before .process-typed .ensures) ∙ not-false _ (c .if1 .left))
+
+returns-2 : tie.Need-returns-2 Inv-loop μ-loop
+returns-2 c = sym (all-from (typedIn (now (c .before .before .before .before .before .before .args .text)) (now (c .before .before .before .before .before .before .args .scratch))) 0 ((rawIn (now (c .before .before .before .before .before .before .args .run))) .processes) ∙ each-end (c .before .loop .inv) (c .loop-test .left))
+
+pub processes-typed-spec : {M : Type 1} → statement M
+processes-typed-spec = tie.close (tie.spec Inv-loop μ-loop count-requires loop-holds load-requires process-typed-requires returns add-i loop-less loop-again returns-2)

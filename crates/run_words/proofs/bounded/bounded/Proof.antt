@@ -1,0 +1,56 @@
+use borrow.Author.Needs.{needs}
+use native.Mathlib.Omega.{arith}
+use borrow.Author.Tests.{not-true, not-false}
+use Rattle.run_words.specs.Raw.{rawIn}
+use Rattle.run_words.specs.SliceLaws.{counted, counted-outside, numbered}
+use Rattle.run_words.proofs.Decisions.{refused, config-decided}
+use Rattle.run_words.proofs.bounded.bounded.Statement.{statement}
+use Rattle.run_words.proofs.bounded.bounded.Tie as tie
+
+shared-slice-read-if1 : tie.Need-shared-slice-read-if1
+shared-slice-read-if1 c = search needs
+
+returns : tie.Need-returns
+returns c = refused (λ b. omega (arith, b .places, counted (c .before .before .before .args .run .now), c .if1 .taken))
+
+shared-slice-read-if2 : tie.Need-shared-slice-read-if2
+shared-slice-read-if2 c = search needs
+
+returns-2 : tie.Need-returns-2
+returns-2 c = refused (λ b. omega (arith, b .given, numbered (c .before .before .before .before .before .args .run .now), c .if2 .taken))
+
+shared-slice-read-if3 : tie.Need-shared-slice-read-if3
+shared-slice-read-if3 c = search needs
+
+returns-3 : tie.Need-returns-3
+returns-3 c = refused (λ b. omega (arith, b .channels, counted-outside (c .before .before .before .before .before .before .before .args .run .now), c .if3 .taken))
+
+processes-bounded-requires : tie.Need-processes-bounded-requires
+processes-bounded-requires c κs = let s = c .before .before .before .before .before .before .before in (s .pre, omega (arith, counted (s .args .run .now), c .before .before .before .before .if1 .left))
+
+returns-4 : tie.Need-returns-4
+returns-4 c = refused (λ b. c .before .processes-bounded .ensures .no (not-true _ (c .if4 .taken)) (b .processes))
+
+outside-bounded-requires : tie.Need-outside-bounded-requires
+outside-bounded-requires c κs = let s = c .before .before .before .before .before .before .before .before .before in (s .pre, omega (arith, counted-outside (s .args .run .now), c .before .before .if3 .left))
+
+returns-5 : tie.Need-returns-5
+returns-5 c =
+    let ws = c .before .before .before .before .before .before .before .before .before .before .args .run .now in
+    config-decided (rawIn ws) (omega (arith, counted ws, c .before .before .before .before .before .before .before .if1 .left)) (omega (arith, numbered ws, c .before .before .before .before .before .if2 .left)) (omega (arith, counted-outside ws, c .before .before .before .if3 .left))
+    (c .before .before .processes-bounded .ensures .yes (not-false _ (c .before .if4 .left))) (c .outside-bounded .ensures)
+
+pub bounded-spec : {M : Type 1} → statement M
+bounded-spec =
+    tie.close
+    (tie.spec
+    shared-slice-read-if1
+    returns
+    shared-slice-read-if2
+    returns-2
+    shared-slice-read-if3
+    returns-3
+    processes-bounded-requires
+    returns-4
+    outside-bounded-requires
+    returns-5)

@@ -1,0 +1,201 @@
+// The outside's channels, in rising number, and how many numbers were given.
+ghost use mathlib.Core.Path.{_≡_};
+ghost use Prim.Native.Nat.{ℕ, _+_, _*_, _≤_, _<_};
+ghost use mathlib.Core.List.{[], _∷_, _++_};
+ghost use mathlib.Core.Option.{some};
+ghost use lib.ListN.{length, getD, getElem?, set};
+ghost use Rattle.notation.specs.Limits.{runWords};
+ghost use Rattle.run_words.specs.Raw.{rawIn, outsideOf, RawOutside, BoundedOutside, Bounded};
+ghost use Rattle.run_words.specs.Values.{outsideIn, Changed, Written};
+ghost use Rattle.run_words.specs.Operations.{onOutside, withGiven, outsideAt, letGo, changedOutside, retyped, rerouted, changedBy};
+use crate::records::Change;
+use crate::records::Outside;
+use crate::words::wide;
+use notation::reading::Found;
+
+// How many there are.
+pub fn outside_count(run: &[u32]) -> usize
+    requires { ⌜ runWords ≤ length (now run) ⌝ }
+    ensures { λ r. ⌜ r ≡ length (rawIn (now (run .entry)) .outside) ⌝ }
+{
+    wide(run[2])
+}
+
+// How many numbers were given.
+pub fn given(run: &[u32]) -> u32
+    requires { ⌜ runWords ≤ length (now run) ⌝ }
+    ensures { λ r. ⌜ r ≡ rawIn (now (run .entry)) .given ⌝ }
+{
+    run[1]
+}
+
+// So many numbers were given.
+pub fn set_given(run: &mut [u32], n: u32)
+    requires { ⌜ runWords ≤ length (now run) ⌝ }
+    requires { ⌜ Bounded (rawIn (now run)) ⌝ }
+    requires { ⌜ n ≤ 32 ⌝ }
+    ensures { λ r. ⌜ Changed (now (run .entry)) (now (run .exit)) (withGiven (rawIn (now (run .entry))) n) ⌝ }
+    ensures { λ r. ⌜ Bounded (rawIn (now (run .exit))) ⌝ }
+{
+    run[1] = n;
+}
+
+// What the words of a channel at a position say.
+pub(crate) fn get_outside(run: &[u32], k: usize) -> Outside
+    requires { ⌜ (runWords ≤ length (now run)) × (k < 32) ⌝ }
+    ensures { λ r. ⌜ outsideIn r ≡ outsideOf (λ t. getD (now (run .entry)) (16 + 2 * k + t) 0) ⌝ }
+    ensures { λ r. ⌜ r .channel < 512 ⌝ }
+{
+    let at = 16 + 2 * k;
+    let a = run[at];
+    let b = run[at + 1];
+    Outside {
+        number: a,
+        node: b / 512,
+        channel: b % 512,
+    }
+}
+
+// The channel at a position.
+pub fn outside_at(run: &[u32], k: usize) -> Outside
+    requires { ⌜ runWords ≤ length (now run) ⌝ }
+    requires { ⌜ Bounded (rawIn (now run)) ⌝ }
+    requires { ⌜ k < length (rawIn (now run) .outside) ⌝ }
+    ensures { λ r. ⌜ getElem? (rawIn (now (run .entry)) .outside) k ≡ some (outsideIn r) ⌝ }
+    ensures { λ r. ⌜ BoundedOutside (outsideIn r) ⌝ }
+{
+    get_outside(run, k)
+}
+
+// The first position with a channel.
+pub fn find_outside(run: &[u32], channel: u32) -> Found
+    requires { ⌜ runWords ≤ length (now run) ⌝ }
+    requires { ⌜ Bounded (rawIn (now run)) ⌝ }
+    ensures { λ r. ⌜ r ≡ outsideAt channel (rawIn (now (run .entry)) .outside) ⌝ }
+{
+    let n = outside_count(run);
+    let mut k: usize = 0;
+    while k < n {
+        let o = outside_at(run, k);
+        if channel == o.channel {
+            return Found::At(k);
+        }
+        k += 1;
+    }
+    Found::Nothing
+}
+
+// The words of a channel at a position.
+fn put_outside(run: &mut [u32], k: usize, o: Outside)
+    requires { ⌜ (runWords ≤ length (now run)) × (k < 32) ⌝ }
+    requires { ⌜ BoundedOutside (outsideIn o) ⌝ }
+    ensures { λ r. ⌜ Written outsideOf 2 (now (run .entry)) (now (run .exit)) (16 + 2 * k) (outsideIn o) ⌝ }
+{
+    let at = 16 + 2 * k;
+    run[at] = o.number;
+    run[at + 1] = o.node * 512 + o.channel;
+}
+
+// Another channel at a position.
+pub fn set_outside(run: &mut [u32], k: usize, o: Outside)
+    requires { ⌜ runWords ≤ length (now run) ⌝ }
+    requires { ⌜ Bounded (rawIn (now run)) ⌝ }
+    requires { ⌜ k < length (rawIn (now run) .outside) ⌝ }
+    requires { ⌜ BoundedOutside (outsideIn o) ⌝ }
+    ensures { λ r. ⌜ Changed (now (run .entry)) (now (run .exit)) (onOutside (λ l. set l k (outsideIn o)) (rawIn (now (run .entry)))) ⌝ }
+    ensures { λ r. ⌜ Bounded (rawIn (now (run .exit))) ⌝ }
+{
+    put_outside(run, k, o);
+}
+
+// One channel more, the last.
+pub fn append_outside(run: &mut [u32], o: Outside)
+    requires { ⌜ runWords ≤ length (now run) ⌝ }
+    requires { ⌜ Bounded (rawIn (now run)) ⌝ }
+    requires { ⌜ length (rawIn (now run) .outside) < 32 ⌝ }
+    requires { ⌜ BoundedOutside (outsideIn o) ⌝ }
+    ensures { λ r. ⌜ Changed (now (run .entry)) (now (run .exit)) (onOutside (λ l. l ++ (outsideIn o ∷ [])) (rawIn (now (run .entry)))) ⌝ }
+    ensures { λ r. ⌜ Bounded (rawIn (now (run .exit))) ⌝ }
+{
+    let n = outside_count(run);
+    put_outside(run, n, o);
+    run[2] = (n + 1) as u32;
+}
+
+// The outside lets go of a channel: the others keep their order.
+pub fn let_go(run: &mut [u32], channel: u32)
+    requires { ⌜ runWords ≤ length (now run) ⌝ }
+    requires { ⌜ Bounded (rawIn (now run)) ⌝ }
+    ensures { λ r. ⌜ Changed (now (run .entry)) (now (run .exit)) (onOutside (letGo channel) (rawIn (now (run .entry)))) ⌝ }
+    ensures { λ r. ⌜ Bounded (rawIn (now (run .exit))) ⌝ }
+{
+    let n = outside_count(run);
+    let mut j: usize = 0;
+    let mut k: usize = 0;
+    while k < n {
+        let o = get_outside(run, k);
+        if channel != o.channel {
+            put_outside(run, j, o);
+            j += 1;
+        }
+        k += 1;
+    }
+    run[2] = j as u32;
+}
+
+// With a change.
+fn changed(o: Outside, change: Change) -> Outside
+    ensures { λ r. ⌜ outsideIn r ≡ changedBy change (outsideIn o) ⌝ }
+{
+    match change {
+        Change::Node(node) => Outside {
+            number: o.number,
+            node: node,
+            channel: o.channel,
+        },
+        Change::Channel(channel) => Outside {
+            number: o.number,
+            node: o.node,
+            channel: channel,
+        },
+    }
+}
+
+// A change of the first of a channel.
+fn change_outside(run: &mut [u32], channel: u32, change: Change)
+    requires { ⌜ runWords ≤ length (now run) ⌝ }
+    requires { ⌜ Bounded (rawIn (now run)) ⌝ }
+    requires { ⌜ ((o : RawOutside) → BoundedOutside o → BoundedOutside (changedBy change o)) ⌝ }
+    ensures { λ r. ⌜ Changed (now (run .entry)) (now (run .exit)) (onOutside (changedOutside channel (changedBy change)) (rawIn (now (run .entry)))) ⌝ }
+    ensures { λ r. ⌜ Bounded (rawIn (now (run .exit))) ⌝ }
+{
+    let f = find_outside(run, channel);
+    let Found::At(k) = f else {
+        return;
+    };
+    let o = outside_at(run, k);
+    let p = changed(o, change);
+    set_outside(run, k, p);
+}
+
+// Another type for a channel.
+pub fn retype_outside(run: &mut [u32], channel: u32, node: u32)
+    requires { ⌜ runWords ≤ length (now run) ⌝ }
+    requires { ⌜ Bounded (rawIn (now run)) ⌝ }
+    requires { ⌜ node < 512 ⌝ }
+    ensures { λ r. ⌜ Changed (now (run .entry)) (now (run .exit)) (onOutside (changedOutside channel (retyped node)) (rawIn (now (run .entry)))) ⌝ }
+    ensures { λ r. ⌜ Bounded (rawIn (now (run .exit))) ⌝ }
+{
+    change_outside(run, channel, Change::Node(node));
+}
+
+// Another channel in the place of one.
+pub fn reroute_outside(run: &mut [u32], channel: u32, target: u32)
+    requires { ⌜ runWords ≤ length (now run) ⌝ }
+    requires { ⌜ Bounded (rawIn (now run)) ⌝ }
+    requires { ⌜ target < 512 ⌝ }
+    ensures { λ r. ⌜ Changed (now (run .entry)) (now (run .exit)) (onOutside (changedOutside channel (rerouted target)) (rawIn (now (run .entry)))) ⌝ }
+    ensures { λ r. ⌜ Bounded (rawIn (now (run .exit))) ⌝ }
+{
+    change_outside(run, channel, Change::Channel(target));
+}

@@ -1,0 +1,106 @@
+-- The place that run-on chooses: the first whose step is carried out.
+use Prim.Native.Nat.{ℕ, suc, _+_, _≤_, _<_}
+use native.Mathlib.Omega.{arith}
+use native.Mathlib.Decide.{ℕ-discrete, decLt}
+use mathlib.Core.Path.{_≡_, refl, sym, _∙_, ap}
+use mathlib.Core.List.{List, [], _∷_}
+use mathlib.Core.Option.{Option, some, none, Option·some-injective, Option·none-ne-some, Option·some-ne-none}
+use mathlib.Core.Bool.{Bool, true, false, cond, true≢false, false≢true}
+use lib.ListN.{length}
+use Rattle.calculus.specs.Program.{Program}
+use Rattle.calculus.specs.Configuration.{Process, Config}
+use Rattle.calculus.specs.Steps.{Outcome, carried, notOpen, lacking, stepOf, step, isOpenBy, lacksBy, isOpen, lacks}
+use Rattle.calculus.specs.Runs.{isCarried, firstFrom, choosePlace}
+use Rattle.calculus.specs.declared.answers.Seen.{Seen}
+use Rattle.theory_ends.specs.Lists.{past-the-end}
+
+-- ── "Run-on takes the first open place that can be carried out"
+-- the step at a place is carried out
+pub record Carries (p : Program) (C : Config) (i : ℕ) : Type 0 where
+  pub seen : Seen
+  pub after : Config
+  pub steps : step p C i ≡ carried seen after
+
+pub carries : (p : Program) (C : Config) (i : ℕ) → isCarried (step p C i) ≡ true → Carries p C i
+carries p C i e = go (step p C i) refl e
+  where
+    go : (r : Outcome) → step p C i ≡ r → isCarried r ≡ true → Carries p C i
+    go (carried s D) h e = record { seen = s; after = D; steps = h }
+    go notOpen h e = absurd (false≢true e)
+    go lacking h e = absurd (false≢true e)
+
+pub is-carried : {p : Program} {C : Config} {i : ℕ} → Carries p C i → isCarried (step p C i) ≡ true
+is-carried c = ap isCarried (c .steps)
+
+-- a place that holds a process and whose step is carried out, where none before it is
+pub record First (p : Program) (C : Config) (i : ℕ) : Type 0 where
+  pub place : i < length (C .processes)
+  pub carried-out : Carries p C i
+  pub none-before : (j : ℕ) → j < i → isCarried (step p C j) ≡ false
+
+module _ (p : Program) (C : Config) where
+  first-from : (i : ℕ) (l : List Process) {k : ℕ} → firstFrom p C i l ≡ some k
+      → (i ≤ k) × (k < i + length l) × (isCarried (step p C k) ≡ true) × ((j : ℕ) → i ≤ j → j < k → isCarried (step p C j) ≡ false)
+  unfolding firstFrom
+  first-from i [] e = absurd (Option·none-ne-some _ e)
+  first-from i (q ∷ l) {k} e = go (isCarried (step p C i)) refl e (λ h. first-from (suc i) l h)
+    where
+      go : (b : Bool) → isCarried (step p C i) ≡ b → cond b (some i) (firstFrom p C (suc i) l) ≡ some k
+          → (firstFrom p C (suc i) l ≡ some k → (suc i ≤ k) × (k < suc i + length l) × (isCarried (step p C k) ≡ true) × ((j : ℕ) → suc i ≤ j → j < k → isCarried (step p C j) ≡ false))
+          → (i ≤ k) × (k < i + length (q ∷ l)) × (isCarried (step p C k) ≡ true) × ((j : ℕ) → i ≤ j → j < k → isCarried (step p C j) ≡ false)
+      go true t e r = let z = Option·some-injective _ _ e in (omega arith, omega arith, rw (← z) t, λ j h g. absurd (omega arith))
+      go false t e r =
+          let y = r e in
+          let a = y .0 in
+          let b = y .1 in
+          (omega arith, omega arith, y .2, λ j h g. here j h g (ℕ-discrete j i))
+        where
+          here : (j : ℕ) → i ≤ j → j < k → Dec (j ≡ i) → isCarried (step p C j) ≡ false
+          here j h g (yes z) = ap (λ j. isCarried (step p C j)) z ∙ t
+          here j h g (no n) = r e .3 j (omega arith) g
+
+  none-from : (i : ℕ) (l : List Process) → firstFrom p C i l ≡ none → (j : ℕ) → i ≤ j → j < i + length l → isCarried (step p C j) ≡ false
+  unfolding firstFrom
+  none-from i [] e j h g = absurd (omega arith)
+  none-from i (q ∷ l) e j h g = go (isCarried (step p C i)) refl e (λ f h g. none-from (suc i) l f j h g) (ℕ-discrete j i)
+    where
+      go : (b : Bool) → isCarried (step p C i) ≡ b → cond b (some i) (firstFrom p C (suc i) l) ≡ none
+          → (firstFrom p C (suc i) l ≡ none → suc i ≤ j → j < suc i + length l → isCarried (step p C j) ≡ false) → Dec (j ≡ i)
+          → isCarried (step p C j) ≡ false
+      go true t e r d = absurd (Option·some-ne-none _ e)
+      go false t e r (yes z) = ap (λ j. isCarried (step p C j)) z ∙ t
+      go false t e r (no n) = r e (omega arith) (omega arith)
+
+  -- where a place is chosen, its step is carried out, and none before it
+  pub chosen-first : {i : ℕ} → choosePlace p C ≡ some i → First p C i
+  unfolding choosePlace
+  chosen-first {i} e =
+      let y = first-from 0 (C .processes) e in
+      record { place = (let a = y .1 in omega arith); carried-out = carries p C i (y .2); none-before = λ j h. y .3 j (omega arith) h }
+
+  -- where none is chosen, no step can be carried out
+  pub none-chosen : choosePlace p C ≡ none → (i : ℕ) → isCarried (step p C i) ≡ false
+  unfolding choosePlace step
+  none-chosen e i = go (decLt i (length (C .processes)))
+    where
+      go : Dec (i < length (C .processes)) → isCarried (step p C i) ≡ false
+      go (yes h) = none-from 0 (C .processes) e i (omega arith) (omega arith)
+      go (no n) = ap (λ o. isCarried (stepOf p C i o)) (past-the-end (C .processes) i (omega arith))
+
+  -- an open step that does not lack is carried out
+  pub open-carries : (i : ℕ) → isOpen p C i ≡ true → lacks p C i ≡ false → Carries p C i
+  unfolding isOpen lacks
+  open-carries i o n = carries p C i (go (step p C i) o n)
+    where
+      go : (r : Outcome) → isOpenBy r ≡ true → lacksBy r ≡ false → isCarried r ≡ true
+      go (carried s D) o n = refl
+      go notOpen o n = absurd (false≢true o)
+      go lacking o n = absurd (true≢false n)
+
+  -- run-on finds a place where there is one
+  pub run-on-finds : (i : ℕ) → isOpen p C i ≡ true → lacks p C i ≡ false → (j : ℕ) × (choosePlace p C ≡ some j) × First p C j
+  run-on-finds i o n = go (choosePlace p C) refl
+    where
+      go : (c : Option ℕ) → choosePlace p C ≡ c → (j : ℕ) × (choosePlace p C ≡ some j) × First p C j
+      go none e = absurd (true≢false (sym (is-carried (open-carries i o n)) ∙ none-chosen e i))
+      go (some j) e = (j, e, chosen-first e)

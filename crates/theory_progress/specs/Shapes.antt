@@ -1,0 +1,85 @@
+-- What a step does to the list of processes: it changes one or two in their places, brings one, or takes one away.
+use Prim.Native.Nat.{ℕ, _<_}
+use mathlib.Core.Path.{_≡_, refl, _∙_, ap}
+use mathlib.Core.List.{List}
+use mathlib.Core.Option.{Option}
+use mathlib.Core.Bool.{Bool, true, false}
+use lib.ListN.{length, set}
+use Rattle.calculus.specs.Program.{Program}
+use Rattle.calculus.specs.Configuration.{End, Process, Config, inserted, removed}
+use Rattle.calculus.specs.Steps.{Outcome, carried, notOpen, lacking, Turn, sends, receives, alone, turnOf, startedHandler, foldedHandler, changedAt, step}
+use Rattle.calculus.specs.WellFormed.{Stands}
+use Rattle.calculus.specs.declared.answers.Seen.{Seen}
+use Rattle.calculus.specs.declared.answers.Seen.the-variants.{Nothing}
+use Rattle.theory_ends.specs.Lists.{found-below}
+use Rattle.calculus.specs.Reduces.{GivesUp, by-process, by-outside, by-nobody, Sends, close-meets, channel-meets, label-meets, close-shows, label-shows, channel-shows, gone-shows, close-lost, label-lost, channel-lost, Naming, its-own, its-recv, Reduces, communicates, spawns, tries, calls, cancels, raises, joins, joins-outside, joins-nobody, nobody-joins, unanswered, folds, leaves}
+use Rattle.theory_reductions.specs.CarriedOut.{holder-stands}
+use Rattle.theory_reductions.specs.StepIff.{step-iff}
+
+abbrev pub talks : Turn → Bool
+talks (sends c m P) = true
+talks (receives c w) = true
+talks alone = false
+
+-- a place that a step at place k changes: k itself, or that of a process that sends or receives
+pub data Touched (C : Config) (k : ℕ) : ℕ → Type 0 where
+  itself : {j : ℕ} → j ≡ k → Touched C k j
+  partner : {j : ℕ} {r : Process} → Stands C j r → talks (turnOf (r .doing)) ≡ true → Touched C k j
+
+-- by what is seen, the list of processes afterwards
+pub data Shape (C : Config) (k : ℕ) : Seen → List Process → Type 0 where
+  one : {seen : Seen} (j : ℕ) (x : Process) → Touched C k j → Shape C k seen (set (C .processes) j x)
+  two : (j h : ℕ) (x y : Process) → Touched C k j → Touched C k h → Shape C k Nothing (set (set (C .processes) j x) h y)
+  -- a fwd changes the channel that another process holds, and not what it does
+  joined : (h : ℕ) {r : Process} (x y : Process) → Stands C h r → y .doing ≡ r .doing → Shape C k Nothing (set (set (C .processes) k x) h y)
+  handled : (x : Process) (l : Option ℕ) → Shape C k Nothing (set (changedAt startedHandler l (C .processes)) k x)
+  spawned-one : (x y : Process) → Shape C k Nothing (inserted k x (set (C .processes) k y))
+  tried-one : (x y : Process) → Shape C k Nothing (set (inserted k x (C .processes)) k y)
+  left : (l : Option ℕ) → k < length (C .processes) → Shape C k Nothing (removed k (changedAt foldedHandler l (C .processes)))
+
+module _ {C : Config} {k : ℕ} where
+  names : {j : ℕ} → Naming C k j → Touched C k j
+  names its-own = itself refl
+  names (its-recv r t h a u) = partner (holder-stands h) (ap talks (ap turnOf (a .runs) ∙ u))
+
+  gives-up : {j : ℕ} (q : Process) {e : End} {seen : Seen} {D : Config} → Touched C k j → GivesUp C e seen D → Shape C k seen (set (D .processes) j q)
+  gives-up q t (by-process z) = one _ _ t
+  gives-up q t (by-outside z) = one _ _ t
+  gives-up q t (by-nobody z) = one _ _ t
+
+module _ {p : Program} {C : Config} {k : ℕ} where
+  sent : {j : ℕ} {seen : Seen} {D : Config} → Touched C k j → Sends p C j seen D → Shape C k seen (D .processes)
+  sent t (close-meets r h a) = two _ _ _ _ t (partner (holder-stands h) (ap (λ d. talks (turnOf d)) (a .runs)))
+  sent t (channel-meets r h a) = two _ _ _ _ t (partner (holder-stands h) (ap (λ d. talks (turnOf d)) (a .runs)))
+  sent t (label-meets r h a b) = two _ _ _ _ t (partner (holder-stands h) (ap (λ d. talks (turnOf d)) (a .runs)))
+  sent t (close-shows r h) = one _ _ t
+  sent t (label-shows r h) = one _ _ t
+  sent t (channel-shows r h l n m) = one _ _ t
+  sent t (gone-shows r h l m) = one _ _ t
+  sent t (close-lost r h) = one _ _ t
+  sent t (label-lost r h) = one _ _ t
+  sent t (channel-lost r h l g) = gives-up _ t g
+
+  reduced : {seen : Seen} {D : Config} → Reduces p C k seen D → Shape C k seen (D .processes)
+  reduced (communicates n s) = sent (names n) s
+  reduced (spawns r n h) = spawned-one _ _
+  reduced (tries r n) = tried-one _ _
+  reduced (calls r s) = one _ _ (itself refl)
+  reduced (cancels r h g) = gives-up _ (itself refl) g
+  reduced (raises {q = q} r) = handled _ (q .link)
+  reduced (joins r h l n) = joined _ _ _ (holder-stands h) refl
+  reduced (joins-outside r h l n) = one _ _ (itself refl)
+  reduced (joins-nobody r h l n) = one _ _ (itself refl)
+  reduced (nobody-joins r h l g) = gives-up _ (itself refl) g
+  reduced (unanswered r t h) = one _ _ (itself refl)
+  reduced (folds s d h g) = gives-up _ (itself refl) g
+  reduced (leaves {q = q} s e) = left (q .link) (found-below (C .processes) k (s .there))
+
+pub step-shape : (p : Program) (C D : Config) (k : ℕ) (seen : Seen) → step p C k ≡ carried seen D → Shape C k seen (D .processes)
+step-shape p C D k seen e = reduced (step-iff p C k .0 e)
+
+-- the configuration that an outcome leaves
+abbrev pub config-by : Config → Outcome → Config
+config-by C (carried s D) = D
+config-by C notOpen = C
+config-by C lacking = C

@@ -1,0 +1,56 @@
+-- The step at a place carries out exactly what the reduction rules say, and lacks exactly where they do.
+use Prim.Native.Nat.{ℕ}
+use mathlib.Core.Path.{_≡_, sym, _∙_, ap, subst}
+use mathlib.Core.Logic.{_↔_, inl, inr}
+use mathlib.Core.Bool.{true, true≢false, false≢true}
+use Rattle.calculus.specs.Program.{Program}
+use Rattle.calculus.specs.Configuration.{Config}
+use Rattle.calculus.specs.Steps.{Outcome, carried, notOpen, lacking, step, isOpenBy, lacksBy, isOpen}
+use Rattle.calculus.specs.declared.answers.Seen.{Seen}
+use Rattle.calculus.specs.Reduces.{Reduces, Lacks, Open}
+use Rattle.theory_reductions.specs.CarriedOut.{carried-out, lacks-out}
+use Rattle.theory_reductions.specs.Told.{Told, reduces, shut, short, told}
+
+module _ (p : Program) (C : Config) (i : ℕ) where
+  reduced : {seen : Seen} {D : Config} → Told p C i (carried seen D) → Reduces p C i seen D
+  reduced (reduces r) = r
+
+  lacked : Told p C i lacking → Lacks C i
+  lacked (short l) = l
+
+  pub step-iff : {seen : Seen} {D : Config} → (step p C i ≡ carried seen D) ↔ Reduces p C i seen D
+  step-iff = (λ e. reduced (subst (Told p C i) e (told p C i)), carried-out p)
+
+  pub lacks-iff : (step p C i ≡ lacking) ↔ Lacks C i
+  lacks-iff = (λ e. lacked (subst (Told p C i) e (told p C i)), lacks-out p)
+
+  -- a step is open exactly where a rule applies
+  opened : {r : Outcome} → Told p C i r → isOpenBy r ≡ true → Open p C i
+  opened (reduces {seen = s} {D = D} r) e = inl (s, D, r)
+  opened shut e = absurd (false≢true e)
+  opened (short l) e = inr l
+
+  opens : Open p C i → isOpenBy (step p C i) ≡ true
+  opens (inl (s, D, r)) = ap isOpenBy (carried-out p r)
+  opens (inr l) = ap isOpenBy (lacks-out p l)
+
+  pub open-iff : (isOpen p C i ≡ true) ↔ Open p C i
+  unfolding isOpen
+  open-iff = (opened (told p C i), opens)
+
+  -- ── the rules leave no choice at a place
+  abbrev seen-by : Seen → Outcome → Seen
+  seen-by s (carried t D) = t
+  seen-by s notOpen = s
+  seen-by s lacking = s
+
+  abbrev config-by : Outcome → Config
+  config-by (carried t D) = D
+  config-by notOpen = C
+  config-by lacking = C
+
+  pub one-reduction : {s t : Seen} {D E : Config} → Reduces p C i s D → Reduces p C i t E → (s ≡ t) × (D ≡ E)
+  one-reduction {s} r u = let e = sym (carried-out p r) ∙ carried-out p u in (ap (seen-by s) e, ap config-by e)
+
+  pub reduces-or-lacks : {s : Seen} {D : Config} → Reduces p C i s D → Lacks C i → ⊥
+  reduces-or-lacks r l = true≢false (ap lacksBy (sym (lacks-out p l) ∙ carried-out p r))

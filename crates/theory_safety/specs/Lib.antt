@@ -1,0 +1,6 @@
+pub mod Replies
+pub mod Safety
+pub mod Eighteen
+pub mod Outward
+pub mod NeverTwice
+pub mod CallNumbers

@@ -1,0 +1,185 @@
+-- The replies to a call, by the refusal list: which calls are refused, and that a refusal changes nothing.
+use Prim.Native.Nat.{ℕ, _≤_}
+use native.Mathlib.Omega.{arith}
+use mathlib.Core.Path.{_≡_, refl, sym, _∙_}
+use mathlib.Core.Logic.{_↔_, Iff·rfl, Iff·trans}
+use mathlib.Core.List.{List}
+use mathlib.Core.Option.{Option, some, none}
+use mathlib.Core.Bool.{Bool, true, false, cond, true≢false, false≢true}
+use lib.ListN.{length, getElem?}
+use lib.Dec.{leb}
+use Rattle.notation.specs.Limits.{scratchWords, runWords}
+use Rattle.notation.specs.Tree.{Located, Declaration}
+use Rattle.calculus.specs.Program.{Signature, Program, programOf}
+use Rattle.calculus.specs.Accepted.{accepted, faulty, checked}
+use Rattle.calculus.specs.Configuration.{Process, Config, at}
+use Rattle.calculus.specs.Steps.{Outcome, carried, notOpen, lacking, step, isOpenBy, isOpen, lacksBy, lacks}
+use Rattle.calculus.specs.Runs.{startConfig, lineSignature, execOf, runOn, report}
+use Rattle.calculus.specs.WellFormed.{WellFormed}
+use Rattle.calculus.specs.Machine.{Call, callStart, callStep, callRunOn, callReport, callExecName, started, stepped, ranOn, reported, named, Reply, reply, textChecked, onProgram, onRun, onLine, onPlace, onStep, refusal, respond}
+use Rattle.calculus.specs.Demands.{Enough, isRefused, lengths, RefusedWhere}
+use Rattle.calculus.specs.declared.answers.Seen.{Seen}
+use Rattle.calculus.specs.declared.answers.RanOn.{RanOn}
+use Rattle.calculus.specs.declared.answers.Started.the-variants as Starts
+use Rattle.calculus.specs.declared.answers.Stepped.the-variants as Steps
+use Rattle.calculus.specs.declared.answers.RanOn.the-variants as Runs
+use Rattle.calculus.specs.declared.answers.Reported.the-variants as Reports
+use Rattle.theory_derivations.specs.Booleans.{leb-iff}
+use Rattle.theory_derivations.specs.Demand.{placed}
+use Rattle.theory_ends.specs.Lists.{found-in, none-past, found-below}
+use Rattle.theory_progress.specs.RunOn.{Ended, run-on-ends}
+use Rattle.theory_progress.specs.Lacks.{lacks-exactly}
+use Rattle.theory_preservation.specs.Accepted.{exec-defined}
+
+-- a test that passes where the claim holds, and one that fails where it does not
+holds-iff : {b : Bool} {A : Type 0} → b ≡ true → A → (b ≡ true) ↔ A
+holds-iff e a = (λ _. a, λ _. e)
+
+fails-iff : {b : Bool} {A : Type 0} → b ≡ false → ¬ A → (b ≡ true) ↔ A
+fails-iff e n = (λ t. absurd (true≢false (sym t ∙ e)), λ a. absurd (n a))
+
+not-past : {A : Type 0} (l : List A) (i : ℕ) {x : A} → getElem? l i ≡ some x → ¬ (length l ≤ i)
+not-past l i e h = let b = found-below l i e in omega arith
+
+-- ── the replies to a call, by the refusal list
+pub data Replied (p : Program) (C : Config) : Call → Reply → Type 0 where
+  refuses : {c : Call} (n i : ℕ) → Replied p C c (refusal C c n i)
+  begins : {scratch run line : ℕ} (g : Signature) → execOf p line ≡ some g
+      → Replied p C (callStart scratch run line) (reply (started Starts.Begun) (startConfig g))
+  carries-out : {scratch run place : ℕ} (seen : Seen) (D : Config) → step p C place ≡ carried seen D
+      → Replied p C (callStep scratch run place) (reply (stepped (Steps.Carried seen)) D)
+  runs : {scratch run budget : ℕ} → Replied p C (callRunOn scratch run budget) (reply (ranOn (runOn p C budget .answer)) (runOn p C budget .config))
+  reports : {scratch run : ℕ} → Replied p C (callReport scratch run) (reply (reported (Reports.Open (length (report C))) (report C)) C)
+  names : {scratch line : ℕ} (n : Located) → Replied p C (callExecName scratch line) (reply (named (n .name) 0 0) C)
+
+module _ {p : Program} {C : Config} {c : Call} where
+  on-run : (run : ℕ) {r : Reply} → Replied p C c r → Replied p C c (onRun run (refusal C c) r)
+  on-run run {r} h = go (leb runWords run)
+    where
+      go : (b : Bool) → Replied p C c (cond b r (refusal C c 16 0))
+      go true = h
+      go false = refuses 16 0
+
+  on-line : {X : Type 0} (o : Option X) {k : X → Reply} → ((x : X) → o ≡ some x → Replied p C c (k x)) → Replied p C c (onLine o (refusal C c) k)
+  on-line none f = refuses 17 0
+  on-line (some x) f = f x refl
+
+  on-place : (o : Option Process) {r : Reply} → Replied p C c r → Replied p C c (onPlace o (refusal C c) r)
+  on-place none h = refuses 19 0
+  on-place (some q) h = h
+
+  on-step : (o : Outcome) {k : Seen → Config → Reply} → ((seen : Seen) (D : Config) → o ≡ carried seen D → Replied p C c (k seen D))
+      → Replied p C c (onStep o (refusal C c) k)
+  on-step (carried s D) f = f s D refl
+  on-step notOpen f = refuses 20 0
+  on-step lacking f = refuses 21 0
+
+-- a refusal "changes nothing"
+pub refusal-config : (C : Config) (c : Call) (n i : ℕ) → refusal C c n i .config ≡ C
+refusal-config C (callStart scratch run line) n i = refl
+refusal-config C (callStep scratch run place) n i = refl
+refusal-config C (callRunOn scratch run budget) n i = refl
+refusal-config C (callReport scratch run) n i = refl
+refusal-config C (callExecName scratch line) n i = refl
+
+pub run-never-refused : (p : Program) (C : Config) (budget : ℕ) → isRefused (ranOn (runOn p C budget .answer)) ≡ false
+run-never-refused p C budget = go _ _ (runOn p C budget .answer) (run-on-ends p C budget)
+  where
+    go : (n : ℕ) (D : Config) (a : RanOn) → Ended p budget n C a D → isRefused (ranOn a) ≡ false
+    go n D (Runs.Shown seen t) h = refl
+    go n D (Runs.Done t) h = refl
+    go n D (Runs.Full t) h = refl
+    go n D (Runs.Stopped t) h = refl
+    go n D (Runs.Refused k i) h = absurd h
+
+pub unchanged-by : {p : Program} {C : Config} {c : Call} {r : Reply} → Replied p C c r → isRefused (r .answer) ≡ true → r .config ≡ C
+unchanged-by {C = C} (refuses {c} n i) e = refusal-config C c n i
+unchanged-by (begins g h) e = absurd (false≢true e)
+unchanged-by (carries-out seen D h) e = absurd (false≢true e)
+unchanged-by {p} {C} (runs {budget = budget}) e = absurd (false≢true (sym (run-never-refused p C budget) ∙ e))
+unchanged-by reports e = refl
+unchanged-by (names n) e = refl
+
+-- where a step is open, a process is
+open-place : (p : Program) (C : Config) (i : ℕ) → isOpen p C i ≡ true → (q : Process) × (at C i ≡ some q)
+unfolding isOpen step
+open-place p C i o = placed p C i (at C i) o
+
+module _ (text : List ℕ) (ds : List Declaration) (ok : checked text ≡ accepted ds) where
+  abbrev pub P : Program
+  P = programOf ds
+
+  on-text : {C : Config} (c : Call) (scratch : ℕ) (k : Program → Reply) → Replied P C c (k P)
+      → Replied P C c (onProgram (textChecked text scratch) (refusal C c) k)
+  unfolding textChecked
+  on-text {C} c scratch k h = go (leb scratchWords scratch)
+    where
+      go : (b : Bool) → Replied P C c (onProgram (cond b (checked text) (faulty 1 0)) (refusal C c) k)
+      go true = rw ok h
+      go false = refuses 1 0
+
+  pub replied : (C : Config) (c : Call) → Replied P C c (respond text C c)
+  unfolding respond
+  replied C (callStart scratch run line) = on-text _ scratch _ (on-run run (on-line (execOf P line) (λ g e. begins g e)))
+  replied C (callStep scratch run place) =
+      on-text _ scratch _ (on-run run (on-place (at C place) (on-step (step P C place) (λ seen D e. carries-out seen D e))))
+  replied C (callRunOn scratch run budget) = on-text _ scratch _ (on-run run runs)
+  replied C (callReport scratch run) = on-text _ scratch _ (on-run run reports)
+  replied C (callExecName scratch line) = on-text _ scratch _ (on-line (getElem? (P .execs) line) (λ n e. names n))
+
+  -- ── which calls are refused, with slices of enough words
+  enough-text : (scratch : ℕ) → scratchWords ≤ scratch → textChecked text scratch ≡ accepted ds
+  unfolding textChecked
+  enough-text scratch h = rw (leb-iff scratchWords scratch .1 h) ok
+
+  pub refused-start : (C : Config) (scratch run line : ℕ) → Enough scratch run
+      → RefusedWhere P C (callStart scratch run line) (respond text C (callStart scratch run line) .answer)
+  unfolding respond execOf
+  refused-start C scratch run line h =
+      rw (enough-text scratch (h .scratchEnough), leb-iff runWords run .1 (h .runEnough)) (go (getElem? (P .execs) line) refl)
+    where
+      go : (o : Option Located) → getElem? (P .execs) line ≡ o
+          → (isRefused (onLine (lineSignature P o) (refusal C (callStart scratch run line)) (λ g. reply (started Starts.Begun) (startConfig g)) .answer) ≡ true) ↔ (length (P .execs) ≤ line)
+      go none e = holds-iff refl (none-past (P .execs) line e)
+      go (some n) e = rw (exec-defined text ds ok n (found-in (P .execs) line e) .1) (fails-iff refl (not-past (P .execs) line e))
+
+  refused-name : (C : Config) (scratch line : ℕ) → Enough scratch runWords
+      → RefusedWhere P C (callExecName scratch line) (respond text C (callExecName scratch line) .answer)
+  unfolding respond
+  refused-name C scratch line h = rw (enough-text scratch (h .scratchEnough)) (go (getElem? (P .execs) line) refl)
+    where
+      go : (o : Option Located) → getElem? (P .execs) line ≡ o
+          → (isRefused (onLine o (refusal C (callExecName scratch line)) (λ n. reply (named (n .name) 0 0) C) .answer) ≡ true) ↔ (length (P .execs) ≤ line)
+      go none e = holds-iff refl (none-past (P .execs) line e)
+      go (some n) e = fails-iff refl (not-past (P .execs) line e)
+
+  refused-step : (C : Config) → WellFormed P C → (scratch run i : ℕ) → Enough scratch run
+      → RefusedWhere P C (callStep scratch run i) (respond text C (callStep scratch run i) .answer)
+  unfolding respond isOpen lacks
+  refused-step C v scratch run i h o =
+      Iff·trans (rw (enough-text scratch (h .scratchEnough), leb-iff runWords run .1 (h .runEnough), open-place P C i o .1) (outcome (step P C i) o))
+      (lacks-exactly P C v i o)
+    where
+      outcome : (r : Outcome) → isOpenBy r ≡ true
+          → (isRefused (onStep r (refusal C (callStep scratch run i)) (λ seen D. reply (stepped (Steps.Carried seen)) D) .answer) ≡ true) ↔ (lacksBy r ≡ true)
+      outcome (carried s D) o = Iff·rfl
+      outcome notOpen o = absurd (false≢true o)
+      outcome lacking o = Iff·rfl
+
+  refused-run : (C : Config) (scratch run budget : ℕ) → Enough scratch run
+      → RefusedWhere P C (callRunOn scratch run budget) (respond text C (callRunOn scratch run budget) .answer)
+  unfolding respond
+  refused-run C scratch run budget h =
+      rw (enough-text scratch (h .scratchEnough), leb-iff runWords run .1 (h .runEnough)) (run-never-refused P C budget)
+
+  refused-report : (C : Config) (scratch run : ℕ) → Enough scratch run
+      → RefusedWhere P C (callReport scratch run) (respond text C (callReport scratch run) .answer)
+  unfolding respond
+  refused-report C scratch run h = rw (enough-text scratch (h .scratchEnough), leb-iff runWords run .1 (h .runEnough)) refl
+
+  pub refused-where : (C : Config) → WellFormed P C → (c : Call) → lengths c → RefusedWhere P C c (respond text C c .answer)
+  refused-where C v (callStart scratch run line) h = refused-start C scratch run line h
+  refused-where C v (callStep scratch run i) h = refused-step C v scratch run i h
+  refused-where C v (callRunOn scratch run budget) h = refused-run C scratch run budget h
+  refused-where C v (callReport scratch run) h = refused-report C scratch run h
+  refused-where C v (callExecName scratch line) h = refused-name C scratch line h

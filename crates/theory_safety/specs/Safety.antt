@@ -1,0 +1,109 @@
+-- Demand 3: nothing waits forever for a partner that can't come, at each call of every list of calls.
+use Prim.Native.Nat.{ℕ, zero, suc}
+use mathlib.Core.Path.{_≡_, sym, ap, subst}
+use mathlib.Core.List.{List, [], _∷_, List·Memᴰ·head, List·Memᴰ·tail, List·Memᴰ·not-nil}
+use mathlib.Core.Bool.{Bool, true, false, false≢true}
+use Rattle.notation.specs.Tree.{Declaration}
+use Rattle.calculus.specs.Program.{Program, programOf}
+use Rattle.calculus.specs.Accepted.{accepted, checked}
+use Rattle.calculus.specs.Configuration.{Config}
+use Rattle.calculus.specs.Steps.{carried, step}
+use Rattle.calculus.specs.Runs.{runOn}
+use Rattle.calculus.specs.WellFormed.{In, WellFormed}
+use Rattle.calculus.specs.Machine.{Call, callStart, callStep, callRunOn, callReport, callExecName, Answer, started, stepped, ranOn, reported, named, Reply, respond, idle, Moment, history}
+use Rattle.calculus.specs.Demands.{Safe, SafeBetween, Kept, Demand3}
+use Rattle.calculus.specs.declared.answers.Seen.{Seen}
+use Rattle.calculus.specs.declared.answers.Started.the-variants as Starts
+use Rattle.theory_progress.specs.Joints.{joints-fewer}
+use Rattle.theory_progress.specs.Progress.{some-open}
+use Rattle.theory_progress.specs.RunOn.{stepsTo, given, run-on-steps}
+use Rattle.theory_preservation.specs.Preserved.{preserved}
+use Rattle.theory_preservation.specs.Accepted.{accepted-bodies, accepted-start}
+use Rattle.theory_safety.specs.Replies.{Replied, refuses, begins, carries-out, runs, reports, names, refusal-config, unchanged-by, replied, refused-start, refused-where}
+
+pub safe : {p : Program} {C : Config} → WellFormed p C → Safe p C
+safe {p} {C} v = record { wellFormed = v; fewer = joints-fewer p C v; someOpen = some-open p C v }
+
+abbrev pub has-begun : Answer → Bool
+has-begun (started Starts.Begun) = true
+has-begun (started (Starts.Refused n i)) = false
+has-begun (stepped a) = false
+has-begun (ranOn a) = false
+has-begun (reported a l) = false
+has-begun (named l n i) = false
+
+module _ (text : List ℕ) (ds : List Declaration) (ok : checked text ≡ accepted ds) where
+  abbrev p : Program
+  p = programOf ds
+
+  -- ── what every step keeps, every reply keeps
+  step-keeps : (C D : Config) (i : ℕ) (seen : Seen) → WellFormed p C → step p C i ≡ carried seen D → WellFormed p D
+  step-keeps C D i seen v e = preserved p (accepted-bodies text ds ok) C v i seen D e
+
+  steps-keep : (n : ℕ) (C D : Config) → WellFormed p C → stepsTo p n C D → WellFormed p D
+  steps-keep zero C D v h = subst (WellFormed p) h v
+  steps-keep (suc n) C D v h = steps-keep n (h .1) D (step-keeps C (h .1) (h .2 .place) (h .0) v (h .2 .steps)) (h .3)
+
+  pub run-keeps : (C : Config) → WellFormed p C → (budget : ℕ) → WellFormed p (runOn p C budget .config)
+  run-keeps C v budget = steps-keep (given (runOn p C budget .answer)) C _ v (run-on-steps p C budget)
+
+  pub reply-keeps : {C : Config} {c : Call} {r : Reply} → WellFormed p C → Replied p C c r → WellFormed p (r .config)
+  reply-keeps {C} v (refuses {c} n i) = subst (WellFormed p) (sym (refusal-config C c n i)) v
+  reply-keeps v (begins {line = line} g e) = accepted-start text ds ok line g e
+  reply-keeps {C} v (carries-out {place = i} seen D e) = step-keeps C D i seen v e
+  reply-keeps {C} v (runs {budget = budget}) = run-keeps C v budget
+  reply-keeps v reports = v
+  reply-keeps v (names n) = v
+
+  pub begun-well-formed : {C : Config} {scratch run line : ℕ} {r : Reply} → Replied p C (callStart scratch run line) r → has-begun (r .answer) ≡ true
+      → WellFormed p (r .config)
+  begun-well-formed (refuses n i) e = absurd (false≢true e)
+  begun-well-formed (begins {line = line} g h) e = accepted-start text ds ok line g h
+
+  safe-between : (C : Config) → WellFormed p C → (c : Call) → SafeBetween p C c
+  safe-between C v (callStart scratch run line) = tt
+  safe-between C v (callStep scratch run i) = tt
+  safe-between C v (callRunOn scratch run budget) = λ b h. safe (run-keeps C v b)
+  safe-between C v (callReport scratch run) = tt
+  safe-between C v (callExecName scratch line) = tt
+
+  -- ── every moment is kept
+  abbrev moment : Config → Call → Moment
+  moment C c = record { before = C; call = c; after = respond text C c }
+
+  -- a call that meets a well-formed configuration
+  pub moment-kept : (C : Config) → WellFormed p C → (c : Call) → Kept p (moment C c)
+  moment-kept C v c =
+      let r = replied text ds ok C c in
+      record { safe = safe (reply-keeps v r); between = safe-between C v c; refusals = refused-where text ds ok C v c; unchanged = unchanged-by r }
+
+  -- a start that is carried out, whatever it meets
+  pub start-kept : (C : Config) (scratch run line : ℕ) → WellFormed p (respond text C (callStart scratch run line) .config)
+      → Kept p (moment C (callStart scratch run line))
+  start-kept C scratch run line v =
+      record {
+        safe = safe v;
+        between = tt;
+        refusals = refused-start text ds ok C scratch run line;
+        unchanged = unchanged-by (replied text ds ok C (callStart scratch run line));
+      }
+
+  history-kept : (C : Config) → WellFormed p C → (calls : List Call) (m : Moment) → In m (history text C calls) → Kept p m
+  history-kept C v [] m k = absurd (List·Memᴰ·not-nil k)
+  history-kept C v (c ∷ cs) m (List·Memᴰ·head e) = subst (Kept p) (sym e) (moment-kept C v c)
+  history-kept C v (c ∷ cs) m (List·Memᴰ·tail k) = history-kept (respond text C c .config) (reply-keeps v (replied text ds ok C c)) cs m k
+
+  -- a list of calls that begins with a start carried out
+  run-kept : (C : Config) (scratch run line : ℕ) (calls : List Call) → respond text C (callStart scratch run line) .answer ≡ started Starts.Begun
+      → (m : Moment) → In m (history text C (callStart scratch run line ∷ calls)) → Kept p m
+  run-kept C scratch run line calls e m k = go k
+    where
+      v : WellFormed p (respond text C (callStart scratch run line) .config)
+      v = begun-well-formed (replied text ds ok C (callStart scratch run line)) (ap has-begun e)
+
+      go : In m (history text C (callStart scratch run line ∷ calls)) → Kept p m
+      go (List·Memᴰ·head z) = subst (Kept p) (sym z) (start-kept C scratch run line v)
+      go (List·Memᴰ·tail k) = history-kept (respond text C (callStart scratch run line) .config) v calls m k
+
+pub demand3 : Demand3
+demand3 = record { kept = λ text ds scratch run line calls ok. run-kept text ds ok idle scratch run line calls }
