@@ -13,31 +13,24 @@ Inv-loop count i₀ i = Unit {0}
 abbrev μ-loop : tie.MeasureT-loop
 μ-loop count i₀ i = count - i
 
--- src/main.rt:27:9
 arg-count-requires : tie.Need-arg-count-requires Inv-loop μ-loop
 arg-count-requires c κs = search needs
 
--- src/main.rt:29:5
 loop-holds : tie.Need-loop-holds Inv-loop μ-loop
 loop-holds c = tt
 
--- src/main.rt:30:9
 print-argument-requires : tie.Need-print-argument-requires Inv-loop μ-loop
 print-argument-requires c κs = search needs
 
--- src/main.rt:31:9
 add-i : tie.Need-add-i Inv-loop μ-loop
 add-i c = search needs
 
--- src/main.rt:29:5
 loop-less : tie.Need-loop-less Inv-loop μ-loop
 loop-less c = search needs
 
--- src/main.rt:29:5
 loop-again : tie.Need-loop-again Inv-loop μ-loop
 loop-again c = tt
 
--- src/main.rt:26:1
 returns : tie.Need-returns Inv-loop μ-loop
 returns c = tt
 

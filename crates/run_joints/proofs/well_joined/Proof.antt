@@ -39,11 +39,13 @@ numbers-given-requires c κs = search needs
 
 returns-6 : tie.Need-returns-6
 returns-6 c =
+    let after-if4 = c .before .before .before in
+    let after-if2 = after-if4 .before .before .before .before in
     accepts
-    (c .before .before .before .before .before .before .before .before .before .before .links-lead .ensures) (not-false _ (c .before .before .before .before .before .before .before .before .before .if1 .left))
-    (c .before .before .before .before .before .before .before .before .handlers-linked .ensures) (not-false _ (c .before .before .before .before .before .before .before .if2 .left))
-    (c .before .before .before .before .before .before .linked-once .ensures) (not-false _ (c .before .before .before .before .before .if3 .left))
-    (c .before .before .before .before .forest .ensures) (not-false _ (c .before .before .before .if4 .left))
+    (after-if2 .before .before .before .links-lead .ensures) (not-false _ (after-if2 .before .before .if1 .left))
+    (after-if2 .before .handlers-linked .ensures) (not-false _ (after-if2 .if2 .left))
+    (after-if4 .before .before .before .linked-once .ensures) (not-false _ (after-if4 .before .before .if3 .left))
+    (after-if4 .before .forest .ensures) (not-false _ (after-if4 .if4 .left))
     (c .before .before .numbers-rise .ensures) (not-false _ (c .before .if5 .left))
     (c .numbers-given .ensures)
 

@@ -17,47 +17,48 @@ Inv-loop text scratch h first second exactly n k₀ k = Dividing text scratch h 
 abbrev μ-loop : tie.MeasureT-loop
 μ-loop text scratch h first second exactly n k₀ k = n - k
 
--- src/halves.rt:123:5
 loop-holds : tie.Need-loop-holds Inv-loop μ-loop
 loop-holds c = divide-none _ _ _ _ _ _
 
--- src/halves.rt:124:13
 end-at-requires : tie.Need-end-at-requires Inv-loop μ-loop
 end-at-requires c κs = (c .before .before .before .before .pre .1 .1 .1, c .loop-test .taken)
 
--- src/halves.rt:125:13
 wide-requires : tie.Need-wide-requires Inv-loop μ-loop
 wide-requires c κs = search needs
 
--- src/halves.rt:126:13
 half-takes-requires : tie.Need-half-takes-requires Inv-loop μ-loop
-half-takes-requires c κs = (c .before .before .before .before .before .before .pre .0, c .before .before .before .before .before .before .pre .1 .0)
+half-takes-requires c κs =
+    let entry = c .before .before .before .before .before .before in
+    (entry .pre .0, entry .pre .1 .0)
 
--- src/halves.rt:127:13
 half-takes-requires-2 : tie.Need-half-takes-requires-2 Inv-loop μ-loop
-half-takes-requires-2 c κs = (c .before .before .before .before .before .before .before .pre .0, c .before .before .before .before .before .before .before .pre .1 .1 .0)
+half-takes-requires-2 c κs =
+    let entry = c .before .before .before .before .before .before .before in
+    (entry .pre .0, entry .pre .1 .1 .0)
 
--- src/halves.rt:128:13
 is-fair-requires : tie.Need-is-fair-requires Inv-loop μ-loop
 is-fair-requires c κs = search needs
 
--- src/halves.rt:129:13
 returns : tie.Need-returns Inv-loop μ-loop
-returns c = divide-fails _ _ _ _ _ _ (c .before .before .before .before .before .before .before .loop .k) (c .before .before .before .before .before .before .before .loop .inv) (c .before .before .before .before .before .end-at .result) (c .before .before .before .before .before .end-at .ensures .0) _ _ _ _ (c .before .before .before .before .wide .ensures) (c .before .before .before .half-takes .ensures) (c .before .before .half-takes2 .ensures) (c .before .is-fair .ensures) (not-true _ (c .if1 .taken))
+returns c =
+    let after-wide = c .before .before .before .before in
+    let end-at = after-wide .before .end-at in
+    let loop = after-wide .before .before .before .loop in
+    divide-fails _ _ _ _ _ _ (loop .k) (loop .inv) (end-at .result) (end-at .ensures .0) _ _ _ _ (after-wide .wide .ensures) (c .before .before .before .half-takes .ensures) (c .before .before .half-takes2 .ensures) (c .before .is-fair .ensures) (not-true _ (c .if1 .taken))
 
--- src/halves.rt:131:9
 add-k : tie.Need-add-k Inv-loop μ-loop
 add-k c = search needs
 
--- src/halves.rt:123:5
 loop-less : tie.Need-loop-less Inv-loop μ-loop
 loop-less c = search needs
 
--- src/halves.rt:123:5
 loop-again : tie.Need-loop-again Inv-loop μ-loop
-loop-again c = divide-on _ _ _ _ _ _ (c .before .before .before .before .before .before .before .loop .k) (c .before .before .before .before .before .before .before .loop .inv) (c .before .before .before .before .before .end-at .result) (c .before .before .before .before .before .end-at .ensures .0) _ refl _ _ _ _ (c .before .before .before .before .wide .ensures) (c .before .before .before .half-takes .ensures) (c .before .before .half-takes2 .ensures) (c .before .is-fair .ensures) (not-false _ (c .if1 .left))
+loop-again c =
+    let after-wide = c .before .before .before .before in
+    let end-at = after-wide .before .end-at in
+    let loop = after-wide .before .before .before .loop in
+    divide-on _ _ _ _ _ _ (loop .k) (loop .inv) (end-at .result) (end-at .ensures .0) _ refl _ _ _ _ (after-wide .wide .ensures) (c .before .before .before .half-takes .ensures) (c .before .before .half-takes2 .ensures) (c .before .is-fair .ensures) (not-false _ (c .if1 .left))
 
--- src/halves.rt:114:1
 returns-2 : tie.Need-returns-2 Inv-loop μ-loop
 returns-2 c = divide-all _ _ _ _ _ _ (c .before .loop .k) (c .before .loop .inv) (c .loop-test .left)
 

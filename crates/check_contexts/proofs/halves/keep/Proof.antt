@@ -2,7 +2,6 @@ use mathlib.Core.Path.{_≡_, refl, sym, _∙_, ap, subst}
 use borrow.Author.Needs.{needs}
 use native.Mathlib.Omega.{arith}
 use Prim.Native.Nat.{_-_}
-use denote.Ref.{now}
 use Rattle.run_words.specs.ListLaws.{all-at}
 use Rattle.run_words.specs.Values.{heldIn}
 use Rattle.check_contexts.specs.Held.{EndIn}
@@ -22,43 +21,41 @@ Inv-loop text scratch h half want n r₀ k₀ r k = Keeping text scratch h half 
 abbrev μ-loop : tie.MeasureT-loop
 μ-loop text scratch h half want n r₀ k₀ r k = n - k
 
--- src/halves.rt:88:9
 no-ends-requires : tie.Need-no-ends-requires Inv-loop μ-loop
 no-ends-requires c κs = search needs
 
--- src/halves.rt:90:5
 loop-holds : tie.Need-loop-holds Inv-loop μ-loop
 loop-holds c = keep-none _ _ _ _ _ _ (c .no-ends .ensures .0) (c .no-ends .ensures .1)
 
--- src/halves.rt:91:13
 end-at-requires : tie.Need-end-at-requires Inv-loop μ-loop
 end-at-requires c κs = (c .before .before .before .before .before .pre .1 .1 .many, c .loop-test .taken)
 
--- src/halves.rt:92:13
 wide-requires : tie.Need-wide-requires Inv-loop μ-loop
 wide-requires c κs = search needs
 
--- src/halves.rt:93:13
 keeps-end-requires : tie.Need-keeps-end-requires Inv-loop μ-loop
-keeps-end-requires c κs = (c .before .before .before .before .before .before .before .pre .0, c .before .before .before .before .before .before .before .pre .1 .0)
+keeps-end-requires c κs =
+    let entry = c .before .before .before .before .before .before .before in
+    (entry .pre .0, entry .pre .1 .0)
 
--- src/halves.rt:94:9
 with-if-requires : tie.Need-with-if-requires Inv-loop μ-loop
-with-if-requires c κs = let o = all-at (EndIn (now (c .before .before .before .before .before .before .before .before .args .text)) (now (c .before .before .before .before .before .before .before .before .args .scratch))) (heldIn (c .before .before .before .before .before .before .before .before .args .h)) (c .before .before .before .before .loop .k) (c .before .before .before .before .before .before .before .before .pre .1 .1 .each) (c .before .before .end-at .ensures .0) in (omega (arith, c .before .before .before .before .loop .inv .few, c .before .before .before .loop-test .taken, c .before .before .before .before .before .before .before .before .pre .1 .1 .many), o .bounds, c .before .before .end-at .ensures .1 .0)
+with-if-requires c κs =
+    let loop = c .before .before .before .before .loop in
+    let entry = c .before .before .before .before .before .before .before .before in
+    let o = all-at (EndIn (entry .args .text .now) (entry .args .scratch .now)) (heldIn (entry .args .h)) (loop .k) (entry .pre .1 .1 .each) (c .before .before .end-at .ensures .0) in
+    (omega (arith, loop .inv .few, c .before .before .before .loop-test .taken, entry .pre .1 .1 .many), o .bounds, c .before .before .end-at .ensures .1 .0)
 
--- src/halves.rt:95:9
 add-k : tie.Need-add-k Inv-loop μ-loop
 add-k c = search needs
 
--- src/halves.rt:90:5
 loop-less : tie.Need-loop-less Inv-loop μ-loop
 loop-less c = search needs
 
--- src/halves.rt:90:5
 loop-again : tie.Need-loop-again Inv-loop μ-loop
-loop-again c = keep-next _ _ _ _ _ (c .before .before .before .before .before .loop .r) (c .before .before .before .before .before .loop .k) (c .before .before .before .before .before .loop .inv) (c .before .before .before .end-at .result) (c .before .before .before .end-at .ensures .0) _ refl _ _ _ (c .before .before .wide .ensures) (c .before .keeps-end .ensures) (c .with-if .ensures .0) (c .with-if .ensures .1)
+loop-again c =
+    let loop = c .before .before .before .before .before .loop in
+    keep-next _ _ _ _ _ (loop .r) (loop .k) (loop .inv) (c .before .before .before .end-at .result) (c .before .before .before .end-at .ensures .0) _ refl _ _ _ (c .before .before .wide .ensures) (c .before .keeps-end .ensures) (c .with-if .ensures .0) (c .with-if .ensures .1)
 
--- src/halves.rt:81:1
 returns : tie.Need-returns Inv-loop μ-loop
 returns c = keep-all _ _ _ _ _ _ (c .before .loop .k) (c .before .loop .inv) (c .loop-test .left) (c .before .before .before .before .before .pre .1 .1)
 

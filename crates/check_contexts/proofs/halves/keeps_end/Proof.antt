@@ -8,15 +8,12 @@ use Rattle.check_contexts.proofs.halves.keeps_end.Lts as lts
 use Rattle.check_contexts.proofs.halves.as_wanted.Reads as as-wanted-reads
 use Rattle.check_contexts.proofs.halves.half_takes.Reads as half-takes-reads
 
--- src/halves.rt:64:9
 half-takes-requires : tie.Need-half-takes-requires
 half-takes-requires c κs = search needs
 
--- src/halves.rt:65:5
 as-wanted-requires : tie.Need-as-wanted-requires
 as-wanted-requires c κs = search needs
 
--- src/halves.rt:59:1
 returns : tie.Need-returns
 returns c = c .as-wanted .ensures ∙ ap (wanted (c .before .before .before .before .args .want)) (c .before .half-takes .ensures)
 

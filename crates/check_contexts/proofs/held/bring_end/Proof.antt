@@ -6,11 +6,9 @@ use Rattle.check_contexts.proofs.held.bring_end.Reads as reads
 use Rattle.check_contexts.proofs.held.bring_end.Lts as lts
 use Rattle.run_words.proofs.held.with.Reads as with-reads
 
--- src/held.rt:92:5
 with-requires : tie.Need-with-requires
 with-requires c κs = search needs
 
--- src/held.rt:88:1
 returns : tie.Need-returns
 returns c = brings _ _ _ (c .with .ensures .0) (c .with .ensures .1) (search needs) (search needs)
 

@@ -1,5 +1,4 @@
 use mathlib.Core.Path.{sym, _∙_}
-use denote.Ref.{now}
 use Rattle.check_contexts.specs.Found.{position-below, sees-there, sees-nothing}
 use borrow.Author.Needs.{needs}
 use Rattle.check_contexts.proofs.held.find_end.Statement.{statement}
@@ -9,27 +8,23 @@ use Rattle.check_contexts.proofs.held.find_end.Lts as lts
 use Rattle.check_contexts.proofs.held.position_named.Reads as position-named-reads
 use Rattle.run_words.proofs.held.end_at.Reads as end-at-reads
 
--- src/held.rt:53:9
 position-named-requires : tie.Need-position-named-requires
 position-named-requires c κs = search needs
 
--- src/held.rt:54:19
 enum-known-f : tie.Need-enum-known-f
 enum-known-f c = search needs
 
--- src/held.rt:55:9
 enum-told : tie.Need-enum-told
 enum-told c = search needs
 
--- src/held.rt:55:9
 returns : tie.Need-returns
 returns c = sees-nothing _ _ _ (sym (c .before .before .position-named .ensures) ∙ c .enum-told .given .1)
 
--- src/held.rt:57:9
 end-at-requires : tie.Need-end-at-requires
-end-at-requires c κs = (search needs, position-below (now (c .before .before .before .before .before .args .text)) (c .before .before .before .before .before .args .h) (c .before .before .before .before .before .args .at) _ (sym (c .before .before .before .position-named .ensures) ∙ c .before .f .given .1))
+end-at-requires c κs =
+    let entry = c .before .before .before .before .before in
+    (search needs, position-below (entry .args .text .now) (entry .args .h) (entry .args .at) _ (sym (c .before .before .before .position-named .ensures) ∙ c .before .f .given .1))
 
--- src/held.rt:49:1
 returns-2 : tie.Need-returns-2
 returns-2 c = sees-there _ _ _ _ (sym (c .before .before .before .before .position-named .ensures) ∙ c .before .before .f .given .1) _ (c .end-at .ensures .0) (c .end-at .ensures .1 .0)
 

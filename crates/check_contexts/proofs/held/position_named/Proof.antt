@@ -1,5 +1,4 @@
 use borrow.Author.Needs.{needs}
-use denote.Ref.{now}
 use native.Mathlib.Omega.{arith}
 use Prim.Native.Nat.{_-_}
 use mathlib.Core.Path.{_≡_, refl, sym, _∙_, ap}
@@ -23,39 +22,38 @@ Inv-loop text h at n k₀ k = first (isNamed text at) (heldIn h) ≡ firstFrom (
 abbrev μ-loop : tie.MeasureT-loop
 μ-loop text h at n k₀ k = n - k
 
--- src/held.rt:37:5
 loop-holds : tie.Need-loop-holds Inv-loop μ-loop
 loop-holds c = refl
 
--- src/held.rt:38:13
 end-at-requires : tie.Need-end-at-requires Inv-loop μ-loop
 end-at-requires c κs = search needs
 
--- src/held.rt:39:13
 wide-requires : tie.Need-wide-requires Inv-loop μ-loop
 wide-requires c κs = search needs
 
--- src/held.rt:40:12
 names-equal-requires : tie.Need-names-equal-requires Inv-loop μ-loop
 names-equal-requires c κs = search needs
 
--- src/held.rt:41:13
 returns : tie.Need-returns Inv-loop μ-loop
-returns c = sym (c .before .before .before .before .before .loop .inv ∙ stops-here (isNamed (now (c .before .before .before .before .before .before .before .args .text)) (c .before .before .before .before .before .before .before .args .at)) _ (c .before .before .before .before .before .loop .k) (c .before .before .before .end-at .ensures .0) (ap (λ n. same (nameAt (now (c .before .before .before .before .before .before .before .args .text)) (c .before .before .before .before .before .before .before .args .at)) (nameAt (now (c .before .before .before .before .before .before .before .args .text)) n)) (sym (c .before .before .wide .ensures)) ∙ sym (c .before .names-equal .ensures) ∙ c .if1 .taken))
+returns c =
+    let loop = c .before .before .before .before .before .loop in
+    let entry = c .before .before .before .before .before .before .before in
+    let text = entry .args .text .now in
+    sym (loop .inv ∙ stops-here (isNamed text (entry .args .at)) _ (loop .k) (c .before .before .before .end-at .ensures .0) (ap (λ n. same (nameAt text (entry .args .at)) (nameAt text n)) (sym (c .before .before .wide .ensures)) ∙ sym (c .before .names-equal .ensures) ∙ c .if1 .taken))
 
--- src/held.rt:43:9
 add-k : tie.Need-add-k Inv-loop μ-loop
 add-k c = search needs
 
--- src/held.rt:37:5
 loop-less : tie.Need-loop-less Inv-loop μ-loop
 loop-less c = search needs
 
--- src/held.rt:37:5
 loop-again : tie.Need-loop-again Inv-loop μ-loop
-loop-again c = c .before .before .before .before .before .loop .inv ∙ goes-on (isNamed (now (c .before .before .before .before .before .before .before .args .text)) (c .before .before .before .before .before .before .before .args .at)) _ (c .before .before .before .before .before .loop .k) (c .before .before .before .end-at .ensures .0) (ap (λ n. same (nameAt (now (c .before .before .before .before .before .before .before .args .text)) (c .before .before .before .before .before .before .before .args .at)) (nameAt (now (c .before .before .before .before .before .before .before .args .text)) n)) (sym (c .before .before .wide .ensures)) ∙ sym (c .before .names-equal .ensures) ∙ c .if1 .left)
+loop-again c =
+    let loop = c .before .before .before .before .before .loop in
+    let entry = c .before .before .before .before .before .before .before in
+    let text = entry .args .text .now in
+    loop .inv ∙ goes-on (isNamed text (entry .args .at)) _ (loop .k) (c .before .before .before .end-at .ensures .0) (ap (λ n. same (nameAt text (entry .args .at)) (nameAt text n)) (sym (c .before .before .wide .ensures)) ∙ sym (c .before .names-equal .ensures) ∙ c .if1 .left)
 
--- src/held.rt:31:1
 returns-2 : tie.Need-returns-2 Inv-loop μ-loop
 returns-2 c = sym (c .before .loop .inv ∙ scan-end _ _ _ (c .before .loop .k) (omega (arith, c .loop-test .left, held-length (c .before .before .before .args .h))))
 

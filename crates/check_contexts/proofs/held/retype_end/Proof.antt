@@ -1,5 +1,4 @@
 use mathlib.Core.Path.{sym, _∙_}
-use denote.Ref.{now}
 use Rattle.check_contexts.specs.Found.{position-below, retypes-there, retypes-nothing}
 use Rattle.run_words.specs.ListLaws.{all-at}
 use Rattle.run_words.specs.Raw.{BoundedEnd}
@@ -13,31 +12,30 @@ use Rattle.check_contexts.proofs.held.position_named.Reads as position-
 use Rattle.run_words.proofs.held.end_at.Reads as end-at-reads
 use Rattle.run_words.proofs.held.replaced.Reads as replaced-reads
 
--- src/held.rt:79:9
 position-named-requires : tie.Need-position-named-requires
 position-named-requires c κs = search needs
 
--- src/held.rt:80:19
 enum-known-f : tie.Need-enum-known-f
 enum-known-f c = search needs
 
--- src/held.rt:81:9
 enum-told : tie.Need-enum-told
 enum-told c = search needs
 
--- src/held.rt:81:9
 returns : tie.Need-returns
 returns c = retypes-nothing _ _ _ (sym (c .before .before .position-named .ensures) ∙ c .enum-told .given .1) _
 
--- src/held.rt:83:9
 end-at-requires : tie.Need-end-at-requires
-end-at-requires c κs = (search needs, position-below (now (c .before .before .before .before .before .args .text)) (c .before .before .before .before .before .args .h) (c .before .before .before .before .before .args .at) _ (sym (c .before .before .before .position-named .ensures) ∙ c .before .f .given .1))
+end-at-requires c κs =
+    let entry = c .before .before .before .before .before in
+    (search needs, position-below (entry .args .text .now) (entry .args .h) (entry .args .at) _ (sym (c .before .before .before .position-named .ensures) ∙ c .before .f .given .1))
 
--- src/held.rt:84:5
 replaced-requires : tie.Need-replaced-requires
-replaced-requires c κs = let o = all-at BoundedEnd (heldIn (c .before .before .before .before .before .before .args .h)) (c .before .before .f .given .0 .0) (c .before .before .before .before .before .before .pre .1) (c .end-at .ensures .0) in ((search needs, position-below (now (c .before .before .before .before .before .before .args .text)) (c .before .before .before .before .before .before .args .h) (c .before .before .before .before .before .before .args .at) _ (sym (c .before .before .before .before .position-named .ensures) ∙ c .before .before .f .given .1)), (record { name = o .name; node = search needs; channel = o .channel }, c .end-at .ensures .1 .0))
+replaced-requires c κs =
+    let f = c .before .before .f in
+    let entry = c .before .before .before .before .before .before in
+    let o = all-at BoundedEnd (heldIn (entry .args .h)) (f .given .0 .0) (entry .pre .1) (c .end-at .ensures .0) in
+    ((search needs, position-below (entry .args .text .now) (entry .args .h) (entry .args .at) _ (sym (c .before .before .before .before .position-named .ensures) ∙ f .given .1)), (record { name = o .name; node = search needs; channel = o .channel }, c .end-at .ensures .1 .0))
 
--- src/held.rt:74:1
 returns-2 : tie.Need-returns-2
 returns-2 c = retypes-there _ _ _ _ (sym (c .before .before .before .before .before .position-named .ensures) ∙ c .before .before .before .f .given .1) (c .before .end-at .result) _ _ (c .before .end-at .ensures .0) (c .replaced .ensures .0) (c .replaced .ensures .1) (search needs)
 

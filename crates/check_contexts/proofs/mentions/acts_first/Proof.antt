@@ -7,19 +7,15 @@ use Rattle.check_contexts.proofs.mentions.acts_first.Lts as lts
 use Rattle.check_contexts.proofs.mentions.has_first_name.Reads as has-first-name-reads
 use Rattle.notation.proofs.token.names_equal.Reads as names-equal-reads
 
--- src/mentions.rt:43:8
 has-first-name-requires : tie.Need-has-first-name-requires
 has-first-name-requires c κs = search needs
 
--- src/mentions.rt:44:9
 names-equal-requires : tie.Need-names-equal-requires
 names-equal-requires c κs = search needs
 
--- src/mentions.rt:44:9
 returns : tie.Need-returns
 returns c = rw (sym (c .before .before .has-first-name .ensures) ∙ c .before .if1 .taken) (c .names-equal .ensures)
 
--- src/mentions.rt:40:1
 returns-2 : tie.Need-returns-2
 returns-2 c = rw (sym (c .before .has-first-name .ensures) ∙ c .if1 .left) refl
 

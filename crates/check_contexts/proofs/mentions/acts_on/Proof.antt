@@ -10,29 +10,23 @@ use Rattle.check_contexts.proofs.mentions.acts_first.Reads as acts-firs
 use Rattle.check_contexts.proofs.mentions.acts_second.Reads as acts-second-reads
 use Rattle.check_contexts.proofs.names.in_call.Reads as in-call-reads
 
--- src/mentions.rt:64:9
 in-call-requires : tie.Need-in-call-requires
 in-call-requires c κs = search needs
 
--- src/mentions.rt:64:9
 returns : tie.Need-returns
 unfolding actsOn
 returns c = rw (eq-eqb _ _ (c .before .if1 .taken)) (c .in-call .ensures .is _ _ (c .before .before .before .before .pre (c .before .if1 .taken)))
 
--- src/mentions.rt:66:8
 acts-first-requires : tie.Need-acts-first-requires
 acts-first-requires c κs = search needs
 
--- src/mentions.rt:67:9
 returns-2 : tie.Need-returns-2
 unfolding actsOn
 returns-2 c = rw (ne-eqb _ _ (c .before .before .if1 .left), sym (c .before .acts-first .ensures) ∙ c .if2 .taken) refl
 
--- src/mentions.rt:69:5
 acts-second-requires : tie.Need-acts-second-requires
 acts-second-requires c κs = search needs
 
--- src/mentions.rt:59:1
 returns-3 : tie.Need-returns-3
 unfolding actsOn
 returns-3 c = rw (ne-eqb _ _ (c .before .before .before .if1 .left), sym (c .before .before .acts-first .ensures) ∙ c .before .if2 .left) (c .acts-second .ensures)

@@ -7,19 +7,15 @@ use Rattle.check_contexts.proofs.mentions.acts_second.Lts as lts
 use Rattle.check_contexts.proofs.mentions.has_second_name.Reads as has-second-name-reads
 use Rattle.notation.proofs.token.names_equal.Reads as names-equal-reads
 
--- src/mentions.rt:52:8
 has-second-name-requires : tie.Need-has-second-name-requires
 has-second-name-requires c κs = search needs
 
--- src/mentions.rt:53:9
 names-equal-requires : tie.Need-names-equal-requires
 names-equal-requires c κs = search needs
 
--- src/mentions.rt:53:9
 returns : tie.Need-returns
 returns c = rw (sym (c .before .before .has-second-name .ensures) ∙ c .before .if1 .taken) (c .names-equal .ensures)
 
--- src/mentions.rt:49:1
 returns-2 : tie.Need-returns-2
 returns-2 c = rw (sym (c .before .has-second-name .ensures) ∙ c .if1 .left) refl
 

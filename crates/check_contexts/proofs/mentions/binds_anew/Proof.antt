@@ -8,25 +8,20 @@ use Rattle.check_contexts.proofs.mentions.binds_anew.Reads as reads
 use Rattle.check_contexts.proofs.mentions.binds_anew.Lts as lts
 use Rattle.notation.proofs.token.names_equal.Reads as names-equal-reads
 
--- src/mentions.rt:77:9
 names-equal-requires : tie.Need-names-equal-requires
 names-equal-requires c κs = search needs
 
--- src/mentions.rt:77:9
 returns : tie.Need-returns
 unfolding bindsAnew
 returns c = rw (eq-eqb _ _ (c .before .if1 .taken)) (c .names-equal .ensures)
 
--- src/mentions.rt:80:9
 names-equal-requires-2 : tie.Need-names-equal-requires-2
 names-equal-requires-2 c κs = search needs
 
--- src/mentions.rt:80:9
 returns-2 : tie.Need-returns-2
 unfolding bindsAnew
 returns-2 c = rw (ne-eqb _ _ (c .before .before .before .if1 .left), eq-eqb _ _ (c .before .if2 .taken)) (c .names-equal2 .ensures)
 
--- src/mentions.rt:73:1
 returns-3 : tie.Need-returns-3
 unfolding bindsAnew
 returns-3 c = rw (ne-eqb _ _ (c .before .before .if1 .left), ne-eqb _ _ (c .if2 .left)) refl

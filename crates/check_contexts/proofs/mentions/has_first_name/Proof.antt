@@ -5,15 +5,12 @@ use Rattle.check_contexts.proofs.mentions.has_first_name.Tie as tie
 use Rattle.check_contexts.proofs.mentions.has_first_name.Reads as reads
 use Rattle.check_contexts.proofs.mentions.has_first_name.Lts as lts
 
--- src/mentions.rt:22:9
 returns : tie.Need-returns
 returns c = rw (eq-eqb _ _ (c .if1 .taken)) refl
 
--- src/mentions.rt:25:9
 returns-2 : tie.Need-returns-2
 returns-2 c = rw (ne-eqb _ _ (c .before .if1 .left), eq-eqb _ _ (c .if2 .taken)) refl
 
--- src/mentions.rt:18:1
 returns-3 : tie.Need-returns-3
 returns-3 c = rw (ne-eqb _ _ (c .before .if1 .left), ne-eqb _ _ (c .if2 .left)) refl
 

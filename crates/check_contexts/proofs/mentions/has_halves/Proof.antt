@@ -5,11 +5,9 @@ use Rattle.check_contexts.proofs.mentions.has_halves.Tie as tie
 use Rattle.check_contexts.proofs.mentions.has_halves.Reads as reads
 use Rattle.check_contexts.proofs.mentions.has_halves.Lts as lts
 
--- src/mentions.rt:90:9
 returns : tie.Need-returns
 returns c = rw (eq-eqb _ _ (c .if1 .taken)) refl
 
--- src/mentions.rt:86:1
 returns-2 : tie.Need-returns-2
 returns-2 c = rw (ne-eqb _ _ (c .if1 .left)) refl
 

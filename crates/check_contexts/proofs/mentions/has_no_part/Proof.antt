@@ -5,11 +5,9 @@ use Rattle.check_contexts.proofs.mentions.has_no_part.Tie as tie
 use Rattle.check_contexts.proofs.mentions.has_no_part.Reads as reads
 use Rattle.check_contexts.proofs.mentions.has_no_part.Lts as lts
 
--- src/mentions.rt:99:9
 returns : tie.Need-returns
 returns c = rw (eq-eqb _ _ (c .if1 .taken)) refl
 
--- src/mentions.rt:95:1
 returns-2 : tie.Need-returns-2
 returns-2 c = rw (ne-eqb _ _ (c .if1 .left)) refl
 

@@ -5,11 +5,9 @@ use Rattle.check_contexts.proofs.mentions.has_second_name.Tie as tie
 use Rattle.check_contexts.proofs.mentions.has_second_name.Reads as reads
 use Rattle.check_contexts.proofs.mentions.has_second_name.Lts as lts
 
--- src/mentions.rt:34:9
 returns : tie.Need-returns
 returns c = rw (eq-eqb _ _ (c .if1 .taken)) refl
 
--- src/mentions.rt:30:1
 returns-2 : tie.Need-returns-2
 returns-2 c = rw (ne-eqb _ _ (c .if1 .left)) refl
 

@@ -9,31 +9,24 @@ use Rattle.check_contexts.proofs.names.in_list.Reads as in-list-reads
 use Rattle.check_contexts.proofs.names.list_end.Reads as list-end-reads
 use Rattle.read_tables.proofs.arguments.list_start.Reads as list-start-reads
 
--- src/names.rt:54:9
 list-start-requires : tie.Need-list-start-requires
 list-start-requires c κs = search needs
 
--- src/names.rt:55:8
 in-list-requires : tie.Need-in-list-requires
 in-list-requires c κs = search needs
 
--- src/names.rt:56:9
 returns : tie.Need-returns
 returns c = among-provided _ _ _ _ (c .before .before .list-start .ensures) (subst (Among _ _ _) (c .if1 .taken) (c .before .in-list .ensures))
 
--- src/names.rt:58:9
 list-end-requires : tie.Need-list-end-requires
 list-end-requires c κs = search needs
 
--- src/names.rt:59:9
 list-start-requires-2 : tie.Need-list-start-requires-2
 list-start-requires-2 c κs = search needs
 
--- src/names.rt:60:5
 in-list-requires-2 : tie.Need-in-list-requires-2
 in-list-requires-2 c κs = search needs
 
--- src/names.rt:51:1
 returns-2 : tie.Need-returns-2
 returns-2 c = among-used _ _ _ _ (c .before .before .before .before .before .list-start .ensures) (subst (Among _ _ _) (c .before .before .before .if1 .left) (c .before .before .before .before .in-list .ensures)) (c .before .before .list-end .ensures) (c .before .list-start2 .ensures) (c .in-list2 .ensures)
 

@@ -18,39 +18,30 @@ Inv-loop text from at i₀ i = Walking text from i (Unmet (nameAt text at))
 abbrev μ-loop : tie.MeasureT-loop
 μ-loop text from at i₀ i = length text - i
 
--- src/names.rt:20:5
 loop-holds : tie.Need-loop-holds Inv-loop μ-loop
 loop-holds c = walk-start _ _ _ (λ xs. refl)
 
--- src/names.rt:21:13
 next-argument-requires : tie.Need-next-argument-requires Inv-loop μ-loop
 next-argument-requires c κs = search needs
 
--- src/names.rt:22:28
 enum-known-a : tie.Need-enum-known-a Inv-loop μ-loop
 enum-known-a c = search needs
 
--- src/names.rt:23:13
 enum-told : tie.Need-enum-told Inv-loop μ-loop
 enum-told c = search needs
 
--- src/names.rt:23:13
 returns : tie.Need-returns Inv-loop μ-loop
 returns c = unmet-end (c .before .before .before .loop .inv) _ (sym (c .before .before .next-argument .ensures .0) ∙ c .enum-told .given .1)
 
--- src/names.rt:25:12
 names-equal-requires : tie.Need-names-equal-requires Inv-loop μ-loop
 names-equal-requires c κs = search needs
 
--- src/names.rt:26:13
 returns-2 : tie.Need-returns-2 Inv-loop μ-loop
 returns-2 c = unmet-met (c .before .before .before .before .before .before .loop .inv) _ _ (sym (c .before .before .before .before .before .next-argument .ensures .0) ∙ c .before .before .before .a .given .1) (sym (c .before .names-equal .ensures) ∙ c .if1 .taken)
 
--- src/names.rt:20:5
 loop-less : tie.Need-loop-less Inv-loop μ-loop
 loop-less c = omega (arith, forward-name _ _ _ _ _ (c .before .before .before .before .before .next-argument .ensures .1) (c .before .before .before .a .given .1))
 
--- src/names.rt:20:5
 loop-again : tie.Need-loop-again Inv-loop μ-loop
 loop-again c = unmet-on (c .before .before .before .before .before .before .loop .inv) _ _ (sym (c .before .before .before .before .before .next-argument .ensures .0) ∙ c .before .before .before .a .given .1) (sym (c .before .names-equal .ensures) ∙ c .if1 .left)
 

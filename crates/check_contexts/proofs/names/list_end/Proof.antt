@@ -16,31 +16,24 @@ Inv-loop text from i₀ i = Walking text from i Whatever
 abbrev μ-loop : tie.MeasureT-loop
 μ-loop text from i₀ i = length text - i
 
--- src/names.rt:37:5
 loop-holds : tie.Need-loop-holds Inv-loop μ-loop
 loop-holds c = walk-start _ _ _ (λ xs. tt)
 
--- src/names.rt:38:13
 next-argument-requires : tie.Need-next-argument-requires Inv-loop μ-loop
 next-argument-requires c κs = search needs
 
--- src/names.rt:40:28
 enum-known-a : tie.Need-enum-known-a Inv-loop μ-loop
 enum-known-a c = search needs
 
--- src/names.rt:37:5
 loop-less : tie.Need-loop-less Inv-loop μ-loop
 loop-less c = omega (arith, forward-name _ _ _ _ _ (c .before .before .before .next-argument .ensures .1) (c .before .a .given .1))
 
--- src/names.rt:37:5
 loop-again : tie.Need-loop-again Inv-loop μ-loop
 loop-again c = walk-on (c .before .before .before .before .loop .inv) _ _ Whatever (sym (c .before .before .before .next-argument .ensures .0) ∙ c .before .a .given .1) (λ xs ys rest o r. tt)
 
--- src/names.rt:43:27
 enum-known-a-2 : tie.Need-enum-known-a-2 Inv-loop μ-loop
 enum-known-a-2 c = search needs
 
--- src/names.rt:44:17
 returns : tie.Need-returns Inv-loop μ-loop
 returns c = ends-there (c .before .before .before .before .loop .inv) _ (sym (c .before .before .before .next-argument .ensures .0) ∙ c .before .a2 .given .1)
 

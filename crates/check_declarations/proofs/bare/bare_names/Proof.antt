@@ -15,31 +15,24 @@ Inv-loop text scratch n low₀ i₀ low i = Walking (λ j. ownBareName (typeDecl
 abbrev μ-loop : tie.MeasureT-loop
 μ-loop text scratch n low₀ i₀ low i = n - i
 
--- src/bare.rt:30:9
 type-count-requires : tie.Need-type-count-requires Inv-loop μ-loop
 type-count-requires c κs = search needs
 
--- src/bare.rt:33:5
 loop-holds : tie.Need-loop-holds Inv-loop μ-loop
 loop-holds c = walk-start
 
--- src/bare.rt:34:9
 bare-name-requires : tie.Need-bare-name-requires Inv-loop μ-loop
 bare-name-requires c κs = (c .before .before .before .before .before .pre, omega (arith, c .loop-test .taken, c .before .before .type-count .ensures))
 
--- src/bare.rt:35:9
 add-i : tie.Need-add-i Inv-loop μ-loop
 add-i c = search needs
 
--- src/bare.rt:33:5
 loop-less : tie.Need-loop-less Inv-loop μ-loop
 loop-less c = search needs
 
--- src/bare.rt:33:5
 loop-again : tie.Need-loop-again Inv-loop μ-loop
 loop-again c = walk-on refl (c .before .before .loop .inv) (omega (arith, c .before .loop-test .taken, c .before .before .before .type-count .ensures)) (c .bare-name .ensures)
 
--- src/bare.rt:26:1
 returns : tie.Need-returns Inv-loop μ-loop
 returns c = lowered-as (bare-names _ _) (walk-end (c .before .loop .inv) (omega (arith, c .loop-test .left, c .before .before .type-count .ensures)))
 

@@ -14,39 +14,38 @@ Inv-loop text scratch marks i n k₀ k = Testing (entryOther text scratch (marke
 abbrev μ-loop : tie.MeasureT-loop
 μ-loop text scratch marks i n k₀ k = n - k
 
--- src/execs.rt:30:5
 loop-holds : tie.Need-loop-holds Inv-loop μ-loop
 loop-holds c = test-start
 
--- src/execs.rt:31:32
 add-entry : tie.Need-add-entry Inv-loop μ-loop
 add-entry c = omega (arith, c .loop-test .taken, entries-fit _ _ (c .before .before .before .before .pre .0) _ _ (c .before .before .before .before .pre .1) (omega (arith, c .loop-test .taken)))
 
--- src/execs.rt:31:13
 entry-requires : tie.Need-entry-requires Inv-loop μ-loop
-entry-requires c κs = (c .before .before .before .before .pre .0 .area, omega (arith, c .loop-test .taken, entries-fit _ _ (c .before .before .before .before .pre .0) _ _ (c .before .before .before .before .pre .1) (omega (arith, c .loop-test .taken))))
+entry-requires c κs =
+    let entry = c .before .before .before .before in
+    (entry .pre .0 .area, omega (arith, c .loop-test .taken, entries-fit _ _ (entry .pre .0) _ _ (entry .pre .1) (omega (arith, c .loop-test .taken))))
 
--- src/execs.rt:32:12
 has-other-requires : tie.Need-has-other-requires Inv-loop μ-loop
-has-other-requires c κs = (c .before .before .before .before .before .pre .0, entry-first _ _ (c .before .before .before .before .before .pre .0) _ _ (c .before .before .before .before .before .pre .1) _ (c .before .loop-test .taken) (c .entry .ensures) .type)
+has-other-requires c κs =
+    let entry = c .before .before .before .before .before in
+    (entry .pre .0, entry-first _ _ (entry .pre .0) _ _ (entry .pre .1) _ (c .before .loop-test .taken) (c .entry .ensures) .type)
 
--- src/execs.rt:33:13
 returns : tie.Need-returns Inv-loop μ-loop
-returns c = test-found (c .before .before .before .before .loop .inv) (c .before .before .before .loop-test .taken) (entry-tested _ _ _ _ (c .before .before .before .before .loop .k) (c .before .before .entry .ensures) (c .before .has-other .ensures)) (c .if1 .taken)
+returns c =
+    let loop = c .before .before .before .before .loop in
+    test-found (loop .inv) (c .before .before .before .loop-test .taken) (entry-tested _ _ _ _ (loop .k) (c .before .before .entry .ensures) (c .before .has-other .ensures)) (c .if1 .taken)
 
--- src/execs.rt:35:9
 add-k : tie.Need-add-k Inv-loop μ-loop
 add-k c = search needs
 
--- src/execs.rt:30:5
 loop-less : tie.Need-loop-less Inv-loop μ-loop
 loop-less c = search needs
 
--- src/execs.rt:30:5
 loop-again : tie.Need-loop-again Inv-loop μ-loop
-loop-again c = test-on (c .before .before .before .before .loop .inv) (c .before .before .before .loop-test .taken) (entry-tested _ _ _ _ (c .before .before .before .before .loop .k) (c .before .before .entry .ensures) (c .before .has-other .ensures)) refl (c .if1 .left)
+loop-again c =
+    let loop = c .before .before .before .before .loop in
+    test-on (loop .inv) (c .before .before .before .loop-test .taken) (entry-tested _ _ _ _ (loop .k) (c .before .before .entry .ensures) (c .before .has-other .ensures)) refl (c .if1 .left)
 
--- src/execs.rt:25:1
 returns-2 : tie.Need-returns-2 Inv-loop μ-loop
 returns-2 c = test-end (c .before .loop .inv) (c .loop-test .left)
 

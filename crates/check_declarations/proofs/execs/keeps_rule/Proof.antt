@@ -4,37 +4,37 @@ use borrow.Author.Needs.{needs}
 use Rattle.check_declarations.proofs.execs.keeps_rule.Statement.{statement}
 use Rattle.check_declarations.proofs.execs.keeps_rule.Tie as tie
 
--- src/execs.rt:45:9
 find-process-requires : tie.Need-find-process-requires
 find-process-requires c κs = search needs
 
--- src/execs.rt:46:19
 enum-known-f : tie.Need-enum-known-f
 enum-known-f c = search needs
 
--- src/execs.rt:47:9
 enum-told : tie.Need-enum-told
 enum-told c = search needs
 
--- src/execs.rt:47:9
 returns : tie.Need-returns
 returns c = keeps-none _ _ (c .before .before .find-process .ensures) (c .enum-told .given .1)
 
--- src/execs.rt:49:9
 declared-process-requires : tie.Need-declared-process-requires
-declared-process-requires c κs = (c .before .before .before .before .before .before .pre .0 .area, omega (arith, c .before .before .before .find-process .ensures .below _ (c .before .f .given .1), c .before .before .before .before .before .before .pre .0 .within))
+declared-process-requires c κs =
+    let entry = c .before .before .before .before .before .before in
+    (entry .pre .0 .area, omega (arith, c .before .before .before .find-process .ensures .below _ (c .before .f .given .1), entry .pre .0 .within))
 
--- src/execs.rt:51:9
 returns-2 : tie.Need-returns-2
 returns-2 c = keeps-uses _ _ (c .before .before .before .before .before .before .find-process .ensures) (c .before .before .before .before .f .given .1) (c .before .before .declared-process .ensures) (c .if1 .taken)
 
--- src/execs.rt:53:9
 entries-other-requires : tie.Need-entries-other-requires
-entries-other-requires c κs = (c .before .before .before .before .before .before .before .before .before .pre .0, c .before .before .declared-process .ensures .stands _ (c .before .before .before .before .before .before .before .before .before .pre .0) (c .before .before .before .before .before .before .find-process .ensures .below _ (c .before .before .before .before .f .given .1)) .provides)
+entries-other-requires c κs =
+    let after-f = c .before .before .before .before in
+    let entry = after-f .before .before .before .before .before in
+    (entry .pre .0, c .before .before .declared-process .ensures .stands _ (entry .pre .0) (after-f .before .before .find-process .ensures .below _ (after-f .f .given .1)) .provides)
 
--- src/execs.rt:41:1
 returns-3 : tie.Need-returns-3
-returns-3 c = keeps-provides _ _ (c .before .before .before .before .before .before .before .find-process .ensures) (c .before .before .before .before .before .f .given .1) (c .before .before .before .declared-process .ensures) (c .before .before .before .before .before .before .before .before .before .before .pre .1) (c .before .if1 .left) (c .entries-other .ensures)
+returns-3 c =
+    let after-f = c .before .before .before .before .before in
+    let entry = after-f .before .before .before .before .before in
+    keeps-provides _ _ (after-f .before .before .find-process .ensures) (after-f .f .given .1) (c .before .before .before .declared-process .ensures) (entry .pre .1) (c .before .if1 .left) (c .entries-other .ensures)
 
 pub keeps-rule-spec : {M : Type 1} → statement M
 keeps-rule-spec =

@@ -3,23 +3,18 @@ use borrow.Author.Needs.{needs}
 use Rattle.check_declarations.proofs.execs.wrong_exec.Statement.{statement}
 use Rattle.check_declarations.proofs.execs.wrong_exec.Tie as tie
 
--- src/execs.rt:68:9
 exec-at-requires : tie.Need-exec-at-requires
 exec-at-requires c κs = search needs
 
--- src/execs.rt:69:8
 keeps-rule-requires : tie.Need-keeps-rule-requires
 keeps-rule-requires c κs = search needs
 
--- src/execs.rt:70:9
 returns : tie.Need-returns
 returns c = exec-keeps _ _ (c .before .before .exec-at .ensures) (c .before .keeps-rule .ensures) (c .if1 .taken)
 
--- src/execs.rt:72:5
 lowered-requires : tie.Need-lowered-requires
 lowered-requires c κs = search needs
 
--- src/execs.rt:58:1
 returns-2 : tie.Need-returns-2
 returns-2 c = exec-breaks _ _ (c .before .before .before .exec-at .ensures) (c .before .before .keeps-rule .ensures) (c .before .if1 .left) (c .lowered .ensures)
 

@@ -15,35 +15,29 @@ Inv-loop text scratch marks n l₀ i₀ l i = Walking (breakingAt (programIn tex
 abbrev μ-loop : tie.MeasureT-loop
 μ-loop text scratch marks n l₀ i₀ l i = n - i
 
--- src/execs.rt:80:9
 reach-requires : tie.Need-reach-requires Inv-loop μ-loop
 reach-requires c κs = search needs
 
--- src/execs.rt:81:9
 exec-count-requires : tie.Need-exec-count-requires Inv-loop μ-loop
 exec-count-requires c κs = search needs
 
--- src/execs.rt:84:5
 loop-holds : tie.Need-loop-holds Inv-loop μ-loop
 loop-holds c = walk-start
 
--- src/execs.rt:85:9
 wrong-exec-requires : tie.Need-wrong-exec-requires Inv-loop μ-loop
-wrong-exec-requires c κs = (c .before .before .before .before .before .before .pre, c .before .before .before .reach .ensures, omega (arith, c .loop-test .taken, c .before .before .exec-count .ensures, c .before .before .before .before .before .before .pre .within))
+wrong-exec-requires c κs =
+    let entry = c .before .before .before .before .before .before in
+    (entry .pre, c .before .before .before .reach .ensures, omega (arith, c .loop-test .taken, c .before .before .exec-count .ensures, entry .pre .within))
 
--- src/execs.rt:86:9
 add-i : tie.Need-add-i Inv-loop μ-loop
 add-i c = search needs
 
--- src/execs.rt:84:5
 loop-less : tie.Need-loop-less Inv-loop μ-loop
 loop-less c = search needs
 
--- src/execs.rt:84:5
 loop-again : tie.Need-loop-again Inv-loop μ-loop
 loop-again c = walk-on refl (c .before .before .loop .inv) (omega (arith, c .before .loop-test .taken, c .before .before .before .exec-count .ensures)) (c .wrong-exec .ensures)
 
--- src/execs.rt:76:1
 returns : tie.Need-returns Inv-loop μ-loop
 returns c = lowered-as (wrong-execs _ _) (walk-end (c .before .loop .inv) (omega (arith, c .loop-test .left, c .before .before .exec-count .ensures)))
 

@@ -56,32 +56,71 @@ pub +type-faults-spec : {M : Type 1} → statement M
     -- type-node-requires
     (λ c κs. (c .before .before .pre .1 .0 .area, node-there _ _ (c .before .before .pre .1 .0) _ (c .before .before .pre .1 .1)))
     -- returns
-    (λ c. at-unit _ _ (c .before .before .before .before .before .args .pass) _ _ (c .before .before .before .before .before .pre .1) (c .before .before .type-node .ensures) (c .if1 .taken))
+    (λ c.
+    let entry = c .before .before .before .before .before in
+    at-unit _ _ (entry .args .pass) _ _ (entry .pre .1) (c .before .before .type-node .ensures) (c .if1 .taken))
     -- name-faults-requires
     (λ c κs. search needs)
     -- returns-2
-    (λ c. at-name _ _ (c .before .before .before .before .before .before .before .before .args .pass) _ _ (c .before .before .before .before .before .before .before .before .pre .1) (c .before .before .before .before .before .type-node .ensures) (c .before .if2 .taken) (c .name-faults .ensures))
+    (λ c.
+    let entry = c .before .before .before .before .before .before .before .before in
+    at-name _ _ (entry .args .pass) _ _ (entry .pre .1) (c .before .before .before .before .before .type-node .ensures) (c .before .if2 .taken) (c .name-faults .ensures))
     -- type-faults-requires
-    (λ c κs. let p = pair-there _ _ (c .before .before .before .before .before .before .before .before .before .args .pass) _ _ (c .before .before .before .before .before .before .before .before .before .pre .1) (c .before .before .before .before .before .before .type-node .ensures) (c .before .before .before .before .if1 .left) (c .before .before .if2 .left) (c .if3 .taken) in (omega (arith, p .0, c .before .before .before .before .before .before .before .before .before .pre .0), (c .before .before .before .before .before .before .before .before .before .pre .1 .0, p .2)))
+    (λ c κs.
+    let after-if1 = c .before .before .before .before in
+    let entry = after-if1 .before .before .before .before .before in
+    let p = pair-there _ _ (entry .args .pass) _ _ (entry .pre .1) (after-if1 .before .before .type-node .ensures) (after-if1 .if1 .left) (c .before .before .if2 .left) (c .if3 .taken) in
+    (omega (arith, p .0, entry .pre .0), (entry .pre .1 .0, p .2)))
     -- type-faults-requires-2
-    (λ c κs. let p = pair-there _ _ (c .before .before .before .before .before .before .before .before .before .before .args .pass) _ _ (c .before .before .before .before .before .before .before .before .before .before .pre .1) (c .before .before .before .before .before .before .before .type-node .ensures) (c .before .before .before .before .before .if1 .left) (c .before .before .before .if2 .left) (c .before .if3 .taken) in (omega (arith, p .1, c .before .before .before .before .before .before .before .before .before .before .pre .0), (c .before .before .before .before .before .before .before .before .before .before .pre .1 .0, p .3)))
+    (λ c κs.
+    let after-if1 = c .before .before .before .before .before in
+    let entry = after-if1 .before .before .before .before .before in
+    let p = pair-there _ _ (entry .args .pass) _ _ (entry .pre .1) (after-if1 .before .before .type-node .ensures) (after-if1 .if1 .left) (c .before .before .before .if2 .left) (c .before .if3 .taken) in
+    (omega (arith, p .1, entry .pre .0), (entry .pre .1 .0, p .3)))
     -- returns-3
-    (λ c. lowered-as (pair-there _ _ (c .before .before .before .before .before .before .before .before .before .before .before .args .pass) _ _ (c .before .before .before .before .before .before .before .before .before .before .before .pre .1) (c .before .before .before .before .before .before .before .before .type-node .ensures) (c .before .before .before .before .before .before .if1 .left) (c .before .before .before .before .if2 .left) (c .before .before .if3 .taken) .4) (lowered-then (c .before .type-faults .ensures) (c .type-faults2 .ensures)))
+    (λ c.
+    let after-if1 = c .before .before .before .before .before .before in
+    let entry = after-if1 .before .before .before .before .before in
+    lowered-as (pair-there _ _ (entry .args .pass) _ _ (entry .pre .1) (after-if1 .before .before .type-node .ensures) (after-if1 .if1 .left) (c .before .before .before .before .if2 .left) (c .before .before .if3 .taken) .4) (lowered-then (c .before .type-faults .ensures) (c .type-faults2 .ensures)))
     -- list-faults-requires
-    (λ c κs. let a = choice-there _ _ (c .before .before .before .before .before .before .before .before .before .args .pass) _ _ (c .before .before .before .before .before .before .before .before .before .pre .1) (c .before .before .before .before .before .before .type-node .ensures) (c .if3 .left) .0 in (c .before .before .before .before .before .before .before .before .before .pre .1 .0, alternatives-fit _ _ (c .before .before .before .before .before .before .before .before .before .pre .1 .0) _ _ _ a))
+    (λ c κs.
+    let entry = c .before .before .before .before .before .before .before .before .before in
+    let a = choice-there _ _ (entry .args .pass) _ _ (entry .pre .1) (c .before .before .before .before .before .before .type-node .ensures) (c .if3 .left) .0 in
+    (entry .pre .1 .0, alternatives-fit _ _ (entry .pre .1 .0) _ _ _ a))
     -- loop-holds
     (λ c. walk-start)
     -- sub-alternative
-    (λ c. let a = choice-there _ _ (c .before .before .before .before .before .before .before .before .before .before .before .before .args .pass) _ _ (c .before .before .before .before .before .before .before .before .before .before .before .before .pre .1) (c .before .before .before .before .before .before .before .before .before .type-node .ensures) (c .before .before .before .if3 .left) .0 in omega (arith, c .loop-test .taken, alternatives-fit _ _ (c .before .before .before .before .before .before .before .before .before .before .before .before .pre .1 .0) _ _ _ a))
+    (λ c.
+    let after-type-node = c .before .before .before .before .before .before .before .before .before in
+    let entry = after-type-node .before .before .before in
+    let a = choice-there _ _ (entry .args .pass) _ _ (entry .pre .1) (after-type-node .type-node .ensures) (c .before .before .before .if3 .left) .0 in
+    omega (arith, c .loop-test .taken, alternatives-fit _ _ (entry .pre .1 .0) _ _ _ a))
     -- alternative-requires
-    (λ c κs. let a = choice-there _ _ (c .before .before .before .before .before .before .before .before .before .before .before .before .args .pass) _ _ (c .before .before .before .before .before .before .before .before .before .before .before .before .pre .1) (c .before .before .before .before .before .before .before .before .before .type-node .ensures) (c .before .before .before .if3 .left) .0 in let f = alternatives-fit _ _ (c .before .before .before .before .before .before .before .before .before .before .before .before .pre .1 .0) _ _ _ a in (c .before .before .before .before .before .before .before .before .before .before .before .before .pre .1 .0 .area, omega (arith, c .loop-test .taken, f), omega (arith, c .loop-test .taken, f)))
+    (λ c κs.
+    let after-type-node = c .before .before .before .before .before .before .before .before .before in
+    let entry = after-type-node .before .before .before in
+    let a = choice-there _ _ (entry .args .pass) _ _ (entry .pre .1) (after-type-node .type-node .ensures) (c .before .before .before .if3 .left) .0 in
+    let f = alternatives-fit _ _ (entry .pre .1 .0) _ _ _ a in
+    (entry .pre .1 .0 .area, omega (arith, c .loop-test .taken, f), omega (arith, c .loop-test .taken, f)))
     -- type-faults-requires-3
-    (λ c κs. let a = choice-there _ _ (c .before .before .before .before .before .before .before .before .before .before .before .before .before .args .pass) _ _ (c .before .before .before .before .before .before .before .before .before .before .before .before .before .pre .1) (c .before .before .before .before .before .before .before .before .before .before .type-node .ensures) (c .before .before .before .before .if3 .left) .0 in let f = alternative-first _ _ (c .before .before .before .before .before .before .before .before .before .before .before .before .before .pre .1 .0) _ _ _ a _ (c .before .loop-test .taken) (c .alternative .ensures) in (omega (arith, f .smaller, c .before .before .before .before .before .before .before .before .before .before .before .before .before .pre .0), (c .before .before .before .before .before .before .before .before .before .before .before .before .before .pre .1 .0, f .type)))
+    (λ c κs.
+    let after-type-node = c .before .before .before .before .before .before .before .before .before .before in
+    let entry = after-type-node .before .before .before in
+    let a = choice-there _ _ (entry .args .pass) _ _ (entry .pre .1) (after-type-node .type-node .ensures) (c .before .before .before .before .if3 .left) .0 in
+    let f = alternative-first _ _ (entry .pre .1 .0) _ _ _ a _ (c .before .loop-test .taken) (c .alternative .ensures) in
+    (omega (arith, f .smaller, entry .pre .0), (entry .pre .1 .0, f .type)))
     -- add-k
     (λ c. search needs)
     -- loop-less
     (λ c. search needs)
     -- loop-again
-    (λ c. walk-on refl (c .before .before .before .loop .inv) (c .before .before .loop-test .taken) (alternative-walked _ _ (c .before .before .before .before .before .before .before .before .before .before .before .before .before .before .args .pass) (c .before .before .before .before .before .before .before .before .before .before .before .type-node .result .first) (c .before .before .before .loop .k) (c .before .alternative .ensures) (c .type-faults3 .ensures)))
+    (λ c.
+    let loop = c .before .before .before .loop in
+    let after-type-node = c .before .before .before .before .before .before .before .before .before .before .before in
+    let entry = after-type-node .before .before .before in
+    walk-on refl (loop .inv) (c .before .before .loop-test .taken) (alternative-walked _ _ (entry .args .pass) (after-type-node .type-node .result .first) (loop .k) (c .before .alternative .ensures) (c .type-faults3 .ensures)))
     -- returns-4
-    (λ c. lowered-as (choice-there _ _ (c .before .before .before .before .before .before .before .before .before .before .before .before .args .pass) _ _ (c .before .before .before .before .before .before .before .before .before .before .before .before .pre .1) (c .before .before .before .before .before .before .before .before .before .type-node .ensures) (c .before .before .before .if3 .left) .1) (lowered-then (c .before .before .list-faults .ensures) (walk-end (c .before .loop .inv) (c .loop-test .left))))
+    (λ c.
+    let after-type-node = c .before .before .before .before .before .before .before .before .before in
+    let entry = after-type-node .before .before .before in
+    lowered-as (choice-there _ _ (entry .args .pass) _ _ (entry .pre .1) (after-type-node .type-node .ensures) (c .before .before .before .if3 .left) .1) (lowered-then (c .before .before .list-faults .ensures) (walk-end (c .before .loop .inv) (c .loop-test .left))))

@@ -3,23 +3,18 @@ use borrow.Author.Needs.{needs}
 use Rattle.check_declarations.proofs.faults.list_faults.Statement.{statement}
 use Rattle.check_declarations.proofs.faults.list_faults.Tie as tie
 
--- src/faults.rt:77:27
 enum-told : tie.Need-enum-told
 enum-told c = search needs
 
--- src/faults.rt:77:27
 repeated-names-requires : tie.Need-repeated-names-requires
 repeated-names-requires c κs = search needs
 
--- src/faults.rt:78:28
 enum-told-2 : tie.Need-enum-told-2
 enum-told-2 c = search needs
 
--- src/faults.rt:65:1
 returns : tie.Need-returns
 returns c = names-repeated _ (c .before .enum-told .given .1) (c .repeated-names .ensures)
 
--- src/faults.rt:65:1
 returns-2 : tie.Need-returns-2
 returns-2 c = names-passed _ (c .enum-told2 .given .1)
 

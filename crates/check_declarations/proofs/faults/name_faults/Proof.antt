@@ -3,23 +3,18 @@ use borrow.Author.Needs.{needs}
 use Rattle.check_declarations.proofs.faults.name_faults.Statement.{statement}
 use Rattle.check_declarations.proofs.faults.name_faults.Tie as tie
 
--- src/faults.rt:59:27
 enum-told : tie.Need-enum-told
 enum-told c = search needs
 
--- src/faults.rt:60:28
 enum-told-2 : tie.Need-enum-told-2
 enum-told-2 c = search needs
 
--- src/faults.rt:60:28
 undefined-type-requires : tie.Need-undefined-type-requires
 undefined-type-requires c κs = search needs
 
--- src/faults.rt:54:1
 returns : tie.Need-returns
 returns c = name-passed _ _ (c .enum-told .given .1)
 
--- src/faults.rt:54:1
 returns-2 : tie.Need-returns-2
 returns-2 c = name-sought _ _ (c .before .enum-told2 .given .1) (c .undefined-type .ensures)
 

@@ -3,26 +3,21 @@ use borrow.Author.Needs.{needs}
 use Rattle.check_declarations.proofs.faults.undefined_process.Statement.{statement}
 use Rattle.check_declarations.proofs.faults.undefined_process.Tie as tie
 
--- src/faults.rt:46:9
 find-process-requires : tie.Need-find-process-requires
 find-process-requires c κs = search needs
 
 enum-told : tie.Need-enum-told
 enum-told c = search needs
 
--- src/faults.rt:48:9
 enum-told-2 : tie.Need-enum-told-2
 enum-told-2 c = search needs
 
--- src/faults.rt:48:9
 lowered-requires : tie.Need-lowered-requires
 lowered-requires c κs = search needs
 
--- src/faults.rt:48:9
 returns : tie.Need-returns
 returns c = name-undefined _ _ (c .before .before .before .find-process .ensures) (c .before .enum-told2 .given .1) (c .lowered .ensures)
 
--- src/faults.rt:42:1
 returns-2 : tie.Need-returns-2
 returns-2 c = name-defined _ _ (c .before .before .find-process .ensures) (c .enum-told .given .1)
 

@@ -4,23 +4,18 @@ use Rattle.check_declarations.specs.Lowest.{under-nothing, under-lower, 
 use Rattle.check_declarations.proofs.lowest.lowered.Statement.{statement}
 use Rattle.check_declarations.proofs.lowest.lowered.Tie as tie
 
--- src/lowest.rt:22:20
 enum-known-low : tie.Need-enum-known-low
 enum-known-low c = search needs
 
--- src/lowest.rt:23:9
 enum-told : tie.Need-enum-told
 enum-told c = search needs
 
--- src/lowest.rt:23:9
 returns : tie.Need-returns
 returns c = under-nothing (c .enum-told .given .1)
 
--- src/lowest.rt:26:9
 returns-2 : tie.Need-returns-2
 returns-2 c = under-lower (c .before .before .low .given .1) (lt-ltb _ _ (c .if1 .taken))
 
--- src/lowest.rt:19:1
 returns-3 : tie.Need-returns-3
 returns-3 c = under-higher (c .before .before .low .given .1) (le-ltb _ _ (c .if1 .left))
 

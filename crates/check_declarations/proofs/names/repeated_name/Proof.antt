@@ -4,23 +4,18 @@ use borrow.Author.Needs.{needs}
 use Rattle.check_declarations.proofs.names.repeated_name.Statement.{statement}
 use Rattle.check_declarations.proofs.names.repeated_name.Tie as tie
 
--- src/names.rt:117:8
 seen-before-requires : tie.Need-seen-before-requires
 seen-before-requires c κs = search needs
 
--- src/names.rt:118:13
 name-at-requires : tie.Need-name-at-requires
 name-at-requires c κs = search needs
 
--- src/names.rt:119:9
 lowered-requires : tie.Need-lowered-requires
 lowered-requires c κs = search needs
 
--- src/names.rt:119:9
 returns : tie.Need-returns
 returns c = repeat-seen _ _ (c .before .before .before .seen-before .ensures) (c .before .before .if1 .taken) (sym (ap (λ x. x .at) (c .before .name-at .ensures .is _))) (c .lowered .ensures)
 
--- src/names.rt:106:1
 returns-2 : tie.Need-returns-2
 returns-2 c = repeat-new _ _ (c .before .seen-before .ensures) (c .if1 .left)
 

@@ -13,27 +13,23 @@ Inv-loop text scratch names count l₀ j₀ l j = Walking (repeatAt (nameOf text
 abbrev μ-loop : tie.MeasureT-loop
 μ-loop text scratch names count l₀ j₀ l j = count - j
 
--- src/names.rt:137:5
 loop-holds : tie.Need-loop-holds Inv-loop μ-loop
 loop-holds c = walk-start
 
--- src/names.rt:138:9
 repeated-name-requires : tie.Need-repeated-name-requires Inv-loop μ-loop
-repeated-name-requires c κs = (c .before .before .before .before .pre .0, fits-less (c .before .before .before .before .args .names) (c .before .loop .j + 1) (c .before .before .before .before .args .count) (omega (arith, c .loop-test .taken)) (c .before .before .before .before .pre .1))
+repeated-name-requires c κs =
+    let entry = c .before .before .before .before in
+    (entry .pre .0, fits-less (entry .args .names) (c .before .loop .j + 1) (entry .args .count) (omega (arith, c .loop-test .taken)) (entry .pre .1))
 
--- src/names.rt:139:9
 add-j : tie.Need-add-j Inv-loop μ-loop
 add-j c = search needs
 
--- src/names.rt:137:5
 loop-less : tie.Need-loop-less Inv-loop μ-loop
 loop-less c = search needs
 
--- src/names.rt:137:5
 loop-again : tie.Need-loop-again Inv-loop μ-loop
 loop-again c = walk-on refl (c .before .before .loop .inv) (c .before .loop-test .taken) (c .repeated-name .ensures)
 
--- src/names.rt:125:1
 returns : tie.Need-returns Inv-loop μ-loop
 returns c = repeats-numbered _ _ (c .before .loop .inv) (c .loop-test .left)
 

@@ -3,19 +3,15 @@ use borrow.Author.Needs.{needs}
 use Rattle.check_declarations.proofs.names.same_names.Statement.{statement}
 use Rattle.check_declarations.proofs.names.same_names.Tie as tie
 
--- src/names.rt:85:9
 name-at-requires : tie.Need-name-at-requires
 name-at-requires c κs = search needs
 
--- src/names.rt:86:9
 name-at-requires-2 : tie.Need-name-at-requires-2
 name-at-requires-2 c κs = search needs
 
--- src/names.rt:87:5
 names-equal-requires : tie.Need-names-equal-requires
 names-equal-requires c κs = search needs
 
--- src/names.rt:81:1
 returns : tie.Need-returns
 returns c = compared _ (c .before .before .name-at .ensures) (c .before .name-at2 .ensures) (c .names-equal .ensures)
 

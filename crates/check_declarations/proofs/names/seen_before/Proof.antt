@@ -11,31 +11,26 @@ Inv-loop text scratch names j k₀ k = Seeking (nameOf text scratch names) (name
 abbrev μ-loop : tie.MeasureT-loop
 μ-loop text scratch names j k₀ k = k
 
--- src/names.rt:96:5
 loop-holds : tie.Need-loop-holds Inv-loop μ-loop
 loop-holds c = seek-start
 
--- src/names.rt:97:9
 sub-k : tie.Need-sub-k Inv-loop μ-loop
 sub-k c = search needs
 
--- src/names.rt:98:12
 same-names-requires : tie.Need-same-names-requires Inv-loop μ-loop
-same-names-requires c κs = (c .before .before .before .before .pre .0, c .before .before .before .before .pre .1, fits-less (c .before .before .before .before .args .names) (c .before .loop .k - 1 + 1) (c .before .before .before .before .args .j + 1) (omega (arith, c .loop-test .taken, c .before .loop .inv .upto)) (c .before .before .before .before .pre .1))
+same-names-requires c κs =
+    let entry = c .before .before .before .before in
+    (entry .pre .0, entry .pre .1, fits-less (entry .args .names) (c .before .loop .k - 1 + 1) (entry .args .j + 1) (omega (arith, c .loop-test .taken, c .before .loop .inv .upto)) (entry .pre .1))
 
--- src/names.rt:99:13
 returns : tie.Need-returns Inv-loop μ-loop
 returns c = seek-found (c .before .before .before .loop .inv) (c .before .before .loop-test .taken) (c .before .same-names .ensures) (c .if1 .taken)
 
--- src/names.rt:96:5
 loop-less : tie.Need-loop-less Inv-loop μ-loop
 loop-less c = search needs
 
--- src/names.rt:96:5
 loop-again : tie.Need-loop-again Inv-loop μ-loop
 loop-again c = seek-on (c .before .before .before .loop .inv) (c .before .before .loop-test .taken) (c .before .same-names .ensures) (c .if1 .left)
 
--- src/names.rt:91:1
 returns-2 : tie.Need-returns-2 Inv-loop μ-loop
 returns-2 c = seek-end (c .before .loop .inv) (c .loop-test .left)
 

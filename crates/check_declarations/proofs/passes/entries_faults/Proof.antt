@@ -14,35 +14,31 @@ Inv-loop text scratch pass i n l₀ k₀ l k = Walking (entryFaults text scratch
 abbrev μ-loop : tie.MeasureT-loop
 μ-loop text scratch pass i n l₀ k₀ l k = n - k
 
--- src/passes.rt:40:5
 loop-holds : tie.Need-loop-holds Inv-loop μ-loop
 loop-holds c = walk-start
 
--- src/passes.rt:41:32
 add-entry : tie.Need-add-entry Inv-loop μ-loop
 add-entry c = omega (arith, c .loop-test .taken, entries-fit _ _ (c .before .before .before .before .pre .0) _ _ (c .before .before .before .before .pre .1) (omega (arith, c .loop-test .taken)))
 
--- src/passes.rt:41:13
 entry-requires : tie.Need-entry-requires Inv-loop μ-loop
-entry-requires c κs = (c .before .before .before .before .pre .0 .area, omega (arith, c .loop-test .taken, entries-fit _ _ (c .before .before .before .before .pre .0) _ _ (c .before .before .before .before .pre .1) (omega (arith, c .loop-test .taken))))
+entry-requires c κs =
+    let entry = c .before .before .before .before in
+    (entry .pre .0 .area, omega (arith, c .loop-test .taken, entries-fit _ _ (entry .pre .0) _ _ (entry .pre .1) (omega (arith, c .loop-test .taken))))
 
--- src/passes.rt:42:9
 type-faults-requires : tie.Need-type-faults-requires Inv-loop μ-loop
-type-faults-requires c κs = (c .before .before .before .before .before .pre .0, entry-first _ _ (c .before .before .before .before .before .pre .0) _ _ (c .before .before .before .before .before .pre .1) _ (c .before .loop-test .taken) (c .entry .ensures) .type)
+type-faults-requires c κs =
+    let entry = c .before .before .before .before .before in
+    (entry .pre .0, entry-first _ _ (entry .pre .0) _ _ (entry .pre .1) _ (c .before .loop-test .taken) (c .entry .ensures) .type)
 
--- src/passes.rt:43:9
 add-k : tie.Need-add-k Inv-loop μ-loop
 add-k c = search needs
 
--- src/passes.rt:40:5
 loop-less : tie.Need-loop-less Inv-loop μ-loop
 loop-less c = search needs
 
--- src/passes.rt:40:5
 loop-again : tie.Need-loop-again Inv-loop μ-loop
 loop-again c = walk-on refl (c .before .before .before .loop .inv) (c .before .before .loop-test .taken) (entry-walked _ _ (c .before .before .before .before .before .before .args .pass) _ (c .before .before .before .loop .k) (c .before .entry .ensures) (c .type-faults .ensures))
 
--- src/passes.rt:27:1
 returns : tie.Need-returns Inv-loop μ-loop
 returns c = lowered-as (entries-over _ _ (c .before .before .before .before .args .pass) _ _) (walk-end (c .before .loop .inv) (c .loop-test .left))
 

@@ -15,31 +15,24 @@ Inv-loop text scratch pass n l₀ i₀ l i = Walking (λ j. declarationFaults pa
 abbrev μ-loop : tie.MeasureT-loop
 μ-loop text scratch pass n l₀ i₀ l i = n - i
 
--- src/passes.rt:82:9
 process-count-requires : tie.Need-process-count-requires Inv-loop μ-loop
 process-count-requires c κs = search needs
 
--- src/passes.rt:85:5
 loop-holds : tie.Need-loop-holds Inv-loop μ-loop
 loop-holds c = walk-start
 
--- src/passes.rt:86:9
 signature-faults-requires : tie.Need-signature-faults-requires Inv-loop μ-loop
 signature-faults-requires c κs = (c .before .before .before .before .before .pre, omega (arith, c .loop-test .taken, c .before .before .process-count .ensures))
 
--- src/passes.rt:87:9
 add-i : tie.Need-add-i Inv-loop μ-loop
 add-i c = search needs
 
--- src/passes.rt:85:5
 loop-less : tie.Need-loop-less Inv-loop μ-loop
 loop-less c = search needs
 
--- src/passes.rt:85:5
 loop-again : tie.Need-loop-again Inv-loop μ-loop
 loop-again c = walk-on refl (c .before .before .loop .inv) (omega (arith, c .before .loop-test .taken, c .before .before .before .process-count .ensures)) (c .signature-faults .ensures)
 
--- src/passes.rt:78:1
 returns : tie.Need-returns Inv-loop μ-loop
 returns c = walk-end (c .before .loop .inv) (omega (arith, c .loop-test .left, c .before .before .process-count .ensures))
 

@@ -6,35 +6,39 @@ use borrow.Author.Needs.{needs}
 use Rattle.check_declarations.proofs.passes.signature_faults.Statement.{statement}
 use Rattle.check_declarations.proofs.passes.signature_faults.Tie as tie
 
--- src/passes.rt:53:9
 declared-process-requires : tie.Need-declared-process-requires
 declared-process-requires c κs = search needs
 
--- src/passes.rt:55:53
 add-list-faults : tie.Need-add-list-faults
-add-list-faults c = omega (arith, names-room _ _ (c .before .before .before .before .pre .0) (c .before .declared-process .ensures .stands _ (c .before .before .before .before .pre .0) (c .before .before .before .before .pre .1)))
+add-list-faults c =
+    let entry = c .before .before .before .before in
+    omega (arith, names-room _ _ (entry .pre .0) (c .before .declared-process .ensures .stands _ (entry .pre .0) (entry .pre .1)))
 
--- src/passes.rt:55:9
 list-faults-requires : tie.Need-list-faults-requires
-list-faults-requires c κs = (c .before .before .before .before .pre .0, signature-fits _ _ (c .before .before .before .before .pre .0) (c .before .declared-process .ensures .stands _ (c .before .before .before .before .pre .0) (c .before .before .before .before .pre .1)))
+list-faults-requires c κs =
+    let entry = c .before .before .before .before in
+    (entry .pre .0, signature-fits _ _ (entry .pre .0) (c .before .declared-process .ensures .stands _ (entry .pre .0) (entry .pre .1)))
 
--- src/passes.rt:56:9
 entries-faults-requires : tie.Need-entries-faults-requires
-entries-faults-requires c κs = (c .before .before .before .before .before .pre .0, (c .before .before .declared-process .ensures .stands _ (c .before .before .before .before .before .pre .0) (c .before .before .before .before .before .pre .1)) .provides)
+entries-faults-requires c κs =
+    let entry = c .before .before .before .before .before in
+    (entry .pre .0, (c .before .before .declared-process .ensures .stands _ (entry .pre .0) (entry .pre .1)) .provides)
 
--- src/passes.rt:57:49
 add-entries-faults : tie.Need-add-entries-faults
-add-entries-faults c = ⊎-elim (λ h. omega (arith, h)) (λ h. omega (arith, h)) (provided-room _ _ (c .before .before .before .before .before .before .before .pre .0) (c .before .before .before .before .declared-process .ensures .stands _ (c .before .before .before .before .before .before .before .pre .0) (c .before .before .before .before .before .before .before .pre .1)))
+add-entries-faults c =
+    let entry = c .before .before .before .before .before .before .before in
+    ⊎-elim (λ h. omega (arith, h)) (λ h. omega (arith, h)) (provided-room _ _ (entry .pre .0) (c .before .before .before .before .declared-process .ensures .stands _ (entry .pre .0) (entry .pre .1)))
 
--- src/passes.rt:57:9
 entries-faults-requires-2 : tie.Need-entries-faults-requires-2
-entries-faults-requires-2 c κs = (c .before .before .before .before .before .before .before .pre .0, (c .before .before .before .before .declared-process .ensures .stands _ (c .before .before .before .before .before .before .before .pre .0) (c .before .before .before .before .before .before .before .pre .1)) .uses)
+entries-faults-requires-2 c κs =
+    let entry = c .before .before .before .before .before .before .before in
+    (entry .pre .0, (c .before .before .before .before .declared-process .ensures .stands _ (entry .pre .0) (entry .pre .1)) .uses)
 
--- src/passes.rt:58:5
 process-faults-requires : tie.Need-process-faults-requires
-process-faults-requires c κs = (c .before .before .before .before .before .before .before .before .pre .0, (c .before .before .before .before .before .declared-process .ensures .stands _ (c .before .before .before .before .before .before .before .before .pre .0) (c .before .before .before .before .before .before .before .before .pre .1)) .body)
+process-faults-requires c κs =
+    let entry = c .before .before .before .before .before .before .before .before in
+    (entry .pre .0, (c .before .before .before .before .before .declared-process .ensures .stands _ (entry .pre .0) (entry .pre .1)) .body)
 
--- src/passes.rt:49:1
 returns : tie.Need-returns
 returns c = process-walked _ _ (c .before .before .before .before .before .before .before .before .before .args .pass) (c .before .before .before .before .before .before .declared-process .ensures) (lowered-then (c .before .before .before .before .list-faults .ensures) (lowered-then (c .before .before .before .entries-faults .ensures) (lowered-then (c .before .entries-faults2 .ensures) (c .process-faults .ensures))))
 

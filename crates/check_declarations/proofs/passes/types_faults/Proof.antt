@@ -15,35 +15,29 @@ Inv-loop text scratch pass n l₀ i₀ l i = Walking (λ j. declarationFaults pa
 abbrev μ-loop : tie.MeasureT-loop
 μ-loop text scratch pass n l₀ i₀ l i = n - i
 
--- src/passes.rt:66:9
 type-count-requires : tie.Need-type-count-requires Inv-loop μ-loop
 type-count-requires c κs = search needs
 
--- src/passes.rt:69:5
 loop-holds : tie.Need-loop-holds Inv-loop μ-loop
 loop-holds c = walk-start
 
--- src/passes.rt:70:13
 declared-type-requires : tie.Need-declared-type-requires Inv-loop μ-loop
 declared-type-requires c κs = search needs
 
--- src/passes.rt:71:9
 type-faults-requires : tie.Need-type-faults-requires Inv-loop μ-loop
-type-faults-requires c κs = (c .before .before .before .before .before .before .pre, c .declared-type .ensures .stands _ (c .before .before .before .before .before .before .pre) (omega (arith, c .before .loop-test .taken, c .before .before .before .type-count .ensures)))
+type-faults-requires c κs =
+    let entry = c .before .before .before .before .before .before in
+    (entry .pre, c .declared-type .ensures .stands _ (entry .pre) (omega (arith, c .before .loop-test .taken, c .before .before .before .type-count .ensures)))
 
--- src/passes.rt:72:9
 add-i : tie.Need-add-i Inv-loop μ-loop
 add-i c = search needs
 
--- src/passes.rt:69:5
 loop-less : tie.Need-loop-less Inv-loop μ-loop
 loop-less c = search needs
 
--- src/passes.rt:69:5
 loop-again : tie.Need-loop-again Inv-loop μ-loop
 loop-again c = walk-on refl (c .before .before .before .loop .inv) (omega (arith, c .before .before .loop-test .taken, c .before .before .before .before .type-count .ensures)) (type-walked _ _ (c .before .before .before .before .before .before .before .args .pass) (c .before .declared-type .ensures) (c .type-faults .ensures))
 
--- src/passes.rt:62:1
 returns : tie.Need-returns Inv-loop μ-loop
 returns c = walk-end (c .before .loop .inv) (omega (arith, c .loop-test .left, c .before .before .type-count .ensures))
 

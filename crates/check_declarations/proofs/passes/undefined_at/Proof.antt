@@ -4,19 +4,15 @@ use borrow.Author.Needs.{needs}
 use Rattle.check_declarations.proofs.passes.undefined_at.Statement.{statement}
 use Rattle.check_declarations.proofs.passes.undefined_at.Tie as tie
 
--- src/passes.rt:126:9
 types-faults-requires : tie.Need-types-faults-requires
 types-faults-requires c κs = search needs
 
--- src/passes.rt:127:9
 processes-faults-requires : tie.Need-processes-faults-requires
 processes-faults-requires c κs = search needs
 
--- src/passes.rt:128:5
 undefined-execs-requires : tie.Need-undefined-execs-requires
 undefined-execs-requires c κs = search needs
 
--- src/passes.rt:122:1
 returns : tie.Need-returns
 returns c = lowered-as (undefined-in _ _) (lowered-then (c .before .before .types-faults .ensures) (lowered-then (c .before .processes-faults .ensures) (c .undefined-execs .ensures)))
 

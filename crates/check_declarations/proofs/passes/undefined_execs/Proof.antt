@@ -16,35 +16,27 @@ Inv-loop text scratch n l₀ i₀ l i = Walking (λ j. ownUndefined (programIn t
 abbrev μ-loop : tie.MeasureT-loop
 μ-loop text scratch n l₀ i₀ l i = n - i
 
--- src/passes.rt:97:9
 exec-count-requires : tie.Need-exec-count-requires Inv-loop μ-loop
 exec-count-requires c κs = search needs
 
--- src/passes.rt:100:5
 loop-holds : tie.Need-loop-holds Inv-loop μ-loop
 loop-holds c = walk-start
 
--- src/passes.rt:101:13
 exec-at-requires : tie.Need-exec-at-requires Inv-loop μ-loop
 exec-at-requires c κs = search needs
 
--- src/passes.rt:102:9
 undefined-process-requires : tie.Need-undefined-process-requires Inv-loop μ-loop
 undefined-process-requires c κs = search needs
 
--- src/passes.rt:103:9
 add-i : tie.Need-add-i Inv-loop μ-loop
 add-i c = search needs
 
--- src/passes.rt:100:5
 loop-less : tie.Need-loop-less Inv-loop μ-loop
 loop-less c = search needs
 
--- src/passes.rt:100:5
 loop-again : tie.Need-loop-again Inv-loop μ-loop
 loop-again c = walk-on refl (c .before .before .before .loop .inv) (omega (arith, c .before .before .loop-test .taken, c .before .before .before .before .exec-count .ensures)) (exec-walked _ _ (c .before .exec-at .ensures) (c .undefined-process .ensures))
 
--- src/passes.rt:93:1
 returns : tie.Need-returns Inv-loop μ-loop
 returns c = walk-end (c .before .loop .inv) (omega (arith, c .loop-test .left, c .before .before .exec-count .ensures))
 

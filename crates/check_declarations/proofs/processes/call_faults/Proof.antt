@@ -3,23 +3,18 @@ use borrow.Author.Needs.{needs}
 use Rattle.check_declarations.proofs.processes.call_faults.Statement.{statement}
 use Rattle.check_declarations.proofs.processes.call_faults.Tie as tie
 
--- src/processes.rt:26:27
 enum-told : tie.Need-enum-told
 enum-told c = search needs
 
--- src/processes.rt:27:28
 enum-told-2 : tie.Need-enum-told-2
 enum-told-2 c = search needs
 
--- src/processes.rt:27:28
 undefined-process-requires : tie.Need-undefined-process-requires
 undefined-process-requires c κs = search needs
 
--- src/processes.rt:21:1
 returns : tie.Need-returns
 returns c = call-passed _ _ (c .enum-told .given .1)
 
--- src/processes.rt:21:1
 returns-2 : tie.Need-returns-2
 returns-2 c = call-sought _ _ (c .before .enum-told2 .given .1) (c .undefined-process .ensures)
 

@@ -4,31 +4,30 @@ use borrow.Author.Needs.{needs}
 use Rattle.check_declarations.proofs.processes.node_faults.Statement.{statement}
 use Rattle.check_declarations.proofs.processes.node_faults.Tie as tie
 
--- src/processes.rt:37:9
 type-faults-requires : tie.Need-type-faults-requires
-type-faults-requires c κs = let h = c .before .before .before .before .pre .1 in (c .before .before .before .before .pre .0, spawn-type _ _ (c .before .before .before .before .args .pass) _ _ (c .before .before .before .before .pre .0) (h .1) (h .2) (h .3) (c .if1 .taken))
+type-faults-requires c κs =
+    let entry = c .before .before .before .before in
+    let h = entry .pre .1 in
+    (entry .pre .0, spawn-type _ _ (entry .args .pass) _ _ (entry .pre .0) (h .1) (h .2) (h .3) (c .if1 .taken))
 
--- src/processes.rt:37:9
 returns : tie.Need-returns
 returns c = own-type _ _ (c .before .before .before .before .before .args .pass) _ (c .before .if1 .taken) (c .type-faults .ensures)
 
--- src/processes.rt:41:9
 list-faults-requires : tie.Need-list-faults-requires
-list-faults-requires c κs = let h = c .before .before .before .before .before .before .pre .1 in (c .before .before .before .before .before .before .pre .0, branches-fit _ _ (c .before .before .before .before .before .before .pre .0) _ _ _ (recv-branches _ _ (c .before .before .before .before .before .before .args .pass) _ _ (c .before .before .before .before .before .before .pre .0) (h .1) (h .2) (h .3) (c .if2 .taken)))
+list-faults-requires c κs =
+    let entry = c .before .before .before .before .before .before in
+    let h = entry .pre .1 in
+    (entry .pre .0, branches-fit _ _ (entry .pre .0) _ _ _ (recv-branches _ _ (entry .args .pass) _ _ (entry .pre .0) (h .1) (h .2) (h .3) (c .if2 .taken)))
 
--- src/processes.rt:41:9
 returns-2 : tie.Need-returns-2
 returns-2 c = own-labels _ _ (c .before .before .before .before .before .before .before .args .pass) _ (c .before .if2 .taken) (c .list-faults .ensures)
 
--- src/processes.rt:44:9
 call-faults-requires : tie.Need-call-faults-requires
 call-faults-requires c κs = search needs
 
--- src/processes.rt:44:9
 returns-3 : tie.Need-returns-3
 returns-3 c = own-call _ _ (c .before .before .before .before .before .before .before .before .before .args .pass) _ (c .before .if3 .taken) (c .call-faults .ensures)
 
--- src/processes.rt:32:1
 returns-4 : tie.Need-returns-4
 returns-4 c = own-none _ _ (c .before .before .before .before .before .before .before .before .args .pass) _ (c .before .before .before .before .if1 .left) (c .before .before .if2 .left) (c .if3 .left)
 

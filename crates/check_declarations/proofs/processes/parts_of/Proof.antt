@@ -4,32 +4,26 @@ use Rattle.check_declarations.specs.ProcessFaults.{partsOf}
 use Rattle.check_declarations.proofs.processes.parts_of.Statement.{statement}
 use Rattle.check_declarations.proofs.processes.parts_of.Tie as tie
 
--- src/processes.rt:33:9
 returns : tie.Need-returns
 unfolding partsOf
 returns c = rw (eq-eqb _ _ (c .if1 .taken)) refl
 
--- src/processes.rt:36:9
 returns-2 : tie.Need-returns-2
 unfolding partsOf
 returns-2 c = rw (ne-eqb _ _ (c .before .if1 .left), eq-eqb _ _ (c .if2 .taken)) refl
 
--- src/processes.rt:39:9
 returns-3 : tie.Need-returns-3
 unfolding partsOf
 returns-3 c = rw (ne-eqb _ _ (c .before .before .if1 .left), ne-eqb _ _ (c .before .if2 .left), eq-eqb _ _ (c .if3 .taken)) refl
 
--- src/processes.rt:42:9
 returns-4 : tie.Need-returns-4
 unfolding partsOf
 returns-4 c = rw (ne-eqb _ _ (c .before .before .before .if1 .left), ne-eqb _ _ (c .before .before .if2 .left), ne-eqb _ _ (c .before .if3 .left), eq-eqb _ _ (c .if4 .taken)) refl
 
--- src/processes.rt:45:9
 returns-5 : tie.Need-returns-5
 unfolding partsOf
 returns-5 c = rw (ne-eqb _ _ (c .before .before .before .before .if1 .left), ne-eqb _ _ (c .before .before .before .if2 .left), ne-eqb _ _ (c .before .before .if3 .left), ne-eqb _ _ (c .before .if4 .left), eq-eqb _ _ (c .if5 .taken)) refl
 
--- src/processes.rt:29:1
 returns-6 : tie.Need-returns-6
 unfolding partsOf
 returns-6 c = rw (ne-eqb _ _ (c .before .before .before .before .if1 .left), ne-eqb _ _ (c .before .before .before .if2 .left), ne-eqb _ _ (c .before .before .if3 .left), ne-eqb _ _ (c .before .if4 .left), ne-eqb _ _ (c .if5 .left)) refl

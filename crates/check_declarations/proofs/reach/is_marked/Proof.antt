@@ -14,35 +14,27 @@ Inv-loop text scratch marks at n i₀ i = Testing (isMarked text scratch marks (
 abbrev μ-loop : tie.MeasureT-loop
 μ-loop text scratch marks at n i₀ i = n - i
 
--- src/reach.rt:38:9
 type-count-requires : tie.Need-type-count-requires Inv-loop μ-loop
 type-count-requires c κs = search needs
 
--- src/reach.rt:40:5
 loop-holds : tie.Need-loop-holds Inv-loop μ-loop
 loop-holds c = test-start
 
--- src/reach.rt:41:12
 marked-so-requires : tie.Need-marked-so-requires Inv-loop μ-loop
 marked-so-requires c κs = search needs
 
--- src/reach.rt:42:13
 returns : tie.Need-returns Inv-loop μ-loop
 returns c = test-found (c .before .before .before .loop .inv) (omega (arith, c .before .before .loop-test .taken, c .before .before .before .before .type-count .ensures)) (c .before .marked-so .ensures) (c .if1 .taken) ∙ marked-any _ _ _ _
 
--- src/reach.rt:44:9
 add-i : tie.Need-add-i Inv-loop μ-loop
 add-i c = search needs
 
--- src/reach.rt:40:5
 loop-less : tie.Need-loop-less Inv-loop μ-loop
 loop-less c = search needs
 
--- src/reach.rt:40:5
 loop-again : tie.Need-loop-again Inv-loop μ-loop
 loop-again c = test-on (c .before .before .before .loop .inv) (omega (arith, c .before .before .loop-test .taken, c .before .before .before .before .type-count .ensures)) (c .before .marked-so .ensures) refl (c .if1 .left)
 
--- src/reach.rt:34:1
 returns-2 : tie.Need-returns-2 Inv-loop μ-loop
 returns-2 c = test-end (c .before .loop .inv) (omega (arith, c .loop-test .left, c .before .before .type-count .ensures)) ∙ marked-any _ _ _ _
 

@@ -3,23 +3,18 @@ use borrow.Author.Needs.{needs}
 use Rattle.check_declarations.proofs.reach.marked_so.Statement.{statement}
 use Rattle.check_declarations.proofs.reach.marked_so.Tie as tie
 
--- src/reach.rt:25:8
 array-read-if1 : tie.Need-array-read-if1
 array-read-if1 c = search needs
 
--- src/reach.rt:26:13
 declared-type-requires : tie.Need-declared-type-requires
 declared-type-requires c κs = search needs
 
--- src/reach.rt:28:9
 names-equal-requires : tie.Need-names-equal-requires
 names-equal-requires c κs = search needs
 
--- src/reach.rt:28:9
 returns : tie.Need-returns
 returns c = marked-named _ _ _ _ _ (c .before .before .if1 .taken) (c .before .declared-type .ensures) (c .names-equal .ensures)
 
--- src/reach.rt:21:1
 returns-2 : tie.Need-returns-2
 returns-2 c = marked-not _ _ _ _ _ (c .if1 .left)
 

@@ -12,39 +12,32 @@ Inv-loop text scratch marks n next₀ i₀ next i = Marking text scratch (marked
 abbrev μ-loop : tie.MeasureT-loop
 μ-loop text scratch marks n next₀ i₀ next i = n - i
 
--- src/reach.rt:88:9
 type-count-requires : tie.Need-type-count-requires Inv-loop μ-loop
 type-count-requires c κs = search needs
 
--- src/reach.rt:91:5
 loop-holds : tie.Need-loop-holds Inv-loop μ-loop
 loop-holds c = mark-start (search needs)
 
--- src/reach.rt:92:13
 declared-type-requires : tie.Need-declared-type-requires Inv-loop μ-loop
 declared-type-requires c κs = search needs
 
--- src/reach.rt:93:19
 has-other-requires : tie.Need-has-other-requires Inv-loop μ-loop
-has-other-requires c κs = (c .before .before .before .before .before .before .pre, c .declared-type .ensures .stands _ (c .before .before .before .before .before .before .pre) (omega (arith, c .before .loop-test .taken, c .before .before .before .type-count .ensures)))
+has-other-requires c κs =
+    let entry = c .before .before .before .before .before .before in
+    (entry .pre, c .declared-type .ensures .stands _ (entry .pre) (omega (arith, c .before .loop-test .taken, c .before .before .before .type-count .ensures)))
 
--- src/reach.rt:93:9
 array-write-next : tie.Need-array-write-next Inv-loop μ-loop
 array-write-next c = search needs
 
--- src/reach.rt:94:9
 add-i : tie.Need-add-i Inv-loop μ-loop
 add-i c = search needs
 
--- src/reach.rt:91:5
 loop-less : tie.Need-loop-less Inv-loop μ-loop
 loop-less c = search needs
 
--- src/reach.rt:91:5
 loop-again : tie.Need-loop-again Inv-loop μ-loop
 loop-again c = mark-on (c .before .before .before .loop .i) refl (c .before .before .before .loop .inv) (omega (arith, c .before .before .loop-test .taken, c .before .before .before .before .type-count .ensures)) (search needs) (c .before .declared-type .ensures) (c .has-other .ensures)
 
--- src/reach.rt:84:1
 returns : tie.Need-returns Inv-loop μ-loop
 returns c = mark-end (c .before .loop .inv) (omega (arith, c .loop-test .left, c .before .before .type-count .ensures))
 

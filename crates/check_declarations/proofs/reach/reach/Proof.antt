@@ -12,31 +12,24 @@ Inv-loop text scratch n marks₀ k₀ marks k = Rounds text scratch marks k
 abbrev μ-loop : tie.MeasureT-loop
 μ-loop text scratch n marks₀ k₀ marks k = n - k
 
--- src/reach.rt:104:9
 type-count-requires : tie.Need-type-count-requires Inv-loop μ-loop
 type-count-requires c κs = search needs
 
--- src/reach.rt:107:5
 loop-holds : tie.Need-loop-holds Inv-loop μ-loop
 loop-holds c = rounds-start
 
--- src/reach.rt:108:13
 next-marks-requires : tie.Need-next-marks-requires Inv-loop μ-loop
 next-marks-requires c κs = search needs
 
--- src/reach.rt:110:9
 add-k : tie.Need-add-k Inv-loop μ-loop
 add-k c = search needs
 
--- src/reach.rt:107:5
 loop-less : tie.Need-loop-less Inv-loop μ-loop
 loop-less c = search needs
 
--- src/reach.rt:107:5
 loop-again : tie.Need-loop-again Inv-loop μ-loop
 loop-again c = rounds-on refl (c .before .before .loop .inv) (omega (arith, c .before .loop-test .taken, c .before .before .before .type-count .ensures)) (c .next-marks .ensures)
 
--- src/reach.rt:100:1
 returns : tie.Need-returns Inv-loop μ-loop
 returns c = rounds-end (c .before .loop .inv) (omega (arith, c .loop-test .left, c .before .before .type-count .ensures))
 

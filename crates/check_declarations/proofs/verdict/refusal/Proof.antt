@@ -4,19 +4,15 @@ use borrow.Author.Needs.{needs}
 use Rattle.check_declarations.proofs.verdict.refusal.Statement.{statement}
 use Rattle.check_declarations.proofs.verdict.refusal.Tie as tie
 
--- src/verdict.rt:19:28
 enum-told : tie.Need-enum-told
 enum-told c = search needs
 
--- src/verdict.rt:20:20
 enum-known-low : tie.Need-enum-known-low
 enum-known-low c = search needs
 
--- src/verdict.rt:15:1
 returns : tie.Need-returns
 returns c = search needs
 
--- src/verdict.rt:15:1
 returns-2 : tie.Need-returns-2
 returns-2 c = sym (ap (refusedAt _) (c .before .low .given .1))
 

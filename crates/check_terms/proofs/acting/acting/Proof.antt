@@ -2,7 +2,6 @@ use Rattle.read_tables.specs.Roots.{TypeIn}
 use Rattle.check_contexts.specs.declared.held.Lookup.the-variants as lookups
 use Rattle.check_terms.specs.Acting.{Acts}
 use mathlib.Core.Path.{_≡_, refl, sym, _∙_, ap, subst}
-use denote.Ref.{now}
 use native.Mathlib.Omega.{arith}
 use Rattle.read_tables.specs.Access.{node-there}
 use Rattle.check_contexts.specs.Held.{FoundIn}
@@ -16,37 +15,42 @@ use Rattle.check_contexts.proofs.held.find_end.Reads as find-end-reads
 use Rattle.check_terms.proofs.acting.narrow.Reads as narrow-reads
 use Rattle.check_types.proofs.acting.standing.Reads as standing-reads
 
--- src/acting.rt:41:9
 find-end-requires : tie.Need-find-end-requires
 find-end-requires c κs = c .before .before .pre .1 .many
 
--- src/acting.rt:42:23
 enum-known-f : tie.Need-enum-known-f
 enum-known-f c = search needs
 
--- src/acting.rt:43:9
 enum-told : tie.Need-enum-told
 enum-told c = search needs
 
--- src/acting.rt:43:9
 returns : tie.Need-returns
-returns c = acts-nothing (now (c .before .before .before .before .before .args .text)) (now (c .before .before .before .before .before .args .scratch)) _ _ _ (c .before .before .find-end .ensures) (c .enum-told .given .1)
+returns c =
+    let entry = c .before .before .before .before .before in
+    acts-nothing (entry .args .text .now) (entry .args .scratch .now) _ _ _ (c .before .before .find-end .ensures) (c .enum-told .given .1)
 
--- src/acting.rt:45:9
 wide-requires : tie.Need-wide-requires
 wide-requires c κs = search needs
 
--- src/acting.rt:46:9
 standing-requires : tie.Need-standing-requires
-standing-requires c κs = (c .before .before .before .before .before .before .before .pre .0, subst (TypeIn (now (c .before .before .before .before .before .before .before .args .text)) (now (c .before .before .before .before .before .before .before .args .scratch))) (sym (c .wide .ensures)) ((subst (FoundIn (now (c .before .before .before .before .before .before .before .args .text)) (now (c .before .before .before .before .before .before .before .args .scratch))) (c .before .before .f .given .1) (c .before .before .before .before .find-end .ensures .fits (now (c .before .before .before .before .before .before .before .args .scratch)) (c .before .before .before .before .before .before .before .pre .1))) .0 .type))
+standing-requires c κs =
+    let entry = c .before .before .before .before .before .before .before in
+    let scratch = entry .args .scratch .now in
+    (entry .pre .0, subst (TypeIn (entry .args .text .now) scratch) (sym (c .wide .ensures)) ((subst (FoundIn (entry .args .text .now) scratch) (c .before .before .f .given .1) (c .before .before .before .before .find-end .ensures .fits scratch (entry .pre .1))) .0 .type))
 
--- src/acting.rt:47:9
 narrow-requires : tie.Need-narrow-requires
-narrow-requires c κs = omega (arith, node-there (now (c .before .before .before .before .before .before .before .before .args .text)) (now (c .before .before .before .before .before .before .before .before .args .scratch)) (c .before .before .before .before .before .before .before .before .pre .0) _ (c .standing .ensures .type))
+narrow-requires c κs =
+    let entry = c .before .before .before .before .before .before .before .before in
+    omega (arith, node-there (entry .args .text .now) (entry .args .scratch .now) (entry .pre .0) _ (c .standing .ensures .type))
 
--- src/acting.rt:37:1
 returns-2 : tie.Need-returns-2
-returns-2 c = subst (λ j. Acts (now (c .before .before .before .before .before .before .before .before .before .args .text)) (now (c .before .before .before .before .before .before .before .before .before .args .scratch)) (c .before .before .before .before .before .before .before .before .before .args .h) (c .before .before .before .before .before .before .before .before .before .args .at) (lookups.Found (record { name = c .before .before .before .before .f .given .0 .0 .name; side = c .before .before .before .before .f .given .0 .0 .side; node = j; channel = c .before .before .before .before .f .given .0 .0 .channel }))) (sym (c .narrow .ensures)) (acts-found (now (c .before .before .before .before .before .before .before .before .before .args .text)) (now (c .before .before .before .before .before .before .before .before .before .args .scratch)) _ _ _ (c .before .before .before .before .f .given .0 .0) _ _ (c .before .before .before .before .before .before .find-end .ensures) (c .before .before .before .before .f .given .1) (c .before .before .before .before .before .before .before .before .before .pre .1) (c .before .before .wide .ensures) (c .before .standing .ensures) (node-there (now (c .before .before .before .before .before .before .before .before .before .args .text)) (now (c .before .before .before .before .before .before .before .before .before .args .scratch)) (c .before .before .before .before .before .before .before .before .before .pre .0) _ (c .before .standing .ensures .type)))
+returns-2 c =
+    let after-f = c .before .before .before .before in
+    let f = after-f .f in
+    let entry = after-f .before .before .before .before .before in
+    let text = entry .args .text .now in
+    let scratch = entry .args .scratch .now in
+    subst (λ j. Acts text scratch (entry .args .h) (entry .args .at) (lookups.Found (record { name = f .given .0 .0 .name; side = f .given .0 .0 .side; node = j; channel = f .given .0 .0 .channel }))) (sym (c .narrow .ensures)) (acts-found text scratch _ _ _ (f .given .0 .0) _ _ (after-f .before .before .find-end .ensures) (f .given .1) (entry .pre .1) (c .before .before .wide .ensures) (c .before .standing .ensures) (node-there text scratch (entry .pre .0) _ (c .before .standing .ensures .type)))
 
 pub acting-spec : {M : Type 1} → statement M
 acting-spec =

@@ -6,11 +6,9 @@ use Rattle.check_terms.proofs.acting.is_unit.Reads as reads
 use Rattle.check_terms.proofs.acting.is_unit.Lts as lts
 use Rattle.read_tables.proofs.access.type_node.Reads as type-node-reads
 
--- src/acting.rt:61:9
 type-node-requires : tie.Need-type-node-requires
 type-node-requires c κs = search needs
 
--- src/acting.rt:57:1
 returns : tie.Need-returns
 returns c = unit-of _ _ _ (c .before .type-node .ensures)
 

@@ -1,5 +1,4 @@
 use mathlib.Core.Path.{_≡_, refl, sym, _∙_, ap, subst}
-use denote.Ref.{now}
 use native.Mathlib.Omega.{arith}
 use borrow.Author.Needs.{needs}
 use Prim.Native.Nat.{_-_}
@@ -19,37 +18,36 @@ Inv-loop text from i₀ r₀ i r = Dropping text r₀ from i r
 abbrev μ-loop : tie.MeasureT-loop
 μ-loop text from i₀ r₀ i r = length text - i
 
--- src/calls.rt:136:5
 loop-holds : tie.Need-loop-holds Inv-loop μ-loop
 loop-holds c = drop-start _ _ _ (c .before .pre)
 
--- src/calls.rt:137:13
 next-argument-requires : tie.Need-next-argument-requires Inv-loop μ-loop
 next-argument-requires c κs = search needs
 
--- src/calls.rt:138:28
 enum-known-a : tie.Need-enum-known-a Inv-loop μ-loop
 enum-known-a c = search needs
 
--- src/calls.rt:139:13
 enum-told : tie.Need-enum-told Inv-loop μ-loop
 enum-told c = search needs
 
--- src/calls.rt:139:13
 returns : tie.Need-returns Inv-loop μ-loop
-returns c = drop-end (now (c .before .before .before .before .before .args .text)) (c .before .before .before .before .before .args .h) (c .before .before .before .before .before .args .from) (c .before .before .before .loop .i) (c .before .before .before .loop .r) (c .before .before .before .loop .inv) _ (sym (c .before .before .next-argument .ensures .0) ∙ c .enum-told .given .1)
+returns c =
+    let loop = c .before .before .before .loop in
+    let entry = c .before .before .before .before .before in
+    drop-end (entry .args .text .now) (entry .args .h) (entry .args .from) (loop .i) (loop .r) (loop .inv) _ (sym (c .before .before .next-argument .ensures .0) ∙ c .enum-told .given .1)
 
--- src/calls.rt:141:9
 drop-end-requires : tie.Need-drop-end-requires Inv-loop μ-loop
 drop-end-requires c κs = c .before .before .before .before .loop .inv .many
 
--- src/calls.rt:136:5
 loop-less : tie.Need-loop-less Inv-loop μ-loop
 loop-less c = omega (arith, forward-name _ _ _ _ _ (c .before .before .before .before .next-argument .ensures .1) (c .before .before .a .given .1))
 
--- src/calls.rt:136:5
 loop-again : tie.Need-loop-again Inv-loop μ-loop
-loop-again c = drop-on (now (c .before .before .before .before .before .before .before .args .text)) (c .before .before .before .before .before .before .before .args .h) (c .before .before .before .before .before .before .before .args .from) (c .before .before .before .before .before .loop .i) (c .before .before .before .before .before .loop .r) (c .before .before .before .before .before .loop .inv) (c .before .before .a .given .0 .0) (c .before .before .a .given .0 .1 .0) (sym (c .before .before .before .before .next-argument .ensures .0) ∙ c .before .before .a .given .1) _ (c .drop-end .ensures) (omega (arith, c .drop-end .ensures .few, c .before .before .before .before .before .loop .inv .many))
+loop-again c =
+    let a = c .before .before .a in
+    let loop = c .before .before .before .before .before .loop in
+    let entry = c .before .before .before .before .before .before .before in
+    drop-on (entry .args .text .now) (entry .args .h) (entry .args .from) (loop .i) (loop .r) (loop .inv) (a .given .0 .0) (a .given .0 .1 .0) (sym (c .before .before .before .before .next-argument .ensures .0) ∙ a .given .1) _ (c .drop-end .ensures) (omega (arith, c .drop-end .ensures .few, loop .inv .many))
 
 pub drop-list-spec : {M : Type 1} → statement M
 drop-list-spec =

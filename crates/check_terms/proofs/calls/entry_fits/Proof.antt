@@ -1,5 +1,4 @@
 use mathlib.Core.Path.{_≡_, refl, sym, _∙_, ap, subst}
-use denote.Ref.{now}
 use native.Mathlib.Omega.{arith}
 use borrow.Author.Needs.{needs}
 use Prim.Native.Nat.{_-_}
@@ -16,37 +15,49 @@ use Rattle.check_terms.proofs.calls.entry_fits.Lts as lts
 use Rattle.check_contexts.proofs.held.find_end.Reads as find-end-reads
 use Rattle.check_types.proofs.equality.same_type.Reads as same-type-reads
 
--- src/calls.rt:58:9
 find-end-requires : tie.Need-find-end-requires
 find-end-requires c κs = c .before .before .pre .1 .many
 
--- src/calls.rt:59:23
 enum-known-f : tie.Need-enum-known-f
 enum-known-f c = search needs
 
--- src/calls.rt:60:9
 enum-told : tie.Need-enum-told
 enum-told c = search needs
 
--- src/calls.rt:60:9
 returns : tie.Need-returns
-returns c = entry-absent (now (c .before .before .before .before .before .args .text)) (now (c .before .before .before .before .before .args .scratch)) (c .before .before .before .before .before .args .h) (c .before .before .before .before .before .args .at) (c .before .before .before .before .before .args .side) (c .before .before .before .before .before .args .node) (c .before .before .before .before .before .pre .2) (sees-not (now (c .before .before .before .before .before .args .text)) (now (c .before .before .before .before .before .args .scratch)) (c .before .before .before .before .before .args .h) (c .before .before .before .before .before .args .at) _ (c .before .before .find-end .ensures) (c .enum-told .given .1))
+returns c =
+    let entry = c .before .before .before .before .before in
+    entry-absent (entry .args .text .now) (entry .args .scratch .now) (entry .args .h) (entry .args .at) (entry .args .side) (entry .args .node) (entry .pre .2) (sees-not (entry .args .text .now) (entry .args .scratch .now) (entry .args .h) (entry .args .at) _ (c .before .before .find-end .ensures) (c .enum-told .given .1))
 
--- src/calls.rt:63:9
 returns-2 : tie.Need-returns-2
-returns-2 c = entry-other (now (c .before .before .before .before .before .before .before .before .args .text)) (now (c .before .before .before .before .before .before .before .before .args .scratch)) (c .before .before .before .before .before .before .before .before .args .h) (c .before .before .before .before .before .before .before .before .args .at) (c .before .before .before .before .before .before .before .before .args .side) (c .before .before .before .before .before .before .before .before .args .node) (c .before .before .before .before .before .before .before .before .pre .2) (c .before .before .before .f .given .0 .0) (sees-so (now (c .before .before .before .before .before .before .before .before .args .text)) (now (c .before .before .before .before .before .before .before .before .args .scratch)) (c .before .before .before .before .before .before .before .before .args .h) (c .before .before .before .before .before .before .before .before .args .at) _ (c .before .before .before .f .given .0 .0) (c .before .before .before .before .before .find-end .ensures) (c .before .before .before .f .given .1)) ((end-found (now (c .before .before .before .before .before .before .before .before .args .text)) (now (c .before .before .before .before .before .before .before .before .args .scratch)) _ (c .before .before .before .f .given .0 .0) (c .before .before .before .before .before .find-end .ensures .fits (now (c .before .before .before .before .before .before .before .before .args .scratch)) (c .before .before .before .before .before .before .before .before .pre .1)) (c .before .before .before .f .given .1)) .1) (c .if1 .taken)
+returns-2 c =
+    let f = c .before .before .before .f in
+    let find-end = c .before .before .before .before .before .find-end in
+    let entry = c .before .before .before .before .before .before .before .before in
+    let text = entry .args .text .now in
+    let scratch = entry .args .scratch .now in
+    entry-other text scratch (entry .args .h) (entry .args .at) (entry .args .side) (entry .args .node) (entry .pre .2) (f .given .0 .0) (sees-so text scratch (entry .args .h) (entry .args .at) _ (f .given .0 .0) (find-end .ensures) (f .given .1)) ((end-found text scratch _ (f .given .0 .0) (find-end .ensures .fits scratch (entry .pre .1)) (f .given .1)) .1) (c .if1 .taken)
 
--- src/calls.rt:65:9
 wide-requires : tie.Need-wide-requires
 wide-requires c κs = search needs
 
--- src/calls.rt:66:5
 same-type-requires : tie.Need-same-type-requires
-same-type-requires c κs = (c .before .before .before .before .before .before .before .before .before .pre .0, typed-as (now (c .before .before .before .before .before .before .before .before .before .args .text)) (now (c .before .before .before .before .before .before .before .before .before .args .scratch)) (c .before .before .before .before .f .given .0 .0) _ (c .wide .ensures) ((end-found (now (c .before .before .before .before .before .before .before .before .before .args .text)) (now (c .before .before .before .before .before .before .before .before .before .args .scratch)) _ (c .before .before .before .before .f .given .0 .0) (c .before .before .before .before .before .before .find-end .ensures .fits (now (c .before .before .before .before .before .before .before .before .before .args .scratch)) (c .before .before .before .before .before .before .before .before .before .pre .1)) (c .before .before .before .before .f .given .1)) .0), c .before .before .before .before .before .before .before .before .before .pre .3)
+same-type-requires c κs =
+    let after-f = c .before .before .before .before in
+    let f = after-f .f in
+    let entry = after-f .before .before .before .before .before in
+    let scratch = entry .args .scratch .now in
+    (entry .pre .0, typed-as (entry .args .text .now) scratch (f .given .0 .0) _ (c .wide .ensures) ((end-found (entry .args .text .now) scratch _ (f .given .0 .0) (after-f .before .before .find-end .ensures .fits scratch (entry .pre .1)) (f .given .1)) .0), entry .pre .3)
 
--- src/calls.rt:54:1
 returns-3 : tie.Need-returns-3
-returns-3 c = entry-so (now (c .before .before .before .before .before .before .before .before .before .before .args .text)) (now (c .before .before .before .before .before .before .before .before .before .before .args .scratch)) (c .before .before .before .before .before .before .before .before .before .before .args .h) (c .before .before .before .before .before .before .before .before .before .before .args .at) (c .before .before .before .before .before .before .before .before .before .before .args .side) (c .before .before .before .before .before .before .before .before .before .before .args .node) (c .before .before .before .before .before .before .before .before .before .before .pre .2) (c .before .before .before .before .before .f .given .0 .0) (sees-so (now (c .before .before .before .before .before .before .before .before .before .before .args .text)) (now (c .before .before .before .before .before .before .before .before .before .before .args .scratch)) (c .before .before .before .before .before .before .before .before .before .before .args .h) (c .before .before .before .before .before .before .before .before .before .before .args .at) _ (c .before .before .before .before .before .f .given .0 .0) (c .before .before .before .before .before .before .before .find-end .ensures) (c .before .before .before .before .before .f .given .1)) ((end-found (now (c .before .before .before .before .before .before .before .before .before .before .args .text)) (now (c .before .before .before .before .before .before .before .before .before .before .args .scratch)) _ (c .before .before .before .before .before .f .given .0 .0) (c .before .before .before .before .before .before .before .find-end .ensures .fits (now (c .before .before .before .before .before .before .before .before .before .before .args .scratch)) (c .before .before .before .before .before .before .before .before .before .before .pre .1)) (c .before .before .before .before .before .f .given .1)) .1) (c .before .before .if1 .left) (c .same-type .ensures ∙ ap (λ i. sameType (plainIn (now (c .before .before .before .before .before .before .before .before .before .before .args .text)) (now (c .before .before .before .before .before .before .before .before .before .before .args .scratch)) i) (plainIn (now (c .before .before .before .before .before .before .before .before .before .before .args .text)) (now (c .before .before .before .before .before .before .before .before .before .before .args .scratch)) (c .before .before .before .before .before .before .before .before .before .before .args .node))) (c .before .wide .ensures))
+returns-3 c =
+    let after-f = c .before .before .before .before .before in
+    let f = after-f .f in
+    let find-end = after-f .before .before .find-end in
+    let entry = after-f .before .before .before .before .before in
+    let text = entry .args .text .now in
+    let scratch = entry .args .scratch .now in
+    entry-so text scratch (entry .args .h) (entry .args .at) (entry .args .side) (entry .args .node) (entry .pre .2) (f .given .0 .0) (sees-so text scratch (entry .args .h) (entry .args .at) _ (f .given .0 .0) (find-end .ensures) (f .given .1)) ((end-found text scratch _ (f .given .0 .0) (find-end .ensures .fits scratch (entry .pre .1)) (f .given .1)) .1) (c .before .before .if1 .left) (c .same-type .ensures ∙ ap (λ i. sameType (plainIn text scratch i) (plainIn text scratch (entry .args .node))) (c .before .wide .ensures))
 
 pub entry-fits-spec : {M : Type 1} → statement M
 entry-fits-spec =

@@ -19,41 +19,40 @@ Inv-loop text from i₀ i = Walking text from i (DistinctSoFar text)
 abbrev μ-loop : tie.MeasureT-loop
 μ-loop text from i₀ i = length text - i
 
--- src/calls.rt:100:5
 loop-holds : tie.Need-loop-holds Inv-loop μ-loop
 loop-holds c = walk-start _ _ _ (λ xs. refl)
 
--- src/calls.rt:101:13
 next-argument-requires : tie.Need-next-argument-requires Inv-loop μ-loop
 next-argument-requires c κs = search needs
 
--- src/calls.rt:102:28
 enum-known-a : tie.Need-enum-known-a Inv-loop μ-loop
 enum-known-a c = search needs
 
--- src/calls.rt:103:13
 enum-told : tie.Need-enum-told Inv-loop μ-loop
 enum-told c = search needs
 
--- src/calls.rt:103:13
 returns : tie.Need-returns Inv-loop μ-loop
 returns c = distinct-end (now (c .before .before .before .before .before .args .text)) (c .before .before .before .loop .inv) _ (sym (c .before .before .next-argument .ensures .0) ∙ c .enum-told .given .1)
 
--- src/calls.rt:105:12
 in-list-requires : tie.Need-in-list-requires Inv-loop μ-loop
 in-list-requires c κs = search needs
 
--- src/calls.rt:106:13
 returns-2 : tie.Need-returns-2 Inv-loop μ-loop
-returns-2 c = distinct-not (now (c .before .before .before .before .before .before .before .before .args .text)) (c .before .before .before .before .before .before .loop .inv) (c .before .before .before .a .given .0 .0) (c .before .before .before .a .given .0 .1 .0) (sym (c .before .before .before .before .before .next-argument .ensures .0) ∙ c .before .before .before .a .given .1) _ (c .before .in-list .ensures) (c .if1 .taken)
+returns-2 c =
+    let after-a = c .before .before .before in
+    let a = after-a .a in
+    let entry = after-a .before .before .before .before .before in
+    distinct-not (entry .args .text .now) (after-a .before .before .before .loop .inv) (a .given .0 .0) (a .given .0 .1 .0) (sym (after-a .before .before .next-argument .ensures .0) ∙ a .given .1) _ (c .before .in-list .ensures) (c .if1 .taken)
 
--- src/calls.rt:100:5
 loop-less : tie.Need-loop-less Inv-loop μ-loop
 loop-less c = omega (arith, forward-name _ _ _ _ _ (c .before .before .before .before .before .next-argument .ensures .1) (c .before .before .before .a .given .1))
 
--- src/calls.rt:100:5
 loop-again : tie.Need-loop-again Inv-loop μ-loop
-loop-again c = distinct-on (now (c .before .before .before .before .before .before .before .before .args .text)) (c .before .before .before .before .before .before .loop .inv) (c .before .before .before .a .given .0 .0) (c .before .before .before .a .given .0 .1 .0) (sym (c .before .before .before .before .before .next-argument .ensures .0) ∙ c .before .before .before .a .given .1) _ (c .before .in-list .ensures) (c .if1 .left)
+loop-again c =
+    let after-a = c .before .before .before in
+    let a = after-a .a in
+    let entry = after-a .before .before .before .before .before in
+    distinct-on (entry .args .text .now) (after-a .before .before .before .loop .inv) (a .given .0 .0) (a .given .0 .1 .0) (sym (after-a .before .before .next-argument .ensures .0) ∙ a .given .1) _ (c .before .in-list .ensures) (c .if1 .left)
 
 pub list-distinct-spec : {M : Type 1} → statement M
 list-distinct-spec =

@@ -1,5 +1,4 @@
 use mathlib.Core.Path.{_≡_, refl, sym, _∙_, ap, subst}
-use denote.Ref.{now}
 use native.Mathlib.Omega.{arith}
 use borrow.Author.Needs.{needs}
 use Prim.Native.Nat.{_-_}
@@ -22,57 +21,71 @@ Inv-loop text scratch h from side first n i₀ k₀ m₀ i k m = Fitting text sc
 abbrev μ-loop : tie.MeasureT-loop
 μ-loop text scratch h from side first n i₀ k₀ m₀ i k m = length text - i
 
--- src/calls.rt:77:5
 loop-holds : tie.Need-loop-holds Inv-loop μ-loop
 loop-holds c = fit-start _ _ _ _ _ _ _ (c .before .before .pre .3)
 
--- src/calls.rt:78:13
 next-argument-requires : tie.Need-next-argument-requires Inv-loop μ-loop
 next-argument-requires c κs = search needs
 
--- src/calls.rt:79:28
 enum-known-a : tie.Need-enum-known-a Inv-loop μ-loop
 enum-known-a c = search needs
 
--- src/calls.rt:80:13
 enum-told : tie.Need-enum-told Inv-loop μ-loop
 enum-told c = search needs
 
--- src/calls.rt:80:13
 returns : tie.Need-returns Inv-loop μ-loop
-returns c = fit-end (now (c .before .before .before .before .before .before .args .text)) (now (c .before .before .before .before .before .before .args .scratch)) (c .before .before .before .before .before .before .args .h) (c .before .before .before .before .before .before .args .from) (c .before .before .before .before .before .before .args .side) (c .before .before .before .before .before .before .args .first) (c .before .before .before .before .before .before .args .n) (c .before .before .before .loop .i) (c .before .before .before .loop .k) (c .before .before .before .loop .m) (c .before .before .before .loop .inv) _ (sym (c .before .before .next-argument .ensures .0) ∙ c .enum-told .given .1)
+returns c =
+    let loop = c .before .before .before .loop in
+    let entry = c .before .before .before .before .before .before in
+    fit-end (entry .args .text .now) (entry .args .scratch .now) (entry .args .h) (entry .args .from) (entry .args .side) (entry .args .first) (entry .args .n) (loop .i) (loop .k) (loop .m) (loop .inv) _ (sym (c .before .before .next-argument .ensures .0) ∙ c .enum-told .given .1)
 
--- src/calls.rt:83:13
 returns-2 : tie.Need-returns-2 Inv-loop μ-loop
-returns-2 c = fit-short (now (c .before .before .before .before .before .before .before .before .args .text)) (now (c .before .before .before .before .before .before .before .before .args .scratch)) (c .before .before .before .before .before .before .before .before .args .h) (c .before .before .before .before .before .before .before .before .args .from) (c .before .before .before .before .before .before .before .before .args .side) (c .before .before .before .before .before .before .before .before .args .first) (c .before .before .before .before .before .before .before .before .args .n) (c .before .before .before .before .before .loop .i) (c .before .before .before .before .before .loop .k) (c .before .before .before .before .before .loop .m) (c .before .before .before .before .before .loop .inv) (c .before .before .a .given .0 .0) (c .before .before .a .given .0 .1 .0) (sym (c .before .before .before .before .next-argument .ensures .0) ∙ c .before .before .a .given .1) (c .if1 .taken)
+returns-2 c =
+    let a = c .before .before .a in
+    let loop = c .before .before .before .before .before .loop in
+    let entry = c .before .before .before .before .before .before .before .before in
+    fit-short (entry .args .text .now) (entry .args .scratch .now) (entry .args .h) (entry .args .from) (entry .args .side) (entry .args .first) (entry .args .n) (loop .i) (loop .k) (loop .m) (loop .inv) (a .given .0 .0) (a .given .0 .1 .0) (sym (c .before .before .before .before .next-argument .ensures .0) ∙ a .given .1) (c .if1 .taken)
 
--- src/calls.rt:85:13
 entry-requires : tie.Need-entry-requires Inv-loop μ-loop
-entry-requires c κs = (c .before .before .before .before .before .before .before .before .pre .0 .area, entry-there (now (c .before .before .before .before .before .before .before .before .args .text)) (now (c .before .before .before .before .before .before .before .before .args .scratch)) (c .before .before .before .before .before .before .before .before .pre .0) _ _ (entries-left (now (c .before .before .before .before .before .before .before .before .args .text)) (now (c .before .before .before .before .before .before .before .before .args .scratch)) (c .before .before .before .before .before .before .before .before .args .h) (c .before .before .before .before .before .before .before .before .args .from) (c .before .before .before .before .before .before .before .before .args .side) (c .before .before .before .before .before .before .before .before .args .first) (c .before .before .before .before .before .before .before .before .args .n) (c .before .before .before .before .before .loop .i) (c .before .before .before .before .before .loop .k) (c .before .before .before .before .before .loop .m) (c .before .before .before .before .before .loop .inv) (c .if1 .left)))
+entry-requires c κs =
+    let loop = c .before .before .before .before .before .loop in
+    let entry = c .before .before .before .before .before .before .before .before in
+    (entry .pre .0 .area, entry-there (entry .args .text .now) (entry .args .scratch .now) (entry .pre .0) _ _ (entries-left (entry .args .text .now) (entry .args .scratch .now) (entry .args .h) (entry .args .from) (entry .args .side) (entry .args .first) (entry .args .n) (loop .i) (loop .k) (loop .m) (loop .inv) (c .if1 .left)))
 
--- src/calls.rt:86:13
 entry-fits-requires : tie.Need-entry-fits-requires Inv-loop μ-loop
-entry-fits-requires c κs = (c .before .before .before .before .before .before .before .before .before .pre .0, c .before .before .before .before .before .before .before .before .before .pre .1, c .before .before .before .before .before .before .before .before .before .pre .2, c .entry .ensures .says (now (c .before .before .before .before .before .before .before .before .before .args .text)) _ (entries-left (now (c .before .before .before .before .before .before .before .before .before .args .text)) (now (c .before .before .before .before .before .before .before .before .before .args .scratch)) (c .before .before .before .before .before .before .before .before .before .args .h) (c .before .before .before .before .before .before .before .before .before .args .from) (c .before .before .before .before .before .before .before .before .before .args .side) (c .before .before .before .before .before .before .before .before .before .args .first) (c .before .before .before .before .before .before .before .before .before .args .n) (c .before .before .before .before .before .before .loop .i) (c .before .before .before .before .before .before .loop .k) (c .before .before .before .before .before .before .loop .m) (c .before .before .before .before .before .before .loop .inv) (c .before .if1 .left)) .type)
+entry-fits-requires c κs =
+    let loop = c .before .before .before .before .before .before .loop in
+    let entry = c .before .before .before .before .before .before .before .before .before in
+    (entry .pre .0, entry .pre .1, entry .pre .2, c .entry .ensures .says (entry .args .text .now) _ (entries-left (entry .args .text .now) (entry .args .scratch .now) (entry .args .h) (entry .args .from) (entry .args .side) (entry .args .first) (entry .args .n) (loop .i) (loop .k) (loop .m) (loop .inv) (c .before .if1 .left)) .type)
 
--- src/calls.rt:87:13
 returns-3 : tie.Need-returns-3 Inv-loop μ-loop
-returns-3 c = fit-not (now (c .before .before .before .before .before .before .before .before .before .before .before .args .text)) (now (c .before .before .before .before .before .before .before .before .before .before .before .args .scratch)) (c .before .before .before .before .before .before .before .before .before .before .before .args .h) (c .before .before .before .before .before .before .before .before .before .before .before .args .from) (c .before .before .before .before .before .before .before .before .before .before .before .args .side) (c .before .before .before .before .before .before .before .before .before .before .before .args .first) (c .before .before .before .before .before .before .before .before .before .before .before .args .n) (c .before .before .before .before .before .before .before .before .loop .i) (c .before .before .before .before .before .before .before .before .loop .k) (c .before .before .before .before .before .before .before .before .loop .m) (c .before .before .before .before .before .before .before .before .loop .inv) (c .before .before .before .if1 .left) (c .before .before .entry .result) (c .before .before .entry .ensures) (c .before .before .before .before .before .a .given .0 .0) (c .before .before .before .before .before .a .given .0 .1 .0) (sym (c .before .before .before .before .before .before .before .next-argument .ensures .0) ∙ c .before .before .before .before .before .a .given .1) (sym (c .before .entry-fits .ensures) ∙ not-true _ (c .if2 .taken))
+returns-3 c =
+    let after-a = c .before .before .before .before .before in
+    let a = after-a .a in
+    let loop = after-a .before .before .before .loop in
+    let entry = after-a .before .before .before .before .before .before in
+    fit-not (entry .args .text .now) (entry .args .scratch .now) (entry .args .h) (entry .args .from) (entry .args .side) (entry .args .first) (entry .args .n) (loop .i) (loop .k) (loop .m) (loop .inv) (c .before .before .before .if1 .left) (c .before .before .entry .result) (c .before .before .entry .ensures) (a .given .0 .0) (a .given .0 .1 .0) (sym (after-a .before .before .next-argument .ensures .0) ∙ a .given .1) (sym (c .before .entry-fits .ensures) ∙ not-true _ (c .if2 .taken))
 
--- src/calls.rt:90:9
 add-k : tie.Need-add-k Inv-loop μ-loop
-add-k c = omega (arith, entry-there (now (c .before .before .before .before .before .before .before .before .before .before .before .args .text)) (now (c .before .before .before .before .before .before .before .before .before .before .before .args .scratch)) (c .before .before .before .before .before .before .before .before .before .before .before .pre .0) _ _ (entries-left (now (c .before .before .before .before .before .before .before .before .before .before .before .args .text)) (now (c .before .before .before .before .before .before .before .before .before .before .before .args .scratch)) (c .before .before .before .before .before .before .before .before .before .before .before .args .h) (c .before .before .before .before .before .before .before .before .before .before .before .args .from) (c .before .before .before .before .before .before .before .before .before .before .before .args .side) (c .before .before .before .before .before .before .before .before .before .before .before .args .first) (c .before .before .before .before .before .before .before .before .before .before .before .args .n) (c .before .before .before .before .before .before .before .before .loop .i) (c .before .before .before .before .before .before .before .before .loop .k) (c .before .before .before .before .before .before .before .before .loop .m) (c .before .before .before .before .before .before .before .before .loop .inv) (c .before .before .before .if1 .left)))
+add-k c =
+    let after-loop = c .before .before .before .before .before .before .before .before in
+    let loop = after-loop .loop in
+    let entry = after-loop .before .before .before in
+    omega (arith, entry-there (entry .args .text .now) (entry .args .scratch .now) (entry .pre .0) _ _ (entries-left (entry .args .text .now) (entry .args .scratch .now) (entry .args .h) (entry .args .from) (entry .args .side) (entry .args .first) (entry .args .n) (loop .i) (loop .k) (loop .m) (loop .inv) (c .before .before .before .if1 .left)))
 
--- src/calls.rt:91:9
 sub-m : tie.Need-sub-m Inv-loop μ-loop
 sub-m c = search needs
 
--- src/calls.rt:77:5
 loop-less : tie.Need-loop-less Inv-loop μ-loop
 loop-less c = omega (arith, forward-name _ _ _ _ _ (c .before .before .before .before .before .before .before .next-argument .ensures .1) (c .before .before .before .before .before .a .given .1))
 
--- src/calls.rt:77:5
 loop-again : tie.Need-loop-again Inv-loop μ-loop
-loop-again c = fit-on (now (c .before .before .before .before .before .before .before .before .before .before .before .args .text)) (now (c .before .before .before .before .before .before .before .before .before .before .before .args .scratch)) (c .before .before .before .before .before .before .before .before .before .before .before .args .h) (c .before .before .before .before .before .before .before .before .before .before .before .args .from) (c .before .before .before .before .before .before .before .before .before .before .before .args .side) (c .before .before .before .before .before .before .before .before .before .before .before .args .first) (c .before .before .before .before .before .before .before .before .before .before .before .args .n) (c .before .before .before .before .before .before .before .before .loop .i) (c .before .before .before .before .before .before .before .before .loop .k) (c .before .before .before .before .before .before .before .before .loop .m) (c .before .before .before .before .before .before .before .before .loop .inv) (c .before .before .before .if1 .left) (c .before .before .entry .result) (c .before .before .entry .ensures) (c .before .before .before .before .before .a .given .0 .0) (c .before .before .before .before .before .a .given .0 .1 .0) (sym (c .before .before .before .before .before .before .before .next-argument .ensures .0) ∙ c .before .before .before .before .before .a .given .1) _ _ refl refl (sym (c .before .entry-fits .ensures) ∙ not-false _ (c .if2 .left))
+loop-again c =
+    let after-a = c .before .before .before .before .before in
+    let a = after-a .a in
+    let loop = after-a .before .before .before .loop in
+    let entry = after-a .before .before .before .before .before .before in
+    fit-on (entry .args .text .now) (entry .args .scratch .now) (entry .args .h) (entry .args .from) (entry .args .side) (entry .args .first) (entry .args .n) (loop .i) (loop .k) (loop .m) (loop .inv) (c .before .before .before .if1 .left) (c .before .before .entry .result) (c .before .before .entry .ensures) (a .given .0 .0) (a .given .0 .1 .0) (sym (after-a .before .before .next-argument .ensures .0) ∙ a .given .1) _ _ refl refl (sym (c .before .entry-fits .ensures) ∙ not-false _ (c .if2 .left))
 
 pub list-fits-spec : {M : Type 1} → statement M
 list-fits-spec =

@@ -1,5 +1,4 @@
 use mathlib.Core.Path.{_≡_, refl, sym, _∙_, ap, subst}
-use denote.Ref.{now}
 use native.Mathlib.Omega.{arith}
 use borrow.Author.Needs.{needs}
 use Prim.Native.Nat.{_-_}
@@ -22,49 +21,48 @@ Inv-loop text h from i₀ i = Walking text from i (HeldSoFar text h)
 abbrev μ-loop : tie.MeasureT-loop
 μ-loop text h from i₀ i = length text - i
 
--- src/calls.rt:40:5
 loop-holds : tie.Need-loop-holds Inv-loop μ-loop
 loop-holds c = walk-start _ _ _ (λ xs w. refl)
 
--- src/calls.rt:41:13
 next-argument-requires : tie.Need-next-argument-requires Inv-loop μ-loop
 next-argument-requires c κs = search needs
 
--- src/calls.rt:42:28
 enum-known-a : tie.Need-enum-known-a Inv-loop μ-loop
 enum-known-a c = search needs
 
--- src/calls.rt:43:13
 enum-told : tie.Need-enum-told Inv-loop μ-loop
 enum-told c = search needs
 
--- src/calls.rt:43:13
 returns : tie.Need-returns Inv-loop μ-loop
-returns c = held-end (now (c .before .before .before .before .before .args .text)) (c .before .before .before .before .before .args .h) (c .before .before .before .loop .inv) _ (sym (c .before .before .next-argument .ensures .0) ∙ c .enum-told .given .1)
+returns c =
+    let entry = c .before .before .before .before .before in
+    held-end (entry .args .text .now) (entry .args .h) (c .before .before .before .loop .inv) _ (sym (c .before .before .next-argument .ensures .0) ∙ c .enum-told .given .1)
 
--- src/calls.rt:45:13
 find-end-requires : tie.Need-find-end-requires Inv-loop μ-loop
 find-end-requires c κs = c .before .before .before .before .before .before .pre
 
--- src/calls.rt:46:27
 enum-known-f : tie.Need-enum-known-f Inv-loop μ-loop
 enum-known-f c = search needs
 
--- src/calls.rt:47:13
 enum-told-2 : tie.Need-enum-told-2 Inv-loop μ-loop
 enum-told-2 c = search needs
 
--- src/calls.rt:47:13
 returns-2 : tie.Need-returns-2 Inv-loop μ-loop
-returns-2 c = held-not (now (c .before .before .before .before .before .before .before .before .before .args .text)) (c .before .before .before .before .before .before .before .before .before .args .h) (c .before .before .before .before .before .before .before .loop .inv) (c .before .before .before .before .a .given .0 .0) (c .before .before .before .before .a .given .0 .1 .0) (sym (c .before .before .before .before .before .before .next-argument .ensures .0) ∙ c .before .before .before .before .a .given .1) (λ w. ap isSome (sees-not (now (c .before .before .before .before .before .before .before .before .before .args .text)) w (c .before .before .before .before .before .before .before .before .before .args .h) (c .before .before .before .before .a .given .0 .0) _ (c .before .before .find-end .ensures) (c .enum-told2 .given .1)))
+returns-2 c =
+    let after-a = c .before .before .before .before in
+    let a = after-a .a in
+    let entry = after-a .before .before .before .before .before in
+    held-not (entry .args .text .now) (entry .args .h) (after-a .before .before .before .loop .inv) (a .given .0 .0) (a .given .0 .1 .0) (sym (after-a .before .before .next-argument .ensures .0) ∙ a .given .1) (λ w. ap isSome (sees-not (entry .args .text .now) w (entry .args .h) (a .given .0 .0) _ (c .before .before .find-end .ensures) (c .enum-told2 .given .1)))
 
--- src/calls.rt:40:5
 loop-less : tie.Need-loop-less Inv-loop μ-loop
 loop-less c = omega (arith, forward-name _ _ _ _ _ (c .before .before .before .before .before .before .before .next-argument .ensures .1) (c .before .before .before .before .before .a .given .1))
 
--- src/calls.rt:40:5
 loop-again : tie.Need-loop-again Inv-loop μ-loop
-loop-again c = held-on (now (c .before .before .before .before .before .before .before .before .before .before .args .text)) (c .before .before .before .before .before .before .before .before .before .before .args .h) (c .before .before .before .before .before .before .before .before .loop .inv) (c .before .before .before .before .before .a .given .0 .0) (c .before .before .before .before .before .a .given .0 .1 .0) (sym (c .before .before .before .before .before .before .before .next-argument .ensures .0) ∙ c .before .before .before .before .before .a .given .1) (λ w. ap isSome (sees-so (now (c .before .before .before .before .before .before .before .before .before .before .args .text)) w (c .before .before .before .before .before .before .before .before .before .before .args .h) (c .before .before .before .before .before .a .given .0 .0) _ _ (c .before .before .before .find-end .ensures) (c .before .f .given .1)))
+loop-again c =
+    let after-a = c .before .before .before .before .before in
+    let a = after-a .a in
+    let entry = after-a .before .before .before .before .before in
+    held-on (entry .args .text .now) (entry .args .h) (after-a .before .before .before .loop .inv) (a .given .0 .0) (a .given .0 .1 .0) (sym (after-a .before .before .next-argument .ensures .0) ∙ a .given .1) (λ w. ap isSome (sees-so (entry .args .text .now) w (entry .args .h) (a .given .0 .0) _ _ (c .before .before .before .find-end .ensures) (c .before .f .given .1)))
 
 pub list-held-spec : {M : Type 1} → statement M
 list-held-spec =

@@ -1,5 +1,4 @@
 use mathlib.Core.Path.{_≡_, refl, sym, _∙_, ap, subst}
-use denote.Ref.{now}
 use native.Mathlib.Omega.{arith}
 use borrow.Author.Needs.{needs}
 use Prim.Native.Nat.{_-_}
@@ -19,41 +18,42 @@ Inv-loop text from other i₀ i = Walking text from i (ApartSoFar text other)
 abbrev μ-loop : tie.MeasureT-loop
 μ-loop text from other i₀ i = length text - i
 
--- src/calls.rt:117:5
 loop-holds : tie.Need-loop-holds Inv-loop μ-loop
 loop-holds c = walk-start _ _ _ (λ xs ys rest o. refl)
 
--- src/calls.rt:118:13
 next-argument-requires : tie.Need-next-argument-requires Inv-loop μ-loop
 next-argument-requires c κs = search needs
 
--- src/calls.rt:119:28
 enum-known-a : tie.Need-enum-known-a Inv-loop μ-loop
 enum-known-a c = search needs
 
--- src/calls.rt:120:13
 enum-told : tie.Need-enum-told Inv-loop μ-loop
 enum-told c = search needs
 
--- src/calls.rt:120:13
 returns : tie.Need-returns Inv-loop μ-loop
-returns c = apart-end (now (c .before .before .before .before .before .args .text)) (c .before .before .before .before .before .args .other) (c .before .before .before .loop .inv) _ (sym (c .before .before .next-argument .ensures .0) ∙ c .enum-told .given .1)
+returns c =
+    let entry = c .before .before .before .before .before in
+    apart-end (entry .args .text .now) (entry .args .other) (c .before .before .before .loop .inv) _ (sym (c .before .before .next-argument .ensures .0) ∙ c .enum-told .given .1)
 
--- src/calls.rt:122:12
 in-list-requires : tie.Need-in-list-requires Inv-loop μ-loop
 in-list-requires c κs = search needs
 
--- src/calls.rt:123:13
 returns-2 : tie.Need-returns-2 Inv-loop μ-loop
-returns-2 c = apart-not (now (c .before .before .before .before .before .before .before .before .args .text)) (c .before .before .before .before .before .before .before .before .args .other) (c .before .before .before .before .before .before .loop .inv) (c .before .before .before .a .given .0 .0) (c .before .before .before .a .given .0 .1 .0) (sym (c .before .before .before .before .before .next-argument .ensures .0) ∙ c .before .before .before .a .given .1) _ (c .before .in-list .ensures) (c .if1 .taken)
+returns-2 c =
+    let after-a = c .before .before .before in
+    let a = after-a .a in
+    let entry = after-a .before .before .before .before .before in
+    apart-not (entry .args .text .now) (entry .args .other) (after-a .before .before .before .loop .inv) (a .given .0 .0) (a .given .0 .1 .0) (sym (after-a .before .before .next-argument .ensures .0) ∙ a .given .1) _ (c .before .in-list .ensures) (c .if1 .taken)
 
--- src/calls.rt:117:5
 loop-less : tie.Need-loop-less Inv-loop μ-loop
 loop-less c = omega (arith, forward-name _ _ _ _ _ (c .before .before .before .before .before .next-argument .ensures .1) (c .before .before .before .a .given .1))
 
--- src/calls.rt:117:5
 loop-again : tie.Need-loop-again Inv-loop μ-loop
-loop-again c = apart-on (now (c .before .before .before .before .before .before .before .before .args .text)) (c .before .before .before .before .before .before .before .before .args .other) (c .before .before .before .before .before .before .loop .inv) (c .before .before .before .a .given .0 .0) (c .before .before .before .a .given .0 .1 .0) (sym (c .before .before .before .before .before .next-argument .ensures .0) ∙ c .before .before .before .a .given .1) _ (c .before .in-list .ensures) (c .if1 .left)
+loop-again c =
+    let after-a = c .before .before .before in
+    let a = after-a .a in
+    let entry = after-a .before .before .before .before .before in
+    apart-on (entry .args .text .now) (entry .args .other) (after-a .before .before .before .loop .inv) (a .given .0 .0) (a .given .0 .1 .0) (sym (after-a .before .before .next-argument .ensures .0) ∙ a .given .1) _ (c .before .in-list .ensures) (c .if1 .left)
 
 pub lists-apart-spec : {M : Type 1} → statement M
 lists-apart-spec =

@@ -1,5 +1,4 @@
 use mathlib.Core.Path.{_≡_, refl, sym, _∙_, ap, subst}
-use denote.Ref.{now}
 use native.Mathlib.Omega.{arith}
 use borrow.Author.Needs.{needs}
 use Rattle.check_contexts.specs.Halves.{not-true, not-false}
@@ -12,45 +11,52 @@ use Rattle.read_tables.proofs.access.declared_process.Reads as declared-process
 use Rattle.read_tables.proofs.search.find_process.Reads as find-process-reads
 use Rattle.check_terms.proofs.calls.list_fits.Reads as list-fits-reads
 
--- src/calls.rt:173:9
 find-process-requires : tie.Need-find-process-requires
 find-process-requires c κs = c .before .before .pre .0
 
--- src/calls.rt:174:19
 enum-known-f : tie.Need-enum-known-f
 enum-known-f c = search needs
 
--- src/calls.rt:175:9
 enum-told : tie.Need-enum-told
 enum-told c = search needs
 
--- src/calls.rt:175:9
 returns : tie.Need-returns
-returns c = fits-nothing (now (c .before .before .before .before .before .args .text)) (c .before .before .before .before .before .args .a) (c .before .before .before .before .before .args .b) (now (c .before .before .before .before .before .args .scratch)) (c .before .before .before .before .before .args .h) (c .before .before .before .before .before .args .q) _ (c .before .before .find-process .ensures) (c .enum-told .given .1)
+returns c =
+    let entry = c .before .before .before .before .before in
+    fits-nothing (entry .args .text .now) (entry .args .a) (entry .args .b) (entry .args .scratch .now) (entry .args .h) (entry .args .q) _ (c .before .before .find-process .ensures) (c .enum-told .given .1)
 
--- src/calls.rt:177:9
 declared-process-requires : tie.Need-declared-process-requires
 declared-process-requires c κs = let t = c .before .before .before .before .before .before .pre .0 in (t .area, omega (arith, t .within, c .before .before .before .find-process .ensures .below _ (c .before .f .given .1)))
 
--- src/calls.rt:178:9
 list-fits-requires : tie.Need-list-fits-requires
-list-fits-requires c κs = (c .before .before .before .before .before .before .before .pre .0, c .before .before .before .before .before .before .before .pre .1, omega arith, (signature-there (now (c .before .before .before .before .before .before .before .args .text)) (c .before .before .before .before .before .before .before .args .a) (c .before .before .before .before .before .before .before .args .b) (now (c .before .before .before .before .before .before .before .args .scratch)) (c .before .before .before .before .before .before .before .args .h) (c .before .before .before .before .before .before .before .args .q) _ (c .before .before .before .before .find-process .ensures) (c .before .before .f .given .0 .0) (c .before .before .f .given .1) (c .declared-process .result) (c .declared-process .ensures) (c .before .before .before .before .before .before .before .pre .0)) .provides)
+list-fits-requires c κs =
+    let f = c .before .before .f in
+    let entry = c .before .before .before .before .before .before .before in
+    (entry .pre .0, entry .pre .1, omega arith, (signature-there (entry .args .text .now) (entry .args .a) (entry .args .b) (entry .args .scratch .now) (entry .args .h) (entry .args .q) _ (c .before .before .before .before .find-process .ensures) (f .given .0 .0) (f .given .1) (c .declared-process .result) (c .declared-process .ensures) (entry .pre .0)) .provides)
 
--- src/calls.rt:179:9
 returns-2 : tie.Need-returns-2
-returns-2 c = fits-not (now (c .before .before .before .before .before .before .before .before .before .args .text)) (c .before .before .before .before .before .before .before .before .before .args .a) (c .before .before .before .before .before .before .before .before .before .args .b) (now (c .before .before .before .before .before .before .before .before .before .args .scratch)) (c .before .before .before .before .before .before .before .before .before .args .h) (c .before .before .before .before .before .before .before .before .before .args .q) _ (c .before .before .before .before .before .before .find-process .ensures) (c .before .before .before .before .f .given .0 .0) (c .before .before .before .before .f .given .1) (c .before .before .declared-process .result) (c .before .before .declared-process .ensures) _ (c .before .list-fits .ensures) (not-true _ (c .if1 .taken))
+returns-2 c =
+    let after-f = c .before .before .before .before in
+    let f = after-f .f in
+    let entry = after-f .before .before .before .before .before in
+    fits-not (entry .args .text .now) (entry .args .a) (entry .args .b) (entry .args .scratch .now) (entry .args .h) (entry .args .q) _ (after-f .before .before .find-process .ensures) (f .given .0 .0) (f .given .1) (c .before .before .declared-process .result) (c .before .before .declared-process .ensures) _ (c .before .list-fits .ensures) (not-true _ (c .if1 .taken))
 
--- src/calls.rt:181:39
 add-list-fits : tie.Need-add-list-fits
 add-list-fits c = omega (arith, c .before .before .before .declared-process .ensures .small)
 
--- src/calls.rt:181:5
 list-fits-requires-2 : tie.Need-list-fits-requires-2
-list-fits-requires-2 c κs = (c .before .before .before .before .before .before .before .before .before .before .pre .0, c .before .before .before .before .before .before .before .before .before .before .pre .1, omega arith, (signature-there (now (c .before .before .before .before .before .before .before .before .before .before .args .text)) (c .before .before .before .before .before .before .before .before .before .before .args .a) (c .before .before .before .before .before .before .before .before .before .before .args .b) (now (c .before .before .before .before .before .before .before .before .before .before .args .scratch)) (c .before .before .before .before .before .before .before .before .before .before .args .h) (c .before .before .before .before .before .before .before .before .before .before .args .q) _ (c .before .before .before .before .before .before .before .find-process .ensures) (c .before .before .before .before .before .f .given .0 .0) (c .before .before .before .before .before .f .given .1) (c .before .before .before .declared-process .result) (c .before .before .before .declared-process .ensures) (c .before .before .before .before .before .before .before .before .before .before .pre .0)) .uses)
+list-fits-requires-2 c κs =
+    let after-f = c .before .before .before .before .before in
+    let f = after-f .f in
+    let entry = after-f .before .before .before .before .before in
+    (entry .pre .0, entry .pre .1, omega arith, (signature-there (entry .args .text .now) (entry .args .a) (entry .args .b) (entry .args .scratch .now) (entry .args .h) (entry .args .q) _ (after-f .before .before .find-process .ensures) (f .given .0 .0) (f .given .1) (c .before .before .before .declared-process .result) (c .before .before .before .declared-process .ensures) (entry .pre .0)) .uses)
 
--- src/calls.rt:169:1
 returns-3 : tie.Need-returns-3
-returns-3 c = fits-last (now (c .before .before .before .before .before .before .before .before .before .before .before .args .text)) (c .before .before .before .before .before .before .before .before .before .before .before .args .a) (c .before .before .before .before .before .before .before .before .before .before .before .args .b) (now (c .before .before .before .before .before .before .before .before .before .before .before .args .scratch)) (c .before .before .before .before .before .before .before .before .before .before .before .args .h) (c .before .before .before .before .before .before .before .before .before .before .before .args .q) _ (c .before .before .before .before .before .before .before .before .find-process .ensures) (c .before .before .before .before .before .before .f .given .0 .0) (c .before .before .before .before .before .before .f .given .1) (c .before .before .before .before .declared-process .result) (c .before .before .before .before .declared-process .ensures) _ _ (c .before .before .before .list-fits .ensures) (not-false _ (c .before .before .if1 .left)) (c .list-fits2 .ensures)
+returns-3 c =
+    let after-f = c .before .before .before .before .before .before in
+    let f = after-f .f in
+    let entry = after-f .before .before .before .before .before in
+    fits-last (entry .args .text .now) (entry .args .a) (entry .args .b) (entry .args .scratch .now) (entry .args .h) (entry .args .q) _ (after-f .before .before .find-process .ensures) (f .given .0 .0) (f .given .1) (c .before .before .before .before .declared-process .result) (c .before .before .before .before .declared-process .ensures) _ _ (c .before .before .before .list-fits .ensures) (not-false _ (c .before .before .if1 .left)) (c .list-fits2 .ensures)
 
 pub lists-fit-spec : {M : Type 1} → statement M
 lists-fit-spec =

@@ -1,5 +1,4 @@
 use mathlib.Core.Path.{_≡_, refl, sym, _∙_, ap, subst}
-use denote.Ref.{now}
 use native.Mathlib.Omega.{arith}
 use borrow.Author.Needs.{needs}
 use Rattle.check_contexts.specs.Halves.{not-true, not-false}
@@ -11,29 +10,29 @@ use Rattle.check_terms.proofs.calls.names_distinct.Lts as lts
 use Rattle.check_terms.proofs.calls.list_distinct.Reads as list-distinct-reads
 use Rattle.check_terms.proofs.calls.lists_apart.Reads as lists-apart-reads
 
--- src/calls.rt:159:9
 list-distinct-requires : tie.Need-list-distinct-requires
 list-distinct-requires c κs = search needs
 
--- src/calls.rt:160:9
 returns : tie.Need-returns
-returns c = not-distinct-first (now (c .before .before .before .args .text)) (c .before .before .before .args .a) (c .before .before .before .args .b) _ (c .before .list-distinct .ensures) (not-true _ (c .if1 .taken))
+returns c =
+    let entry = c .before .before .before in
+    not-distinct-first (entry .args .text .now) (entry .args .a) (entry .args .b) _ (c .before .list-distinct .ensures) (not-true _ (c .if1 .taken))
 
--- src/calls.rt:162:9
 lists-apart-requires : tie.Need-lists-apart-requires
 lists-apart-requires c κs = search needs
 
--- src/calls.rt:163:9
 returns-2 : tie.Need-returns-2
-returns-2 c = not-apart (now (c .before .before .before .before .before .args .text)) (c .before .before .before .before .before .args .a) (c .before .before .before .before .before .args .b) _ _ (c .before .before .before .list-distinct .ensures) (not-false _ (c .before .before .if1 .left)) (c .before .lists-apart .ensures) (not-true _ (c .if2 .taken))
+returns-2 c =
+    let entry = c .before .before .before .before .before in
+    not-apart (entry .args .text .now) (entry .args .a) (entry .args .b) _ _ (c .before .before .before .list-distinct .ensures) (not-false _ (c .before .before .if1 .left)) (c .before .lists-apart .ensures) (not-true _ (c .if2 .taken))
 
--- src/calls.rt:165:5
 list-distinct-requires-2 : tie.Need-list-distinct-requires-2
 list-distinct-requires-2 c κs = search needs
 
--- src/calls.rt:156:1
 returns-3 : tie.Need-returns-3
-returns-3 c = distinct-last (now (c .before .before .before .before .before .before .args .text)) (c .before .before .before .before .before .before .args .a) (c .before .before .before .before .before .before .args .b) _ _ _ (c .before .before .before .before .list-distinct .ensures) (not-false _ (c .before .before .before .if1 .left)) (c .before .before .lists-apart .ensures) (not-false _ (c .before .if2 .left)) (c .list-distinct2 .ensures)
+returns-3 c =
+    let entry = c .before .before .before .before .before .before in
+    distinct-last (entry .args .text .now) (entry .args .a) (entry .args .b) _ _ _ (c .before .before .before .before .list-distinct .ensures) (not-false _ (c .before .before .before .if1 .left)) (c .before .before .lists-apart .ensures) (not-false _ (c .before .if2 .left)) (c .list-distinct2 .ensures)
 
 pub names-distinct-spec : {M : Type 1} → statement M
 names-distinct-spec =

@@ -1,5 +1,4 @@
 use mathlib.Core.Path.{_≡_, refl, sym, _∙_, ap, subst}
-use denote.Ref.{now}
 use native.Mathlib.Omega.{arith}
 use borrow.Author.Needs.{needs}
 use Rattle.check_terms.specs.Sends.{new-not, new-so}
@@ -10,25 +9,24 @@ use Rattle.check_terms.proofs.sends.is_new.Reads as reads
 use Rattle.check_terms.proofs.sends.is_new.Lts as lts
 use Rattle.check_contexts.proofs.held.find_end.Reads as find-end-reads
 
--- src/sends.rt:156:9
 find-end-requires : tie.Need-find-end-requires
 find-end-requires c κs = search needs
 
--- src/sends.rt:158:23
 enum-known-f : tie.Need-enum-known-f
 enum-known-f c = search needs
 
--- src/sends.rt:159:28
 enum-told : tie.Need-enum-told
 enum-told c = search needs
 
--- src/sends.rt:152:1
 returns : tie.Need-returns
-returns c = new-not (now (c .before .before .before .before .before .args .text)) (c .before .before .before .before .before .args .h) (c .before .before .before .before .before .args .x) _ (c .before .f .given .0 .0) (c .before .before .before .find-end .ensures) (c .before .f .given .1)
+returns c =
+    let entry = c .before .before .before .before .before in
+    new-not (entry .args .text .now) (entry .args .h) (entry .args .x) _ (c .before .f .given .0 .0) (c .before .before .before .find-end .ensures) (c .before .f .given .1)
 
--- src/sends.rt:152:1
 returns-2 : tie.Need-returns-2
-returns-2 c = new-so (now (c .before .before .before .before .args .text)) (c .before .before .before .before .args .h) (c .before .before .before .before .args .x) _ (c .before .before .find-end .ensures) (c .enum-told .given .1)
+returns-2 c =
+    let entry = c .before .before .before .before in
+    new-so (entry .args .text .now) (entry .args .h) (entry .args .x) _ (c .before .before .find-end .ensures) (c .enum-told .given .1)
 
 pub is-new-spec : {M : Type 1} → statement M
 is-new-spec = tie.close (tie.spec find-end-requires enum-known-f enum-told returns returns-2)

@@ -1,5 +1,4 @@
 use mathlib.Core.Path.{_≡_, refl, sym, _∙_, ap, subst}
-use denote.Ref.{now}
 use native.Mathlib.Omega.{arith}
 use borrow.Author.Needs.{needs}
 use Rattle.read_tables.specs.Access.{node-there}
@@ -19,73 +18,140 @@ use Rattle.check_terms.proofs.acting.narrow.Reads as narrow-reads
 use Rattle.check_terms.proofs.acting.takes_from.Reads as takes-from-reads
 use Rattle.check_terms.proofs.sends.is_new.Reads as is-new-reads
 
--- src/sends.rt:168:9
 acting-requires : tie.Need-acting-requires
 acting-requires c κs = search needs
 
--- src/sends.rt:169:23
 enum-known-f : tie.Need-enum-known-f
 enum-known-f c = search needs
 
--- src/sends.rt:170:9
 enum-told : tie.Need-enum-told
 enum-told c = search needs
 
--- src/sends.rt:170:9
 returns : tie.Need-returns
-returns c = stops (now (c .before .before .before .before .before .args .text)) (now (c .before .before .before .before .before .args .scratch)) 10 (c .before .before .before .before .before .args .h) refl (receives-absent (now (c .before .before .before .before .before .args .text)) (now (c .before .before .before .before .before .args .scratch)) (c .before .before .before .before .before .args .h) (c .before .before .before .before .before .args .c) (c .before .before .before .before .before .args .x) (acts-not (now (c .before .before .before .before .before .args .text)) (now (c .before .before .before .before .before .args .scratch)) (c .before .before .before .before .before .args .h) (c .before .before .before .before .before .args .c) _ (c .before .before .acting .ensures) (c .enum-told .given .1)))
+returns c =
+    let entry = c .before .before .before .before .before in
+    let text = entry .args .text .now in
+    let scratch = entry .args .scratch .now in
+    let h = entry .args .h in
+    stops text scratch 10 h refl (receives-absent text scratch h (entry .args .c) (entry .args .x) (acts-not text scratch h (entry .args .c) _ (c .before .before .acting .ensures) (c .enum-told .given .1)))
 
--- src/sends.rt:175:9
 takes-from-requires : tie.Need-takes-from-requires
-takes-from-requires c κs = (c .before .before .before .before .before .before .pre .0 .area, node-there (now (c .before .before .before .before .before .before .args .text)) (now (c .before .before .before .before .before .before .args .scratch)) (c .before .before .before .before .before .before .pre .0) _ ((end-found (now (c .before .before .before .before .before .before .args .text)) (now (c .before .before .before .before .before .before .args .scratch)) _ (c .before .f .given .0 .0) (c .before .before .before .acting .ensures .fits) (c .before .f .given .1)) .0 .type), (end-found (now (c .before .before .before .before .before .before .args .text)) (now (c .before .before .before .before .before .before .args .scratch)) _ (c .before .f .given .0 .0) (c .before .before .before .acting .ensures .fits) (c .before .f .given .1)) .1)
+takes-from-requires c κs =
+    let f = c .before .f in
+    let entry = c .before .before .before .before .before .before in
+    let text = entry .args .text .now in
+    let scratch = entry .args .scratch .now in
+    (entry .pre .0 .area, node-there text scratch (entry .pre .0) _ ((end-found text scratch _ (f .given .0 .0) (c .before .before .before .acting .ensures .fits) (f .given .1)) .0 .type), (end-found text scratch _ (f .given .0 .0) (c .before .before .before .acting .ensures .fits) (f .given .1)) .1)
 
--- src/sends.rt:176:25
 enum-known-t : tie.Need-enum-known-t
 enum-known-t c = search needs
 
--- src/sends.rt:177:9
 enum-told-2 : tie.Need-enum-told-2
 enum-told-2 c = search needs
 
--- src/sends.rt:177:9
 returns-2 : tie.Need-returns-2
-returns-2 c = stops (now (c .before .before .before .before .before .before .before .before .before .args .text)) (now (c .before .before .before .before .before .before .before .before .before .args .scratch)) 11 (c .before .before .before .before .before .before .before .before .before .args .h) refl (receives-nothing (now (c .before .before .before .before .before .before .before .before .before .args .text)) (now (c .before .before .before .before .before .before .before .before .before .args .scratch)) (c .before .before .before .before .before .before .before .before .before .args .h) (c .before .before .before .before .before .before .before .before .before .args .c) (c .before .before .before .before .before .before .before .before .before .args .x) (c .before .before .before .before .f .given .0 .0) (acts-so (now (c .before .before .before .before .before .before .before .before .before .args .text)) (now (c .before .before .before .before .before .before .before .before .before .args .scratch)) (c .before .before .before .before .before .before .before .before .before .args .h) (c .before .before .before .before .before .before .before .before .before .args .c) _ (c .before .before .before .before .f .given .0 .0) (c .before .before .before .before .before .before .acting .ensures) (c .before .before .before .before .f .given .1)) _ (c .before .before .takes-from .ensures .says (now (c .before .before .before .before .before .before .before .before .before .args .text)) (c .before .before .before .before .before .before .before .before .before .pre .0) ((end-found (now (c .before .before .before .before .before .before .before .before .before .args .text)) (now (c .before .before .before .before .before .before .before .before .before .args .scratch)) _ (c .before .before .before .before .f .given .0 .0) (c .before .before .before .before .before .before .acting .ensures .fits) (c .before .before .before .before .f .given .1)) .0)) (c .enum-told2 .given .1))
+returns-2 c =
+    let after-f = c .before .before .before .before in
+    let f = after-f .f in
+    let acting = after-f .before .before .acting in
+    let entry = after-f .before .before .before .before .before in
+    let text = entry .args .text .now in
+    let scratch = entry .args .scratch .now in
+    let h = entry .args .h in
+    stops text scratch 11 h refl (receives-nothing text scratch h (entry .args .c) (entry .args .x) (f .given .0 .0) (acts-so text scratch h (entry .args .c) _ (f .given .0 .0) (acting .ensures) (f .given .1)) _ (c .before .before .takes-from .ensures .says text (entry .pre .0) ((end-found text scratch _ (f .given .0 .0) (acting .ensures .fits) (f .given .1)) .0)) (c .enum-told2 .given .1))
 
--- src/sends.rt:182:9
 is-new-requires : tie.Need-is-new-requires
 is-new-requires c κs = c .before .before .before .before .before .before .before .before .before .before .pre .1 .many
 
--- src/sends.rt:183:9
 returns-3 : tie.Need-returns-3
-returns-3 c = stops (now (c .before .before .before .before .before .before .before .before .before .before .before .before .args .text)) (now (c .before .before .before .before .before .before .before .before .before .before .before .before .args .scratch)) 15 (c .before .before .before .before .before .before .before .before .before .before .before .before .args .h) refl (receives-known (now (c .before .before .before .before .before .before .before .before .before .before .before .before .args .text)) (now (c .before .before .before .before .before .before .before .before .before .before .before .before .args .scratch)) (c .before .before .before .before .before .before .before .before .before .before .before .before .args .h) (c .before .before .before .before .before .before .before .before .before .before .before .before .args .c) (c .before .before .before .before .before .before .before .before .before .before .before .before .args .x) (c .before .before .before .before .before .before .before .f .given .0 .0) (acts-so (now (c .before .before .before .before .before .before .before .before .before .before .before .before .args .text)) (now (c .before .before .before .before .before .before .before .before .before .before .before .before .args .scratch)) (c .before .before .before .before .before .before .before .before .before .before .before .before .args .h) (c .before .before .before .before .before .before .before .before .before .before .before .before .args .c) _ (c .before .before .before .before .before .before .before .f .given .0 .0) (c .before .before .before .before .before .before .before .before .before .acting .ensures) (c .before .before .before .before .before .before .before .f .given .1)) _ (c .before .before .before .before .before .takes-from .ensures .says (now (c .before .before .before .before .before .before .before .before .before .before .before .before .args .text)) (c .before .before .before .before .before .before .before .before .before .before .before .before .pre .0) ((end-found (now (c .before .before .before .before .before .before .before .before .before .before .before .before .args .text)) (now (c .before .before .before .before .before .before .before .before .before .before .before .before .args .scratch)) _ (c .before .before .before .before .before .before .before .f .given .0 .0) (c .before .before .before .before .before .before .before .before .before .acting .ensures .fits) (c .before .before .before .before .before .before .before .f .given .1)) .0)) (c .before .before .before .t .given .0 .0) (c .before .before .before .t .given .0 .1 .0) (c .before .before .before .t .given .0 .1 .1 .0) (c .before .before .before .t .given .0 .1 .1 .1 .0) (c .before .before .before .t .given .1) (sym (c .before .is-new .ensures (now (c .before .before .before .before .before .before .before .before .before .before .before .before .args .scratch))) ∙ not-true _ (c .if1 .taken)))
+returns-3 c =
+    let t = c .before .before .before .t in
+    let after-f = c .before .before .before .before .before .before .before in
+    let f = after-f .f in
+    let acting = after-f .before .before .acting in
+    let entry = after-f .before .before .before .before .before in
+    let text = entry .args .text .now in
+    let scratch = entry .args .scratch .now in
+    let h = entry .args .h in
+    stops text scratch 15 h refl (receives-known text scratch h (entry .args .c) (entry .args .x) (f .given .0 .0) (acts-so text scratch h (entry .args .c) _ (f .given .0 .0) (acting .ensures) (f .given .1)) _ (c .before .before .before .before .before .takes-from .ensures .says text (entry .pre .0) ((end-found text scratch _ (f .given .0 .0) (acting .ensures .fits) (f .given .1)) .0)) (t .given .0 .0) (t .given .0 .1 .0) (t .given .0 .1 .1 .0) (t .given .0 .1 .1 .1 .0) (t .given .1) (sym (c .before .is-new .ensures scratch) ∙ not-true _ (c .if1 .taken)))
 
--- src/sends.rt:189:9
 returns-4 : tie.Need-returns-4
-returns-4 c = stops (now (c .before .before .before .before .before .before .before .before .before .before .before .before .before .before .args .text)) (now (c .before .before .before .before .before .before .before .before .before .before .before .before .before .before .args .scratch)) 15 (c .before .before .before .before .before .before .before .before .before .before .before .before .before .before .args .h) refl (receives-full (now (c .before .before .before .before .before .before .before .before .before .before .before .before .before .before .args .text)) (now (c .before .before .before .before .before .before .before .before .before .before .before .before .before .before .args .scratch)) (c .before .before .before .before .before .before .before .before .before .before .before .before .before .before .args .h) (c .before .before .before .before .before .before .before .before .before .before .before .before .before .before .args .c) (c .before .before .before .before .before .before .before .before .before .before .before .before .before .before .args .x) (c .before .before .before .before .before .before .before .before .before .f .given .0 .0) (acts-so (now (c .before .before .before .before .before .before .before .before .before .before .before .before .before .before .args .text)) (now (c .before .before .before .before .before .before .before .before .before .before .before .before .before .before .args .scratch)) (c .before .before .before .before .before .before .before .before .before .before .before .before .before .before .args .h) (c .before .before .before .before .before .before .before .before .before .before .before .before .before .before .args .c) _ (c .before .before .before .before .before .before .before .before .before .f .given .0 .0) (c .before .before .before .before .before .before .before .before .before .before .before .acting .ensures) (c .before .before .before .before .before .before .before .before .before .f .given .1)) _ (c .before .before .before .before .before .before .before .takes-from .ensures .says (now (c .before .before .before .before .before .before .before .before .before .before .before .before .before .before .args .text)) (c .before .before .before .before .before .before .before .before .before .before .before .before .before .before .pre .0) ((end-found (now (c .before .before .before .before .before .before .before .before .before .before .before .before .before .before .args .text)) (now (c .before .before .before .before .before .before .before .before .before .before .before .before .before .before .args .scratch)) _ (c .before .before .before .before .before .before .before .before .before .f .given .0 .0) (c .before .before .before .before .before .before .before .before .before .before .before .acting .ensures .fits) (c .before .before .before .before .before .before .before .before .before .f .given .1)) .0)) (c .before .before .before .before .before .t .given .0 .0) (c .before .before .before .before .before .t .given .0 .1 .0) (c .before .before .before .before .before .t .given .0 .1 .1 .0) (c .before .before .before .before .before .t .given .0 .1 .1 .1 .0) (c .before .before .before .before .before .t .given .1) (sym (c .before .before .before .is-new .ensures (now (c .before .before .before .before .before .before .before .before .before .before .before .before .before .before .args .scratch))) ∙ not-false _ (c .before .before .if1 .left)) (omega (arith, c .if2 .taken)))
+returns-4 c =
+    let after-t = c .before .before .before .before .before in
+    let t = after-t .t in
+    let after-f = after-t .before .before .before .before in
+    let f = after-f .f in
+    let acting = after-f .before .before .acting in
+    let entry = after-f .before .before .before .before .before in
+    let text = entry .args .text .now in
+    let scratch = entry .args .scratch .now in
+    let h = entry .args .h in
+    stops text scratch 15 h refl (receives-full text scratch h (entry .args .c) (entry .args .x) (f .given .0 .0) (acts-so text scratch h (entry .args .c) _ (f .given .0 .0) (acting .ensures) (f .given .1)) _ (after-t .before .before .takes-from .ensures .says text (entry .pre .0) ((end-found text scratch _ (f .given .0 .0) (acting .ensures .fits) (f .given .1)) .0)) (t .given .0 .0) (t .given .0 .1 .0) (t .given .0 .1 .1 .0) (t .given .0 .1 .1 .1 .0) (t .given .1) (sym (c .before .before .before .is-new .ensures scratch) ∙ not-false _ (c .before .before .if1 .left)) (omega (arith, c .if2 .taken)))
 
--- src/sends.rt:194:9
 narrow-requires : tie.Need-narrow-requires
-narrow-requires c κs = omega (arith, node-there (now (c .before .before .before .before .before .before .before .before .before .before .before .before .before .before .args .text)) (now (c .before .before .before .before .before .before .before .before .before .before .before .before .before .before .args .scratch)) (c .before .before .before .before .before .before .before .before .before .before .before .before .before .before .pre .0) _ ((subst (passedIn (now (c .before .before .before .before .before .before .before .before .before .before .before .before .before .before .args .text)) (now (c .before .before .before .before .before .before .before .before .before .before .before .before .before .before .args .scratch))) (c .before .before .before .before .before .t .given .1) ((c .before .before .before .before .before .before .before .takes-from .ensures .says (now (c .before .before .before .before .before .before .before .before .before .before .before .before .before .before .args .text)) (c .before .before .before .before .before .before .before .before .before .before .before .before .before .before .pre .0) ((end-found (now (c .before .before .before .before .before .before .before .before .before .before .before .before .before .before .args .text)) (now (c .before .before .before .before .before .before .before .before .before .before .before .before .before .before .args .scratch)) _ (c .before .before .before .before .before .before .before .before .before .f .given .0 .0) (c .before .before .before .before .before .before .before .before .before .before .before .acting .ensures .fits) (c .before .before .before .before .before .before .before .before .before .f .given .1)) .0)) .parts)) .1))
+narrow-requires c κs =
+    let after-t = c .before .before .before .before .before in
+    let after-f = after-t .before .before .before .before in
+    let f = after-f .f in
+    let entry = after-f .before .before .before .before .before in
+    let text = entry .args .text .now in
+    let scratch = entry .args .scratch .now in
+    omega (arith, node-there text scratch (entry .pre .0) _ ((subst (passedIn text scratch) (after-t .t .given .1) ((after-t .before .before .takes-from .ensures .says text (entry .pre .0) ((end-found text scratch _ (f .given .0 .0) (after-f .before .before .acting .ensures .fits) (f .given .1)) .0)) .parts)) .1))
 
--- src/sends.rt:195:9
 retype-end-requires : tie.Need-retype-end-requires
-retype-end-requires c κs = ((c .before .before .before .before .before .before .before .before .before .before .before .before .before .before .before .pre .1 .many, omega (arith, node-there (now (c .before .before .before .before .before .before .before .before .before .before .before .before .before .before .before .args .text)) (now (c .before .before .before .before .before .before .before .before .before .before .before .before .before .before .before .args .scratch)) (c .before .before .before .before .before .before .before .before .before .before .before .before .before .before .before .pre .0) _ ((subst (passedIn (now (c .before .before .before .before .before .before .before .before .before .before .before .before .before .before .before .args .text)) (now (c .before .before .before .before .before .before .before .before .before .before .before .before .before .before .before .args .scratch))) (c .before .before .before .before .before .before .t .given .1) ((c .before .before .before .before .before .before .before .before .takes-from .ensures .says (now (c .before .before .before .before .before .before .before .before .before .before .before .before .before .before .before .args .text)) (c .before .before .before .before .before .before .before .before .before .before .before .before .before .before .before .pre .0) ((end-found (now (c .before .before .before .before .before .before .before .before .before .before .before .before .before .before .before .args .text)) (now (c .before .before .before .before .before .before .before .before .before .before .before .before .before .before .before .args .scratch)) _ (c .before .before .before .before .before .before .before .before .before .before .f .given .0 .0) (c .before .before .before .before .before .before .before .before .before .before .before .before .acting .ensures .fits) (c .before .before .before .before .before .before .before .before .before .before .f .given .1)) .0)) .parts)) .1), c .narrow .ensures)), bounded-ends (now (c .before .before .before .before .before .before .before .before .before .before .before .before .before .before .before .args .text)) (now (c .before .before .before .before .before .before .before .before .before .before .before .before .before .before .before .args .scratch)) (c .before .before .before .before .before .before .before .before .before .before .before .before .before .before .before .args .h) (c .before .before .before .before .before .before .before .before .before .before .before .before .before .before .before .pre .1))
+retype-end-requires c κs =
+    let after-t = c .before .before .before .before .before .before in
+    let after-f = after-t .before .before .before .before in
+    let f = after-f .f in
+    let entry = after-f .before .before .before .before .before in
+    let text = entry .args .text .now in
+    let scratch = entry .args .scratch .now in
+    ((entry .pre .1 .many, omega (arith, node-there text scratch (entry .pre .0) _ ((subst (passedIn text scratch) (after-t .t .given .1) ((after-t .before .before .takes-from .ensures .says text (entry .pre .0) ((end-found text scratch _ (f .given .0 .0) (after-f .before .before .acting .ensures .fits) (f .given .1)) .0)) .parts)) .1), c .narrow .ensures)), bounded-ends text scratch (entry .args .h) (entry .pre .1))
 
--- src/sends.rt:196:9
 narrow-requires-2 : tie.Need-narrow-requires-2
 narrow-requires-2 c κs = omega (arith, c .before .before .before .before .before .before .before .before .before .before .before .before .before .before .before .before .pre .2)
 
--- src/sends.rt:197:9
 narrow-requires-3 : tie.Need-narrow-requires-3
-narrow-requires-3 c κs = omega (arith, node-there (now (c .before .before .before .before .before .before .before .before .before .before .before .before .before .before .before .before .before .args .text)) (now (c .before .before .before .before .before .before .before .before .before .before .before .before .before .before .before .before .before .args .scratch)) (c .before .before .before .before .before .before .before .before .before .before .before .before .before .before .before .before .before .pre .0) _ ((subst (passedIn (now (c .before .before .before .before .before .before .before .before .before .before .before .before .before .before .before .before .before .args .text)) (now (c .before .before .before .before .before .before .before .before .before .before .before .before .before .before .before .before .before .args .scratch))) (c .before .before .before .before .before .before .before .before .t .given .1) ((c .before .before .before .before .before .before .before .before .before .before .takes-from .ensures .says (now (c .before .before .before .before .before .before .before .before .before .before .before .before .before .before .before .before .before .args .text)) (c .before .before .before .before .before .before .before .before .before .before .before .before .before .before .before .before .before .pre .0) ((end-found (now (c .before .before .before .before .before .before .before .before .before .before .before .before .before .before .before .before .before .args .text)) (now (c .before .before .before .before .before .before .before .before .before .before .before .before .before .before .before .before .before .args .scratch)) _ (c .before .before .before .before .before .before .before .before .before .before .before .before .f .given .0 .0) (c .before .before .before .before .before .before .before .before .before .before .before .before .before .before .acting .ensures .fits) (c .before .before .before .before .before .before .before .before .before .before .before .before .f .given .1)) .0)) .parts)) .0))
+narrow-requires-3 c κs =
+    let after-t = c .before .before .before .before .before .before .before .before in
+    let after-f = after-t .before .before .before .before in
+    let f = after-f .f in
+    let entry = after-f .before .before .before .before .before in
+    let text = entry .args .text .now in
+    let scratch = entry .args .scratch .now in
+    omega (arith, node-there text scratch (entry .pre .0) _ ((subst (passedIn text scratch) (after-t .t .given .1) ((after-t .before .before .takes-from .ensures .says text (entry .pre .0) ((end-found text scratch _ (f .given .0 .0) (after-f .before .before .acting .ensures .fits) (f .given .1)) .0)) .parts)) .0))
 
--- src/sends.rt:198:9
 bring-end-requires : tie.Need-bring-end-requires
-bring-end-requires c κs = (omega (arith, c .before .before .before .before .before .before .before .before .before .before .before .before .before .before .before .before .before .before .pre .1 .many, c .before .before .before .before .if2 .left, retyped-count (now (c .before .before .before .before .before .before .before .before .before .before .before .before .before .before .before .before .before .before .args .text)) (now (c .before .before .before .before .before .before .before .before .before .before .before .before .before .before .before .before .before .before .args .scratch)) (c .before .before .before .before .before .before .before .before .before .before .before .before .before .before .before .before .before .before .args .h) (c .before .before .before .before .before .before .before .before .before .before .before .before .before .before .before .before .before .before .args .c) _ _ (subst (λ j. Retypes (now (c .before .before .before .before .before .before .before .before .before .before .before .before .before .before .before .before .before .before .args .text)) (c .before .before .before .before .before .before .before .before .before .before .before .before .before .before .before .before .before .before .args .h) (c .before .before .before .before .before .before .before .before .before .before .before .before .before .before .before .before .before .before .args .c) j (c .before .before .retype-end .result)) (c .before .before .before .narrow .ensures) (c .before .before .retype-end .ensures))), omega (arith, c .before .before .before .before .before .before .before .before .before .before .before .before .before .before .before .before .before .before .pre .2, c .before .narrow2 .ensures), (subst (passedIn (now (c .before .before .before .before .before .before .before .before .before .before .before .before .before .before .before .before .before .before .args .text)) (now (c .before .before .before .before .before .before .before .before .before .before .before .before .before .before .before .before .before .before .args .scratch))) (c .before .before .before .before .before .before .before .before .before .t .given .1) ((c .before .before .before .before .before .before .before .before .before .before .before .takes-from .ensures .says (now (c .before .before .before .before .before .before .before .before .before .before .before .before .before .before .before .before .before .before .args .text)) (c .before .before .before .before .before .before .before .before .before .before .before .before .before .before .before .before .before .before .pre .0) ((end-found (now (c .before .before .before .before .before .before .before .before .before .before .before .before .before .before .before .before .before .before .args .text)) (now (c .before .before .before .before .before .before .before .before .before .before .before .before .before .before .before .before .before .before .args .scratch)) _ (c .before .before .before .before .before .before .before .before .before .before .before .before .before .f .given .0 .0) (c .before .before .before .before .before .before .before .before .before .before .before .before .before .before .before .acting .ensures .fits) (c .before .before .before .before .before .before .before .before .before .before .before .before .before .f .given .1)) .0)) .parts)) .3, omega (arith, node-there (now (c .before .before .before .before .before .before .before .before .before .before .before .before .before .before .before .before .before .before .args .text)) (now (c .before .before .before .before .before .before .before .before .before .before .before .before .before .before .before .before .before .before .args .scratch)) (c .before .before .before .before .before .before .before .before .before .before .before .before .before .before .before .before .before .before .pre .0) _ ((subst (passedIn (now (c .before .before .before .before .before .before .before .before .before .before .before .before .before .before .before .before .before .before .args .text)) (now (c .before .before .before .before .before .before .before .before .before .before .before .before .before .before .before .before .before .before .args .scratch))) (c .before .before .before .before .before .before .before .before .before .t .given .1) ((c .before .before .before .before .before .before .before .before .before .before .before .takes-from .ensures .says (now (c .before .before .before .before .before .before .before .before .before .before .before .before .before .before .before .before .before .before .args .text)) (c .before .before .before .before .before .before .before .before .before .before .before .before .before .before .before .before .before .before .pre .0) ((end-found (now (c .before .before .before .before .before .before .before .before .before .before .before .before .before .before .before .before .before .before .args .text)) (now (c .before .before .before .before .before .before .before .before .before .before .before .before .before .before .before .before .before .before .args .scratch)) _ (c .before .before .before .before .before .before .before .before .before .before .before .before .before .f .given .0 .0) (c .before .before .before .before .before .before .before .before .before .before .before .before .before .before .before .acting .ensures .fits) (c .before .before .before .before .before .before .before .before .before .before .before .before .before .f .given .1)) .0)) .parts)) .0), c .narrow3 .ensures), omega arith)
+bring-end-requires c κs =
+    let after-t = c .before .before .before .before .before .before .before .before .before in
+    let t = after-t .t in
+    let takes-from = after-t .before .before .takes-from in
+    let after-f = after-t .before .before .before .before in
+    let f = after-f .f in
+    let acting = after-f .before .before .acting in
+    let entry = after-f .before .before .before .before .before in
+    let text = entry .args .text .now in
+    let scratch = entry .args .scratch .now in
+    (omega (arith, entry .pre .1 .many, c .before .before .before .before .if2 .left, retyped-count text scratch (entry .args .h) (entry .args .c) _ _ (subst (λ j. Retypes text (entry .args .h) (entry .args .c) j (c .before .before .retype-end .result)) (c .before .before .before .narrow .ensures) (c .before .before .retype-end .ensures))), omega (arith, entry .pre .2, c .before .narrow2 .ensures), (subst (passedIn text scratch) (t .given .1) ((takes-from .ensures .says text (entry .pre .0) ((end-found text scratch _ (f .given .0 .0) (acting .ensures .fits) (f .given .1)) .0)) .parts)) .3, omega (arith, node-there text scratch (entry .pre .0) _ ((subst (passedIn text scratch) (t .given .1) ((takes-from .ensures .says text (entry .pre .0) ((end-found text scratch _ (f .given .0 .0) (acting .ensures .fits) (f .given .1)) .0)) .parts)) .0), c .narrow3 .ensures), omega arith)
 
--- src/sends.rt:164:1
 returns-5 : tie.Need-returns-5
-returns-5 c = let d = (subst (λ j. Retypes (now (c .before .before .before .before .before .before .before .before .before .before .before .before .before .before .before .before .before .before .before .args .text)) (c .before .before .before .before .before .before .before .before .before .before .before .before .before .before .before .before .before .before .before .args .h) (c .before .before .before .before .before .before .before .before .before .before .before .before .before .before .before .before .before .before .before .args .c) j (c .before .before .before .retype-end .result)) (c .before .before .before .before .narrow .ensures) (c .before .before .before .retype-end .ensures)) in let e = (subst (λ j. Brings (c .before .before .before .retype-end .result) (c .before .before .before .before .before .before .before .before .before .before .before .before .before .before .before .before .before .before .before .args .x) (c .before .before .before .before .before .before .before .before .before .before .t .given .0 .1 .0) j 0 (c .bring-end .result)) (c .before .narrow3 .ensures) (subst (λ i. Brings (c .before .before .before .retype-end .result) i (c .before .before .before .before .before .before .before .before .before .before .t .given .0 .1 .0) (c .before .narrow3 .result) 0 (c .bring-end .result)) (c .before .before .narrow2 .ensures) (c .bring-end .ensures))) in goes (now (c .before .before .before .before .before .before .before .before .before .before .before .before .before .before .before .before .before .before .before .args .text)) (now (c .before .before .before .before .before .before .before .before .before .before .before .before .before .before .before .before .before .before .before .args .scratch)) _ (e .fits (now (c .before .before .before .before .before .before .before .before .before .before .before .before .before .before .before .before .before .before .before .args .text)) (now (c .before .before .before .before .before .before .before .before .before .before .before .before .before .before .before .before .before .before .before .args .scratch)) ((subst (passedIn (now (c .before .before .before .before .before .before .before .before .before .before .before .before .before .before .before .before .before .before .before .args .text)) (now (c .before .before .before .before .before .before .before .before .before .before .before .before .before .before .before .before .before .before .before .args .scratch))) (c .before .before .before .before .before .before .before .before .before .before .t .given .1) ((c .before .before .before .before .before .before .before .before .before .before .before .before .takes-from .ensures .says (now (c .before .before .before .before .before .before .before .before .before .before .before .before .before .before .before .before .before .before .before .args .text)) (c .before .before .before .before .before .before .before .before .before .before .before .before .before .before .before .before .before .before .before .pre .0) ((end-found (now (c .before .before .before .before .before .before .before .before .before .before .before .before .before .before .before .before .before .before .before .args .text)) (now (c .before .before .before .before .before .before .before .before .before .before .before .before .before .before .before .before .before .before .before .args .scratch)) _ (c .before .before .before .before .before .before .before .before .before .before .before .before .before .before .f .given .0 .0) (c .before .before .before .before .before .before .before .before .before .before .before .before .before .before .before .before .acting .ensures .fits) (c .before .before .before .before .before .before .before .before .before .before .before .before .before .before .f .given .1)) .0)) .parts)) .0) (d .fits (now (c .before .before .before .before .before .before .before .before .before .before .before .before .before .before .before .before .before .before .before .args .scratch)) ((subst (passedIn (now (c .before .before .before .before .before .before .before .before .before .before .before .before .before .before .before .before .before .before .before .args .text)) (now (c .before .before .before .before .before .before .before .before .before .before .before .before .before .before .before .before .before .before .before .args .scratch))) (c .before .before .before .before .before .before .before .before .before .before .t .given .1) ((c .before .before .before .before .before .before .before .before .before .before .before .before .takes-from .ensures .says (now (c .before .before .before .before .before .before .before .before .before .before .before .before .before .before .before .before .before .before .before .args .text)) (c .before .before .before .before .before .before .before .before .before .before .before .before .before .before .before .before .before .before .before .pre .0) ((end-found (now (c .before .before .before .before .before .before .before .before .before .before .before .before .before .before .before .before .before .before .before .args .text)) (now (c .before .before .before .before .before .before .before .before .before .before .before .before .before .before .before .before .before .before .before .args .scratch)) _ (c .before .before .before .before .before .before .before .before .before .before .before .before .before .before .f .given .0 .0) (c .before .before .before .before .before .before .before .before .before .before .before .before .before .before .before .before .acting .ensures .fits) (c .before .before .before .before .before .before .before .before .before .before .before .before .before .before .f .given .1)) .0)) .parts)) .1) (c .before .before .before .before .before .before .before .before .before .before .before .before .before .before .before .before .before .before .before .pre .1))) (receives-so (now (c .before .before .before .before .before .before .before .before .before .before .before .before .before .before .before .before .before .before .before .args .text)) (now (c .before .before .before .before .before .before .before .before .before .before .before .before .before .before .before .before .before .before .before .args .scratch)) (c .before .before .before .before .before .before .before .before .before .before .before .before .before .before .before .before .before .before .before .args .h) (c .before .before .before .before .before .before .before .before .before .before .before .before .before .before .before .before .before .before .before .args .c) (c .before .before .before .before .before .before .before .before .before .before .before .before .before .before .before .before .before .before .before .args .x) (c .before .before .before .before .before .before .before .before .before .before .before .before .before .before .f .given .0 .0) (acts-so (now (c .before .before .before .before .before .before .before .before .before .before .before .before .before .before .before .before .before .before .before .args .text)) (now (c .before .before .before .before .before .before .before .before .before .before .before .before .before .before .before .before .before .before .before .args .scratch)) (c .before .before .before .before .before .before .before .before .before .before .before .before .before .before .before .before .before .before .before .args .h) (c .before .before .before .before .before .before .before .before .before .before .before .before .before .before .before .before .before .before .before .args .c) _ (c .before .before .before .before .before .before .before .before .before .before .before .before .before .before .f .given .0 .0) (c .before .before .before .before .before .before .before .before .before .before .before .before .before .before .before .before .acting .ensures) (c .before .before .before .before .before .before .before .before .before .before .before .before .before .before .f .given .1)) _ (c .before .before .before .before .before .before .before .before .before .before .before .before .takes-from .ensures .says (now (c .before .before .before .before .before .before .before .before .before .before .before .before .before .before .before .before .before .before .before .args .text)) (c .before .before .before .before .before .before .before .before .before .before .before .before .before .before .before .before .before .before .before .pre .0) ((end-found (now (c .before .before .before .before .before .before .before .before .before .before .before .before .before .before .before .before .before .before .before .args .text)) (now (c .before .before .before .before .before .before .before .before .before .before .before .before .before .before .before .before .before .before .before .args .scratch)) _ (c .before .before .before .before .before .before .before .before .before .before .before .before .before .before .f .given .0 .0) (c .before .before .before .before .before .before .before .before .before .before .before .before .before .before .before .before .acting .ensures .fits) (c .before .before .before .before .before .before .before .before .before .before .before .before .before .before .f .given .1)) .0)) (c .before .before .before .before .before .before .before .before .before .before .t .given .0 .0) (c .before .before .before .before .before .before .before .before .before .before .t .given .0 .1 .0) (c .before .before .before .before .before .before .before .before .before .before .t .given .0 .1 .1 .0) (c .before .before .before .before .before .before .before .before .before .before .t .given .0 .1 .1 .1 .0) (c .before .before .before .before .before .before .before .before .before .before .t .given .1) (sym (c .before .before .before .before .before .before .before .before .is-new .ensures (now (c .before .before .before .before .before .before .before .before .before .before .before .before .before .before .before .before .before .before .before .args .scratch))) ∙ not-false _ (c .before .before .before .before .before .before .before .if1 .left)) (omega (arith, c .before .before .before .before .before .before .before .before .before .before .before .before .before .before .before .before .before .before .before .pre .1 .many, c .before .before .before .before .before .if2 .left)) _ _ d e)
+returns-5 c =
+    let retype-end = c .before .before .before .retype-end in
+    let after-if2 = c .before .before .before .before .before in
+    let after-t = after-if2 .before .before .before .before .before in
+    let t = after-t .t in
+    let takes-from = after-t .before .before .takes-from in
+    let after-f = after-t .before .before .before .before in
+    let f = after-f .f in
+    let acting = after-f .before .before .acting in
+    let entry = after-f .before .before .before .before .before in
+    let text = entry .args .text .now in
+    let h = entry .args .h in
+    let c-arg = entry .args .c in
+    let scratch = entry .args .scratch .now in
+    let d = (subst (λ j. Retypes text h c-arg j (retype-end .result)) (c .before .before .before .before .narrow .ensures) (retype-end .ensures)) in
+    let e = (subst (λ j. Brings (retype-end .result) (entry .args .x) (t .given .0 .1 .0) j 0 (c .bring-end .result)) (c .before .narrow3 .ensures) (subst (λ i. Brings (retype-end .result) i (t .given .0 .1 .0) (c .before .narrow3 .result) 0 (c .bring-end .result)) (c .before .before .narrow2 .ensures) (c .bring-end .ensures))) in
+    goes text scratch _ (e .fits text scratch ((subst (passedIn text scratch) (t .given .1) ((takes-from .ensures .says text (entry .pre .0) ((end-found text scratch _ (f .given .0 .0) (acting .ensures .fits) (f .given .1)) .0)) .parts)) .0) (d .fits scratch ((subst (passedIn text scratch) (t .given .1) ((takes-from .ensures .says text (entry .pre .0) ((end-found text scratch _ (f .given .0 .0) (acting .ensures .fits) (f .given .1)) .0)) .parts)) .1) (entry .pre .1))) (receives-so text scratch h c-arg (entry .args .x) (f .given .0 .0) (acts-so text scratch h c-arg _ (f .given .0 .0) (acting .ensures) (f .given .1)) _ (takes-from .ensures .says text (entry .pre .0) ((end-found text scratch _ (f .given .0 .0) (acting .ensures .fits) (f .given .1)) .0)) (t .given .0 .0) (t .given .0 .1 .0) (t .given .0 .1 .1 .0) (t .given .0 .1 .1 .1 .0) (t .given .1) (sym (after-if2 .before .before .before .is-new .ensures scratch) ∙ not-false _ (after-if2 .before .before .if1 .left)) (omega (arith, entry .pre .1 .many, after-if2 .if2 .left)) _ _ d e)
 
 pub receive-next-spec : {M : Type 1} → statement M
 receive-next-spec =

@@ -1,5 +1,4 @@
 use mathlib.Core.Path.{_≡_, refl, sym, _∙_, ap, subst}
-use denote.Ref.{now}
 use native.Mathlib.Omega.{arith}
 use borrow.Author.Needs.{needs}
 use Prim.Native.Nat.{ℕ, _+_, _-_}
@@ -18,44 +17,43 @@ Inv-loop text scratch n i₀ i = Checking text scratch n i
 abbrev μ-loop : tie.MeasureT-loop
 μ-loop text scratch n i₀ i = n - i
 
--- src/bodies.rt:83:9
 process-count-requires : tie.Need-process-count-requires Inv-loop μ-loop
 process-count-requires c κs = c .before .before .pre .area
 
--- src/bodies.rt:85:5
 loop-holds : tie.Need-loop-holds Inv-loop μ-loop
 loop-holds c = checking-start _ _ _ (c .process-count .ensures)
 
--- src/bodies.rt:86:13
 check-body-requires : tie.Need-check-body-requires Inv-loop μ-loop
 check-body-requires c κs = (c .before .before .before .before .before .pre, omega (arith, c .loop-test .taken, c .before .before .process-count .ensures))
 
 enum-told : tie.Need-enum-told Inv-loop μ-loop
 enum-told c = search needs
 
--- src/bodies.rt:88:13
 enum-told-2 : tie.Need-enum-told-2 Inv-loop μ-loop
 enum-told-2 c = search needs
 
--- src/bodies.rt:88:13
 returns : tie.Need-returns Inv-loop μ-loop
-returns c = ap verdictOf (c .enum-told2 .given .1) ∙ checking-stops (now (c .before .before .before .before .before .before .before .before .args .text)) (now (c .before .before .before .before .before .before .before .before .args .scratch)) _ (c .before .before .before .before .loop .i) (c .before .before .before .before .loop .inv) (c .before .before .before .loop-test .taken) _ _ (sym (c .before .before .check-body .ensures) ∙ ap verdictOf (c .enum-told2 .given .1))
+returns c =
+    let loop = c .before .before .before .before .loop in
+    let entry = c .before .before .before .before .before .before .before .before in
+    ap verdictOf (c .enum-told2 .given .1) ∙ checking-stops (entry .args .text .now) (entry .args .scratch .now) _ (loop .i) (loop .inv) (c .before .before .before .loop-test .taken) _ _ (sym (c .before .before .check-body .ensures) ∙ ap verdictOf (c .enum-told2 .given .1))
 
--- src/bodies.rt:90:9
 add-i : tie.Need-add-i Inv-loop μ-loop
 add-i c = search needs
 
--- src/bodies.rt:85:5
 loop-less : tie.Need-loop-less Inv-loop μ-loop
 loop-less c = search needs
 
--- src/bodies.rt:85:5
 loop-again : tie.Need-loop-again Inv-loop μ-loop
-loop-again c = checking-on (now (c .before .before .before .before .before .before .before .before .args .text)) (now (c .before .before .before .before .before .before .before .before .args .scratch)) _ (c .before .before .before .before .loop .i) (c .before .before .before .before .loop .inv) (c .before .before .before .loop-test .taken) (sym (c .before .before .check-body .ensures) ∙ ap verdictOf (c .enum-told .given .1)) _ refl
+loop-again c =
+    let loop = c .before .before .before .before .loop in
+    let entry = c .before .before .before .before .before .before .before .before in
+    checking-on (entry .args .text .now) (entry .args .scratch .now) _ (loop .i) (loop .inv) (c .before .before .before .loop-test .taken) (sym (c .before .before .check-body .ensures) ∙ ap verdictOf (c .enum-told .given .1)) _ refl
 
--- src/bodies.rt:79:1
 returns-2 : tie.Need-returns-2 Inv-loop μ-loop
-returns-2 c = checking-end (now (c .before .before .before .before .before .args .text)) (now (c .before .before .before .before .before .args .scratch)) _ (c .before .loop .i) (c .before .loop .inv) (c .loop-test .left)
+returns-2 c =
+    let entry = c .before .before .before .before .before in
+    checking-end (entry .args .text .now) (entry .args .scratch .now) _ (c .before .loop .i) (c .before .loop .inv) (c .loop-test .left)
 
 pub check-bodies-spec : {M : Type 1} → statement M
 check-bodies-spec =

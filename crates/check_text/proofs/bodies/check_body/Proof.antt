@@ -1,5 +1,4 @@
 use mathlib.Core.Path.{_≡_, refl, sym, _∙_, ap, subst}
-use denote.Ref.{now}
 use native.Mathlib.Omega.{arith}
 use borrow.Author.Needs.{needs}
 use Prim.Native.Nat.{ℕ, _+_, _-_}
@@ -17,37 +16,46 @@ use Rattle.check_text.proofs.process.check_process.Reads as check-proce
 use Rattle.read_tables.proofs.access.declared_process.Reads as declared-process-reads
 use Rattle.read_tables.proofs.access.entry.Reads as entry-reads
 
--- src/bodies.rt:59:9
 declared-process-requires : tie.Need-declared-process-requires
 declared-process-requires c κs = let t = c .before .before .pre .0 in (t .area, omega (arith, t .within, c .before .before .pre .1))
 
--- src/bodies.rt:60:8
 has-seventeenth-requires : tie.Need-has-seventeenth-requires
 has-seventeenth-requires c κs = search needs
 
--- src/bodies.rt:61:32
 add-entry : tie.Need-add-entry
-add-entry c = omega (arith, (seventeenth-entry (now (c .before .before .before .before .before .before .args .text)) (now (c .before .before .before .before .before .before .args .scratch)) (asEntry (c .before .before .before .declared-process .result)) (c .before .before .before .declared-process .ensures .stands (now (c .before .before .before .before .before .before .args .text)) (c .before .before .before .before .before .before .pre .0) (c .before .before .before .before .before .before .pre .1)) (c .before .before .before .before .before .before .pre .0) (ltb-true 16 (c .before .before .before .declared-process .result .provided + c .before .before .before .declared-process .result .used) (sym (c .before .before .has-seventeenth .ensures) ∙ c .before .if1 .taken))))
+add-entry c =
+    let declared-process = c .before .before .before .declared-process in
+    let entry = c .before .before .before .before .before .before in
+    omega (arith, (seventeenth-entry (entry .args .text .now) (entry .args .scratch .now) (asEntry (declared-process .result)) (declared-process .ensures .stands (entry .args .text .now) (entry .pre .0) (entry .pre .1)) (entry .pre .0) (ltb-true 16 (declared-process .result .provided + declared-process .result .used) (sym (c .before .before .has-seventeenth .ensures) ∙ c .before .if1 .taken))))
 
--- src/bodies.rt:61:13
 entry-requires : tie.Need-entry-requires
-entry-requires c κs = (c .before .before .before .before .before .before .pre .0 .area, (seventeenth-entry (now (c .before .before .before .before .before .before .args .text)) (now (c .before .before .before .before .before .before .args .scratch)) (asEntry (c .before .before .before .declared-process .result)) (c .before .before .before .declared-process .ensures .stands (now (c .before .before .before .before .before .before .args .text)) (c .before .before .before .before .before .before .pre .0) (c .before .before .before .before .before .before .pre .1)) (c .before .before .before .before .before .before .pre .0) (ltb-true 16 (c .before .before .before .declared-process .result .provided + c .before .before .before .declared-process .result .used) (sym (c .before .before .has-seventeenth .ensures) ∙ c .before .if1 .taken))))
+entry-requires c κs =
+    let declared-process = c .before .before .before .declared-process in
+    let entry = c .before .before .before .before .before .before in
+    (entry .pre .0 .area, (seventeenth-entry (entry .args .text .now) (entry .args .scratch .now) (asEntry (declared-process .result)) (declared-process .ensures .stands (entry .args .text .now) (entry .pre .0) (entry .pre .1)) (entry .pre .0) (ltb-true 16 (declared-process .result .provided + declared-process .result .used) (sym (c .before .before .has-seventeenth .ensures) ∙ c .before .if1 .taken))))
 
--- src/bodies.rt:62:9
 returns : tie.Need-returns
-returns c = body-named (now (c .before .before .before .before .before .before .before .args .text)) (now (c .before .before .before .before .before .before .before .args .scratch)) (c .before .before .before .before .before .before .before .args .i) (c .before .before .before .before .declared-process .result) (c .before .before .before .before .declared-process .ensures) _ (c .entry .ensures) (ltb-true 16 (c .before .before .before .before .declared-process .result .provided + c .before .before .before .before .declared-process .result .used) (sym (c .before .before .before .has-seventeenth .ensures) ∙ c .before .before .if1 .taken))
+returns c =
+    let declared-process = c .before .before .before .before .declared-process in
+    let entry = c .before .before .before .before .before .before .before in
+    body-named (entry .args .text .now) (entry .args .scratch .now) (entry .args .i) (declared-process .result) (declared-process .ensures) _ (c .entry .ensures) (ltb-true 16 (declared-process .result .provided + declared-process .result .used) (sym (c .before .before .before .has-seventeenth .ensures) ∙ c .before .before .if1 .taken))
 
--- src/bodies.rt:64:9
 signature-held-requires : tie.Need-signature-held-requires
-signature-held-requires c κs = (c .before .before .before .before .before .pre .0, (c .before .before .declared-process .ensures .stands (now (c .before .before .before .before .before .args .text)) (c .before .before .before .before .before .pre .0) (c .before .before .before .before .before .pre .1)), c .before .before .declared-process .ensures .small, omega (arith, (ltb-false 16 (c .before .before .declared-process .result .provided + c .before .before .declared-process .result .used) (sym (c .before .has-seventeenth .ensures) ∙ c .if1 .left))), omega (arith, (ltb-false 16 (c .before .before .declared-process .result .provided + c .before .before .declared-process .result .used) (sym (c .before .has-seventeenth .ensures) ∙ c .if1 .left))))
+signature-held-requires c κs =
+    let declared-process = c .before .before .declared-process in
+    let entry = c .before .before .before .before .before in
+    (entry .pre .0, (declared-process .ensures .stands (entry .args .text .now) (entry .pre .0) (entry .pre .1)), declared-process .ensures .small, omega (arith, (ltb-false 16 (declared-process .result .provided + declared-process .result .used) (sym (c .before .has-seventeenth .ensures) ∙ c .if1 .left))), omega (arith, (ltb-false 16 (declared-process .result .provided + declared-process .result .used) (sym (c .before .has-seventeenth .ensures) ∙ c .if1 .left))))
 
--- src/bodies.rt:65:5
 check-process-requires : tie.Need-check-process-requires
-check-process-requires c κs = (c .before .before .before .before .before .before .pre .0, c .signature-held .ensures .fits, (c .before .before .before .declared-process .ensures .stands (now (c .before .before .before .before .before .before .args .text)) (c .before .before .before .before .before .before .pre .0) (c .before .before .before .before .before .before .pre .1)) .body)
+check-process-requires c κs =
+    let entry = c .before .before .before .before .before .before in
+    (entry .pre .0, c .signature-held .ensures .fits, (c .before .before .before .declared-process .ensures .stands (entry .args .text .now) (entry .pre .0) (entry .pre .1)) .body)
 
--- src/bodies.rt:55:1
 returns-2 : tie.Need-returns-2
-returns-2 c = body-checked (now (c .before .before .before .before .before .before .before .args .text)) (now (c .before .before .before .before .before .before .before .args .scratch)) (c .before .before .before .before .before .before .before .args .i) (c .before .before .before .before .declared-process .result) (c .before .before .before .before .declared-process .ensures) _ (ltb-false 16 (c .before .before .before .before .declared-process .result .provided + c .before .before .before .before .declared-process .result .used) (sym (c .before .before .before .has-seventeenth .ensures) ∙ c .before .before .if1 .left)) (c .before .signature-held .ensures) (c .check-process .ensures)
+returns-2 c =
+    let declared-process = c .before .before .before .before .declared-process in
+    let entry = c .before .before .before .before .before .before .before in
+    body-checked (entry .args .text .now) (entry .args .scratch .now) (entry .args .i) (declared-process .result) (declared-process .ensures) _ (ltb-false 16 (declared-process .result .provided + declared-process .result .used) (sym (c .before .before .before .has-seventeenth .ensures) ∙ c .before .before .if1 .left)) (c .before .signature-held .ensures) (c .check-process .ensures)
 
 pub check-body-spec : {M : Type 1} → statement M
 check-body-spec =

@@ -1,5 +1,4 @@
 use mathlib.Core.Path.{_≡_, refl, sym, _∙_, ap, subst}
-use denote.Ref.{now}
 use native.Mathlib.Omega.{arith}
 use borrow.Author.Needs.{needs}
 use Prim.Native.Nat.{ℕ, _+_, _-_}
@@ -10,11 +9,9 @@ use Rattle.check_text.proofs.bodies.has_seventeenth.Tie as tie
 use Rattle.check_text.proofs.bodies.has_seventeenth.Reads as reads
 use Rattle.check_text.proofs.bodies.has_seventeenth.Lts as lts
 
--- src/bodies.rt:73:9
 returns : tie.Need-returns
 returns c = sym (lt-ltb 16 (c .before .before .args .e .provided + c .before .before .args .e .used) (omega (arith, c .if1 .taken)))
 
--- src/bodies.rt:69:1
 returns-2 : tie.Need-returns-2
 returns-2 c = seventeenth _ _ (c .before .before .if1 .left)
 

@@ -7,26 +7,21 @@ use Rattle.check_text.proofs.bodies.script_verdict.Lts as lts
 use Rattle.check_text.proofs.bodies.check_bodies.Reads as check-bodies-reads
 use Rattle.check_declarations.proofs.verdict.declared_verdict.Reads as declared-verdict-reads
 
--- src/bodies.rt:100:9
 declared-verdict-requires : tie.Need-declared-verdict-requires
 declared-verdict-requires c κs = search needs
 
 enum-told : tie.Need-enum-told
 enum-told c = search needs
 
--- src/bodies.rt:102:9
 enum-told-2 : tie.Need-enum-told-2
 enum-told-2 c = search needs
 
--- src/bodies.rt:102:9
 returns : tie.Need-returns
 returns c = then-refused _ _ _ _ (c .enum-told2 .given .1) (c .before .before .declared-verdict .ensures)
 
--- src/bodies.rt:104:5
 check-bodies-requires : tie.Need-check-bodies-requires
 check-bodies-requires c κs = search needs
 
--- src/bodies.rt:96:1
 returns-2 : tie.Need-returns-2
 returns-2 c = then-fine _ _ (c .before .enum-told .given .1) (c .before .before .before .declared-verdict .ensures) (c .check-bodies .ensures)
 

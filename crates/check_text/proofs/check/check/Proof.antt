@@ -1,5 +1,4 @@
 use mathlib.Core.Path.{_≡_}
-use denote.Ref.{now}
 use lib.ListN.{length}
 use Rattle.check_text.specs.Texts.{checked-short, checked-enough}
 use borrow.Author.Needs.{needs}
@@ -9,31 +8,24 @@ use Rattle.check_text.proofs.check.check.Reads as reads
 use Rattle.check_text.proofs.check.check.Lts as lts
 use Rattle.check_text.proofs.check.check_part.Reads as check-part-reads
 
--- src/check.rt:43:9
 returns : tie.Need-returns
 returns c = checked-short _ _ (c .if1 .taken)
 
--- src/check.rt:45:22
 sub-check-part : tie.Need-sub-check-part
 sub-check-part c = search needs
 
--- src/check.rt:45:22
 part-check-part-start : tie.Need-part-check-part-start
 part-check-part-start c = search needs
 
--- src/check.rt:45:22
 part-check-part-end : tie.Need-part-check-part-end
 part-check-part-end c = search needs
 
--- src/check.rt:45:5
 check-part-requires : tie.Need-check-part-requires
 check-part-requires c κs = search needs
 
--- src/check.rt:39:1
 same-length : tie.Need-same-length
 same-length c = search needs
 
--- src/check.rt:39:1
 returns-2 : tie.Need-returns-2
 returns-2 c = checked-enough _ _ _ _ (c .before .before .before .before .if1 .left) (c .before .before .check-part .ensures)
 

@@ -6,11 +6,9 @@ use Rattle.check_text.proofs.process.ended.Tie as tie
 use Rattle.check_text.proofs.process.ended.Reads as reads
 use Rattle.check_text.proofs.process.ended.Lts as lts
 
--- src/process.rt:93:9
 returns : tie.Need-returns
 returns c = rw (c .if1 .taken) refl
 
--- src/process.rt:89:1
 returns-2 : tie.Need-returns-2
 returns-2 c = refused-by _ _ (c .if1 .left)
 

@@ -1,5 +1,4 @@
 use mathlib.Core.Path.{_≡_, refl, sym, _∙_, ap, subst}
-use denote.Ref.{now}
 use native.Mathlib.Omega.{arith}
 use borrow.Author.Needs.{needs}
 use borrow.Author.Tests.{eq-eqb, ne-eqb}
@@ -11,20 +10,16 @@ use Rattle.check_text.proofs.rules.ending_refusal.Lts as lts
 use Rattle.check_terms.proofs.calls.call_refusal.Reads as call-refusal-reads
 use Rattle.check_terms.proofs.forwards.forward_refusal.Reads as forward-refusal-reads
 
--- src/rules.rt:66:9
 forward-refusal-requires : tie.Need-forward-refusal-requires
 forward-refusal-requires c κs = c .before .before .before .before .pre .0
 
--- src/rules.rt:66:9
 returns : tie.Need-returns
 unfolding endStep
 returns c = rw (eq-eqb _ _ (c .before .if1 .taken)) (c .forward-refusal .ensures)
 
--- src/rules.rt:68:5
 call-refusal-requires : tie.Need-call-refusal-requires
 call-refusal-requires c κs = (c .before .before .before .before .pre .0, c .before .before .before .before .pre .1 (c .if1 .left))
 
--- src/rules.rt:60:1
 returns-2 : tie.Need-returns-2
 unfolding endStep
 returns-2 c = rw (ne-eqb _ _ (c .before .if1 .left)) (c .call-refusal .ensures)

@@ -1,5 +1,4 @@
 use mathlib.Core.Path.{_≡_, refl, sym, _∙_, ap, subst}
-use denote.Ref.{now}
 use native.Mathlib.Omega.{arith}
 use borrow.Author.Needs.{needs}
 use borrow.Author.Tests.{eq-eqb, ne-eqb}
@@ -11,20 +10,18 @@ use Rattle.check_text.proofs.rules.receive_one.Lts as lts
 use Rattle.check_terms.proofs.sends.close_next.Reads as close-next-reads
 use Rattle.check_terms.proofs.sends.receive_next.Reads as receive-next-reads
 
--- src/rules.rt:54:9
 close-next-requires : tie.Need-close-next-requires
 close-next-requires c κs = (c .before .before .before .before .pre .0, c .before .before .before .before .pre .1, omega arith)
 
--- src/rules.rt:54:9
 returns : tie.Need-returns
 unfolding receiveStep
 returns c = rw (eq-eqb _ _ (c .before .if1 .taken)) (c .close-next .ensures)
 
--- src/rules.rt:56:5
 receive-next-requires : tie.Need-receive-next-requires
-receive-next-requires c κs = (c .before .before .before .before .pre .0, c .before .before .before .before .pre .1, c .before .before .before .before .pre .2 (omega (arith, c .before .before .before .before .pre .3, c .before .before .before .before .pre .4, c .if1 .left)))
+receive-next-requires c κs =
+    let entry = c .before .before .before .before in
+    (entry .pre .0, entry .pre .1, entry .pre .2 (omega (arith, entry .pre .3, entry .pre .4, c .if1 .left)))
 
--- src/rules.rt:49:1
 returns-2 : tie.Need-returns-2
 unfolding receiveStep
 returns-2 c = rw (ne-eqb _ _ (c .before .if1 .left)) (c .receive-next .ensures)

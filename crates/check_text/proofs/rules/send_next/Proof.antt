@@ -1,5 +1,4 @@
 use mathlib.Core.Path.{_≡_, refl, sym, _∙_, ap, subst}
-use denote.Ref.{now}
 use native.Mathlib.Omega.{arith}
 use borrow.Author.Needs.{needs}
 use borrow.Author.Tests.{eq-eqb, ne-eqb}
@@ -13,38 +12,30 @@ use Rattle.check_terms.proofs.sends.choose_next.Reads as choose-next-reads
 use Rattle.check_terms.proofs.sends.close_next.Reads as close-next-reads
 use Rattle.check_terms.proofs.sends.pass_next.Reads as pass-next-reads
 
--- src/rules.rt:37:9
 close-next-requires : tie.Need-close-next-requires
 close-next-requires c κs = (c .before .before .before .before .pre .0, c .before .before .before .before .pre .1, omega arith)
 
--- src/rules.rt:37:9
 returns : tie.Need-returns
 unfolding sendStep
 returns c = rw (eq-eqb _ _ (c .before .if1 .taken)) (c .close-next .ensures)
 
--- src/rules.rt:40:9
 pass-next-requires : tie.Need-pass-next-requires
 pass-next-requires c κs = c .before .before .before .before .before .before .pre
 
--- src/rules.rt:40:9
 returns-2 : tie.Need-returns-2
 unfolding sendStep
 returns-2 c = rw (ne-eqb _ _ (c .before .before .before .if1 .left), eq-eqb _ _ (c .before .if2 .taken)) (c .pass-next .ensures)
 
--- src/rules.rt:43:9
 choose-next-requires : tie.Need-choose-next-requires
 choose-next-requires c κs = c .before .before .before .before .before .before .before .before .pre
 
--- src/rules.rt:43:9
 returns-3 : tie.Need-returns-3
 unfolding sendStep
 returns-3 c = rw (ne-eqb _ _ (c .before .before .before .before .before .if1 .left), ne-eqb _ _ (c .before .before .before .if2 .left), eq-eqb _ _ (c .before .if3 .taken)) (c .choose-next .ensures)
 
--- src/rules.rt:45:5
 cancel-next-requires : tie.Need-cancel-next-requires
 cancel-next-requires c κs = c .before .before .before .before .before .before .before .before .pre
 
--- src/rules.rt:32:1
 returns-4 : tie.Need-returns-4
 unfolding sendStep
 returns-4 c = rw (ne-eqb _ _ (c .before .before .before .before .before .if1 .left), ne-eqb _ _ (c .before .before .before .if2 .left), ne-eqb _ _ (c .before .if3 .left)) (c .cancel-next .ensures)

@@ -7,19 +7,15 @@ use Rattle.check_types.proofs.acting.choosing.Reads as reads
 use Rattle.check_types.proofs.acting.choosing.Lts as lts
 use Rattle.read_tables.proofs.access.type_node.Reads as type-node-reads
 
--- src/acting.rt:59:9
 type-node-requires : tie.Need-type-node-requires
 type-node-requires c κs = search needs
 
--- src/acting.rt:55:1
 returns : tie.Need-returns
 returns c = chooses-at _ _ _ (c .before .type-node .ensures) 5 (c .match .keys1) (omega arith)
 
--- src/acting.rt:55:1
 returns-2 : tie.Need-returns-2
 returns-2 c = chooses-at _ _ _ (c .before .type-node .ensures) 6 (c .match .keys2) (omega arith)
 
--- src/acting.rt:55:1
 returns-3 : tie.Need-returns-3
 returns-3 c = chooses-nothing _ _ _ (c .before .type-node .ensures) (c .match .rest .0 .1) (c .match .rest .1)
 

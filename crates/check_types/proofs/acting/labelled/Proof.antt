@@ -14,39 +14,30 @@ Inv-loop text scratch at e n place₀ left₀ place left = Looking text scratch 
 abbrev μ-loop : tie.MeasureT-loop
 μ-loop text scratch at e n place₀ left₀ place left = left
 
--- src/acting.rt:92:5
 loop-holds : tie.Need-loop-holds Inv-loop μ-loop
 loop-holds c = look-start _ _ _ _ _ _ (c .before .before .pre .1 .1)
 
--- src/acting.rt:93:13
 alternative-requires : tie.Need-alternative-requires Inv-loop μ-loop
 alternative-requires c κs = look-there _ _ _ _ _ _ _ (c .before .loop .inv) (c .loop-test .taken) (c .before .before .before .before .pre .0)
 
--- src/acting.rt:95:12
 labels-equal-requires : tie.Need-labels-equal-requires Inv-loop μ-loop
 labels-equal-requires c κs = search needs
 
--- src/acting.rt:96:13
 returns : tie.Need-returns Inv-loop μ-loop
 returns c = look-found _ _ _ _ _ _ _ (c .before .before .before .before .loop .inv) (c .before .before .before .loop-test .taken) _ (c .before .before .alternative .ensures) (c .before .labels-equal .ensures) (c .if1 .taken)
 
--- src/acting.rt:98:9
 sub-place : tie.Need-sub-place Inv-loop μ-loop
 sub-place c = omega (arith, look-there _ _ _ _ _ _ _ (c .before .before .before .before .loop .inv) (c .before .before .before .loop-test .taken) (c .before .before .before .before .before .before .before .pre .0))
 
--- src/acting.rt:99:9
 sub-left : tie.Need-sub-left Inv-loop μ-loop
 sub-left c = omega arith
 
--- src/acting.rt:92:5
 loop-less : tie.Need-loop-less Inv-loop μ-loop
 loop-less c = omega arith
 
--- src/acting.rt:92:5
 loop-again : tie.Need-loop-again Inv-loop μ-loop
 loop-again c = look-on _ _ _ _ _ _ _ (c .before .before .before .before .loop .inv) (c .before .before .before .loop-test .taken) _ (c .before .before .alternative .ensures) (c .before .labels-equal .ensures) (c .if1 .left)
 
--- src/acting.rt:86:1
 returns-2 : tie.Need-returns-2 Inv-loop μ-loop
 returns-2 c = look-end _ _ _ _ _ _ _ (c .before .loop .inv) (c .loop-test .left)
 

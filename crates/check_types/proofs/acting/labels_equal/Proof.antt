@@ -6,19 +6,15 @@ use Rattle.check_types.proofs.acting.labels_equal.Lts as lts
 use Rattle.notation.proofs.token.names_equal.Reads as names-equal-reads
 use Rattle.check_types.proofs.acting.past.Reads as past-reads
 
--- src/acting.rt:82:23
 past-requires : tie.Need-past-requires
 past-requires c κs = search needs
 
--- src/acting.rt:82:38
 past-requires-2 : tie.Need-past-requires-2
 past-requires-2 c κs = search needs
 
--- src/acting.rt:82:5
 names-equal-requires : tie.Need-names-equal-requires
 names-equal-requires c κs = search needs
 
--- src/acting.rt:79:1
 returns : tie.Need-returns
 returns c = rw (← c .before .before .past .ensures, ← c .before .past2 .ensures) (c .names-equal .ensures)
 

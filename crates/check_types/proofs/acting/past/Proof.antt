@@ -6,15 +6,12 @@ use Rattle.check_types.proofs.acting.past.Tie as tie
 use Rattle.check_types.proofs.acting.past.Reads as reads
 use Rattle.check_types.proofs.acting.past.Lts as lts
 
--- src/acting.rt:73:16
 add-result : tie.Need-add-result
 add-result c = search needs
 
--- src/acting.rt:73:9
 returns : tie.Need-returns
 returns c = search needs
 
--- src/acting.rt:69:1
 returns-2 : tie.Need-returns-2
 returns-2 c = both-beyond _ _ _ (omega arith) (omega arith)
 

@@ -9,37 +9,38 @@ use Rattle.read_tables.proofs.access.declared_type.Reads as declared-type-reads
 use Rattle.read_tables.proofs.access.type_node.Reads as type-node-reads
 use Rattle.read_tables.proofs.search.find_type.Reads as find-type-reads
 
--- src/acting.rt:25:9
 type-node-requires : tie.Need-type-node-requires
 type-node-requires c κs = search needs
 
--- src/acting.rt:27:9
 returns : tie.Need-returns
-returns c = stands-itself _ _ _ (c .before .before .type-node .ensures) _ (c .before .before .before .before .before .pre .0) (c .before .before .before .before .before .pre .1) (c .if1 .taken)
+returns c =
+    let entry = c .before .before .before .before .before in
+    stands-itself _ _ _ (c .before .before .type-node .ensures) _ (entry .pre .0) (entry .pre .1) (c .if1 .taken)
 
--- src/acting.rt:29:9
 find-type-requires : tie.Need-find-type-requires
 find-type-requires c κs = search needs
 
--- src/acting.rt:31:19
 enum-known-found : tie.Need-enum-known-found
 enum-known-found c = search needs
 
--- src/acting.rt:32:17
 declared-type-requires : tie.Need-declared-type-requires
-declared-type-requires c κs = (c .before .before .before .before .before .before .before .before .before .pre .0 .area, omega (arith, c .before .before .before .before .before .before .before .before .before .pre .0 .within, c .before .before .before .find-type .ensures .below _ (c .before .found .given .1)))
+declared-type-requires c κs =
+    let entry = c .before .before .before .before .before .before .before .before .before in
+    (entry .pre .0 .area, omega (arith, entry .pre .0 .within, c .before .before .before .find-type .ensures .below _ (c .before .found .given .1)))
 
--- src/acting.rt:35:27
 enum-told : tie.Need-enum-told
 enum-told c = search needs
 
--- src/acting.rt:21:1
 returns-2 : tie.Need-returns-2
-returns-2 c = stands-declared _ _ _ (c .before .before .before .before .before .before .before .type-node .ensures) _ (c .before .before .before .before .before .before .before .before .before .before .pre .0) (c .before .before .before .before .before .before .before .before .before .before .pre .1) (c .before .before .before .before .before .if1 .left) (c .before .before .before .before .find-type .ensures) _ _ (c .before .before .found .given .1) (c .declared-type .ensures)
+returns-2 c =
+    let after-if1 = c .before .before .before .before .before in
+    let entry = after-if1 .before .before .before .before .before in
+    stands-declared _ _ _ (after-if1 .before .before .type-node .ensures) _ (entry .pre .0) (entry .pre .1) (after-if1 .if1 .left) (c .before .before .before .before .find-type .ensures) _ _ (c .before .before .found .given .1) (c .declared-type .ensures)
 
--- src/acting.rt:21:1
 returns-3 : tie.Need-returns-3
-returns-3 c = stands-undeclared _ _ _ (c .before .before .before .before .before .type-node .ensures) _ (c .before .before .before .before .before .before .before .before .pre .0) (c .before .before .before .before .before .before .before .before .pre .1) (c .before .before .before .if1 .left) (c .before .before .find-type .ensures) (c .enum-told .given .1)
+returns-3 c =
+    let entry = c .before .before .before .before .before .before .before .before in
+    stands-undeclared _ _ _ (c .before .before .before .before .before .type-node .ensures) _ (entry .pre .0) (entry .pre .1) (c .before .before .before .if1 .left) (c .before .before .find-type .ensures) (c .enum-told .given .1)
 
 pub standing-spec : {M : Type 1} → statement M
 standing-spec =

@@ -13,43 +13,35 @@ Inv-loop text scratch e n d m place₀ left₀ place left = Fitting text scratch
 abbrev μ-loop : tie.MeasureT-loop
 μ-loop text scratch e n d m place₀ left₀ place left = left
 
--- src/fit.rt:39:9
 returns : tie.Need-returns Inv-loop μ-loop
 returns c = fit-not-many _ _ _ _ _ _ (c .if1 .taken)
 
--- src/fit.rt:43:5
 loop-holds : tie.Need-loop-holds Inv-loop μ-loop
 loop-holds c = fit-start _ _ _ _ _ _ (c .if1 .left) _ (c .before .before .before .pre .1 .1)
 
--- src/fit.rt:44:13
 alternative-requires : tie.Need-alternative-requires Inv-loop μ-loop
 alternative-requires c κs = fit-there _ _ _ _ _ _ _ _ (c .before .loop .inv) (c .loop-test .taken) (c .before .before .before .before .before .pre .0)
 
--- src/fit.rt:46:12
 times-requires : tie.Need-times-requires Inv-loop μ-loop
-times-requires c κs = (c .before .before .before .before .before .before .pre .0, c .before .before .before .before .before .before .pre .2)
+times-requires c κs =
+    let entry = c .before .before .before .before .before .before in
+    (entry .pre .0, entry .pre .2)
 
--- src/fit.rt:47:13
 returns-2 : tie.Need-returns-2 Inv-loop μ-loop
 returns-2 c = fit-not _ _ _ _ _ _ _ _ (c .before .before .before .before .loop .inv) (c .before .before .before .loop-test .taken) _ (c .before .before .alternative .ensures) (c .before .times .ensures) (c .if2 .taken)
 
--- src/fit.rt:49:9
 sub-place : tie.Need-sub-place Inv-loop μ-loop
 sub-place c = omega (arith, fit-there _ _ _ _ _ _ _ _ (c .before .before .before .before .loop .inv) (c .before .before .before .loop-test .taken) (c .before .before .before .before .before .before .before .before .pre .0))
 
--- src/fit.rt:50:9
 sub-left : tie.Need-sub-left Inv-loop μ-loop
 sub-left c = omega arith
 
--- src/fit.rt:43:5
 loop-less : tie.Need-loop-less Inv-loop μ-loop
 loop-less c = omega arith
 
--- src/fit.rt:43:5
 loop-again : tie.Need-loop-again Inv-loop μ-loop
 loop-again c = fit-on _ _ _ _ _ _ _ _ (c .before .before .before .before .loop .inv) (c .before .before .before .loop-test .taken) _ (c .before .before .alternative .ensures) (c .before .times .ensures) (c .if2 .left)
 
--- src/fit.rt:34:1
 returns-3 : tie.Need-returns-3 Inv-loop μ-loop
 returns-3 c = fit-end _ _ _ _ _ _ _ _ (c .before .loop .inv) (c .loop-test .left)
 

@@ -16,39 +16,30 @@ Inv-loop text scratch at d m place₀ left₀ seen₀ place left seen = Counting
 abbrev μ-loop : tie.MeasureT-loop
 μ-loop text scratch at d m place₀ left₀ seen₀ place left seen = left
 
--- src/fit.rt:21:5
 loop-holds : tie.Need-loop-holds Inv-loop μ-loop
 loop-holds c = count-start _ _ _ _ _ _ (c .before .before .pre .1 .1)
 
--- src/fit.rt:22:13
 branch-requires : tie.Need-branch-requires Inv-loop μ-loop
 branch-requires c κs = count-there _ _ _ _ _ _ _ _ (c .before .loop .inv) (c .loop-test .taken) (c .before .before .before .before .pre .0)
 
--- src/fit.rt:24:12
 labels-equal-requires : tie.Need-labels-equal-requires Inv-loop μ-loop
 labels-equal-requires c κs = search needs
 
--- src/fit.rt:25:13
 add-seen : tie.Need-add-seen Inv-loop μ-loop
 add-seen c = omega (arith, c .before .before .before .before .loop .inv .few)
 
--- src/fit.rt:27:9
 sub-place : tie.Need-sub-place Inv-loop μ-loop
 sub-place c = omega (arith, count-there _ _ _ _ _ _ _ _ (c .before .before .before .before .loop .inv) (c .before .before .before .loop-test .taken) (c .before .before .before .before .before .before .before .pre .0))
 
--- src/fit.rt:28:9
 sub-left : tie.Need-sub-left Inv-loop μ-loop
 sub-left c = omega arith
 
--- src/fit.rt:21:5
 loop-less : tie.Need-loop-less Inv-loop μ-loop
 loop-less c = omega arith
 
--- src/fit.rt:21:5
 loop-again : tie.Need-loop-again Inv-loop μ-loop
 loop-again c = let on = count-on _ _ _ _ _ _ _ _ (c .before .before .before .before .loop .inv) (c .before .before .before .loop-test .taken) _ (c .before .before .branch .ensures) (c .before .labels-equal .ensures) in ⊎-elim (λ o. on true (o .0 .taken) _ (o .1)) (λ o. on false (o .0 .left) _ (o .1)) (c .if1 .came)
 
--- src/fit.rt:14:1
 returns : tie.Need-returns Inv-loop μ-loop
 returns c = count-end _ _ _ _ _ _ _ _ (c .before .loop .inv) (c .loop-test .left)
 

@@ -12,61 +12,65 @@ use Rattle.interpreter.proofs.entries.exec_name.Lts as lts
 use Rattle.check_text.proofs.check.check.Reads as check-reads
 use Rattle.interpreter.proofs.inside.name_in.Reads as name-in-reads
 
--- src/entries.rt:70:9
 check-requires : tie.Need-check-requires
 check-requires c κs = search needs
 
--- src/entries.rt:71:26
 enum-known-v : tie.Need-enum-known-v
 enum-known-v c = search needs
 
--- src/entries.rt:72:30
 enum-told : tie.Need-enum-told
 enum-told c = search needs
 
--- src/entries.rt:72:30
 sub-name-in : tie.Need-sub-name-in
 sub-name-in c = search needs
 
--- src/entries.rt:72:30
 part-name-in-start : tie.Need-part-name-in-start
 part-name-in-start c = search needs
 
--- src/entries.rt:72:30
 part-name-in-end : tie.Need-part-name-in-end
-part-name-in-end c = let l : length (c .before .before .before .before .before .check .last .1 .0) ≡ length (c .before .before .before .before .before .before .before .before .before .args .scratch .now) = search needs in let h : 8192 ≤ length (c .before .before .before .before .before .check .last .1 .0) = omega (arith, l, scratch-enough (c .before .before .before .before .before .before .before .before .before .args .text .now) (c .before .before .before .before .before .before .before .before .before .args .scratch .now) (c .before .before .before .before .before .check .last .1 .0) _ (c .before .before .before .before .before .check .ensures) (c .before .enum-told .given .1)) in search needs
+part-name-in-end c =
+    let check = c .before .before .before .before .before .check in
+    let entry = c .before .before .before .before .before .before .before .before .before in
+    let l : length (check .last .1 .0) ≡ length (entry .args .scratch .now) = search needs in
+    let h : 8192 ≤ length (check .last .1 .0) = omega (arith, l, scratch-enough (entry .args .text .now) (entry .args .scratch .now) (check .last .1 .0) _ (check .ensures) (c .before .enum-told .given .1)) in
+    search needs
 
--- src/entries.rt:72:9
 name-in-requires : tie.Need-name-in-requires
-name-in-requires c κs = let l : length (c .before .before .before .before .before .before .before .before .check .last .1 .0) ≡ length (c .before .before .before .before .before .before .before .before .before .before .before .before .args .scratch .now) = search needs in text-accepted (c .before .before .before .before .before .before .before .before .before .before .before .before .args .text .now) (c .before .before .before .before .before .before .before .before .before .before .before .before .args .scratch .now) (c .before .before .before .before .before .before .before .before .check .last .1 .0) _ (c .before .before .before .before .before .before .before .before .check .ensures) (c .before .before .before .before .enum-told .given .1) l
+name-in-requires c κs =
+    let after-check = c .before .before .before .before .before .before .before .before in
+    let check = after-check .check in
+    let entry = after-check .before .before .before .before in
+    let l : length (check .last .1 .0) ≡ length (entry .args .scratch .now) = search needs in
+    text-accepted (entry .args .text .now) (entry .args .scratch .now) (check .last .1 .0) _ (check .ensures) (c .before .before .before .before .enum-told .given .1) l
 
--- src/entries.rt:72:9
 same-length : tie.Need-same-length
 same-length c = search needs
 
--- src/entries.rt:72:9
 returns : tie.Need-returns
-returns c = names-accepted (c .before .before .before .before .before .before .before .before .before .before .before .before .before .args .text .now) (c .before .before .before .before .before .before .before .before .before .before .before .before .before .args .scratch .now) (c .before .before .before .before .before .before .before .before .before .check .last .1 .0) _ (c .before .before .before .before .before .before .before .before .before .check .ensures) (c .before .before .before .before .before .enum-told .given .1) (c .name-in .ensures)
+returns c =
+    let after-check = c .before .before .before .before .before .before .before .before .before in
+    let check = after-check .check in
+    let entry = after-check .before .before .before .before in
+    names-accepted (entry .args .text .now) (entry .args .scratch .now) (check .last .1 .0) _ (check .ensures) (c .before .before .before .before .before .enum-told .given .1) (c .name-in .ensures)
 
--- src/entries.rt:76:5
 sub-result : tie.Need-sub-result
 sub-result c = search needs
 
--- src/entries.rt:76:5
 part-result-start : tie.Need-part-result-start
 part-result-start c = search needs
 
--- src/entries.rt:76:5
 part-result-end : tie.Need-part-result-end
 part-result-end c = search needs
 
--- src/entries.rt:61:1
 same-length-2 : tie.Need-same-length-2
 same-length-2 c = search needs
 
--- src/entries.rt:61:1
 returns-2 : tie.Need-returns-2
-returns-2 c = names-refused (c .before .before .before .before .before .before .before .before .before .before .args .text .now) (c .before .before .before .before .before .before .before .before .before .before .args .scratch .now) (c .before .before .before .before .before .before .check .last .1 .0) _ (c .before .before .before .before .before .before .check .ensures) (c .before .before .before .before .before .before .before .before .before .before .args .line) (c .before .before .v .given .0 .0) (c .before .before .v .given .0 .1 .0) (c .before .before .v .given .1)
+returns-2 c =
+    let v = c .before .before .v in
+    let check = c .before .before .before .before .before .before .check in
+    let entry = c .before .before .before .before .before .before .before .before .before .before in
+    names-refused (entry .args .text .now) (entry .args .scratch .now) (check .last .1 .0) _ (check .ensures) (entry .args .line) (v .given .0 .0) (v .given .0 .1 .0) (v .given .1)
 
 pub exec-name-spec : {M : Type 1} → statement M
 exec-name-spec =

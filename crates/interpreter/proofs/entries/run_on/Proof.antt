@@ -14,53 +14,60 @@ use Rattle.interpreter.proofs.entries.run_on.Lts as lts
 use Rattle.check_text.proofs.check.check.Reads as check-reads
 use Rattle.interpreter.proofs.inside.run_on_in.Reads as run-on-in-reads
 
--- src/entries.rt:42:9
 check-requires : tie.Need-check-requires
 check-requires c κs = search needs
 
--- src/entries.rt:43:26
 enum-known-v : tie.Need-enum-known-v
 enum-known-v c = search needs
 
--- src/entries.rt:44:32
 enum-told : tie.Need-enum-told
 enum-told c = search needs
 
--- src/entries.rt:44:32
 sub-run-on-in : tie.Need-sub-run-on-in
 sub-run-on-in c = search needs
 
--- src/entries.rt:44:32
 part-run-on-in-start : tie.Need-part-run-on-in-start
 part-run-on-in-start c = search needs
 
--- src/entries.rt:44:32
 part-run-on-in-end : tie.Need-part-run-on-in-end
-part-run-on-in-end c = let l : length (c .before .before .before .before .before .check .last .1 .0) ≡ length (c .before .before .before .before .before .before .before .before .before .before .args .scratch .now) = search needs in let h : 8192 ≤ length (c .before .before .before .before .before .check .last .1 .0) = omega (arith, l, scratch-enough (c .before .before .before .before .before .before .before .before .before .before .args .text .now) (c .before .before .before .before .before .before .before .before .before .before .args .scratch .now) (c .before .before .before .before .before .check .last .1 .0) _ (c .before .before .before .before .before .check .ensures) (c .before .enum-told .given .1)) in search needs
+part-run-on-in-end c =
+    let check = c .before .before .before .before .before .check in
+    let entry = c .before .before .before .before .before .before .before .before .before .before in
+    let l : length (check .last .1 .0) ≡ length (entry .args .scratch .now) = search needs in
+    let h : 8192 ≤ length (check .last .1 .0) = omega (arith, l, scratch-enough (entry .args .text .now) (entry .args .scratch .now) (check .last .1 .0) _ (check .ensures) (c .before .enum-told .given .1)) in
+    search needs
 
--- src/entries.rt:44:9
 run-on-in-requires : tie.Need-run-on-in-requires
-run-on-in-requires c κs = let l : length (c .before .before .before .before .before .before .before .check .last .1 .0) ≡ length (c .before .before .before .before .before .before .before .before .before .before .before .before .args .scratch .now) = search needs in text-accepted (c .before .before .before .before .before .before .before .before .before .before .before .before .args .text .now) (c .before .before .before .before .before .before .before .before .before .before .before .before .args .scratch .now) (c .before .before .before .before .before .before .before .check .last .1 .0) _ (c .before .before .before .before .before .before .before .check .ensures) (c .before .before .before .enum-told .given .1) l
+run-on-in-requires c κs =
+    let check = c .before .before .before .before .before .before .before .check in
+    let entry = c .before .before .before .before .before .before .before .before .before .before .before .before in
+    let l : length (check .last .1 .0) ≡ length (entry .args .scratch .now) = search needs in
+    text-accepted (entry .args .text .now) (entry .args .scratch .now) (check .last .1 .0) _ (check .ensures) (c .before .before .before .enum-told .given .1) l
 
--- src/entries.rt:44:9
 same-length : tie.Need-same-length
 same-length c = search needs
 
--- src/entries.rt:44:9
 same-length-2 : tie.Need-same-length-2
 same-length-2 c = search needs
 
--- src/entries.rt:44:9
 returns : tie.Need-returns
-returns c = answers-accepted (c .before .before .before .before .before .before .before .before .before .before .before .before .before .before .before .args .text .now) (c .before .before .before .before .before .before .before .before .before .before .before .before .before .before .before .args .scratch .now) (c .before .before .before .before .before .before .before .before .before .before .check .last .1 .0) _ (c .before .before .before .before .before .before .before .before .before .before .check .ensures) (c .before .before .before .before .before .before .before .before .before .before .before .before .before .before .before .args .run .now) (λ n. callRunOn n (length (c .before .before .before .before .before .before .before .before .before .before .before .before .before .before .before .args .run .now)) (c .before .before .before .before .before .before .before .before .before .before .before .before .before .before .before .args .budget)) (c .before .before .before .before .before .before .enum-told .given .1) (c .before .before .run-on-in .ensures)
+returns c =
+    let after-check = c .before .before .before .before .before .before .before .before .before .before in
+    let check = after-check .check in
+    let entry = after-check .before .before .before .before .before in
+    let run = entry .args .run .now in
+    answers-accepted (entry .args .text .now) (entry .args .scratch .now) (check .last .1 .0) _ (check .ensures) run (λ n. callRunOn n (length run) (entry .args .budget)) (c .before .before .before .before .before .before .enum-told .given .1) (c .before .before .run-on-in .ensures)
 
--- src/entries.rt:39:1
 same-length-3 : tie.Need-same-length-3
 same-length-3 c = search needs
 
--- src/entries.rt:39:1
 returns-2 : tie.Need-returns-2
-returns-2 c = answers-refused (c .before .before .before .before .before .before .before .before .before .before .args .text .now) (c .before .before .before .before .before .before .before .before .before .before .args .scratch .now) (c .before .before .before .before .before .check .last .1 .0) _ (c .before .before .before .before .before .check .ensures) (c .before .before .before .before .before .before .before .before .before .before .args .run .now) (λ n. callRunOn n (length (c .before .before .before .before .before .before .before .before .before .before .args .run .now)) (c .before .before .before .before .before .before .before .before .before .before .args .budget)) _ (run-refusing (length (c .before .before .before .before .before .before .before .before .before .before .args .run .now)) (c .before .before .before .before .before .before .before .before .before .before .args .budget)) (c .before .v .given .0 .0) (c .before .v .given .0 .1 .0) (c .before .v .given .1)
+returns-2 c =
+    let v = c .before .v in
+    let check = c .before .before .before .before .before .check in
+    let entry = c .before .before .before .before .before .before .before .before .before .before in
+    let run = entry .args .run .now in
+    answers-refused (entry .args .text .now) (entry .args .scratch .now) (check .last .1 .0) _ (check .ensures) run (λ n. callRunOn n (length run) (entry .args .budget)) _ (run-refusing (length run) (entry .args .budget)) (v .given .0 .0) (v .given .0 .1 .0) (v .given .1)
 
 pub run-on-spec : {M : Type 1} → statement M
 run-on-spec =

@@ -12,53 +12,58 @@ use Rattle.interpreter.proofs.entries.start.Lts as lts
 use Rattle.check_text.proofs.check.check.Reads as check-reads
 use Rattle.interpreter.proofs.inside.start_in.Reads as start-in-reads
 
--- src/entries.rt:20:9
 check-requires : tie.Need-check-requires
 check-requires c κs = search needs
 
--- src/entries.rt:21:26
 enum-known-v : tie.Need-enum-known-v
 enum-known-v c = search needs
 
--- src/entries.rt:22:31
 enum-told : tie.Need-enum-told
 enum-told c = search needs
 
--- src/entries.rt:22:31
 sub-start-in : tie.Need-sub-start-in
 sub-start-in c = search needs
 
--- src/entries.rt:22:31
 part-start-in-start : tie.Need-part-start-in-start
 part-start-in-start c = search needs
 
--- src/entries.rt:22:31
 part-start-in-end : tie.Need-part-start-in-end
-part-start-in-end c = let l : length (c .before .before .before .before .before .check .last .1 .0) ≡ length (c .before .before .before .before .before .before .before .before .before .before .args .scratch .now) = search needs in let h : 8192 ≤ length (c .before .before .before .before .before .check .last .1 .0) = omega (arith, l, scratch-enough (c .before .before .before .before .before .before .before .before .before .before .args .text .now) (c .before .before .before .before .before .before .before .before .before .before .args .scratch .now) (c .before .before .before .before .before .check .last .1 .0) _ (c .before .before .before .before .before .check .ensures) (c .before .enum-told .given .1)) in search needs
+part-start-in-end c =
+    let check = c .before .before .before .before .before .check in
+    let entry = c .before .before .before .before .before .before .before .before .before .before in
+    let l : length (check .last .1 .0) ≡ length (entry .args .scratch .now) = search needs in
+    let h : 8192 ≤ length (check .last .1 .0) = omega (arith, l, scratch-enough (entry .args .text .now) (entry .args .scratch .now) (check .last .1 .0) _ (check .ensures) (c .before .enum-told .given .1)) in
+    search needs
 
--- src/entries.rt:22:9
 start-in-requires : tie.Need-start-in-requires
-start-in-requires c κs = let l : length (c .before .before .before .before .before .before .before .check .last .1 .0) ≡ length (c .before .before .before .before .before .before .before .before .before .before .before .before .args .scratch .now) = search needs in text-accepted (c .before .before .before .before .before .before .before .before .before .before .before .before .args .text .now) (c .before .before .before .before .before .before .before .before .before .before .before .before .args .scratch .now) (c .before .before .before .before .before .before .before .check .last .1 .0) _ (c .before .before .before .before .before .before .before .check .ensures) (c .before .before .before .enum-told .given .1) l
+start-in-requires c κs =
+    let check = c .before .before .before .before .before .before .before .check in
+    let entry = c .before .before .before .before .before .before .before .before .before .before .before .before in
+    let l : length (check .last .1 .0) ≡ length (entry .args .scratch .now) = search needs in
+    text-accepted (entry .args .text .now) (entry .args .scratch .now) (check .last .1 .0) _ (check .ensures) (c .before .before .before .enum-told .given .1) l
 
--- src/entries.rt:22:9
 same-length : tie.Need-same-length
 same-length c = search needs
 
--- src/entries.rt:22:9
 same-length-2 : tie.Need-same-length-2
 same-length-2 c = search needs
 
--- src/entries.rt:22:9
 returns : tie.Need-returns
-returns c = starts-accepted (c .before .before .before .before .before .before .before .before .before .before .before .before .before .before .before .args .text .now) (c .before .before .before .before .before .before .before .before .before .before .before .before .before .before .before .args .scratch .now) (c .before .before .before .before .before .before .before .before .before .before .check .last .1 .0) _ (c .before .before .before .before .before .before .before .before .before .before .check .ensures) (c .before .before .before .before .before .before .enum-told .given .1) (c .before .before .start-in .ensures)
+returns c =
+    let after-check = c .before .before .before .before .before .before .before .before .before .before in
+    let check = after-check .check in
+    let entry = after-check .before .before .before .before .before in
+    starts-accepted (entry .args .text .now) (entry .args .scratch .now) (check .last .1 .0) _ (check .ensures) (c .before .before .before .before .before .before .enum-told .given .1) (c .before .before .start-in .ensures)
 
--- src/entries.rt:17:1
 same-length-3 : tie.Need-same-length-3
 same-length-3 c = search needs
 
--- src/entries.rt:17:1
 returns-2 : tie.Need-returns-2
-returns-2 c = starts-refused (c .before .before .before .before .before .before .before .before .before .before .args .text .now) (c .before .before .before .before .before .before .before .before .before .before .args .scratch .now) (c .before .before .before .before .before .check .last .1 .0) _ (c .before .before .before .before .before .check .ensures) (c .before .before .before .before .before .before .before .before .before .before .args .run .now) (c .before .before .before .before .before .before .before .before .before .before .args .line) (c .before .v .given .0 .0) (c .before .v .given .0 .1 .0) (c .before .v .given .1)
+returns-2 c =
+    let v = c .before .v in
+    let check = c .before .before .before .before .before .check in
+    let entry = c .before .before .before .before .before .before .before .before .before .before in
+    starts-refused (entry .args .text .now) (entry .args .scratch .now) (check .last .1 .0) _ (check .ensures) (entry .args .run .now) (entry .args .line) (v .given .0 .0) (v .given .0 .1 .0) (v .given .1)
 
 pub start-spec : {M : Type 1} → statement M
 start-spec =

@@ -11,37 +11,33 @@ use Rattle.notation.proofs.token.name_of.Reads as name-of-reads
 use Rattle.read_tables.proofs.access.exec_at.Reads as exec-at-reads
 use Rattle.read_tables.proofs.access.exec_count.Reads as exec-count-reads
 
--- src/inside.rt:91:8
 exec-count-requires : tie.Need-exec-count-requires
 exec-count-requires c κs = tables-in (c .before .before .pre) .area
 
--- src/inside.rt:93:16
 sub-result : tie.Need-sub-result
 sub-result c = search needs
 
--- src/inside.rt:93:16
 part-result-start : tie.Need-part-result-start
 part-result-start c = search needs
 
--- src/inside.rt:93:16
 part-result-end : tie.Need-part-result-end
 part-result-end c = search needs
 
--- src/inside.rt:93:9
 returns : tie.Need-returns
-returns c = name-none (c .before .before .before .before .before .pre) (omega (arith, execs-many (c .before .before .before .before .before .args .text .now) (c .before .before .before .before .before .args .tables .now), c .before .before .exec-count .ensures, c .before .if1 .taken))
+returns c =
+    let entry = c .before .before .before .before .before in
+    name-none (entry .pre) (omega (arith, execs-many (entry .args .text .now) (entry .args .tables .now), c .before .before .exec-count .ensures, c .before .if1 .taken))
 
--- src/inside.rt:96:19
 exec-at-requires : tie.Need-exec-at-requires
 exec-at-requires c κs = (tables-in (c .before .before .before .before .pre) .area, omega (arith, tables-in (c .before .before .before .before .pre) .within, c .before .exec-count .ensures, c .if1 .left))
 
--- src/inside.rt:96:5
 name-of-requires : tie.Need-name-of-requires
 name-of-requires c κs = search needs
 
--- src/inside.rt:79:1
 returns-2 : tie.Need-returns-2
-returns-2 c = name-told (c .before .before .before .before .before .before .pre) _ (exec-name (c .before .before .before .before .before .before .args .text .now) (c .before .before .before .before .before .before .args .tables .now) (c .before .before .before .before .before .before .args .line) _ (omega (arith, c .before .before .before .exec-count .ensures, c .before .before .if1 .left)) (c .before .exec-at .ensures)) (c .name-of .ensures)
+returns-2 c =
+    let entry = c .before .before .before .before .before .before in
+    name-told (entry .pre) _ (exec-name (entry .args .text .now) (entry .args .tables .now) (entry .args .line) _ (omega (arith, c .before .before .before .exec-count .ensures, c .before .before .if1 .left)) (c .before .exec-at .ensures)) (c .name-of .ensures)
 
 pub name-in-spec : {M : Type 1} → statement M
 name-in-spec =

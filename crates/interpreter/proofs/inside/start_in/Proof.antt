@@ -7,27 +7,23 @@ use Rattle.interpreter.proofs.inside.start_in.Reads as reads
 use Rattle.interpreter.proofs.inside.start_in.Lts as lts
 use Rattle.run_steps.proofs.starting.begin_line.Reads as begin-line-reads
 
--- src/inside.rt:28:9
 returns : tie.Need-returns
 returns c = start-short (c .before .before .before .before .pre) (c .if1 .taken)
 
--- src/inside.rt:30:8
 begin-line-requires : tie.Need-begin-line-requires
-begin-line-requires c κs = (tables-in (c .before .before .before .before .before .pre), (c .before .if1 .left, small-in (c .before .before .before .before .before .pre)))
+begin-line-requires c κs =
+    let entry = c .before .before .before .before .before in
+    (tables-in (entry .pre), (c .before .if1 .left, small-in (entry .pre)))
 
--- src/inside.rt:31:9
 same-length : tie.Need-same-length
 same-length c = search needs
 
--- src/inside.rt:31:9
 returns-2 : tie.Need-returns-2
 returns-2 c = start-told (c .before .before .before .before .before .before .before .before .before .pre) (c .before .before .before .before .before .if1 .left) (c .before .before .before .begin-line .ensures) (c .if2 .taken)
 
--- src/inside.rt:23:1
 same-length-2 : tie.Need-same-length-2
 same-length-2 c = search needs
 
--- src/inside.rt:23:1
 returns-3 : tie.Need-returns-3
 returns-3 c = start-told (c .before .before .before .before .before .before .before .before .before .pre) (c .before .before .before .before .before .if1 .left) (c .before .before .before .begin-line .ensures) (c .if2 .left)
 

@@ -8,33 +8,32 @@ use Rattle.interpreter.proofs.inside.step_in.Lts as lts
 use Rattle.interpreter.proofs.inside.step_placed.Reads as step-placed-reads
 use Rattle.run_wellformed.proofs.well_formed.Reads as well-formed-reads
 
--- src/inside.rt:41:9
 returns : tie.Need-returns
 returns c = step-short (c .before .before .before .before .pre) (c .if1 .taken)
 
--- src/inside.rt:43:8
 well-formed-requires : tie.Need-well-formed-requires
-well-formed-requires c κs = ((tables-in (c .before .before .before .before .before .pre), everywhere-in (c .before .before .before .before .before .pre)), c .before .if1 .left)
+well-formed-requires c κs =
+    let entry = c .before .before .before .before .before in
+    ((tables-in (entry .pre), everywhere-in (entry .pre)), c .before .if1 .left)
 
--- src/inside.rt:44:9
 step-placed-requires : tie.Need-step-placed-requires
-step-placed-requires c κs = (c .before .before .before .before .before .before .before .before .pre, (c .before .before .before .before .if1 .left, holds-in (c .before .before .before .before .before .before .before .before .pre) _ (c .before .before .well-formed .ensures .yes (c .before .if2 .taken))))
+step-placed-requires c κs =
+    let entry = c .before .before .before .before .before .before .before .before in
+    (entry .pre, (c .before .before .before .before .if1 .left, holds-in (entry .pre) _ (c .before .before .well-formed .ensures .yes (c .before .if2 .taken))))
 
--- src/inside.rt:44:9
 same-length : tie.Need-same-length
 same-length c = search needs
 
--- src/inside.rt:44:9
 returns-2 : tie.Need-returns-2
 returns-2 c = search needs
 
--- src/inside.rt:36:1
 same-length-2 : tie.Need-same-length-2
 same-length-2 c = search needs
 
--- src/inside.rt:36:1
 returns-3 : tie.Need-returns-3
-returns-3 c = step-stranger (c .before .before .before .before .before .before .before .pre) (c .before .before .before .if1 .left) (λ f. c .before .well-formed .ensures .no (c .if2 .left) (formed-in (c .before .before .before .before .before .before .before .pre) _ f))
+returns-3 c =
+    let entry = c .before .before .before .before .before .before .before in
+    step-stranger (entry .pre) (c .before .before .before .if1 .left) (λ f. c .before .well-formed .ensures .no (c .if2 .left) (formed-in (entry .pre) _ f))
 
 pub step-in-spec : {M : Type 1} → statement M
 step-in-spec =

@@ -9,57 +9,57 @@ use Rattle.interpreter.proofs.inside.step_placed.Lts as lts
 use Rattle.run_steps.proofs.dispatch.step_at.Reads as step-at-reads
 use Rattle.run_words.proofs.processes.count.Reads as count-reads
 
--- src/inside.rt:55:8
 count-requires : tie.Need-count-requires
 count-requires c κs = c .before .before .before .before .pre .1 .0
 
--- src/inside.rt:56:9
 same-length : tie.Need-same-length
 same-length c = search needs
 
--- src/inside.rt:56:9
 returns : tie.Need-returns
-returns c = step-nobody (c .before .before .before .before .before .before .pre .0) (c .before .before .before .before .before .before .pre .1 .0) (c .before .before .before .before .before .before .pre .1 .1) (omega (arith, c .before .count .ensures, c .if1 .taken))
+returns c =
+    let entry = c .before .before .before .before .before .before in
+    step-nobody (entry .pre .0) (entry .pre .1 .0) (entry .pre .1 .1) (omega (arith, c .before .count .ensures, c .if1 .taken))
 
--- src/inside.rt:58:9
 step-at-requires : tie.Need-step-at-requires
-step-at-requires c κs = (run-in (c .before .before .before .before .before .before .before .pre .0) _ (c .before .before .before .before .before .before .before .pre .1 .0) (c .before .before .before .before .before .before .before .pre .1 .1), (well-formed-in (c .before .before .before .before .before .before .before .pre .0) _ (c .before .before .before .before .before .before .before .pre .1 .1), small-in (c .before .before .before .before .before .before .before .pre .0)))
+step-at-requires c κs =
+    let entry = c .before .before .before .before .before .before .before in
+    (run-in (entry .pre .0) _ (entry .pre .1 .0) (entry .pre .1 .1), (well-formed-in (entry .pre .0) _ (entry .pre .1 .1), small-in (entry .pre .0)))
 
--- src/inside.rt:60:26
 enum-known-o : tie.Need-enum-known-o
 enum-known-o c = search needs
 
--- src/inside.rt:60:35
 same-length-2 : tie.Need-same-length-2
 same-length-2 c = search needs
 
--- src/inside.rt:60:35
 returns-2 : tie.Need-returns-2
-returns-2 c = step-told (c .before .before .before .before .before .before .before .before .before .before .before .before .before .pre .0) (c .before .before .before .before .before .before .before .before .before .before .before .before .before .pre .1 .0) (c .before .before .before .before .before .before .before .before .before .before .before .before .before .pre .1 .1) (omega (arith, c .before .before .before .before .before .before .before .before .count .ensures, c .before .before .before .before .before .before .before .if1 .left)) (c .before .before .before .before .before .step-at .ensures) (c .before .o .given .1)
+returns-2 c =
+    let after-if1 = c .before .before .before .before .before .before .before in
+    let entry = after-if1 .before .before .before .before .before .before in
+    step-told (entry .pre .0) (entry .pre .1 .0) (entry .pre .1 .1) (omega (arith, after-if1 .before .count .ensures, after-if1 .if1 .left)) (c .before .before .before .before .before .step-at .ensures) (c .before .o .given .1)
 
--- src/inside.rt:61:29
 enum-told : tie.Need-enum-told
 enum-told c = search needs
 
--- src/inside.rt:61:29
 same-length-3 : tie.Need-same-length-3
 same-length-3 c = search needs
 
--- src/inside.rt:61:29
 returns-3 : tie.Need-returns-3
-returns-3 c = step-told (c .before .before .before .before .before .before .before .before .before .before .before .before .pre .0) (c .before .before .before .before .before .before .before .before .before .before .before .before .pre .1 .0) (c .before .before .before .before .before .before .before .before .before .before .before .before .pre .1 .1) (omega (arith, c .before .before .before .before .before .before .before .count .ensures, c .before .before .before .before .before .before .if1 .left)) (c .before .before .before .before .step-at .ensures) (c .enum-told .given .1)
+returns-3 c =
+    let after-if1 = c .before .before .before .before .before .before in
+    let entry = after-if1 .before .before .before .before .before .before in
+    step-told (entry .pre .0) (entry .pre .1 .0) (entry .pre .1 .1) (omega (arith, after-if1 .before .count .ensures, after-if1 .if1 .left)) (c .before .before .before .before .step-at .ensures) (c .enum-told .given .1)
 
--- src/inside.rt:62:29
 enum-told-2 : tie.Need-enum-told-2
 enum-told-2 c = search needs
 
--- src/inside.rt:62:29
 same-length-4 : tie.Need-same-length-4
 same-length-4 c = search needs
 
--- src/inside.rt:62:29
 returns-4 : tie.Need-returns-4
-returns-4 c = step-told (c .before .before .before .before .before .before .before .before .before .before .before .before .pre .0) (c .before .before .before .before .before .before .before .before .before .before .before .before .pre .1 .0) (c .before .before .before .before .before .before .before .before .before .before .before .before .pre .1 .1) (omega (arith, c .before .before .before .before .before .before .before .count .ensures, c .before .before .before .before .before .before .if1 .left)) (c .before .before .before .before .step-at .ensures) (c .enum-told2 .given .1)
+returns-4 c =
+    let after-if1 = c .before .before .before .before .before .before in
+    let entry = after-if1 .before .before .before .before .before .before in
+    step-told (entry .pre .0) (entry .pre .1 .0) (entry .pre .1 .1) (omega (arith, after-if1 .before .count .ensures, after-if1 .if1 .left)) (c .before .before .before .before .step-at .ensures) (c .enum-told2 .given .1)
 
 pub step-placed-spec : {M : Type 1} → statement M
 step-placed-spec =

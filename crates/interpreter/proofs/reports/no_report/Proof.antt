@@ -5,7 +5,6 @@ use Rattle.interpreter.proofs.reports.no_report.Tie as tie
 use Rattle.interpreter.proofs.reports.no_report.Reads as reads
 use Rattle.interpreter.proofs.reports.no_report.Lts as lts
 
--- src/reports.rt:33:1
 returns : tie.Need-returns
 returns c = record { answer = refl; rest = λ k. none-listed 32 k }
 

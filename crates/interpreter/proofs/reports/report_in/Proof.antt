@@ -11,41 +11,36 @@ use Rattle.interpreter.proofs.reports.no_report.Reads as no-report-read
 use Rattle.run_words.proofs.outside.outside_count.Reads as outside-count-reads
 use Rattle.run_wellformed.proofs.well_formed.Reads as well-formed-reads
 
--- src/reports.rt:48:9
 no-report-requires : tie.Need-no-report-requires
 no-report-requires c κs = search needs
 
--- src/reports.rt:48:9
 returns : tie.Need-returns
 returns c = report-short (c .before .before .before .before .before .pre) (c .before .if1 .taken) (c .no-report .ensures)
 
--- src/reports.rt:50:8
 well-formed-requires : tie.Need-well-formed-requires
 well-formed-requires c κs = ((tables-in (c .before .before .before .before .pre), everywhere-in (c .before .before .before .before .pre)), c .if1 .left)
 
--- src/reports.rt:51:13
 list-numbers-requires : tie.Need-list-numbers-requires
 list-numbers-requires c κs = (c .before .before .if1 .left, c .before .well-formed .ensures .yes (c .if2 .taken) .bounded)
 
--- src/reports.rt:52:13
 outside-count-requires : tie.Need-outside-count-requires
 outside-count-requires c κs = search needs
 
--- src/reports.rt:54:36
 cast-t9 : tie.Need-cast-t9
 cast-t9 c = omega (arith, c .outside-count .ensures, c .before .before .before .well-formed .ensures .yes (c .before .before .if2 .taken) .bounded .channels)
 
--- src/reports.rt:53:9
 returns-2 : tie.Need-returns-2
-returns-2 c = report-open (c .before .before .before .before .before .before .before .before .pre) (c .before .before .before .before .if1 .left) (holds-in (c .before .before .before .before .before .before .before .before .pre) _ (c .before .before .before .well-formed .ensures .yes (c .before .before .if2 .taken))) (c .outside-count .ensures) (c .before .list-numbers .ensures)
+returns-2 c =
+    let entry = c .before .before .before .before .before .before .before .before in
+    report-open (entry .pre) (c .before .before .before .before .if1 .left) (holds-in (entry .pre) _ (c .before .before .before .well-formed .ensures .yes (c .before .before .if2 .taken))) (c .outside-count .ensures) (c .before .list-numbers .ensures)
 
--- src/reports.rt:58:5
 no-report-requires-2 : tie.Need-no-report-requires-2
 no-report-requires-2 c κs = search needs
 
--- src/reports.rt:43:1
 returns-3 : tie.Need-returns-3
-returns-3 c = report-stranger (c .before .before .before .before .before .before .before .pre) (c .before .before .before .if1 .left) (λ f. c .before .before .well-formed .ensures .no (c .before .if2 .left) (formed-in (c .before .before .before .before .before .before .before .pre) _ f)) (c .no-report2 .ensures)
+returns-3 c =
+    let entry = c .before .before .before .before .before .before .before in
+    report-stranger (entry .pre) (c .before .before .before .if1 .left) (λ f. c .before .before .well-formed .ensures .no (c .before .if2 .left) (formed-in (entry .pre) _ f)) (c .no-report2 .ensures)
 
 pub report-in-spec : {M : Type 1} → statement M
 report-in-spec =

@@ -7,15 +7,12 @@ use Rattle.notation.proofs.token.byte_at.Tie as tie
 use Rattle.notation.proofs.token.byte_at.Reads as reads
 use Rattle.notation.proofs.token.byte_at.Lts as lts
 
--- src/token.rt:100:25
 shared-slice-read-result : tie.Need-shared-slice-read-result
 shared-slice-read-result c = search needs
 
--- src/token.rt:97:1
 returns : tie.Need-returns
 returns c = search needs
 
--- src/token.rt:97:1
 returns-2 : tie.Need-returns-2
 returns-2 c = sym (List·getD-eq-default (now (c .before .args .text)) 0 (c .if1 .left))
 

@@ -10,37 +10,29 @@ use Rattle.notation.proofs.token.label_at.Reads as label-at-reads
 use Rattle.notation.proofs.token.mark_at.Reads as mark-at-reads
 use Rattle.notation.proofs.token.word_at.Reads as word-at-reads
 
--- src/token.rt:277:13
 shared-slice-read-b : tie.Need-shared-slice-read-b
 shared-slice-read-b c = search needs
 
--- src/token.rt:278:8
 is-letter-requires : tie.Need-is-letter-requires
 is-letter-requires c κs = search needs
 
--- src/token.rt:279:9
 word-at-requires : tie.Need-word-at-requires
 word-at-requires c κs = search needs
 
--- src/token.rt:279:9
 returns : tie.Need-returns
 unfolding firstAt
 returns c = rw (← c .before .before .is-letter .ensures, c .before .if1 .taken, ← c .word-at .ensures)
 
--- src/token.rt:282:9
 label-at-requires : tie.Need-label-at-requires
 label-at-requires c κs = search needs
 
--- src/token.rt:282:9
 returns-2 : tie.Need-returns-2
 unfolding firstAt
 returns-2 c = rw (← c .before .before .before .is-letter .ensures, c .before .before .if1 .left, eq-eqb _ _ (c .before .if2 .taken), ← c .label-at .ensures)
 
--- src/token.rt:284:5
 mark-at-requires : tie.Need-mark-at-requires
 mark-at-requires c κs = search needs
 
--- src/token.rt:273:1
 returns-3 : tie.Need-returns-3
 unfolding firstAt
 returns-3 c = rw (← c .before .before .before .is-letter .ensures, c .before .before .if1 .left, ne-eqb _ _ (c .before .if2 .left), ← c .mark-at .ensures)

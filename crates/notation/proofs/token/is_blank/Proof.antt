@@ -3,22 +3,18 @@ use Rattle.notation.specs.Bytes.{blank}
 use Rattle.notation.proofs.token.is_blank.Statement.{statement}
 use Rattle.notation.proofs.token.is_blank.Tie as tie
 
--- src/token.rt:168:9
 returns : tie.Need-returns
 unfolding blank
 returns c = rw (eq-eqb _ _ (c .if1 .taken))
 
--- src/token.rt:171:9
 returns-2 : tie.Need-returns-2
 unfolding blank
 returns-2 c = rw (ne-eqb _ _ (c .before .if1 .left), eq-eqb _ _ (c .if2 .taken))
 
--- src/token.rt:174:9
 returns-3 : tie.Need-returns-3
 unfolding blank
 returns-3 c = rw (ne-eqb _ _ (c .before .before .if1 .left), ne-eqb _ _ (c .before .if2 .left), eq-eqb _ _ (c .if3 .taken))
 
--- src/token.rt:164:1
 returns-4 : tie.Need-returns-4
 unfolding blank
 returns-4 c = rw (ne-eqb _ _ (c .before .before .if1 .left), ne-eqb _ _ (c .before .if2 .left), ne-eqb _ _ (c .if3 .left))

@@ -3,25 +3,20 @@ use Rattle.notation.specs.Bytes.{nameByte}
 use Rattle.notation.proofs.token.is_name_byte.Statement.{statement}
 use Rattle.notation.proofs.token.is_name_byte.Tie as tie
 
--- src/token.rt:155:8
 is-letter-requires : tie.Need-is-letter-requires
 is-letter-requires c κs = search needs
 
--- src/token.rt:156:9
 returns : tie.Need-returns
 unfolding nameByte
 returns c = rw (← c .before .is-letter .ensures, c .if1 .taken)
 
--- src/token.rt:158:8
 within-requires : tie.Need-within-requires
 within-requires c κs = search needs
 
--- src/token.rt:159:9
 returns-2 : tie.Need-returns-2
 unfolding nameByte
 returns-2 c = rw (← c .before .before .before .is-letter .ensures, c .before .before .if1 .left, ← c .before .within .ensures, c .if2 .taken)
 
--- src/token.rt:152:1
 returns-3 : tie.Need-returns-3
 unfolding nameByte
 returns-3 c = rw (← c .before .before .before .is-letter .ensures, c .before .before .if1 .left, ← c .before .within .ensures, c .if2 .left)

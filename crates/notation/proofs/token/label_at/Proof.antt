@@ -9,32 +9,25 @@ use Rattle.notation.proofs.token.is_letter.Reads as is-letter-reads
 use Rattle.notation.proofs.token.name_end.Reads as name-end-reads
 use Rattle.notation.proofs.token.named.Reads as named-reads
 
--- src/token.rt:233:13
 add-j : tie.Need-add-j
 add-j c = search needs
 
--- src/token.rt:234:18
 byte-at-requires : tie.Need-byte-at-requires
 byte-at-requires c κs = search needs
 
--- src/token.rt:234:8
 is-letter-requires : tie.Need-is-letter-requires
 is-letter-requires c κs = search needs
 
--- src/token.rt:235:13
 name-end-requires : tie.Need-name-end-requires
 name-end-requires c κs = search needs
 
--- src/token.rt:236:9
 named-requires : tie.Need-named-requires
 named-requires c κs = search needs
 
--- src/token.rt:236:9
 returns : tie.Need-returns
 unfolding labelAt
 returns c = rw (← c .before .before .before .before .byte-at .ensures, ← c .before .before .before .is-letter .ensures, c .before .before .if1 .taken, ← c .before .name-end .ensures .0, ← c .named .ensures)
 
--- src/token.rt:229:1
 returns-2 : tie.Need-returns-2
 unfolding labelAt
 returns-2 c = rw (← c .before .before .byte-at .ensures, ← c .before .is-letter .ensures, c .if1 .left)

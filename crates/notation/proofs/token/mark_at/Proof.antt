@@ -8,45 +8,35 @@ use Rattle.notation.proofs.token.mark_at.Lts as lts
 use Rattle.notation.proofs.token.part.Reads as part-reads
 use Rattle.notation.proofs.token.symbol.Reads as symbol-reads
 
--- src/token.rt:250:20
 part-requires : tie.Need-part-requires
 part-requires c κs = search needs
 
--- src/token.rt:250:9
 symbol-requires : tie.Need-symbol-requires
 symbol-requires c κs = search needs
 
--- src/token.rt:255:18
 add-t7 : tie.Need-add-t7
 add-t7 c = search needs
 
--- src/token.rt:252:9
 returns : tie.Need-returns
 unfolding markAt
 returns c = rw (← c .before .before .part .ensures, ← c .before .symbol .ensures, lt-ltb _ _ (c .if1 .taken))
 
--- src/token.rt:258:20
 part-requires-2 : tie.Need-part-requires-2
 part-requires-2 c κs = search needs
 
--- src/token.rt:258:9
 symbol-requires-2 : tie.Need-symbol-requires-2
 symbol-requires-2 c κs = search needs
 
--- src/token.rt:263:18
 add-t9 : tie.Need-add-t9
 add-t9 c = search needs
 
--- src/token.rt:260:9
 returns-2 : tie.Need-returns-2
 unfolding markAt
 returns-2 c = rw (← c .before .before .before .before .before .part .ensures, ← c .before .before .before .before .symbol .ensures, le-ltb _ _ (c .before .before .before .if1 .left), ← c .before .before .part2 .ensures, ← c .before .symbol2 .ensures, lt-ltb _ _ (c .if2 .taken))
 
--- src/token.rt:269:14
 add-t10 : tie.Need-add-t10
 add-t10 c = search needs
 
--- src/token.rt:246:1
 returns-3 : tie.Need-returns-3
 unfolding markAt
 returns-3 c = rw (← c .before .before .before .before .before .part .ensures, ← c .before .before .before .before .symbol .ensures, le-ltb _ _ (c .before .before .before .if1 .left), ← c .before .before .part2 .ensures, ← c .before .symbol2 .ensures, le-ltb _ _ (c .if2 .left))

@@ -18,36 +18,28 @@ Inv-loop text at i₀ i = (at ≤ i) × Scan (λ b. not (nameByte b)) text at i
 abbrev μ-loop : tie.MeasureT-loop
 μ-loop text at i₀ i = length text - i
 
--- src/token.rt:123:5
 loop-holds : tie.Need-loop-holds Inv-loop μ-loop
 loop-holds c = (search needs, record { left = refl })
 
--- src/token.rt:124:26
 shared-slice-read-is-name-byte : tie.Need-shared-slice-read-is-name-byte Inv-loop μ-loop
 shared-slice-read-is-name-byte c = search needs
 
--- src/token.rt:124:13
 is-name-byte-requires : tie.Need-is-name-byte-requires Inv-loop μ-loop
 is-name-byte-requires c κs = search needs
 
--- src/token.rt:125:13
 returns : tie.Need-returns Inv-loop μ-loop
 unfolding nameEnd
 returns c = (scan-hit (c .before .before .before .before .loop .inv .1) 0 (search needs) (ap not (sym (c .before .is-name-byte .ensures)) ∙ c .if1 .taken), search needs)
 
--- src/token.rt:127:9
 add-i : tie.Need-add-i Inv-loop μ-loop
 add-i c = search needs
 
--- src/token.rt:123:5
 loop-less : tie.Need-loop-less Inv-loop μ-loop
 loop-less c = search needs
 
--- src/token.rt:123:5
 loop-again : tie.Need-loop-again Inv-loop μ-loop
 loop-again c = (search needs, scan-next (c .before .before .before .before .loop .inv .1) 0 (search needs) (ap not (sym (c .before .is-name-byte .ensures)) ∙ c .if1 .left))
 
--- src/token.rt:118:1
 returns-2 : tie.Need-returns-2 Inv-loop μ-loop
 unfolding nameEnd
 returns-2 c = (scan-end (c .before .loop .inv .1) (search needs), search needs)

@@ -7,19 +7,15 @@ use Rattle.notation.proofs.token.name_of.Lts as lts
 use Rattle.notation.proofs.token.name_end.Reads as name-end-reads
 use Rattle.notation.proofs.token.part.Reads as part-reads
 
--- src/token.rt:192:9
 name-end-requires : tie.Need-name-end-requires
 name-end-requires c κs = search needs
 
--- src/token.rt:193:20
 sub-part : tie.Need-sub-part
 sub-part c = search needs
 
--- src/token.rt:193:5
 part-requires : tie.Need-part-requires
 part-requires c κs = search needs
 
--- src/token.rt:189:1
 returns : tie.Need-returns
 unfolding nameAt
 returns c = cc

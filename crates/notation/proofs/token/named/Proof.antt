@@ -6,16 +6,13 @@ use Rattle.notation.proofs.token.named.Tie as tie
 use Rattle.notation.proofs.token.named.Reads as reads
 use Rattle.notation.proofs.token.named.Lts as lts
 
--- src/token.rt:208:8
 sub-if1 : tie.Need-sub-if1
 sub-if1 c = search needs
 
--- src/token.rt:204:1
 returns : tie.Need-returns
 unfolding named
 returns c = rw (le-leb _ _ (c .if1 .taken))
 
--- src/token.rt:204:1
 returns-2 : tie.Need-returns-2
 unfolding named
 returns-2 c = rw (lt-leb _ _ (c .if1 .left))

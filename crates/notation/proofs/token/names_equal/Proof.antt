@@ -19,63 +19,48 @@ Inv-loop text a b x₀ y₀ x y = Matched text a b x y
 abbrev μ-loop : tie.MeasureT-loop
 μ-loop text a b x₀ y₀ x y = length text - x
 
--- src/token.rt:261:9
 returns : tie.Need-returns Inv-loop μ-loop
 returns c = same-names (c .before .before .args .text .now) (c .before .before .args .a) (c .before .before .args .b) (c .if1 .taken)
 
--- src/token.rt:265:5
 loop-holds : tie.Need-loop-holds Inv-loop μ-loop
 loop-holds c = record { left = refl }
 
--- src/token.rt:266:17
 shared-slice-read-c : tie.Need-shared-slice-read-c Inv-loop μ-loop
 shared-slice-read-c c = search needs
 
--- src/token.rt:267:13
 byte-at-requires : tie.Need-byte-at-requires Inv-loop μ-loop
 byte-at-requires c κs = search needs
 
--- src/token.rt:268:13
 is-name-byte-requires : tie.Need-is-name-byte-requires Inv-loop μ-loop
 is-name-byte-requires c κs = search needs
 
--- src/token.rt:269:21
 is-name-byte-requires-2 : tie.Need-is-name-byte-requires-2 Inv-loop μ-loop
 is-name-byte-requires-2 c κs = search needs
 
--- src/token.rt:269:13
 returns-2 : tie.Need-returns-2 Inv-loop μ-loop
 returns-2 c = ap not (c .is-name-byte2 .ensures ∙ ap nameByte (c .before .before .before .byte-at .ensures)) ∙ matched-end (c .before .before .before .before .before .before .loop .inv) (negated _ true (ap not (sym (c .before .before .is-name-byte .ensures)) ∙ c .before .if2 .taken))
 
--- src/token.rt:272:13
 returns-3 : tie.Need-returns-3 Inv-loop μ-loop
 returns-3 c = matched-differ (c .before .before .before .before .before .before .loop .inv) (negated _ false (ap not (sym (c .before .before .is-name-byte .ensures)) ∙ c .before .if2 .left)) (λ e. c .if3 .taken (e ∙ sym (c .before .before .before .byte-at .ensures)))
 
--- src/token.rt:274:9
 add-x : tie.Need-add-x Inv-loop μ-loop
 add-x c = search needs
 
--- src/token.rt:275:9
 add-y : tie.Need-add-y Inv-loop μ-loop
 add-y c = omega (arith, matched-in (c .before .before .before .before .before .before .loop .inv) (negated _ false (ap not (sym (c .before .before .is-name-byte .ensures)) ∙ c .before .if2 .left)) (c .if3 .left ∙ c .before .before .before .byte-at .ensures))
 
--- src/token.rt:265:5
 loop-less : tie.Need-loop-less Inv-loop μ-loop
 loop-less c = search needs
 
--- src/token.rt:265:5
 loop-again : tie.Need-loop-again Inv-loop μ-loop
 loop-again c = matched-next (c .before .before .before .before .before .before .loop .inv) (negated _ false (ap not (sym (c .before .before .is-name-byte .ensures)) ∙ c .before .if2 .left)) (c .if3 .left ∙ c .before .before .before .byte-at .ensures)
 
--- src/token.rt:277:19
 byte-at-requires-2 : tie.Need-byte-at-requires-2 Inv-loop μ-loop
 byte-at-requires-2 c κs = search needs
 
--- src/token.rt:277:6
 is-name-byte-requires-3 : tie.Need-is-name-byte-requires-3 Inv-loop μ-loop
 is-name-byte-requires-3 c κs = search needs
 
--- src/token.rt:257:1
 returns-4 : tie.Need-returns-4 Inv-loop μ-loop
 returns-4 c = ap not (c .is-name-byte3 .ensures ∙ ap nameByte (c .before .byte-at2 .ensures)) ∙ matched-past (c .before .before .before .loop .inv) (search needs)
 

@@ -11,34 +11,31 @@ use Rattle.notation.proofs.Symbols.{follows-none}
 use Rattle.notation.proofs.token.next_symbol.Statement.{statement}
 use Rattle.notation.proofs.token.next_symbol.Tie as tie
 
--- src/token.rt:278:1
 returns : tie.Need-returns
 unfolding beginning symbols find
 returns c = (ap (λ k. beginning (getD (getD symbols k []) 0 0) (k + 1)) (sym (c .match .keys1)), omega (arith, c .match .keys1))
 
--- src/token.rt:278:1
 returns-2 : tie.Need-returns-2
 unfolding beginning symbols find
 returns-2 c = (ap (λ k. beginning (getD (getD symbols k []) 0 0) (k + 1)) (sym (c .match .keys2)), omega (arith, c .match .keys2))
 
--- src/token.rt:278:1
 returns-3 : tie.Need-returns-3
 unfolding beginning symbols find
 returns-3 c = (ap (λ k. beginning (getD (getD symbols k []) 0 0) (k + 1)) (sym (c .match .keys3)), omega (arith, c .match .keys3))
 
--- src/token.rt:278:1
 returns-4 : tie.Need-returns-4
 unfolding beginning symbols find
 returns-4 c = (ap (λ k. beginning (getD (getD symbols k []) 0 0) (k + 1)) (sym (c .match .keys4)), omega (arith, c .match .keys4))
 
--- src/token.rt:278:1
 returns-5 : tie.Need-returns-5
 unfolding beginning symbols find
 returns-5 c = (ap (λ k. beginning (getD (getD symbols k []) 0 0) (k + 1)) (sym (c .match .keys5)), omega (arith, c .match .keys5))
 
--- src/token.rt:278:1
 returns-6 : tie.Need-returns-6
-returns-6 c = (follows-none (c .before .args .k) (search needs) (rw (ne-eqb (c .before .args .k) 0 (c .match .rest .0 .0 .0 .0 .1), ne-eqb (c .before .args .k) 4 (c .match .rest .0 .0 .0 .1), ne-eqb (c .before .args .k) 6 (c .match .rest .0 .0 .1), ne-eqb (c .before .args .k) 7 (c .match .rest .0 .1), ne-eqb (c .before .args .k) 13 (c .match .rest .1))), search needs)
+returns-6 c =
+    let entry = c .before in
+    let k = entry .args .k in
+    (follows-none k (search needs) (rw (ne-eqb k 0 (c .match .rest .0 .0 .0 .0 .1), ne-eqb k 4 (c .match .rest .0 .0 .0 .1), ne-eqb k 6 (c .match .rest .0 .0 .1), ne-eqb k 7 (c .match .rest .0 .1), ne-eqb k 13 (c .match .rest .1))), search needs)
 
 pub next-symbol-spec : {M : Type 1} → statement M
 next-symbol-spec = tie.close (tie.spec returns returns-2 returns-3 returns-4 returns-5 returns-6)

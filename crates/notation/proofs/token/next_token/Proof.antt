@@ -9,20 +9,16 @@ use Rattle.notation.proofs.token.next_token.Lts as lts
 use Rattle.notation.proofs.token.first_at.Reads as first-at-reads
 use Rattle.notation.proofs.token.skip.Reads as skip-reads
 
--- src/token.rt:292:9
 skip-requires : tie.Need-skip-requires
 skip-requires c κs = search needs
 
--- src/token.rt:294:9
 first-at-requires : tie.Need-first-at-requires
 first-at-requires c κs = search needs
 
--- src/token.rt:294:9
 returns : tie.Need-returns
 unfolding tokenAt
 returns c = lies-onward _ _ _ (rw (← c .before .before .skip .ensures, lt-ltb _ _ (c .before .if1 .taken), ← c .first-at .ensures))
 
--- src/token.rt:288:1
 returns-2 : tie.Need-returns-2
 unfolding tokenAt
 returns-2 c = lies-onward _ _ _ (rw (← c .before .skip .ensures, le-ltb _ _ (c .if1 .left)))

@@ -6,51 +6,41 @@ use Rattle.notation.proofs.token.part.Tie as tie
 use Rattle.notation.proofs.token.part.Reads as reads
 use Rattle.notation.proofs.token.part.Lts as lts
 
--- src/token.rt:179:9
 slice-aggregate-result : tie.Need-slice-aggregate-result
 slice-aggregate-result c = search needs
 
--- src/token.rt:179:9
 returns : tie.Need-returns
 returns c = part-none (c .before .before .args .text .now) (c .before .before .args .i) (c .before .before .args .n) (c .before .if1 .taken)
 
--- src/token.rt:181:8
 sub-if2 : tie.Need-sub-if2
 sub-if2 c = search needs
 
--- src/token.rt:182:16
 sub-result : tie.Need-sub-result
 sub-result c = search needs
 
--- src/token.rt:182:16
 part-result-start : tie.Need-part-result-start
 part-result-start c = search needs
 
--- src/token.rt:182:16
 part-result-end : tie.Need-part-result-end
 part-result-end c = search needs
 
--- src/token.rt:182:9
 returns-2 : tie.Need-returns-2
-returns-2 c = part-rest (c .before .before .before .args .text .now) (c .before .before .before .args .i) (c .before .before .before .args .n) (c .before .if2 .taken)
+returns-2 c =
+    let entry = c .before .before .before in
+    part-rest (entry .args .text .now) (entry .args .i) (entry .args .n) (c .before .if2 .taken)
 
--- src/token.rt:184:13
 add-e : tie.Need-add-e
 add-e c = search needs
 
--- src/token.rt:185:5
 sub-result-2 : tie.Need-sub-result-2
 sub-result-2 c = search needs
 
--- src/token.rt:185:5
 part-result-start-2 : tie.Need-part-result-start-2
 part-result-start-2 c = search needs
 
--- src/token.rt:185:5
 part-result-end-2 : tie.Need-part-result-end-2
 part-result-end-2 c = search needs
 
--- src/token.rt:175:1
 returns-3 : tie.Need-returns-3
 returns-3 c = rw add-sub-cancel-left
 

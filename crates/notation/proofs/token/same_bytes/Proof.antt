@@ -15,39 +15,30 @@ Inv-loop a b i₀ i = Alike a b i
 abbrev μ-loop : tie.MeasureT-loop
 μ-loop a b i₀ i = length a - i
 
--- src/token.rt:136:9
 returns : tie.Need-returns Inv-loop μ-loop
 returns c = sym (same-length (now (c .before .args .a)) (now (c .before .args .b)) (c .if1 .taken))
 
--- src/token.rt:139:5
 loop-holds : tie.Need-loop-holds Inv-loop μ-loop
 loop-holds c = record { left = refl }
 
--- src/token.rt:140:12
 shared-slice-read-if2 : tie.Need-shared-slice-read-if2 Inv-loop μ-loop
 shared-slice-read-if2 c = search needs
 
--- src/token.rt:140:20
 shared-slice-read-if2-2 : tie.Need-shared-slice-read-if2-2 Inv-loop μ-loop
 shared-slice-read-if2-2 c = search needs
 
--- src/token.rt:141:13
 returns-2 : tie.Need-returns-2 Inv-loop μ-loop
 returns-2 c = alike-differ (c .before .before .before .before .loop .inv) (search needs) (search needs) (c .if2 .taken)
 
--- src/token.rt:143:9
 add-i : tie.Need-add-i Inv-loop μ-loop
 add-i c = search needs
 
--- src/token.rt:139:5
 loop-less : tie.Need-loop-less Inv-loop μ-loop
 loop-less c = search needs
 
--- src/token.rt:139:5
 loop-again : tie.Need-loop-again Inv-loop μ-loop
 loop-again c = alike-next (c .before .before .before .before .loop .inv) (search needs) (search needs) (c .if2 .left)
 
--- src/token.rt:132:1
 returns-3 : tie.Need-returns-3 Inv-loop μ-loop
 returns-3 c = alike-end (c .before .loop .inv) (search needs) (search needs)
 

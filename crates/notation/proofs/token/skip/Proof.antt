@@ -18,36 +18,28 @@ Inv-loop text at i₀ i = Scan (λ b. not (blank b)) text at i
 abbrev μ-loop : tie.MeasureT-loop
 μ-loop text at i₀ i = length text - i
 
--- src/token.rt:108:5
 loop-holds : tie.Need-loop-holds Inv-loop μ-loop
 loop-holds c = record { left = refl }
 
--- src/token.rt:109:22
 shared-slice-read-is-blank : tie.Need-shared-slice-read-is-blank Inv-loop μ-loop
 shared-slice-read-is-blank c = search needs
 
--- src/token.rt:109:13
 is-blank-requires : tie.Need-is-blank-requires Inv-loop μ-loop
 is-blank-requires c κs = search needs
 
--- src/token.rt:110:13
 returns : tie.Need-returns Inv-loop μ-loop
 unfolding skip
 returns c = scan-hit (c .before .before .before .before .loop .inv) 0 (search needs) (ap not (sym (c .before .is-blank .ensures)) ∙ c .if1 .taken)
 
--- src/token.rt:112:9
 add-i : tie.Need-add-i Inv-loop μ-loop
 add-i c = search needs
 
--- src/token.rt:108:5
 loop-less : tie.Need-loop-less Inv-loop μ-loop
 loop-less c = search needs
 
--- src/token.rt:108:5
 loop-again : tie.Need-loop-again Inv-loop μ-loop
 loop-again c = scan-next (c .before .before .before .before .loop .inv) 0 (search needs) (ap not (sym (c .before .is-blank .ensures)) ∙ c .if1 .left)
 
--- src/token.rt:104:1
 returns-2 : tie.Need-returns-2 Inv-loop μ-loop
 unfolding skip
 returns-2 c = scan-end (c .before .loop .inv) (search needs)

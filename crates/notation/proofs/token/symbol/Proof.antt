@@ -18,7 +18,10 @@ returns : tie.Need-returns
 returns c = c .symbol-from .ensures
 
 returns-2 : tie.Need-returns-2
-returns-2 c = sought-end (c .before .before .before .before .args .w .now) _ (sought-from (c .before .before .before .before .args .w .now) _ (c .before .first-symbol .ensures ∙ ap (λ b. beginning b 0) (c .before .before .byte-at .ensures))) (search needs)
+returns-2 c =
+    let entry = c .before .before .before .before in
+    let w = entry .args .w .now in
+    sought-end w _ (sought-from w _ (c .before .first-symbol .ensures ∙ ap (λ b. beginning b 0) (c .before .before .byte-at .ensures))) (search needs)
 
 pub symbol-spec : {M : Type 1} → statement M
 symbol-spec = tie.close (tie.spec byte-at-requires first-symbol-requires symbol-from-requires returns returns-2)

@@ -13,36 +13,28 @@ Inv-loop w from table k₀ k = Sought w k
 abbrev μ-loop : tie.MeasureT-loop
 μ-loop w from table k₀ k = 30 - k
 
--- src/token.rt:300:5
 loop-holds : tie.Need-loop-holds Inv-loop μ-loop
 loop-holds c = sought-from (c .before .args .w .now) _ (c .before .pre)
 
--- src/token.rt:301:25
 slice-aggregate-is-symbol : tie.Need-slice-aggregate-is-symbol Inv-loop μ-loop
 slice-aggregate-is-symbol c = search needs
 
--- src/token.rt:301:12
 is-symbol-requires : tie.Need-is-symbol-requires Inv-loop μ-loop
 unfolding symbols
 is-symbol-requires c κs = (search needs, refl)
 
--- src/token.rt:302:13
 returns : tie.Need-returns Inv-loop μ-loop
 returns c = sought-hit (c .before .before .before .before .before .before .args .w .now) _ (c .before .before .before .before .loop .inv) (search needs) (sym (c .before .is-symbol .ensures) ∙ c .if1 .taken)
 
--- src/token.rt:304:9
 next-symbol-requires : tie.Need-next-symbol-requires Inv-loop μ-loop
 next-symbol-requires c κs = search needs
 
--- src/token.rt:300:5
 loop-less : tie.Need-loop-less Inv-loop μ-loop
 loop-less c = omega (arith, c .next-symbol .ensures .1)
 
--- src/token.rt:300:5
 loop-again : tie.Need-loop-again Inv-loop μ-loop
 loop-again c = sought-next (c .before .before .before .before .before .before .before .args .w .now) _ (c .before .before .before .before .before .loop .inv) _ (search needs) (sym (c .before .before .is-symbol .ensures) ∙ c .before .if1 .left) (c .next-symbol .ensures .0)
 
--- src/token.rt:294:1
 returns-2 : tie.Need-returns-2 Inv-loop μ-loop
 returns-2 c = sought-end (c .before .before .before .args .w .now) _ (c .before .loop .inv) (search needs)
 

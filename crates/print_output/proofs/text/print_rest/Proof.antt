@@ -20,59 +20,51 @@ Inv-loop text scratch run₀ out₀ stage₀ run out stage = Going text scratch 
 abbrev μ-loop : tie.MeasureT-loop
 μ-loop text scratch run₀ out₀ stage₀ run out stage = turns (programIn text scratch) stage
 
--- src/text.rt:37:5
 loop-holds : tie.Need-loop-holds Inv-loop μ-loop
-loop-holds c = (c .before .before .before .before .pre .0, refl, refl, c .before .before .before .before .pre .1 .0, c .before .before .before .before .pre .1 .1)
+loop-holds c =
+    let entry = c .before .before .before .before in
+    (entry .pre .0, refl, refl, entry .pre .1 .0, entry .pre .1 .1)
 
--- src/text.rt:37:11
 is-left-requires : tie.Need-is-left-requires Inv-loop μ-loop
 is-left-requires c κs = search needs
 
--- src/text.rt:38:13
 next-piece-requires : tie.Need-next-piece-requires Inv-loop μ-loop
-next-piece-requires c κs = (c .before .before .before .before .loop .inv .0, (c .before .before .before .before .loop .inv .3, c .before .before .before .before .loop .inv .4))
+next-piece-requires c κs =
+    let loop = c .before .before .before .before .loop in
+    (loop .inv .0, (loop .inv .3, loop .inv .4))
 
--- src/text.rt:40:55
 slice-reshare-prefix-write-all : tie.Need-slice-reshare-prefix-write-all Inv-loop μ-loop
 slice-reshare-prefix-write-all c = search needs
 
--- src/text.rt:40:55
 slice-aggregate-write-all : tie.Need-slice-aggregate-write-all Inv-loop μ-loop
 slice-aggregate-write-all c = sym (length-take-le _ _ (c .before .before .before .before .before .next-piece .ensures .within))
 
--- src/text.rt:40:13
 write-all-requires : tie.Need-write-all-requires Inv-loop μ-loop
 write-all-requires c κs = search needs
 
--- src/text.rt:42:13
 same-length : tie.Need-same-length Inv-loop μ-loop
 same-length c = search needs
 
--- src/text.rt:42:13
 same-length-2 : tie.Need-same-length-2 Inv-loop μ-loop
 same-length-2 c = search needs
 
--- src/text.rt:42:13
 returns : tie.Need-returns Inv-loop μ-loop
 returns c = search needs
 
--- src/text.rt:37:5
 loop-less : tie.Need-loop-less Inv-loop μ-loop
-loop-less c = next-falls (c .before .before .before .before .before .before .before .next-piece .ensures) (c .before .before .before .before .before .before .before .before .before .before .before .is-left .ensures) (c .before .before .before .before .before .before .before .before .before .before .if1 .taken)
+loop-less c =
+    let after-if1 = c .before .before .before .before .before .before .before .before .before .before in
+    next-falls (c .before .before .before .before .before .before .before .next-piece .ensures) (after-if1 .before .is-left .ensures) (after-if1 .if1 .taken)
 
--- src/text.rt:37:5
 loop-again : tie.Need-loop-again Inv-loop μ-loop
 loop-again c = (c .before .before .before .before .before .before .before .next-piece .ensures .going, search needs, search needs, search needs, search needs)
 
--- src/text.rt:26:1
 same-length-3 : tie.Need-same-length-3 Inv-loop μ-loop
 same-length-3 c = search needs
 
--- src/text.rt:26:1
 same-length-4 : tie.Need-same-length-4 Inv-loop μ-loop
 same-length-4 c = search needs
 
--- src/text.rt:26:1
 returns-2 : tie.Need-returns-2 Inv-loop μ-loop
 returns-2 c = search needs
 

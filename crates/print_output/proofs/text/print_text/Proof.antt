@@ -9,51 +9,39 @@ use Rattle.io.proofs.write_all.Reads as write-all-reads
 use Rattle.print_output.proofs.text.print_rest.Reads as print-rest-reads
 use Rattle.print_pieces.proofs.pieces.first_piece.Reads as first-piece-reads
 
--- src/text.rt:41:31
 slice-aggregate-first-piece : tie.Need-slice-aggregate-first-piece
 slice-aggregate-first-piece c = search needs
 
--- src/text.rt:41:45
 slice-aggregate-first-piece-2 : tie.Need-slice-aggregate-first-piece-2
 slice-aggregate-first-piece-2 c = search needs
 
--- src/text.rt:41:9
 first-piece-requires : tie.Need-first-piece-requires
 first-piece-requires c κs = search needs
 
--- src/text.rt:43:51
 array-share-prefix-out : tie.Need-array-share-prefix-out
 array-share-prefix-out c = search needs
 
--- src/text.rt:43:51
 slice-aggregate-write-all : tie.Need-slice-aggregate-write-all
 slice-aggregate-write-all c = sym (length-take-le _ _ (c .before .before .before .first-piece .ensures .within))
 
--- src/text.rt:43:9
 write-all-requires : tie.Need-write-all-requires
 write-all-requires c κs = search needs
 
--- src/text.rt:45:9
 returns : tie.Need-returns
 returns c = search needs
 
--- src/text.rt:48:22
 slice-aggregate-print-rest : tie.Need-slice-aggregate-print-rest
 slice-aggregate-print-rest c = search needs
 
--- src/text.rt:48:32
 slice-aggregate-print-rest-2 : tie.Need-slice-aggregate-print-rest-2
 slice-aggregate-print-rest-2 c = search needs
 
--- src/text.rt:48:42
 slice-aggregate-print-rest-3 : tie.Need-slice-aggregate-print-rest-3
 slice-aggregate-print-rest-3 c = search needs
 
--- src/text.rt:48:5
 print-rest-requires : tie.Need-print-rest-requires
 print-rest-requires c κs = (c .before .before .before .before .before .before .before .before .first-piece .ensures .going _, (search needs, search needs))
 
--- src/text.rt:37:1
 returns-2 : tie.Need-returns-2
 returns-2 c = search needs
 

@@ -7,31 +7,24 @@ use Rattle.print_pieces.proofs.lines.put_channel.Lts as lts
 use Rattle.print_pieces.proofs.writing.put.Reads as put-reads
 use Rattle.print_pieces.proofs.writing.put_decimal.Reads as put-decimal-reads
 
--- src/lines.rt:21:26
 slice-aggregate-put : tie.Need-slice-aggregate-put
 slice-aggregate-put c = search needs
 
--- src/lines.rt:21:9
 put-requires : tie.Need-put-requires
 put-requires c κs = search needs
 
--- src/lines.rt:22:9
 put-decimal-requires : tie.Need-put-decimal-requires
 put-decimal-requires c κs = search needs
 
--- src/lines.rt:23:17
 slice-aggregate-put-2 : tie.Need-slice-aggregate-put-2
 slice-aggregate-put-2 c = search needs
 
--- src/lines.rt:23:5
 put-requires-2 : tie.Need-put-requires-2
 put-requires-2 c κs = search needs
 
--- src/lines.rt:16:1
 same-length : tie.Need-same-length
 same-length c = search needs
 
--- src/lines.rt:16:1
 returns : tie.Need-returns
 returns c = channel-put _ (c .before .before .before .before .before .before .before .before .before .before .before .put .ensures) (c .before .before .before .before .before .before .before .put-decimal .ensures) (c .before .before .put2 .ensures)
 

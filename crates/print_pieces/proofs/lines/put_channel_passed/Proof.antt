@@ -8,37 +8,31 @@ use Rattle.print_pieces.proofs.lines.put_channel.Reads as put-channel-r
 use Rattle.print_pieces.proofs.writing.put.Reads as put-reads
 use Rattle.print_pieces.proofs.writing.put_decimal.Reads as put-decimal-reads
 
--- src/lines.rt:53:9
 put-channel-requires : tie.Need-put-channel-requires
 put-channel-requires c κs = search needs
 
--- src/lines.rt:54:25
 slice-aggregate-put : tie.Need-slice-aggregate-put
 slice-aggregate-put c = search needs
 
--- src/lines.rt:54:9
 put-requires : tie.Need-put-requires
 put-requires c κs = search needs
 
--- src/lines.rt:55:9
 put-decimal-requires : tie.Need-put-decimal-requires
 put-decimal-requires c κs = search needs
 
--- src/lines.rt:56:17
 slice-aggregate-put-2 : tie.Need-slice-aggregate-put-2
 slice-aggregate-put-2 c = search needs
 
--- src/lines.rt:56:5
 put-requires-2 : tie.Need-put-requires-2
 put-requires-2 c κs = search needs
 
--- src/lines.rt:48:1
 same-length : tie.Need-same-length
 same-length c = search needs
 
--- src/lines.rt:48:1
 returns : tie.Need-returns
-returns c = passed-put _ _ (c .before .before .before .before .before .before .before .before .before .before .before .before .before .before .before .before .put-channel .ensures) (c .before .before .before .before .before .before .before .before .before .before .before .put .ensures) (c .before .before .before .before .before .before .before .put-decimal .ensures) (c .before .before .put2 .ensures)
+returns c =
+    let after-put = c .before .before .before .before .before .before .before .before .before .before .before in
+    passed-put _ _ (after-put .before .before .before .before .before .put-channel .ensures) (after-put .put .ensures) (c .before .before .before .before .before .before .before .put-decimal .ensures) (c .before .before .put2 .ensures)
 
 pub put-channel-passed-spec : {M : Type 1} → statement M
 put-channel-passed-spec =

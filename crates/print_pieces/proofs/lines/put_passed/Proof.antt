@@ -7,31 +7,24 @@ use Rattle.print_pieces.proofs.lines.put_passed.Lts as lts
 use Rattle.print_pieces.proofs.lines.put_channel_passed.Reads as put-channel-passed-reads
 use Rattle.print_pieces.proofs.lines.put_shows.Reads as put-shows-reads
 
--- src/lines.rt:64:9
 put-channel-passed-requires : tie.Need-put-channel-passed-requires
 put-channel-passed-requires c κs = search needs
 
--- src/lines.rt:66:37
 slice-aggregate-put-shows : tie.Need-slice-aggregate-put-shows
 slice-aggregate-put-shows c = search needs
 
--- src/lines.rt:66:9
 put-shows-requires : tie.Need-put-shows-requires
 put-shows-requires c κs = search needs
 
--- src/lines.rt:66:9
 same-length : tie.Need-same-length
 same-length c = search needs
 
--- src/lines.rt:66:9
 returns : tie.Need-returns
 returns c = passed-gone _ _ (c .before .before .before .before .before .if1 .taken) (c .before .before .before .before .before .before .before .before .put-channel-passed .ensures .0) (c .before .before .put-shows .ensures)
 
--- src/lines.rt:60:1
 same-length-2 : tie.Need-same-length-2
 same-length-2 c = search needs
 
--- src/lines.rt:60:1
 returns-2 : tie.Need-returns-2
 returns-2 c = passed-there _ _ (c .if1 .left) (c .before .before .before .put-channel-passed .ensures .0)
 

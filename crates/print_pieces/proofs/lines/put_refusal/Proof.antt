@@ -7,45 +7,37 @@ use Rattle.print_pieces.proofs.lines.put_refusal.Lts as lts
 use Rattle.print_pieces.proofs.writing.put.Reads as put-reads
 use Rattle.print_pieces.proofs.writing.put_decimal.Reads as put-decimal-reads
 
--- src/lines.rt:109:25
 slice-aggregate-put : tie.Need-slice-aggregate-put
 slice-aggregate-put c = search needs
 
--- src/lines.rt:109:9
 put-requires : tie.Need-put-requires
 put-requires c κs = search needs
 
--- src/lines.rt:110:9
 put-decimal-requires : tie.Need-put-decimal-requires
 put-decimal-requires c κs = search needs
 
--- src/lines.rt:111:25
 slice-aggregate-put-2 : tie.Need-slice-aggregate-put-2
 slice-aggregate-put-2 c = search needs
 
--- src/lines.rt:111:9
 put-requires-2 : tie.Need-put-requires-2
 put-requires-2 c κs = search needs
 
--- src/lines.rt:112:9
 put-decimal-requires-2 : tie.Need-put-decimal-requires-2
 put-decimal-requires-2 c κs = search needs
 
--- src/lines.rt:113:17
 slice-aggregate-put-3 : tie.Need-slice-aggregate-put-3
 slice-aggregate-put-3 c = search needs
 
--- src/lines.rt:113:5
 put-requires-3 : tie.Need-put-requires-3
 put-requires-3 c κs = search needs
 
--- src/lines.rt:105:1
 same-length : tie.Need-same-length
 same-length c = search needs
 
--- src/lines.rt:105:1
 returns : tie.Need-returns
-returns c = refusal-put _ _ (c .before .before .before .before .before .before .before .before .before .before .before .before .before .before .before .before .before .before .before .before .put .ensures) (c .before .before .before .before .before .before .before .before .before .before .before .before .before .before .before .before .put-decimal .ensures .0) (c .before .before .before .before .before .before .before .before .before .before .before .put2 .ensures) (c .before .before .before .before .before .before .before .put-decimal2 .ensures .0) (c .before .before .put3 .ensures)
+returns c =
+    let after-put2 = c .before .before .before .before .before .before .before .before .before .before .before in
+    refusal-put _ _ (after-put2 .before .before .before .before .before .before .before .before .before .put .ensures) (after-put2 .before .before .before .before .before .put-decimal .ensures .0) (after-put2 .put2 .ensures) (c .before .before .before .before .before .before .before .put-decimal2 .ensures .0) (c .before .before .put3 .ensures)
 
 pub put-refusal-spec : {M : Type 1} → statement M
 put-refusal-spec =

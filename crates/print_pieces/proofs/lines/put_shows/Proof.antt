@@ -7,29 +7,25 @@ use Rattle.print_pieces.proofs.lines.put_shows.Lts as lts
 use Rattle.print_pieces.proofs.lines.put_channel.Reads as put-channel-reads
 use Rattle.print_pieces.proofs.writing.put.Reads as put-reads
 
--- src/lines.rt:31:9
 put-channel-requires : tie.Need-put-channel-requires
 put-channel-requires c κs = search needs
 
--- src/lines.rt:32:9
 put-requires : tie.Need-put-requires
 put-requires c κs = search needs
 
--- src/lines.rt:33:17
 slice-aggregate-put : tie.Need-slice-aggregate-put
 slice-aggregate-put c = search needs
 
--- src/lines.rt:33:5
 put-requires-2 : tie.Need-put-requires-2
 put-requires-2 c κs = search needs
 
--- src/lines.rt:27:1
 same-length : tie.Need-same-length
 same-length c = search needs
 
--- src/lines.rt:27:1
 returns : tie.Need-returns
-returns c = shows-put _ _ (c .before .before .before .before .before .before .before .before .before .before .before .put-channel .ensures .0) (c .before .before .before .before .before .before .before .put .ensures) (c .before .before .put2 .ensures)
+returns c =
+    let after-put = c .before .before .before .before .before .before .before in
+    shows-put _ _ (after-put .before .before .before .before .put-channel .ensures .0) (after-put .put .ensures) (c .before .before .put2 .ensures)
 
 pub put-shows-spec : {M : Type 1} → statement M
 put-shows-spec =

@@ -6,19 +6,15 @@ use Rattle.print_pieces.proofs.pieces.ended_piece.Reads as reads
 use Rattle.print_pieces.proofs.pieces.ended_piece.Lts as lts
 use Rattle.print_pieces.proofs.lines.put_ending.Reads as put-ending-reads
 
--- src/pieces.rt:154:9
 put-ending-requires : tie.Need-put-ending-requires
 put-ending-requires c κs = search needs
 
--- src/pieces.rt:157:28
 add-t8 : tie.Need-add-t8
 add-t8 c = search needs
 
--- src/pieces.rt:150:1
 same-length : tie.Need-same-length
 same-length c = search needs
 
--- src/pieces.rt:150:1
 returns : tie.Need-returns
 returns c = wrote _ (c .before .before .put-ending .ensures)
 

@@ -7,41 +7,35 @@ use Rattle.print_pieces.proofs.pieces.first_piece.Lts as lts
 use Rattle.check_text.proofs.check.check.Reads as check-reads
 use Rattle.print_pieces.proofs.lines.put_refusal.Reads as put-refusal-reads
 
--- src/pieces.rt:41:9
 check-requires : tie.Need-check-requires
 check-requires c κs = search needs
 
--- src/pieces.rt:42:26
 enum-known-v : tie.Need-enum-known-v
 enum-known-v c = search needs
 
--- src/pieces.rt:45:20
 enum-told : tie.Need-enum-told
 enum-told c = search needs
 
--- src/pieces.rt:43:9
 same-length : tie.Need-same-length
 same-length c = search needs
 
--- src/pieces.rt:43:9
 returns : tie.Need-returns
 returns c = first-fine _ _ _ _ (c .before .before .before .before .check .ensures) (c .before .before .before .before .before .before .before .before .before .pre .0) (c .enum-told .given .1) _
 
--- src/pieces.rt:48:9
 put-refusal-requires : tie.Need-put-refusal-requires
 put-refusal-requires c κs = search needs
 
--- src/pieces.rt:37:1
 same-length-2 : tie.Need-same-length-2
 same-length-2 c = search needs
 
--- src/pieces.rt:37:1
 same-length-3 : tie.Need-same-length-3
 same-length-3 c = search needs
 
--- src/pieces.rt:37:1
 returns-2 : tie.Need-returns-2
-returns-2 c = first-refused _ _ _ _ (c .before .before .before .before .before .before .before .before .before .check .ensures) (c .before .before .before .before .before .before .before .before .before .before .before .before .before .before .pre .0) _ _ (c .before .before .before .before .before .v .given .1) (c .before .before .put-refusal .ensures)
+returns-2 c =
+    let after-v = c .before .before .before .before .before in
+    let entry = after-v .before .before .before .before .before .before .before .before .before in
+    first-refused _ _ _ _ (after-v .before .before .before .before .check .ensures) (entry .pre .0) _ _ (after-v .v .given .1) (c .before .before .put-refusal .ensures)
 
 pub first-piece-spec : {M : Type 1} → statement M
 first-piece-spec =

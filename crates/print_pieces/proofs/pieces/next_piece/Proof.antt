@@ -7,51 +7,43 @@ use Rattle.print_pieces.proofs.pieces.next_piece.Lts as lts
 use Rattle.print_pieces.proofs.pieces.exec_piece.Reads as exec-piece-reads
 use Rattle.print_pieces.proofs.pieces.running_piece.Reads as running-piece-reads
 
--- src/pieces.rt:68:21
 enum-known-stage : tie.Need-enum-known-stage
 enum-known-stage c = search needs
 
--- src/pieces.rt:68:30
 exec-piece-requires : tie.Need-exec-piece-requires
-exec-piece-requires c κs = (going-exec _ (c .before .before .before .stage .given .1) (c .before .before .before .before .before .before .before .before .before .pre .0), c .before .before .before .before .before .before .before .before .before .pre .1)
+exec-piece-requires c κs =
+    let entry = c .before .before .before .before .before .before .before .before .before in
+    (going-exec _ (c .before .before .before .stage .given .1) (entry .pre .0), entry .pre .1)
 
--- src/pieces.rt:68:30
 same-length : tie.Need-same-length
 same-length c = search needs
 
--- src/pieces.rt:68:30
 same-length-2 : tie.Need-same-length-2
 same-length-2 c = search needs
 
--- src/pieces.rt:68:30
 returns : tie.Need-returns
 returns c = next-as (c .before .before .before .before .before .before .before .before .stage .given .1) (c .before .before .before .before .exec-piece .ensures)
 
--- src/pieces.rt:69:24
 enum-known-stage-2 : tie.Need-enum-known-stage-2
 enum-known-stage-2 c = search needs
 
--- src/pieces.rt:69:40
 running-piece-requires : tie.Need-running-piece-requires
-running-piece-requires c κs = (going-running _ _ (c .before .before .before .stage2 .given .1) (c .before .before .before .before .before .before .before .before .before .pre .0), c .before .before .before .before .before .before .before .before .before .pre .1 .1)
+running-piece-requires c κs =
+    let entry = c .before .before .before .before .before .before .before .before .before in
+    (going-running _ _ (c .before .before .before .stage2 .given .1) (entry .pre .0), entry .pre .1 .1)
 
--- src/pieces.rt:69:40
 same-length-3 : tie.Need-same-length-3
 same-length-3 c = search needs
 
--- src/pieces.rt:69:40
 same-length-4 : tie.Need-same-length-4
 same-length-4 c = search needs
 
--- src/pieces.rt:69:40
 returns-2 : tie.Need-returns-2
 returns-2 c = next-as (c .before .before .before .before .before .before .before .before .stage2 .given .1) (c .before .before .before .before .running-piece .ensures)
 
--- src/pieces.rt:72:20
 enum-told : tie.Need-enum-told
 enum-told c = search needs
 
--- src/pieces.rt:70:28
 returns-3 : tie.Need-returns-3
 returns-3 c = next-none _ _ _ _ (c .enum-told .given .1)
 

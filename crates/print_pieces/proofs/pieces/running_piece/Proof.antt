@@ -9,27 +9,25 @@ use Rattle.print_pieces.proofs.pieces.running_piece.Lts as lts
 use Rattle.run_steps.proofs.running.steps_until.Reads as steps-until-reads
 use Rattle.print_pieces.proofs.pieces.told_piece.Reads as told-piece-reads
 
--- src/pieces.rt:122:45
 sub-steps-until : tie.Need-sub-steps-until
 sub-steps-until c = search needs
 
--- src/pieces.rt:122:9
 steps-until-requires : tie.Need-steps-until-requires
-steps-until-requires c κs = (c .before .before .before .before .before .pre .0 .run, (c .before .before .before .before .before .pre .0 .formed, bodies-in (c .before .before .before .before .before .pre .0 .text)))
+steps-until-requires c κs =
+    let entry = c .before .before .before .before .before in
+    (entry .pre .0 .run, (entry .pre .0 .formed, bodies-in (entry .pre .0 .text)))
 
--- src/pieces.rt:123:5
 told-piece-requires : tie.Need-told-piece-requires
-told-piece-requires c κs = (omega (arith, c .before .before .before .before .before .before .before .before .before .pre .1, text-short _ _ (c .before .before .before .before .before .before .before .before .before .pre .0 .text)), told-steps _ _ _ _ _ (c .before .before .before .before .before .before .before .before .before .pre .0) (c .before .before .before .steps-until .ensures), line-small _ _ _ _ _ (c .before .before .before .before .before .before .before .before .before .pre .0))
+told-piece-requires c κs =
+    let entry = c .before .before .before .before .before .before .before .before .before in
+    (omega (arith, entry .pre .1, text-short _ _ (entry .pre .0 .text)), told-steps _ _ _ _ _ (entry .pre .0) (c .before .before .before .steps-until .ensures), line-small _ _ _ _ _ (entry .pre .0))
 
--- src/pieces.rt:110:1
 same-length : tie.Need-same-length
 same-length c = search needs
 
--- src/pieces.rt:110:1
 same-length-2 : tie.Need-same-length-2
 same-length-2 c = search needs
 
--- src/pieces.rt:110:1
 returns : tie.Need-returns
 returns c = running-next _ _ _ _ _ (c .before .before .before .before .before .before .before .before .before .before .before .before .pre .0) (c .before .before .before .before .before .before .steps-until .ensures) (c .before .before .told-piece .ensures)
 

@@ -10,107 +10,81 @@ use Rattle.print_pieces.proofs.pieces.told_piece.Lts as lts
 use Rattle.print_pieces.proofs.lines.put_sighting.Reads as put-sighting-reads
 use Rattle.print_pieces.proofs.pieces.ended_piece.Reads as ended-piece-reads
 
--- src/pieces.rt:132:22
 enum-known-answer : tie.Need-enum-known-answer
 enum-known-answer c = search needs
 
--- src/pieces.rt:133:17
 put-sighting-requires : tie.Need-put-sighting-requires
 put-sighting-requires c κs = search needs
 
--- src/pieces.rt:136:45
 add-t17 : tie.Need-add-t17
 add-t17 c = omega (arith, c .before .before .before .before .before .before .before .before .before .pre .1, ap given (c .before .before .before .before .before .answer .given .1))
 
--- src/pieces.rt:134:13
 same-length : tie.Need-same-length
 same-length c = search needs
 
--- src/pieces.rt:134:13
 returns : tie.Need-returns
 returns c = told-as _ _ _ (c .before .before .before .before .before .answer .given .1) (wrote _ (c .before .before .put-sighting .ensures))
 
--- src/pieces.rt:139:21
 enum-known-answer-2 : tie.Need-enum-known-answer-2
 enum-known-answer-2 c = search needs
 
--- src/pieces.rt:139:55
 slice-aggregate-ended-piece : tie.Need-slice-aggregate-ended-piece
 slice-aggregate-ended-piece c = search needs
 
--- src/pieces.rt:139:70
 add-ended-piece : tie.Need-add-ended-piece
 add-ended-piece c = omega (arith, c .before .before .before .before .before .before .before .pre .1, ap given (c .before .before .before .answer2 .given .1))
 
--- src/pieces.rt:139:31
 ended-piece-requires : tie.Need-ended-piece-requires
 ended-piece-requires c κs = search needs
 
--- src/pieces.rt:139:31
 same-length-2 : tie.Need-same-length-2
 same-length-2 c = search needs
 
--- src/pieces.rt:139:31
 returns-2 : tie.Need-returns-2
 returns-2 c = told-as _ _ _ (c .before .before .before .before .before .before .answer2 .given .1) (c .before .before .ended-piece .ensures)
 
--- src/pieces.rt:140:21
 enum-known-answer-3 : tie.Need-enum-known-answer-3
 enum-known-answer-3 c = search needs
 
--- src/pieces.rt:140:55
 slice-aggregate-ended-piece-2 : tie.Need-slice-aggregate-ended-piece-2
 slice-aggregate-ended-piece-2 c = search needs
 
--- src/pieces.rt:140:70
 add-ended-piece-2 : tie.Need-add-ended-piece-2
 add-ended-piece-2 c = omega (arith, c .before .before .before .before .before .before .before .pre .1, ap given (c .before .before .before .answer3 .given .1))
 
--- src/pieces.rt:140:31
 ended-piece-requires-2 : tie.Need-ended-piece-requires-2
 ended-piece-requires-2 c κs = search needs
 
--- src/pieces.rt:140:31
 same-length-3 : tie.Need-same-length-3
 same-length-3 c = search needs
 
--- src/pieces.rt:140:31
 returns-3 : tie.Need-returns-3
 returns-3 c = told-as _ _ _ (c .before .before .before .before .before .before .answer3 .given .1) (c .before .before .ended-piece2 .ensures)
 
--- src/pieces.rt:141:24
 enum-known-answer-4 : tie.Need-enum-known-answer-4
 enum-known-answer-4 c = search needs
 
--- src/pieces.rt:141:58
 slice-aggregate-ended-piece-3 : tie.Need-slice-aggregate-ended-piece-3
 slice-aggregate-ended-piece-3 c = search needs
 
--- src/pieces.rt:141:76
 add-ended-piece-3 : tie.Need-add-ended-piece-3
 add-ended-piece-3 c = omega (arith, c .before .before .before .before .before .before .before .pre .1, ap given (c .before .before .before .answer4 .given .1))
 
--- src/pieces.rt:141:34
 ended-piece-requires-3 : tie.Need-ended-piece-requires-3
 ended-piece-requires-3 c κs = search needs
 
--- src/pieces.rt:141:34
 same-length-4 : tie.Need-same-length-4
 same-length-4 c = search needs
 
--- src/pieces.rt:141:34
 returns-4 : tie.Need-returns-4
 returns-4 c = told-as _ _ _ (c .before .before .before .before .before .before .answer4 .given .1) (c .before .before .ended-piece3 .ensures)
 
--- src/pieces.rt:144:32
 enum-told : tie.Need-enum-told
 enum-told c = search needs
 
--- src/pieces.rt:144:32
 add-t34 : tie.Need-add-t34
 add-t34 c = search needs
 
--- src/pieces.rt:142:33
 returns-5 : tie.Need-returns-5
 returns-5 c = told-as _ _ _ (c .enum-told .given .1) (wrote-none _ _)
 

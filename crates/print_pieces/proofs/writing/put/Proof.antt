@@ -14,43 +14,33 @@ Inv-loop out₀ at what i₀ out i = Putting out₀ out at what i
 abbrev μ-loop : tie.MeasureT-loop
 μ-loop out₀ at what i₀ out i = length what - i
 
--- src/writing.rt:13:5
 loop-holds : tie.Need-loop-holds Inv-loop μ-loop
 loop-holds c = putting-none _ _ _ (search needs)
 
--- src/writing.rt:14:23
 shared-slice-read-out : tie.Need-shared-slice-read-out Inv-loop μ-loop
 shared-slice-read-out c = search needs
 
--- src/writing.rt:14:13
 add-out : tie.Need-add-out Inv-loop μ-loop
 add-out c = omega arith
 
--- src/writing.rt:14:9
 slice-write-out : tie.Need-slice-write-out Inv-loop μ-loop
 slice-write-out c = omega arith
 
--- src/writing.rt:15:9
 add-i : tie.Need-add-i Inv-loop μ-loop
 add-i c = search needs
 
--- src/writing.rt:13:5
 loop-less : tie.Need-loop-less Inv-loop μ-loop
 loop-less c = search needs
 
--- src/writing.rt:13:5
 loop-again : tie.Need-loop-again Inv-loop μ-loop
 loop-again c = putting-next _ _ _ (c .before .before .before .pre) _ (c .before .before .loop .inv) (c .before .loop-test .taken)
 
--- src/writing.rt:17:5
 add-result : tie.Need-add-result Inv-loop μ-loop
 add-result c = omega arith
 
--- src/writing.rt:8:1
 same-length : tie.Need-same-length Inv-loop μ-loop
 same-length c = search needs
 
--- src/writing.rt:8:1
 returns : tie.Need-returns Inv-loop μ-loop
 returns c = put-all _ _ _ (c .before .before .pre) _ (c .before .loop .inv) (c .loop-test .left)
 

@@ -7,35 +7,27 @@ use Rattle.print_pieces.proofs.writing.put_decimal.Lts as lts
 use Rattle.print_pieces.proofs.writing.put.Reads as put-reads
 use Rattle.print_pieces.proofs.writing.spell.Reads as spell-reads
 
--- src/writing.rt:27:23
 slice-aggregate-spell : tie.Need-slice-aggregate-spell
 slice-aggregate-spell c = search needs
 
--- src/writing.rt:27:9
 spell-requires : tie.Need-spell-requires
 spell-requires c κs = search needs
 
--- src/writing.rt:28:18
 sub-put : tie.Need-sub-put
 sub-put c = search needs
 
--- src/writing.rt:28:18
 part-put-start : tie.Need-part-put-start
 part-put-start c = search needs
 
--- src/writing.rt:28:18
 part-put-end : tie.Need-part-put-end
 part-put-end c = search needs
 
--- src/writing.rt:28:5
 put-requires : tie.Need-put-requires
 put-requires c κs = search needs
 
--- src/writing.rt:21:1
 same-length : tie.Need-same-length
 same-length c = search needs
 
--- src/writing.rt:21:1
 returns : tie.Need-returns
 returns c = spelled-put _ _ _ (c .before .before .before .before .before .before .before .spell .ensures) (c .before .before .put .ensures)
 

@@ -13,43 +13,33 @@ Inv-loop digits₀ n first₀ left₀ digits first left = Spelling n digits firs
 abbrev μ-loop : tie.MeasureT-loop
 μ-loop digits₀ n first₀ left₀ digits first left = first
 
--- src/writing.rt:38:5
 loop-holds : tie.Need-loop-holds Inv-loop μ-loop
 loop-holds c = spelling-none _ _ (search needs)
 
--- src/writing.rt:39:9
 sub-first : tie.Need-sub-first Inv-loop μ-loop
 sub-first c = search needs
 
--- src/writing.rt:40:25
 digit-requires : tie.Need-digit-requires Inv-loop μ-loop
 digit-requires c κs = search needs
 
--- src/writing.rt:40:9
 slice-write-digits : tie.Need-slice-write-digits Inv-loop μ-loop
 slice-write-digits c = search needs
 
--- src/writing.rt:42:13
 same-length : tie.Need-same-length Inv-loop μ-loop
 same-length c = spelling-last _ _ _ _ (c .before .digit .ensures) _ (c .before .before .before .loop .inv) (c .before .before .loop-test .taken) (c .if1 .taken) .long ∙ sym (c .before .before .before .before .before .pre)
 
--- src/writing.rt:42:13
 returns : tie.Need-returns Inv-loop μ-loop
 returns c = spelling-last _ _ _ _ (c .before .digit .ensures) _ (c .before .before .before .loop .inv) (c .before .before .loop-test .taken) (c .if1 .taken)
 
--- src/writing.rt:38:5
 loop-less : tie.Need-loop-less Inv-loop μ-loop
 loop-less c = search needs
 
--- src/writing.rt:38:5
 loop-again : tie.Need-loop-again Inv-loop μ-loop
 loop-again c = spelling-next _ _ _ _ (c .before .digit .ensures) _ (c .before .before .before .loop .inv) (c .before .before .loop-test .taken) (c .if1 .left)
 
--- src/writing.rt:32:1
 same-length-2 : tie.Need-same-length-2 Inv-loop μ-loop
 same-length-2 c = search needs
 
--- src/writing.rt:32:1
 returns-2 : tie.Need-returns-2 Inv-loop μ-loop
 returns-2 c = spelling-full _ _ _ _ (c .before .loop .inv) (c .loop-test .left)
 

@@ -7,19 +7,15 @@ use Rattle.read_tables.proofs.access.alternative.Reads as reads
 use Rattle.read_tables.proofs.access.alternative.Lts as lts
 use Rattle.read_tables.proofs.access.pair.Reads as pair-reads
 
--- src/access.rt:75:27
 sub-pair : tie.Need-sub-pair
 sub-pair c = search needs
 
--- src/access.rt:75:19
 add-pair : tie.Need-add-pair
 add-pair c = search needs
 
--- src/access.rt:75:5
 pair-requires : tie.Need-pair-requires
 pair-requires c κs = search needs
 
--- src/access.rt:71:1
 returns : tie.Need-returns
 unfolding alternativeAt
 returns c = alternative-of _ _ _ (c .pair .ensures)

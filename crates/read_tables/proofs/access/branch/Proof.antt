@@ -7,19 +7,15 @@ use Rattle.read_tables.proofs.access.branch.Reads as reads
 use Rattle.read_tables.proofs.access.branch.Lts as lts
 use Rattle.read_tables.proofs.access.pair.Reads as pair-reads
 
--- src/access.rt:83:27
 sub-pair : tie.Need-sub-pair
 sub-pair c = search needs
 
--- src/access.rt:83:19
 add-pair : tie.Need-add-pair
 add-pair c = search needs
 
--- src/access.rt:83:5
 pair-requires : tie.Need-pair-requires
 pair-requires c κs = search needs
 
--- src/access.rt:79:1
 returns : tie.Need-returns
 unfolding branchAt
 returns c = branch-of _ _ _ (c .pair .ensures)

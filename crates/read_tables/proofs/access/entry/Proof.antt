@@ -7,15 +7,12 @@ use Rattle.read_tables.proofs.access.entry.Reads as reads
 use Rattle.read_tables.proofs.access.entry.Lts as lts
 use Rattle.read_tables.proofs.access.pair.Reads as pair-reads
 
--- src/access.rt:91:19
 add-pair : tie.Need-add-pair
 add-pair c = search needs
 
--- src/access.rt:91:5
 pair-requires : tie.Need-pair-requires
 pair-requires c κs = search needs
 
--- src/access.rt:87:1
 returns : tie.Need-returns
 unfolding entryAt
 returns c = entry-of _ _ _ (c .pair .ensures)

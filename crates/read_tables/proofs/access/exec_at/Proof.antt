@@ -7,15 +7,12 @@ use Rattle.read_tables.proofs.access.exec_at.Reads as reads
 use Rattle.read_tables.proofs.access.exec_at.Lts as lts
 use Rattle.read_tables.proofs.access.word.Reads as word-reads
 
--- src/access.rt:172:19
 add-word : tie.Need-add-word
 add-word c = search needs
 
--- src/access.rt:172:5
 word-requires : tie.Need-word-requires
 word-requires c κs = search needs
 
--- src/access.rt:168:1
 returns : tie.Need-returns
 unfolding execAt
 returns c = exec-of _ _ _ (c .word .ensures .0)

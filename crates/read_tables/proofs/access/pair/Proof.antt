@@ -8,11 +8,9 @@ use Rattle.read_tables.proofs.access.pair.Reads as reads
 use Rattle.read_tables.proofs.access.pair.Lts as lts
 use Rattle.read_tables.proofs.access.word.Reads as word-reads
 
--- src/access.rt:63:9
 word-requires : tie.Need-word-requires
 word-requires c κs = search needs
 
--- src/access.rt:59:1
 returns : tie.Need-returns
 unfolding pairOf
 returns c = record { at = ap (λ (x : ℕ). x % 8192) (c .word .ensures .0); number = ap (λ (x : ℕ). x / 8192) (c .word .ensures .0) }

@@ -8,15 +8,12 @@ use Rattle.read_tables.proofs.access.type_node.Reads as reads
 use Rattle.read_tables.proofs.access.type_node.Lts as lts
 use Rattle.read_tables.proofs.access.word.Reads as word-reads
 
--- src/access.rt:29:27
 add-word : tie.Need-add-word
 add-word c = search needs
 
--- src/access.rt:29:9
 word-requires : tie.Need-word-requires
 word-requires c κs = search needs
 
--- src/access.rt:25:1
 returns : tie.Need-returns
 unfolding nodeAt typeNodeOf
 returns c = node-of _ _ _ (ap typeNodeOf (c .word .ensures .0))

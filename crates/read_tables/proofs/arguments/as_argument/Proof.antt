@@ -6,12 +6,10 @@ use Rattle.read_tables.proofs.arguments.as_argument.Tie as tie
 use Rattle.read_tables.proofs.arguments.as_argument.Reads as reads
 use Rattle.read_tables.proofs.arguments.as_argument.Lts as lts
 
--- src/arguments.rt:39:9
 returns : tie.Need-returns
 unfolding asArgument
 returns c = rw (eq-eqb _ _ (c .if1 .taken)) refl
 
--- src/arguments.rt:35:1
 returns-2 : tie.Need-returns-2
 unfolding asArgument
 returns-2 c = rw (ne-eqb _ _ (c .if1 .left)) refl

@@ -7,11 +7,9 @@ use Rattle.read_tables.proofs.arguments.list_start.Reads as reads
 use Rattle.read_tables.proofs.arguments.list_start.Lts as lts
 use Rattle.notation.proofs.token.next_token.Reads as next-token-reads
 
--- src/arguments.rt:18:9
 next-token-requires : tie.Need-next-token-requires
 next-token-requires c κs = search needs
 
--- src/arguments.rt:15:1
 returns : tie.Need-returns
 returns c = ap (λ (t : Token). t .end) (c .next-token .ensures .0)
 

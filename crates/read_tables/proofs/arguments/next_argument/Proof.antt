@@ -7,30 +7,24 @@ use Rattle.read_tables.proofs.arguments.next_argument.Lts as lts
 use Rattle.notation.proofs.token.next_token.Reads as next-token-reads
 use Rattle.read_tables.proofs.arguments.as_argument.Reads as as-argument-reads
 
--- src/arguments.rt:27:9
 next-token-requires : tie.Need-next-token-requires
 next-token-requires c κs = search needs
 
--- src/arguments.rt:29:13
 next-token-requires-2 : tie.Need-next-token-requires-2
 next-token-requires-2 c κs = search needs
 
--- src/arguments.rt:30:9
 as-argument-requires : tie.Need-as-argument-requires
 as-argument-requires c κs = search needs
 
--- src/arguments.rt:30:9
 returns : tie.Need-returns
 returns c =
     let f = c .before .before .before .before .next-token .ensures in
     let g = c .before .next-token2 .ensures in
     past-comma _ _ _ (f .0) (f .1) _ _ (c .before .before .if1 .taken) (g .0) (g .1) (c .as-argument .ensures)
 
--- src/arguments.rt:32:5
 as-argument-requires-2 : tie.Need-as-argument-requires-2
 as-argument-requires-2 c κs = search needs
 
--- src/arguments.rt:23:1
 returns-2 : tie.Need-returns-2
 returns-2 c =
     let f = c .before .before .before .next-token .ensures in

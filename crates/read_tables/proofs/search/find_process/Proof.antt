@@ -20,47 +20,36 @@ Inv-loop text scratch at n i₀ i = Searching (nameAt text at) (programIn text s
 abbrev μ-loop : tie.MeasureT-loop
 μ-loop text scratch at n i₀ i = n - i
 
--- src/search.rt:37:9
 process-count-requires : tie.Need-process-count-requires Inv-loop μ-loop
 process-count-requires c κs = search needs
 
--- src/search.rt:39:5
 loop-holds : tie.Need-loop-holds Inv-loop μ-loop
 loop-holds c = seek-start _ _ _ _ (processes-in _ _)
 
--- src/search.rt:40:13
 declared-process-requires : tie.Need-declared-process-requires Inv-loop μ-loop
 declared-process-requires c κs = search needs
 
--- src/search.rt:42:12
 names-equal-requires : tie.Need-names-equal-requires Inv-loop μ-loop
 names-equal-requires c κs = search needs
 
--- src/search.rt:43:13
 returns : tie.Need-returns Inv-loop μ-loop
 returns c =
-    let b = c .before .before .before .before .loop in
-    let n = c .before .names-equal in
-    seek-found _ _ _ _ (b .i) (b .inv) (omega (arith, c .before .before .before .loop-test .taken, c .before .before .before .before .before .process-count .ensures))
-    (named-so _ (c .before .before .declared-process .ensures .is _) (n .ensures) (c .if1 .taken))
+    let loop = c .before .before .before .before .loop in
+    seek-found _ _ _ _ (loop .i) (loop .inv) (omega (arith, c .before .before .before .loop-test .taken, c .before .before .before .before .before .process-count .ensures))
+    (named-so _ (c .before .before .declared-process .ensures .is _) (c .before .names-equal .ensures) (c .if1 .taken))
 
--- src/search.rt:45:9
 add-i : tie.Need-add-i Inv-loop μ-loop
 add-i c = search needs
 
--- src/search.rt:39:5
 loop-less : tie.Need-loop-less Inv-loop μ-loop
 loop-less c = search needs
 
--- src/search.rt:39:5
 loop-again : tie.Need-loop-again Inv-loop μ-loop
 loop-again c =
-    let b = c .before .before .before .before .loop in
-    let n = c .before .names-equal in
-    seek-on _ _ _ _ (b .i) _ refl (b .inv) (omega (arith, c .before .before .before .loop-test .taken, c .before .before .before .before .before .process-count .ensures))
-    (named-so _ (c .before .before .declared-process .ensures .is _) (n .ensures) (c .if1 .left))
+    let loop = c .before .before .before .before .loop in
+    seek-on _ _ _ _ (loop .i) _ refl (loop .inv) (omega (arith, c .before .before .before .loop-test .taken, c .before .before .before .before .before .process-count .ensures))
+    (named-so _ (c .before .before .declared-process .ensures .is _) (c .before .names-equal .ensures) (c .if1 .left))
 
--- src/search.rt:33:1
 returns-2 : tie.Need-returns-2 Inv-loop μ-loop
 returns-2 c = let b = c .before .loop in seek-end _ _ _ _ (b .i) (b .inv) (omega (arith, c .loop-test .left, c .before .before .process-count .ensures))
 

@@ -20,47 +20,36 @@ Inv-loop text scratch at n i₀ i = Searching (nameAt text at) (programIn text s
 abbrev μ-loop : tie.MeasureT-loop
 μ-loop text scratch at n i₀ i = n - i
 
--- src/search.rt:19:9
 type-count-requires : tie.Need-type-count-requires Inv-loop μ-loop
 type-count-requires c κs = search needs
 
--- src/search.rt:21:5
 loop-holds : tie.Need-loop-holds Inv-loop μ-loop
 loop-holds c = seek-start _ _ _ _ (types-in _ _)
 
--- src/search.rt:22:13
 declared-type-requires : tie.Need-declared-type-requires Inv-loop μ-loop
 declared-type-requires c κs = search needs
 
--- src/search.rt:24:12
 names-equal-requires : tie.Need-names-equal-requires Inv-loop μ-loop
 names-equal-requires c κs = search needs
 
--- src/search.rt:25:13
 returns : tie.Need-returns Inv-loop μ-loop
 returns c =
-    let b = c .before .before .before .before .loop in
-    let n = c .before .names-equal in
-    seek-found _ _ _ _ (b .i) (b .inv) (omega (arith, c .before .before .before .loop-test .taken, c .before .before .before .before .before .type-count .ensures))
-    (named-so _ (c .before .before .declared-type .ensures .is _) (n .ensures) (c .if1 .taken))
+    let loop = c .before .before .before .before .loop in
+    seek-found _ _ _ _ (loop .i) (loop .inv) (omega (arith, c .before .before .before .loop-test .taken, c .before .before .before .before .before .type-count .ensures))
+    (named-so _ (c .before .before .declared-type .ensures .is _) (c .before .names-equal .ensures) (c .if1 .taken))
 
--- src/search.rt:27:9
 add-i : tie.Need-add-i Inv-loop μ-loop
 add-i c = search needs
 
--- src/search.rt:21:5
 loop-less : tie.Need-loop-less Inv-loop μ-loop
 loop-less c = search needs
 
--- src/search.rt:21:5
 loop-again : tie.Need-loop-again Inv-loop μ-loop
 loop-again c =
-    let b = c .before .before .before .before .loop in
-    let n = c .before .names-equal in
-    seek-on _ _ _ _ (b .i) _ refl (b .inv) (omega (arith, c .before .before .before .loop-test .taken, c .before .before .before .before .before .type-count .ensures))
-    (named-so _ (c .before .before .declared-type .ensures .is _) (n .ensures) (c .if1 .left))
+    let loop = c .before .before .before .before .loop in
+    seek-on _ _ _ _ (loop .i) _ refl (loop .inv) (omega (arith, c .before .before .before .loop-test .taken, c .before .before .before .before .before .type-count .ensures))
+    (named-so _ (c .before .before .declared-type .ensures .is _) (c .before .names-equal .ensures) (c .if1 .left))
 
--- src/search.rt:15:1
 returns-2 : tie.Need-returns-2 Inv-loop μ-loop
 returns-2 c = let b = c .before .loop in seek-end _ _ _ _ (b .i) (b .inv) (omega (arith, c .loop-test .left, c .before .before .type-count .ensures))
 

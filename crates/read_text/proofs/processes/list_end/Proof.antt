@@ -7,23 +7,18 @@ use Rattle.read_text.proofs.processes.list_end.Reads as reads
 use Rattle.read_text.proofs.processes.list_end.Lts as lts
 use Rattle.read_types.proofs.steps.expect.Reads as expect-reads
 
--- src/processes.rt:226:9
 expect-requires : tie.Need-expect-requires
 expect-requires c κs = search needs
 
--- src/processes.rt:227:22
 enum-known-closed : tie.Need-enum-known-closed
 enum-known-closed c = search needs
 
--- src/processes.rt:228:9
 enum-told : tie.Need-enum-told
 enum-told c = search needs
 
--- src/processes.rt:228:9
 returns : tie.Need-returns
 returns c = end-no _ _ _ _ (width-pos (c .before .before .before .before .args .close)) (c .before .before .expect .ensures) (c .enum-told .given .1)
 
--- src/processes.rt:222:1
 returns-2 : tie.Need-returns-2
 returns-2 c = end-at _ _ _ _ (width-pos (c .before .before .before .before .before .args .close)) (c .before .before .before .expect .ensures) (c .before .closed .given .1)
 

@@ -8,39 +8,30 @@ use Rattle.read_text.proofs.processes.name_list.Lts as lts
 use Rattle.read_text.proofs.processes.names_or_none.Reads as names-or-none-reads
 use Rattle.read_types.proofs.steps.opening.Reads as opening-reads
 
--- src/processes.rt:250:9
 opening-requires : tie.Need-opening-requires
 opening-requires c κs = c .before .pre .0
 
--- src/processes.rt:251:19
 enum-known-opened : tie.Need-enum-known-opened
 enum-known-opened c = search needs
 
--- src/processes.rt:252:9
 enum-told : tie.Need-enum-told
 enum-told c = search needs
 
--- src/processes.rt:252:9
 returns : tie.Need-returns
 returns c = list-no _ _ _ _ _ (width-pos (c .before .before .before .before .args .opens)) (c .before .before .opening .ensures) (c .enum-told .given .1)
 
--- src/processes.rt:254:9
 names-or-none-requires : tie.Need-names-or-none-requires
 names-or-none-requires c κs = c .before .before .before .before .before .pre .1
 
--- src/processes.rt:255:22
 enum-known-names : tie.Need-enum-known-names
 enum-known-names c = search needs
 
--- src/processes.rt:256:9
 enum-told-2 : tie.Need-enum-told-2
 enum-told-2 c = search needs
 
--- src/processes.rt:256:9
 returns-2 : tie.Need-returns-2
 returns-2 c = list-names-no _ _ _ _ _ (width-pos (c .before .before .before .before .before .before .before .before .args .opens)) (c .before .before .before .before .before .before .opening .ensures) (c .before .before .before .before .opened .given .1) (c .before .before .names-or-none .ensures) (c .enum-told2 .given .1)
 
--- src/processes.rt:246:1
 returns-3 : tie.Need-returns-3
 returns-3 c = list-got _ _ _ _ _ (width-pos (c .before .before .before .before .before .before .before .before .before .args .opens)) (c .before .before .before .before .before .before .before .opening .ensures) (c .before .before .before .before .before .opened .given .1) (c .before .before .before .names-or-none .ensures) (c .before .names .given .1)
 

@@ -10,23 +10,18 @@ use Rattle.read_text.proofs.processes.list_end.Reads as list-end-reads
 use Rattle.read_text.proofs.processes.read_names.Reads as read-names-reads
 use Rattle.read_types.proofs.steps.kind_at.Reads as kind-at-reads
 
--- src/processes.rt:239:8
 kind-at-requires : tie.Need-kind-at-requires
 kind-at-requires c κs = search needs
 
--- src/processes.rt:240:9
 read-names-requires : tie.Need-read-names-requires
 read-names-requires c κs = search needs
 
--- src/processes.rt:240:9
 returns : tie.Need-returns
 returns c = some-names _ _ _ (eq-eqb _ _ (sym (c .before .before .kind-at .ensures) ∙ c .before .if1 .taken)) (c .read-names .ensures)
 
--- src/processes.rt:242:5
 list-end-requires : tie.Need-list-end-requires
 list-end-requires c κs = search needs
 
--- src/processes.rt:234:1
 returns-2 : tie.Need-returns-2
 returns-2 c = no-names _ _ _ (ne-eqb _ _ (λ e. c .before .if1 .left (c .before .before .kind-at .ensures ∙ e))) (c .list-end .ensures)
 

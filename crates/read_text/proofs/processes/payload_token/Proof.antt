@@ -10,54 +10,42 @@ use Rattle.read_types.proofs.steps.misfit_token.Reads as misfit-token-reads
 use Rattle.read_text.proofs.processes.unit_mark.Reads as unit-mark-reads
 use Rattle.read_types.proofs.steps.expect.Reads as expect-reads
 
--- src/processes.rt:59:26
 enum-told : tie.Need-enum-told
 enum-told c = search needs
 
--- src/processes.rt:59:26
 unit-mark-requires : tie.Need-unit-mark-requires
 unit-mark-requires c κs = search needs
 
--- src/processes.rt:60:29
 enum-told-2 : tie.Need-enum-told-2
 enum-told-2 c = search needs
 
--- src/processes.rt:60:29
 expect-requires : tie.Need-expect-requires
 expect-requires c κs = search needs
 
--- src/processes.rt:61:27
 enum-told-3 : tie.Need-enum-told-3
 enum-told-3 c = search needs
 
--- src/processes.rt:61:27
 expect-requires-2 : tie.Need-expect-requires-2
 expect-requires-2 c κs = search needs
 
--- src/processes.rt:62:27
 enum-told-4 : tie.Need-enum-told-4
 enum-told-4 c = search needs
 
--- src/processes.rt:62:27
 misfit-token-requires : tie.Need-misfit-token-requires
 misfit-token-requires c κs = search needs
 
--- src/processes.rt:55:1
 returns : tie.Need-returns
 unfolding payloadTaken
 returns c = rw (c .before .enum-told .given .1) (narrower (c .unit-mark .ensures) 1 (omega arith))
 
--- src/processes.rt:55:1
 returns-2 : tie.Need-returns-2
 unfolding payloadTaken
 returns-2 c = rw (c .before .enum-told2 .given .1) (c .expect .ensures)
 
--- src/processes.rt:55:1
 returns-3 : tie.Need-returns-3
 unfolding payloadTaken
 returns-3 c = rw (c .before .enum-told3 .given .1) (narrower (c .expect2 .ensures) 1 (omega arith))
 
--- src/processes.rt:55:1
 returns-4 : tie.Need-returns-4
 unfolding payloadTaken
 returns-4 c = rw (c .before .enum-told4 .given .1) (refused-step (c .misfit-token .ensures))

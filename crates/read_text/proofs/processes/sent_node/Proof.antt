@@ -6,38 +6,30 @@ use Rattle.read_text.proofs.processes.sent_node.Tie as tie
 use Rattle.read_text.proofs.processes.sent_node.Reads as reads
 use Rattle.read_text.proofs.processes.sent_node.Lts as lts
 
--- src/processes.rt:131:26
 enum-told : tie.Need-enum-told
 enum-told c = search needs
 
--- src/processes.rt:138:29
 enum-told-2 : tie.Need-enum-told-2
 enum-told-2 c = search needs
 
--- src/processes.rt:145:27
 enum-told-3 : tie.Need-enum-told-3
 enum-told-3 c = search needs
 
--- src/processes.rt:152:27
 enum-told-4 : tie.Need-enum-told-4
 enum-told-4 c = search needs
 
--- src/processes.rt:124:1
 returns : tie.Need-returns
 unfolding sentNode
 returns c = (rw (c .enum-told .given .1), omega (arith, c .before .before .pre))
 
--- src/processes.rt:124:1
 returns-2 : tie.Need-returns-2
 unfolding sentNode
 returns-2 c = (rw (c .enum-told2 .given .1), omega (arith, c .before .before .pre))
 
--- src/processes.rt:124:1
 returns-3 : tie.Need-returns-3
 unfolding sentNode
 returns-3 c = (rw (c .enum-told3 .given .1), omega (arith, c .before .before .pre))
 
--- src/processes.rt:124:1
 returns-4 : tie.Need-returns-4
 unfolding sentNode
 returns-4 c = (rw (c .enum-told4 .given .1), omega (arith, c .before .before .pre))

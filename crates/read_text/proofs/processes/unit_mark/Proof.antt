@@ -9,28 +9,22 @@ use Rattle.read_text.proofs.processes.unit_mark.Lts as lts
 use Rattle.read_types.proofs.steps.opening.Reads as opening-reads
 use Rattle.read_types.proofs.steps.then_expect.Reads as then-expect-reads
 
--- src/processes.rt:38:34
 opening-requires : tie.Need-opening-requires
 opening-requires c κs = search needs
 
--- src/processes.rt:38:9
 then-expect-requires : tie.Need-then-expect-requires
 then-expect-requires c κs = search needs
 
--- src/processes.rt:39:19
 enum-known-mark : tie.Need-enum-known-mark
 enum-known-mark c = search needs
 
--- src/processes.rt:40:9
 enum-told : tie.Need-enum-told
 enum-told c = search needs
 
--- src/processes.rt:40:9
 returns : tie.Need-returns
 unfolding unitTaken
 returns c = closing-no (followed (c .before .before .before .opening .ensures) (c .before .before .then-expect .ensures) 2 (omega arith)) (c .enum-told .given .1)
 
--- src/processes.rt:35:1
 returns-2 : tie.Need-returns-2
 unfolding unitTaken
 returns-2 c = closing-at (followed (c .before .before .before .before .opening .ensures) (c .before .before .before .then-expect .ensures) 2 (omega arith)) (c .before .mark .given .1)

@@ -6,31 +6,24 @@ use Rattle.read_text.proofs.reading.read.Reads as reads
 use Rattle.read_text.proofs.reading.read.Lts as lts
 use Rattle.read_text.proofs.reading.fill.Reads as fill-reads
 
--- src/reading.rt:106:9
 returns : tie.Need-returns
 returns c = text-short _ _ (c .if1 .taken)
 
--- src/reading.rt:108:16
 sub-fill : tie.Need-sub-fill
 sub-fill c = search needs
 
--- src/reading.rt:108:16
 part-fill-start : tie.Need-part-fill-start
 part-fill-start c = search needs
 
--- src/reading.rt:108:16
 part-fill-end : tie.Need-part-fill-end
 part-fill-end c = search needs
 
--- src/reading.rt:108:5
 fill-requires : tie.Need-fill-requires
 fill-requires c κs = search needs
 
--- src/reading.rt:102:1
 same-length : tie.Need-same-length
 same-length c = search needs
 
--- src/reading.rt:102:1
 returns-2 : tie.Need-returns-2
 returns-2 c = text-full _ _ (c .before .before .fill .last .1 .0) _ (c .before .before .before .before .if1 .left) (c .before .before .fill .ensures)
 

@@ -8,46 +8,40 @@ use Rattle.read_text.proofs.reading.write_counts.Reads as reads
 use Rattle.read_text.proofs.reading.write_counts.Lts as lts
 use Rattle.read_types.proofs.store.put_word.Reads as put-word-reads
 
--- src/reading.rt:39:5
 put-word-requires : tie.Need-put-word-requires
 put-word-requires c κs = search needs
 
--- src/reading.rt:40:5
 put-word-requires-2 : tie.Need-put-word-requires-2
 put-word-requires-2 c κs = search needs
 
--- src/reading.rt:41:5
 put-word-requires-3 : tie.Need-put-word-requires-3
 put-word-requires-3 c κs = search needs
 
--- src/reading.rt:42:5
 put-word-requires-4 : tie.Need-put-word-requires-4
 put-word-requires-4 c κs = search needs
 
--- src/reading.rt:43:5
 put-word-requires-5 : tie.Need-put-word-requires-5
 put-word-requires-5 c κs = search needs
 
--- src/reading.rt:44:5
 put-word-requires-6 : tie.Need-put-word-requires-6
 put-word-requires-6 c κs = search needs
 
--- src/reading.rt:45:5
 put-word-requires-7 : tie.Need-put-word-requires-7
 put-word-requires-7 c κs = search needs
 
--- src/reading.rt:46:5
 put-word-requires-8 : tie.Need-put-word-requires-8
 put-word-requires-8 c κs = omega (arith, c .before .before .before .before .before .before .before .before .before .before .before .before .before .before .before .before .before .before .before .before .before .before .before .before .before .before .before .before .before .before .pre)
 
--- src/reading.rt:34:1
 same-length : tie.Need-same-length
 same-length c = search needs
 
--- src/reading.rt:34:1
 returns : tie.Need-returns
 unfolding writeCounts
-returns c = c .before .before .before .before .before .before .before .before .before .before .before .before .before .before .before .before .before .before .before .before .before .before .before .before .before .before .before .before .before .before .put-word .ensures .words set-more c .before .before .before .before .before .before .before .before .before .before .before .before .before .before .before .before .before .before .before .before .before .before .before .before .before .before .put-word2 .ensures set-more c .before .before .before .before .before .before .before .before .before .before .before .before .before .before .before .before .before .before .before .before .before .before .put-word3 .ensures set-more c .before .before .before .before .before .before .before .before .before .before .before .before .before .before .before .before .before .before .put-word4 .ensures set-more c .before .before .before .before .before .before .before .before .before .before .before .before .before .before .put-word5 .ensures set-more c .before .before .before .before .before .before .before .before .before .before .put-word6 .ensures set-more c .before .before .before .before .before .before .put-word7 .ensures set-more c .before .before .put-word8 .ensures
+returns c =
+    let after-put-word7 = c .before .before .before .before .before .before in
+    let after-put-word5 = after-put-word7 .before .before .before .before .before .before .before .before in
+    let after-put-word3 = after-put-word5 .before .before .before .before .before .before .before .before in
+    after-put-word3 .before .before .before .before .before .before .before .before .put-word .ensures .words set-more after-put-word3 .before .before .before .before .put-word2 .ensures set-more after-put-word3 .put-word3 .ensures set-more after-put-word5 .before .before .before .before .put-word4 .ensures set-more after-put-word5 .put-word5 .ensures set-more after-put-word7 .before .before .before .before .put-word6 .ensures set-more after-put-word7 .put-word7 .ensures set-more c .before .before .put-word8 .ensures
 
 pub write-counts-spec : {M : Type 1} → statement M
 write-counts-spec =

@@ -15,37 +15,29 @@ Inv-loop part₀ k₀ part k = (k ≤ 8192) × (length part ≡ 8192) × ((j : �
 abbrev μ-loop : tie.MeasureT-loop
 μ-loop part₀ k₀ part k = 8192 - k
 
--- src/reading.rt:26:5
 loop-holds : tie.Need-loop-holds Inv-loop μ-loop
 loop-holds c = (omega arith, c .pre, λ j l. absurd (omega arith))
 
--- src/reading.rt:27:9
 mul-part : tie.Need-mul-part Inv-loop μ-loop
 mul-part c = search needs
 
--- src/reading.rt:27:9
 slice-write-part : tie.Need-slice-write-part Inv-loop μ-loop
 slice-write-part c = search needs
 
--- src/reading.rt:28:9
 add-k : tie.Need-add-k Inv-loop μ-loop
 add-k c = search needs
 
--- src/reading.rt:26:5
 loop-less : tie.Need-loop-less Inv-loop μ-loop
 loop-less c = search needs
 
--- src/reading.rt:26:5
 loop-again : tie.Need-loop-again Inv-loop μ-loop
 loop-again c =
     let b = c .before .loop in
     (omega arith, length-set (b .part) (b .k) 0 ∙ b .inv .1, zero-more (b .part) (b .k) (omega arith) (b .inv .2))
 
--- src/reading.rt:21:1
 same-length : tie.Need-same-length Inv-loop μ-loop
 same-length c = search needs
 
--- src/reading.rt:21:1
 returns : tie.Need-returns Inv-loop μ-loop
 returns c = let b = c .before .loop in all-zero (b .part) (b .inv .1) (λ j l. b .inv .2 j (omega arith))
 

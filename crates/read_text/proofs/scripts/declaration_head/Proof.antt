@@ -5,27 +5,22 @@ use Rattle.read_text.proofs.scripts.declaration_head.Tie as tie
 use Rattle.read_text.proofs.scripts.declaration_head.Reads as reads
 use Rattle.read_text.proofs.scripts.declaration_head.Lts as lts
 
--- src/scripts.rt:129:9
 returns : tie.Need-returns
 unfolding declarationHead
 returns c = rw (eq-eqb _ _ (c .if1 .taken))
 
--- src/scripts.rt:132:9
 returns-2 : tie.Need-returns-2
 unfolding declarationHead
 returns-2 c = rw (ne-eqb _ _ (c .before .if1 .left), eq-eqb _ _ (c .if2 .taken))
 
--- src/scripts.rt:135:9
 returns-3 : tie.Need-returns-3
 unfolding declarationHead
 returns-3 c = rw (ne-eqb _ _ (c .before .before .if1 .left), ne-eqb _ _ (c .before .if2 .left), eq-eqb _ _ (c .if3 .taken))
 
--- src/scripts.rt:138:9
 returns-4 : tie.Need-returns-4
 unfolding declarationHead
 returns-4 c = rw (ne-eqb _ _ (c .before .before .before .if1 .left), ne-eqb _ _ (c .before .before .if2 .left), ne-eqb _ _ (c .before .if3 .left), eq-eqb _ _ (c .if4 .taken))
 
--- src/scripts.rt:125:1
 returns-5 : tie.Need-returns-5
 unfolding declarationHead
 returns-5 c = rw (ne-eqb _ _ (c .before .before .before .if1 .left), ne-eqb _ _ (c .before .before .if2 .left), ne-eqb _ _ (c .before .if3 .left), ne-eqb _ _ (c .if4 .left))

@@ -11,75 +11,57 @@ use Rattle.read_text.proofs.scripts.declare_proc.Reads as declare-proc-
 use Rattle.read_text.proofs.scripts.declare_type.Reads as declare-type-reads
 use Rattle.read_types.proofs.steps.misfit.Reads as misfit-reads
 
--- src/scripts.rt:150:57
 enum-told : tie.Need-enum-told
 enum-told c = search needs
 
--- src/scripts.rt:150:38
 declare-type-requires : tie.Need-declare-type-requires
 declare-type-requires c κs = c .before .before .before .before .before .pre
 
--- src/scripts.rt:151:57
 enum-told-2 : tie.Need-enum-told-2
 enum-told-2 c = search needs
 
--- src/scripts.rt:151:38
 declare-proc-requires : tie.Need-declare-proc-requires
 declare-proc-requires c κs = c .before .before .before .before .before .pre
 
--- src/scripts.rt:152:57
 enum-told-3 : tie.Need-enum-told-3
 enum-told-3 c = search needs
 
--- src/scripts.rt:152:38
 declare-exec-requires : tie.Need-declare-exec-requires
 declare-exec-requires c κs = c .before .before .before .before .before .pre
 
--- src/scripts.rt:153:33
 enum-told-4 : tie.Need-enum-told-4
 enum-told-4 c = search needs
 
--- src/scripts.rt:153:33
 misfit-requires : tie.Need-misfit-requires
 misfit-requires c κs = search needs
 
--- src/scripts.rt:154:35
 enum-told-5 : tie.Need-enum-told-5
 enum-told-5 c = search needs
 
--- src/scripts.rt:154:35
 misfit-requires-2 : tie.Need-misfit-requires-2
 misfit-requires-2 c κs = search needs
 
--- src/scripts.rt:145:1
 same-length : tie.Need-same-length
 same-length c = search needs
 
--- src/scripts.rt:145:1
 returns : tie.Need-returns
 returns c = rw (c .before .before .before .before .enum-told .given .1) (c .before .before .declare-type .ensures)
 
--- src/scripts.rt:145:1
 same-length-2 : tie.Need-same-length-2
 same-length-2 c = search needs
 
--- src/scripts.rt:145:1
 returns-2 : tie.Need-returns-2
 returns-2 c = rw (c .before .before .before .before .enum-told2 .given .1) (c .before .before .declare-proc .ensures)
 
--- src/scripts.rt:145:1
 same-length-3 : tie.Need-same-length-3
 same-length-3 c = search needs
 
--- src/scripts.rt:145:1
 returns-3 : tie.Need-returns-3
 returns-3 c = rw (c .before .before .before .before .enum-told3 .given .1) (c .before .before .declare-exec .ensures)
 
--- src/scripts.rt:145:1
 returns-4 : tie.Need-returns-4
 returns-4 c = rw (c .before .enum-told4 .given .1) (declare-no End _ _ _ _ (λ m. refl) (c .misfit .ensures))
 
--- src/scripts.rt:145:1
 returns-5 : tie.Need-returns-5
 returns-5 c = rw (c .before .enum-told5 .given .1) (declare-no Other _ _ _ _ (λ m. refl) (c .misfit2 .ensures))
 

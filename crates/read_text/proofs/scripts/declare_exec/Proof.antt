@@ -11,35 +11,29 @@ use Rattle.read_text.proofs.scripts.declared_name.Reads as declared-nam
 use Rattle.read_types.proofs.steps.refusal.Reads as refusal-reads
 use Rattle.read_types.proofs.store.put_exec.Reads as put-exec-reads
 
--- src/scripts.rt:117:9
 declared-name-requires : tie.Need-declared-name-requires
 declared-name-requires c κs = search needs
 
--- src/scripts.rt:118:19
 enum-known-named : tie.Need-enum-known-named
 enum-known-named c = search needs
 
--- src/scripts.rt:119:9
 enum-told : tie.Need-enum-told
 enum-told c = search needs
 
--- src/scripts.rt:119:9
 refusal-requires : tie.Need-refusal-requires
 refusal-requires c κs = search needs
 
--- src/scripts.rt:119:9
 returns : tie.Need-returns
 returns c = exec-no _ _ _ _ (c .before .before .before .before .before .before .pre) (c .before .before .before .declared-name .ensures) (c .before .enum-told .given .1) (c .refusal .ensures)
 
--- src/scripts.rt:121:9
 put-exec-requires : tie.Need-put-exec-requires
-put-exec-requires c κs = omega (arith, c .before .before .before .before .before .before .before .pre, c .before .before .before .before .declared-name .ensures .on _ _ (c .before .before .named .given .1), name-held kExec (c .before .before .before .before .before .before .before .args .k .execs) execLimit (c .before .before .before .before .declared-name .ensures) (c .before .before .named .given .1))
+put-exec-requires c κs =
+    let entry = c .before .before .before .before .before .before .before in
+    omega (arith, entry .pre, c .before .before .before .before .declared-name .ensures .on _ _ (c .before .before .named .given .1), name-held kExec (entry .args .k .execs) execLimit (c .before .before .before .before .declared-name .ensures) (c .before .before .named .given .1))
 
--- src/scripts.rt:113:1
 same-length : tie.Need-same-length
 same-length c = search needs
 
--- src/scripts.rt:113:1
 returns-2 : tie.Need-returns-2
 returns-2 c = exec-got _ _ _ _ (c .before .before .before .before .before .before .before .before .before .before .pre) (c .before .before .before .before .before .before .before .declared-name .ensures) (c .before .before .before .before .before .named .given .1) (c .before .before .put-exec .ensures)
 

@@ -8,27 +8,21 @@ use Rattle.read_text.proofs.scripts.declared_name.Lts as lts
 use Rattle.read_text.proofs.scripts.keyword.Reads as keyword-reads
 use Rattle.read_types.proofs.steps.expect.Reads as expect-reads
 
--- src/scripts.rt:48:9
 keyword-requires : tie.Need-keyword-requires
 keyword-requires c κs = search needs
 
--- src/scripts.rt:49:22
 enum-known-word : tie.Need-enum-known-word
 enum-known-word c = search needs
 
--- src/scripts.rt:50:9
 enum-told : tie.Need-enum-told
 enum-told c = search needs
 
--- src/scripts.rt:50:9
 returns : tie.Need-returns
 returns c = name-no _ _ _ (c .before .before .keyword .ensures) (c .enum-told .given .1)
 
--- src/scripts.rt:52:5
 expect-requires : tie.Need-expect-requires
 expect-requires c κs = search needs
 
--- src/scripts.rt:44:1
 returns-2 : tie.Need-returns-2
 returns-2 c = name-at _ _ _ (c .before .before .before .before .keyword .ensures) (width-pos (c .before .before .before .before .before .before .args .kind)) (c .before .before .word .given .1) (c .expect .ensures)
 

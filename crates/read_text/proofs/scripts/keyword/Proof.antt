@@ -8,29 +8,28 @@ use Rattle.read_text.proofs.scripts.keyword.Reads as reads
 use Rattle.read_text.proofs.scripts.keyword.Lts as lts
 use Rattle.read_types.proofs.steps.expect.Reads as expect-reads
 
--- src/scripts.rt:32:9
 expect-requires : tie.Need-expect-requires
 expect-requires c κs = search needs
 
--- src/scripts.rt:33:19
 enum-known-taken : tie.Need-enum-known-taken
 enum-known-taken c = search needs
 
--- src/scripts.rt:34:9
 enum-told : tie.Need-enum-told
 enum-told c = search needs
 
--- src/scripts.rt:34:9
 returns : tie.Need-returns
 returns c = limit-no (c .before .before .expect .ensures) 0 0 (λ _. ltb (c .before .before .before .before .args .before) (c .before .before .before .before .args .limit)) (λ d. d) (c .enum-told .given .1)
 
--- src/scripts.rt:37:9
 returns-2 : tie.Need-returns-2
-returns-2 c = limit-kept (c .before .before .before .before .expect .ensures) 0 0 (λ _. ltb (c .before .before .before .before .before .before .args .before) (c .before .before .before .before .before .before .args .limit)) (λ d. d) (c .before .before .taken .given .1) (lt-ltb _ _ (c .if1 .taken)) (c .before .before .before .before .expect .ensures .on _ _ (c .before .before .taken .given .1))
+returns-2 c =
+    let expect = c .before .before .before .before .expect in
+    let entry = c .before .before .before .before .before .before in
+    limit-kept (expect .ensures) 0 0 (λ _. ltb (entry .args .before) (entry .args .limit)) (λ d. d) (c .before .before .taken .given .1) (lt-ltb _ _ (c .if1 .taken)) (expect .ensures .on _ _ (c .before .before .taken .given .1))
 
--- src/scripts.rt:28:1
 returns-3 : tie.Need-returns-3
-returns-3 c = limit-passed (c .before .before .before .before .expect .ensures) 0 0 (λ _. ltb (c .before .before .before .before .before .before .args .before) (c .before .before .before .before .before .before .args .limit)) (λ d. d) (c .before .before .taken .given .1) (le-ltb _ _ (c .if1 .left))
+returns-3 c =
+    let entry = c .before .before .before .before .before .before in
+    limit-passed (c .before .before .before .before .expect .ensures) 0 0 (λ _. ltb (entry .args .before) (entry .args .limit)) (λ d. d) (c .before .before .taken .given .1) (le-ltb _ _ (c .if1 .left))
 
 pub keyword-spec : {M : Type 1} → statement M
 keyword-spec =

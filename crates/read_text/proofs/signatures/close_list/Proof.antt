@@ -7,27 +7,21 @@ use Rattle.read_text.proofs.signatures.close_list.Lts as lts
 use Rattle.read_types.proofs.steps.expect.Reads as expect-reads
 use Rattle.read_types.proofs.steps.refusal.Reads as refusal-reads
 
--- src/signatures.rt:39:9
 expect-requires : tie.Need-expect-requires
 expect-requires c κs = c .before .before .pre .1
 
--- src/signatures.rt:40:22
 enum-known-closed : tie.Need-enum-known-closed
 enum-known-closed c = search needs
 
--- src/signatures.rt:41:9
 enum-told : tie.Need-enum-told
 enum-told c = search needs
 
--- src/signatures.rt:41:9
 refusal-requires : tie.Need-refusal-requires
 refusal-requires c κs = search needs
 
--- src/signatures.rt:41:9
 returns : tie.Need-returns
 returns c = close-no _ _ _ _ (c .before .before .before .before .before .before .pre .0) _ _ (c .before .before .before .expect .ensures) (c .before .enum-told .given .1) (c .refusal .ensures)
 
--- src/signatures.rt:35:1
 returns-2 : tie.Need-returns-2
 returns-2 c = close-got _ _ _ _ (c .before .before .before .before .before .before .pre .0) _ _ (c .before .before .before .expect .ensures) (c .before .closed .given .1)
 

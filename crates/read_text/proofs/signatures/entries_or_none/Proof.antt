@@ -10,31 +10,24 @@ use Rattle.read_text.proofs.signatures.close_list.Reads as close-list-r
 use Rattle.read_text.proofs.signatures.read_entries.Reads as read-entries-reads
 use Rattle.read_types.proofs.steps.kind_at.Reads as kind-at-reads
 
--- src/signatures.rt:85:8
 kind-at-requires : tie.Need-kind-at-requires
 kind-at-requires c κs = search needs
 
--- src/signatures.rt:86:9
 read-entries-requires : tie.Need-read-entries-requires
 read-entries-requires c κs = c .before .before .before .before .before .pre
 
--- src/signatures.rt:86:9
 same-length : tie.Need-same-length
 same-length c = search needs
 
--- src/signatures.rt:86:9
 returns : tie.Need-returns
 returns c = some-entries _ _ _ _ (c .before .before .before .before .before .before .before .before .pre .0) _ (eq-eqb _ _ (sym (c .before .before .before .before .before .kind-at .ensures) ∙ c .before .before .before .before .if1 .taken)) (c .before .before .read-entries .ensures)
 
--- src/signatures.rt:88:5
 close-list-requires : tie.Need-close-list-requires
 close-list-requires c κs = c .before .before .before .before .before .pre
 
--- src/signatures.rt:80:1
 same-length-2 : tie.Need-same-length-2
 same-length-2 c = search needs
 
--- src/signatures.rt:80:1
 returns-2 : tie.Need-returns-2
 returns-2 c = no-entries _ _ _ _ (c .before .before .before .before .before .before .before .before .pre .0) _ (ne-eqb _ _ (λ e. c .before .before .before .before .if1 .left (c .before .before .before .before .before .kind-at .ensures ∙ e))) (c .before .before .close-list .ensures)
 

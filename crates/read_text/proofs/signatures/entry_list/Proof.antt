@@ -10,53 +10,51 @@ use Rattle.read_text.proofs.signatures.entries_or_none.Reads as entries
 use Rattle.read_types.proofs.steps.opening.Reads as opening-reads
 use Rattle.read_types.proofs.steps.refusal.Reads as refusal-reads
 
--- src/signatures.rt:96:9
 opening-requires : tie.Need-opening-requires
 opening-requires c κs = c .before .before .pre .1
 
--- src/signatures.rt:97:22
 enum-known-opened : tie.Need-enum-known-opened
 enum-known-opened c = search needs
 
--- src/signatures.rt:98:9
 enum-told : tie.Need-enum-told
 enum-told c = search needs
 
--- src/signatures.rt:98:9
 refusal-requires : tie.Need-refusal-requires
 refusal-requires c κs = search needs
 
--- src/signatures.rt:98:9
 returns : tie.Need-returns
-returns c = list-no _ _ _ _ (c .before .before .before .before .before .before .pre .0) _ _ _ (width-pos (c .before .before .before .before .before .before .args .opens)) (c .before .before .before .opening .ensures) (c .before .enum-told .given .1) (c .refusal .ensures)
+returns c =
+    let entry = c .before .before .before .before .before .before in
+    list-no _ _ _ _ (entry .pre .0) _ _ _ (width-pos (entry .args .opens)) (c .before .before .before .opening .ensures) (c .before .enum-told .given .1) (c .refusal .ensures)
 
--- src/signatures.rt:100:9
 entries-or-none-requires : tie.Need-entries-or-none-requires
-entries-or-none-requires c κs = (omega (arith, c .before .before .before .before .before .before .before .pre, c .before .before .before .before .opening .ensures .on _ _ (c .before .before .opened .given .1), width-pos (c .before .before .before .before .before .before .before .args .opens)), c .before .before .before .before .before .before .before .pre .2)
+entries-or-none-requires c κs =
+    let entry = c .before .before .before .before .before .before .before in
+    (omega (arith, entry .pre, c .before .before .before .before .opening .ensures .on _ _ (c .before .before .opened .given .1), width-pos (entry .args .opens)), entry .pre .2)
 
--- src/signatures.rt:101:18
 enum-known-inner : tie.Need-enum-known-inner
 enum-known-inner c = search needs
 
--- src/signatures.rt:102:9
 enum-told-2 : tie.Need-enum-told-2
 enum-told-2 c = search needs
 
--- src/signatures.rt:102:9
 same-length : tie.Need-same-length
 same-length c = search needs
 
--- src/signatures.rt:102:9
 returns-2 : tie.Need-returns-2
-returns-2 c = list-inner-no _ _ _ _ (c .before .before .before .before .before .before .before .before .before .before .before .before .pre .0) _ _ _ (width-pos (c .before .before .before .before .before .before .before .before .before .before .before .before .args .opens)) (c .before .before .before .before .before .before .before .before .before .opening .ensures) (c .before .before .before .before .before .before .before .opened .given .1) (c .before .before .before .before .entries-or-none .ensures) (c .enum-told2 .given .1)
+returns-2 c =
+    let after-opened = c .before .before .before .before .before .before .before in
+    let entry = after-opened .before .before .before .before .before in
+    list-inner-no _ _ _ _ (entry .pre .0) _ _ _ (width-pos (entry .args .opens)) (after-opened .before .before .opening .ensures) (after-opened .opened .given .1) (c .before .before .before .before .entries-or-none .ensures) (c .enum-told2 .given .1)
 
--- src/signatures.rt:92:1
 same-length-2 : tie.Need-same-length-2
 same-length-2 c = search needs
 
--- src/signatures.rt:92:1
 returns-3 : tie.Need-returns-3
-returns-3 c = list-got _ _ _ _ (c .before .before .before .before .before .before .before .before .before .before .before .before .before .pre .0) _ _ _ (width-pos (c .before .before .before .before .before .before .before .before .before .before .before .before .before .args .opens)) (c .before .before .before .before .before .before .before .before .before .before .opening .ensures) (c .before .before .before .before .before .before .before .before .opened .given .1) (c .before .before .before .before .before .entries-or-none .ensures) (c .before .inner .given .1)
+returns-3 c =
+    let after-opened = c .before .before .before .before .before .before .before .before in
+    let entry = after-opened .before .before .before .before .before in
+    list-got _ _ _ _ (entry .pre .0) _ _ _ (width-pos (entry .args .opens)) (after-opened .before .before .opening .ensures) (after-opened .opened .given .1) (c .before .before .before .before .before .entries-or-none .ensures) (c .before .inner .given .1)
 
 pub entry-list-spec : {M : Type 1} → statement M
 entry-list-spec =

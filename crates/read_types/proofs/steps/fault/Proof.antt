@@ -4,11 +4,9 @@ use Rattle.read_types.proofs.steps.fault.Tie as tie
 use Rattle.read_types.proofs.steps.fault.Reads as reads
 use Rattle.read_types.proofs.steps.fault.Lts as lts
 
--- src/steps.rt:38:9
 returns : tie.Need-returns
 returns c = rw (eq-eqb _ _ (c .if1 .taken))
 
--- src/steps.rt:34:1
 returns-2 : tie.Need-returns-2
 returns-2 c = rw (ne-eqb _ _ (c .if1 .left))
 

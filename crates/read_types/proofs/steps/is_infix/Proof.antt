@@ -5,17 +5,14 @@ use Rattle.read_types.proofs.steps.is_infix.Tie as tie
 use Rattle.read_types.proofs.steps.is_infix.Reads as reads
 use Rattle.read_types.proofs.steps.is_infix.Lts as lts
 
--- src/steps.rt:159:9
 returns : tie.Need-returns
 unfolding isInfix
 returns c = rw (eq-eqb _ _ (c .if1 .taken))
 
--- src/steps.rt:162:9
 returns-2 : tie.Need-returns-2
 unfolding isInfix
 returns-2 c = rw (ne-eqb _ _ (c .before .if1 .left), eq-eqb _ _ (c .if2 .taken))
 
--- src/steps.rt:155:1
 returns-3 : tie.Need-returns-3
 unfolding isInfix
 returns-3 c = rw (ne-eqb _ _ (c .before .if1 .left), ne-eqb _ _ (c .if2 .left))

@@ -7,11 +7,9 @@ use Rattle.read_types.proofs.steps.kind_at.Reads as reads
 use Rattle.read_types.proofs.steps.kind_at.Lts as lts
 use Rattle.notation.proofs.token.next_token.Reads as next-token-reads
 
--- src/steps.rt:23:9
 next-token-requires : tie.Need-next-token-requires
 next-token-requires c κs = search needs
 
--- src/steps.rt:20:1
 returns : tie.Need-returns
 returns c = ap (λ (t : Token). t .kind) (c .next-token .ensures .0)
 

@@ -10,29 +10,23 @@ use Rattle.read_types.proofs.steps.label_term.Reads as reads
 use Rattle.read_types.proofs.steps.label_term.Lts as lts
 use Rattle.read_types.proofs.steps.expect.Reads as expect-reads
 
--- src/steps.rt:101:9
 expect-requires : tie.Need-expect-requires
 expect-requires c κs = search needs
 
--- src/steps.rt:102:19
 enum-known-taken : tie.Need-enum-known-taken
 enum-known-taken c = search needs
 
--- src/steps.rt:103:9
 enum-told : tie.Need-enum-told
 enum-told c = search needs
 
--- src/steps.rt:103:9
 returns : tie.Need-returns
 unfolding labelTerm
 returns c = limit-no (c .before .before .expect .ensures) 0 0 (λ _. ltb (c .before .before .before .before .args .n) labelLimit) (λ d. d) (c .enum-told .given .1)
 
--- src/steps.rt:106:9
 returns-2 : tie.Need-returns-2
 unfolding labelTerm
 returns-2 c = limit-kept (c .before .before .before .before .expect .ensures) 0 0 (λ _. ltb (c .before .before .before .before .before .before .args .n) labelLimit) (λ d. d) (c .before .before .taken .given .1) (lt-ltb _ _ (c .if1 .taken)) (c .before .before .before .before .expect .ensures .on _ _ (c .before .before .taken .given .1))
 
--- src/steps.rt:98:1
 returns-3 : tie.Need-returns-3
 unfolding labelTerm
 returns-3 c = limit-passed (c .before .before .before .before .expect .ensures) 0 0 (λ _. ltb (c .before .before .before .before .before .before .args .n) labelLimit) (λ d. d) (c .before .before .taken .given .1) (le-ltb _ _ (c .if1 .left))

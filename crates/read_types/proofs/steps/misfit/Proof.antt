@@ -8,15 +8,12 @@ use Rattle.read_types.proofs.steps.misfit.Lts as lts
 use Rattle.read_types.proofs.steps.misfit_token.Reads as misfit-token-reads
 use Rattle.read_types.proofs.steps.refusal.Reads as refusal-reads
 
--- src/steps.rt:170:13
 misfit-token-requires : tie.Need-misfit-token-requires
 misfit-token-requires c κs = search needs
 
--- src/steps.rt:170:5
 refusal-requires : tie.Need-refusal-requires
 refusal-requires c κs = search needs
 
--- src/steps.rt:167:1
 returns : tie.Need-returns
 returns c = c .refusal .ensures ∙ ap asOut (c .before .misfit-token .ensures)
 

@@ -8,15 +8,12 @@ use Rattle.read_types.proofs.steps.misfit_token.Lts as lts
 use Rattle.notation.proofs.token.next_token.Reads as next-token-reads
 use Rattle.read_types.proofs.steps.fault.Reads as fault-reads
 
--- src/steps.rt:48:9
 next-token-requires : tie.Need-next-token-requires
 next-token-requires c κs = search needs
 
--- src/steps.rt:49:20
 fault-requires : tie.Need-fault-requires
 fault-requires c κs = search needs
 
--- src/steps.rt:44:1
 returns : tie.Need-returns
 returns c = let t = c .before .next-token in rw (← t .ensures .0) (ap (λ n. Refused n (t .result .start)) (c .fault .ensures))
 

@@ -8,33 +8,29 @@ use Rattle.read_types.proofs.steps.opening.Reads as reads
 use Rattle.read_types.proofs.steps.opening.Lts as lts
 use Rattle.read_types.proofs.steps.expect.Reads as expect-reads
 
--- src/steps.rt:56:9
 expect-requires : tie.Need-expect-requires
 expect-requires c κs = search needs
 
--- src/steps.rt:57:19
 enum-known-taken : tie.Need-enum-known-taken
 enum-known-taken c = search needs
 
--- src/steps.rt:58:9
 enum-told : tie.Need-enum-told
 enum-told c = search needs
 
--- src/steps.rt:58:9
 returns : tie.Need-returns
 unfolding opening
 returns c = limit-no (c .before .before .expect .ensures) 0 0 mayOpen deeper (c .enum-told .given .1)
 
--- src/steps.rt:67:24
 add-t8 : tie.Need-add-t8
 add-t8 c = search needs
 
--- src/steps.rt:61:9
 returns-2 : tie.Need-returns-2
 unfolding opening
-returns-2 c = limit-kept (c .before .before .before .before .before .before .expect .ensures) 0 0 mayOpen deeper (c .before .before .before .before .taken .given .1) (lt-ltb _ _ (c .before .if1 .taken)) (c .before .before .before .before .before .before .expect .ensures .on _ _ (c .before .before .before .before .taken .given .1))
+returns-2 c =
+    let taken = c .before .before .before .before .taken in
+    let expect = c .before .before .before .before .before .before .expect in
+    limit-kept (expect .ensures) 0 0 mayOpen deeper (taken .given .1) (lt-ltb _ _ (c .before .if1 .taken)) (expect .ensures .on _ _ (taken .given .1))
 
--- src/steps.rt:52:1
 returns-3 : tie.Need-returns-3
 unfolding opening
 returns-3 c = limit-passed (c .before .before .before .before .before .expect .ensures) 0 0 mayOpen deeper (c .before .before .before .taken .given .1) (le-ltb _ _ (c .if1 .left))

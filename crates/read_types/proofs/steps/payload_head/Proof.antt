@@ -5,22 +5,18 @@ use Rattle.read_types.proofs.steps.payload_head.Tie as tie
 use Rattle.read_types.proofs.steps.payload_head.Reads as reads
 use Rattle.read_types.proofs.steps.payload_head.Lts as lts
 
--- src/steps.rt:232:9
 returns : tie.Need-returns
 unfolding payload
 returns c = rw (eq-eqb _ _ (c .if1 .taken))
 
--- src/steps.rt:235:9
 returns-2 : tie.Need-returns-2
 unfolding payload
 returns-2 c = rw (ne-eqb _ _ (c .before .if1 .left), eq-eqb _ _ (c .if2 .taken))
 
--- src/steps.rt:238:9
 returns-3 : tie.Need-returns-3
 unfolding payload
 returns-3 c = rw (ne-eqb _ _ (c .before .before .if1 .left), ne-eqb _ _ (c .before .if2 .left), eq-eqb _ _ (c .if3 .taken))
 
--- src/steps.rt:228:1
 returns-4 : tie.Need-returns-4
 unfolding payload
 returns-4 c = rw (ne-eqb _ _ (c .before .before .if1 .left), ne-eqb _ _ (c .before .if2 .left), ne-eqb _ _ (c .if3 .left))

@@ -4,19 +4,15 @@ use Rattle.read_types.proofs.steps.refusal.Tie as tie
 use Rattle.read_types.proofs.steps.refusal.Reads as reads
 use Rattle.read_types.proofs.steps.refusal.Lts as lts
 
--- src/steps.rt:116:28
 enum-told : tie.Need-enum-told
 enum-told c = search needs
 
--- src/steps.rt:117:24
 enum-known-t : tie.Need-enum-known-t
 enum-known-t c = search needs
 
--- src/steps.rt:112:1
 returns : tie.Need-returns
 returns c = search needs
 
--- src/steps.rt:112:1
 returns-2 : tie.Need-returns-2
 returns-2 c = cc
 

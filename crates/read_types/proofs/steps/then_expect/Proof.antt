@@ -6,35 +6,27 @@ use Rattle.read_types.proofs.steps.then_expect.Reads as reads
 use Rattle.read_types.proofs.steps.then_expect.Lts as lts
 use Rattle.read_types.proofs.steps.expect.Reads as expect-reads
 
--- src/steps.rt:78:19
 enum-known-step : tie.Need-enum-known-step
 enum-known-step c = search needs
 
--- src/steps.rt:79:9
 enum-told : tie.Need-enum-told
 enum-told c = search needs
 
--- src/steps.rt:79:9
 returns : tie.Need-returns
 returns c = followed-no _ (c .enum-told .given .1)
 
--- src/steps.rt:81:9
 expect-requires : tie.Need-expect-requires
 expect-requires c κs = search needs
 
--- src/steps.rt:82:22
 enum-known-next : tie.Need-enum-known-next
 enum-known-next c = search needs
 
--- src/steps.rt:83:9
 enum-told-2 : tie.Need-enum-told-2
 enum-told-2 c = search needs
 
--- src/steps.rt:83:9
 returns-2 : tie.Need-returns-2
 returns-2 c = followed-then-no _ (c .before .before .before .before .step .given .1) (c .before .before .expect .ensures) (c .enum-told2 .given .1)
 
--- src/steps.rt:74:1
 returns-3 : tie.Need-returns-3
 returns-3 c = followed-at _ (c .before .before .before .before .before .step .given .1) (c .before .before .before .expect .ensures) (c .before .next .given .1)
 

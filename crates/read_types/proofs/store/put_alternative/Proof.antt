@@ -7,27 +7,21 @@ use Rattle.read_types.proofs.store.put_alternative.Reads as reads
 use Rattle.read_types.proofs.store.put_alternative.Lts as lts
 use Rattle.read_types.proofs.store.put_pair.Reads as put-pair-reads
 
--- src/store.rt:46:23
 add-put-pair : tie.Need-add-put-pair
 add-put-pair c = search needs
 
--- src/store.rt:46:5
 put-pair-requires : tie.Need-put-pair-requires
 put-pair-requires c κs = search needs
 
--- src/store.rt:48:22
 add-l : tie.Need-add-l
 add-l c = search needs
 
--- src/store.rt:49:14
 add-l-2 : tie.Need-add-l-2
 add-l-2 c = search needs
 
--- src/store.rt:42:1
 same-length : tie.Need-same-length
 same-length c = search needs
 
--- src/store.rt:42:1
 returns : tie.Need-returns
 unfolding putAlternative
 returns c = put-one (c .before .before .before .before .put-pair .ensures)

@@ -7,23 +7,18 @@ use Rattle.read_types.proofs.store.put_entry.Reads as reads
 use Rattle.read_types.proofs.store.put_entry.Lts as lts
 use Rattle.read_types.proofs.store.put_pair.Reads as put-pair-reads
 
--- src/store.rt:85:23
 add-put-pair : tie.Need-add-put-pair
 add-put-pair c = search needs
 
--- src/store.rt:85:5
 put-pair-requires : tie.Need-put-pair-requires
 put-pair-requires c κs = search needs
 
--- src/store.rt:87:17
 add-l : tie.Need-add-l
 add-l c = search needs
 
--- src/store.rt:81:1
 same-length : tie.Need-same-length
 same-length c = search needs
 
--- src/store.rt:81:1
 returns : tie.Need-returns
 unfolding putEntry
 returns c = put-one (c .before .before .before .put-pair .ensures)

@@ -7,23 +7,18 @@ use Rattle.read_types.proofs.store.put_exec.Reads as reads
 use Rattle.read_types.proofs.store.put_exec.Lts as lts
 use Rattle.read_types.proofs.store.put_word.Reads as put-word-reads
 
--- src/store.rt:125:23
 add-put-word : tie.Need-add-put-word
 add-put-word c = search needs
 
--- src/store.rt:125:5
 put-word-requires : tie.Need-put-word-requires
 put-word-requires c κs = search needs
 
--- src/store.rt:127:15
 add-l : tie.Need-add-l
 add-l c = search needs
 
--- src/store.rt:121:1
 same-length : tie.Need-same-length
 same-length c = search needs
 
--- src/store.rt:121:1
 returns : tie.Need-returns
 unfolding putExec
 returns c = put-one (c .before .before .before .put-word .ensures)

@@ -7,39 +7,30 @@ use Rattle.read_types.proofs.store.put_node.Reads as reads
 use Rattle.read_types.proofs.store.put_node.Lts as lts
 use Rattle.read_types.proofs.store.put_word.Reads as put-word-reads
 
--- src/store.rt:34:23
 add-put-word : tie.Need-add-put-word
 add-put-word c = search needs
 
--- src/store.rt:34:47
 mul-put-word : tie.Need-mul-put-word
 mul-put-word c = search needs
 
--- src/store.rt:34:38
 add-put-word-2 : tie.Need-add-put-word-2
 add-put-word-2 c = search needs
 
--- src/store.rt:34:61
 mul-put-word-2 : tie.Need-mul-put-word-2
 mul-put-word-2 c = search needs
 
--- src/store.rt:34:38
 add-put-word-3 : tie.Need-add-put-word-3
 add-put-word-3 c = search needs
 
--- src/store.rt:34:5
 put-word-requires : tie.Need-put-word-requires
 put-word-requires c κs = search needs
 
--- src/store.rt:36:15
 add-l : tie.Need-add-l
 add-l c = search needs
 
--- src/store.rt:29:1
 same-length : tie.Need-same-length
 same-length c = search needs
 
--- src/store.rt:29:1
 returns : tie.Need-returns
 unfolding putNode typeWord
 returns c = put-one (c .before .before .before .put-word .ensures)

@@ -6,23 +6,18 @@ use Rattle.read_types.proofs.store.put_pair.Reads as reads
 use Rattle.read_types.proofs.store.put_pair.Lts as lts
 use Rattle.read_types.proofs.store.put_word.Reads as put-word-reads
 
--- src/store.rt:25:31
 mul-put-word : tie.Need-mul-put-word
 mul-put-word c = search needs
 
--- src/store.rt:25:26
 add-put-word : tie.Need-add-put-word
 add-put-word c = search needs
 
--- src/store.rt:25:5
 put-word-requires : tie.Need-put-word-requires
 put-word-requires c κs = search needs
 
--- src/store.rt:21:1
 same-length : tie.Need-same-length
 same-length c = search needs
 
--- src/store.rt:21:1
 returns : tie.Need-returns
 unfolding pairWord
 returns c = c .before .before .put-word .ensures

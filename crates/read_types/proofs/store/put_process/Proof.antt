@@ -8,62 +8,50 @@ use Rattle.read_types.proofs.store.put_process.Reads as reads
 use Rattle.read_types.proofs.store.put_process.Lts as lts
 use Rattle.read_types.proofs.store.put_word.Reads as put-word-reads
 
--- src/store.rt:110:19
 mul-i : tie.Need-mul-i
 mul-i c = search needs
 
--- src/store.rt:110:13
 add-i : tie.Need-add-i
 add-i c = search needs
 
--- src/store.rt:111:5
 put-word-requires : tie.Need-put-word-requires
 put-word-requires c κs = search needs
 
--- src/store.rt:112:23
 add-put-word : tie.Need-add-put-word
 add-put-word c = search needs
 
--- src/store.rt:112:5
 put-word-requires-2 : tie.Need-put-word-requires-2
 put-word-requires-2 c κs = search needs
 
--- src/store.rt:113:23
 add-put-word-2 : tie.Need-add-put-word-2
 add-put-word-2 c = search needs
 
--- src/store.rt:113:43
 mul-put-word : tie.Need-mul-put-word
 mul-put-word c = search needs
 
--- src/store.rt:113:30
 add-put-word-3 : tie.Need-add-put-word-3
 add-put-word-3 c = search needs
 
--- src/store.rt:113:5
 put-word-requires-3 : tie.Need-put-word-requires-3
 put-word-requires-3 c κs = search needs
 
--- src/store.rt:114:23
 add-put-word-4 : tie.Need-add-put-word-4
 add-put-word-4 c = search needs
 
--- src/store.rt:114:5
 put-word-requires-4 : tie.Need-put-word-requires-4
 put-word-requires-4 c κs = search needs
 
--- src/store.rt:116:19
 add-l : tie.Need-add-l
 add-l c = omega (arith, c .before .before .before .before .before .before .before .before .before .before .before .before .before .before .before .before .before .before .before .before .before .pre)
 
--- src/store.rt:105:1
 same-length : tie.Need-same-length
 same-length c = search needs
 
--- src/store.rt:105:1
 returns : tie.Need-returns
 unfolding putProcess
-returns c = put-one (c .before .before .before .before .before .before .before .before .before .before .before .before .before .before .before .before .before .put-word .ensures) put-more c .before .before .before .before .before .before .before .before .before .before .before .before .before .put-word2 .ensures put-more c .before .before .before .before .before .before .before .put-word3 .ensures put-more c .before .before .before .put-word4 .ensures
+returns c =
+    let after-put-word2 = c .before .before .before .before .before .before .before .before .before .before .before .before .before in
+    put-one (after-put-word2 .before .before .before .before .put-word .ensures) put-more after-put-word2 .put-word2 .ensures put-more c .before .before .before .before .before .before .before .put-word3 .ensures put-more c .before .before .before .put-word4 .ensures
 
 pub put-process-spec : {M : Type 1} → statement M
 put-process-spec =

@@ -7,59 +7,45 @@ use Rattle.read_types.proofs.store.put_term.Reads as reads
 use Rattle.read_types.proofs.store.put_term.Lts as lts
 use Rattle.read_types.proofs.store.put_word.Reads as put-word-reads
 
--- src/store.rt:59:20
 mul-i : tie.Need-mul-i
 mul-i c = search needs
 
--- src/store.rt:59:13
 add-i : tie.Need-add-i
 add-i c = search needs
 
--- src/store.rt:60:35
 mul-put-word : tie.Need-mul-put-word
 mul-put-word c = search needs
 
--- src/store.rt:60:26
 add-put-word : tie.Need-add-put-word
 add-put-word c = search needs
 
--- src/store.rt:60:47
 mul-put-word-2 : tie.Need-mul-put-word-2
 mul-put-word-2 c = search needs
 
--- src/store.rt:60:26
 add-put-word-2 : tie.Need-add-put-word-2
 add-put-word-2 c = search needs
 
--- src/store.rt:60:5
 put-word-requires : tie.Need-put-word-requires
 put-word-requires c κs = search needs
 
--- src/store.rt:61:23
 add-put-word-3 : tie.Need-add-put-word-3
 add-put-word-3 c = search needs
 
--- src/store.rt:61:41
 mul-put-word-3 : tie.Need-mul-put-word-3
 mul-put-word-3 c = search needs
 
--- src/store.rt:61:30
 add-put-word-4 : tie.Need-add-put-word-4
 add-put-word-4 c = search needs
 
--- src/store.rt:61:5
 put-word-requires-2 : tie.Need-put-word-requires-2
 put-word-requires-2 c κs = search needs
 
--- src/store.rt:63:15
 add-l : tie.Need-add-l
 add-l c = search needs
 
--- src/store.rt:54:1
 same-length : tie.Need-same-length
 same-length c = search needs
 
--- src/store.rt:54:1
 returns : tie.Need-returns
 unfolding putTerm termWord termWord′
 returns c = put-one (c .before .before .before .before .before .before .before .before .before .put-word .ensures) put-more c .before .before .before .put-word2 .ensures

@@ -7,35 +7,27 @@ use Rattle.read_types.proofs.store.put_type.Reads as reads
 use Rattle.read_types.proofs.store.put_type.Lts as lts
 use Rattle.read_types.proofs.store.put_word.Reads as put-word-reads
 
--- src/store.rt:96:18
 mul-i : tie.Need-mul-i
 mul-i c = search needs
 
--- src/store.rt:96:13
 add-i : tie.Need-add-i
 add-i c = search needs
 
--- src/store.rt:97:5
 put-word-requires : tie.Need-put-word-requires
 put-word-requires c κs = search needs
 
--- src/store.rt:98:23
 add-put-word : tie.Need-add-put-word
 add-put-word c = search needs
 
--- src/store.rt:98:5
 put-word-requires-2 : tie.Need-put-word-requires-2
 put-word-requires-2 c κs = search needs
 
--- src/store.rt:100:15
 add-l : tie.Need-add-l
 add-l c = search needs
 
--- src/store.rt:92:1
 same-length : tie.Need-same-length
 same-length c = search needs
 
--- src/store.rt:92:1
 returns : tie.Need-returns
 unfolding putType
 returns c = put-one (c .before .before .before .before .before .before .before .put-word .ensures) put-more c .before .before .before .put-word2 .ensures

@@ -6,23 +6,18 @@ use Rattle.read_types.proofs.store.put_word.Tie as tie
 use Rattle.read_types.proofs.store.put_word.Reads as reads
 use Rattle.read_types.proofs.store.put_word.Lts as lts
 
--- src/store.rt:17:18
 cast-scratch : tie.Need-cast-scratch
 cast-scratch c = search needs
 
--- src/store.rt:17:5
 mul-scratch : tie.Need-mul-scratch
 mul-scratch c = search needs
 
--- src/store.rt:17:5
 slice-write-scratch : tie.Need-slice-write-scratch
 slice-write-scratch c = search needs
 
--- src/store.rt:13:1
 same-length : tie.Need-same-length
 same-length c = search needs
 
--- src/store.rt:13:1
 returns : tie.Need-returns
 returns c = record { words = refl; kept = kept-set _ _ _ (c .pre .1) }
 

@@ -11,47 +11,42 @@ use Rattle.read_types.proofs.types.choice_opening.Lts as lts
 use Rattle.read_types.proofs.steps.opening.Reads as opening-reads
 use Rattle.read_types.proofs.steps.type_term.Reads as type-term-reads
 
--- src/types.rt:36:9
 type-term-requires : tie.Need-type-term-requires
 type-term-requires c κs = search needs
 
--- src/types.rt:37:19
 enum-known-mark : tie.Need-enum-known-mark
 enum-known-mark c = search needs
 
--- src/types.rt:38:9
 enum-told : tie.Need-enum-told
 enum-told c = search needs
 
--- src/types.rt:38:9
 returns : tie.Need-returns
 unfolding choiceOpening
 returns c = first-no (c .before .before .type-term .ensures) 2 1 (opening _ kBraceOpen) (c .enum-told .given .1)
 
--- src/types.rt:40:9
 opening-requires : tie.Need-opening-requires
 opening-requires c κs = search needs
 
--- src/types.rt:41:22
 enum-known-brace : tie.Need-enum-known-brace
 enum-known-brace c = search needs
 
--- src/types.rt:42:9
 enum-told-2 : tie.Need-enum-told-2
 enum-told-2 c = search needs
 
--- src/types.rt:42:9
 returns-2 : tie.Need-returns-2
 unfolding choiceOpening
 returns-2 c = second-no (c .before .before .before .before .before .before .type-term .ensures) 2 1 (opening _ kBraceOpen) (c .before .before .before .before .mark .given .1) (c .before .before .opening .ensures) (c .enum-told2 .given .1)
 
--- src/types.rt:32:1
 returns-3 : tie.Need-returns-3
 unfolding choiceOpening
 returns-3 c =
-    let o = c .before .before .before .before .before .before .before .type-term .ensures .on _ _ (c .before .before .before .before .before .mark .given .1) in
+    let after-mark = c .before .before .before .before .before in
+    let mark = after-mark .mark in
+    let type-term = after-mark .before .before .type-term in
+    let entry = after-mark .before .before .before .before in
+    let o = type-term .ensures .on _ _ (mark .given .1) in
     let p = c .before .before .before .opening .ensures .on _ _ (c .before .brace .given .1) in
-    both-at (c .before .before .before .before .before .before .before .type-term .ensures) 2 1 (opening _ kBraceOpen) (c .before .before .before .before .before .mark .given .1) (c .before .before .before .opening .ensures) (c .before .brace .given .1) (omega (arith, width-pos (c .before .before .before .before .before .before .before .before .before .args .kind)))
+    both-at (type-term .ensures) 2 1 (opening _ kBraceOpen) (mark .given .1) (c .before .before .before .opening .ensures) (c .before .brace .given .1) (omega (arith, width-pos (entry .args .kind)))
 
 pub choice-opening-spec : {M : Type 1} → statement M
 choice-opening-spec =

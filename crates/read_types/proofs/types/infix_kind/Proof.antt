@@ -6,17 +6,14 @@ use Rattle.read_types.proofs.types.infix_kind.Tie as tie
 use Rattle.read_types.proofs.types.infix_kind.Reads as reads
 use Rattle.read_types.proofs.types.infix_kind.Lts as lts
 
--- src/types.rt:53:9
 returns : tie.Need-returns
 unfolding infixKind
 returns c = (rw (eq-eqb _ _ (c .if1 .taken)), omega arith)
 
--- src/types.rt:56:9
 returns-2 : tie.Need-returns-2
 unfolding infixKind
 returns-2 c = (rw (ne-eqb _ _ (c .before .if1 .left), eq-eqb _ _ (c .if2 .taken)), omega arith)
 
--- src/types.rt:48:1
 returns-3 : tie.Need-returns-3
 unfolding infixKind
 returns-3 c = (rw (ne-eqb _ _ (c .before .if1 .left), ne-eqb _ _ (c .if2 .left)), omega arith)

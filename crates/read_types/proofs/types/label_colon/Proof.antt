@@ -9,15 +9,12 @@ use Rattle.read_types.proofs.types.label_colon.Lts as lts
 use Rattle.read_types.proofs.steps.label_term.Reads as label-term-reads
 use Rattle.read_types.proofs.steps.then_expect.Reads as then-expect-reads
 
--- src/types.rt:29:23
 label-term-requires : tie.Need-label-term-requires
 label-term-requires c κs = search needs
 
--- src/types.rt:29:5
 then-expect-requires : tie.Need-then-expect-requires
 then-expect-requires c κs = search needs
 
--- src/types.rt:26:1
 returns : tie.Need-returns
 unfolding labelColon
 returns c = followed (c .before .label-term .ensures) (c .then-expect .ensures) 3 (omega arith)

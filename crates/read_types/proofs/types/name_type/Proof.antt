@@ -9,35 +9,30 @@ use Rattle.read_types.proofs.steps.refusal.Reads as refusal-reads
 use Rattle.read_types.proofs.steps.type_term.Reads as type-term-reads
 use Rattle.read_types.proofs.store.put_node.Reads as put-node-reads
 
--- src/types.rt:82:9
 type-term-requires : tie.Need-type-term-requires
 type-term-requires c κs = search needs
 
--- src/types.rt:83:19
 enum-known-taken : tie.Need-enum-known-taken
 enum-known-taken c = search needs
 
--- src/types.rt:84:9
 enum-told : tie.Need-enum-told
 enum-told c = search needs
 
--- src/types.rt:84:9
 refusal-requires : tie.Need-refusal-requires
 refusal-requires c κs = search needs
 
--- src/types.rt:84:9
 returns : tie.Need-returns
 returns c = name-no _ _ _ _ (c .before .before .before .before .before .before .pre) (c .before .before .before .type-term .ensures) (c .before .enum-told .given .1) (c .refusal .ensures)
 
--- src/types.rt:86:9
 put-node-requires : tie.Need-put-node-requires
-put-node-requires c κs = (omega (arith, c .before .before .before .before .before .before .before .pre, c .before .before .before .before .type-term .ensures .on _ _ (c .before .before .taken .given .1)), omega (arith, c .before .before .before .before .before .before .before .pre, c .before .before .before .before .type-term .ensures .on _ _ (c .before .before .taken .given .1)))
+put-node-requires c κs =
+    let type-term = c .before .before .before .before .type-term in
+    let entry = c .before .before .before .before .before .before .before in
+    (omega (arith, entry .pre, type-term .ensures .on _ _ (c .before .before .taken .given .1)), omega (arith, entry .pre, type-term .ensures .on _ _ (c .before .before .taken .given .1)))
 
--- src/types.rt:78:1
 same-length : tie.Need-same-length
 same-length c = search needs
 
--- src/types.rt:78:1
 returns-2 : tie.Need-returns-2
 returns-2 c = name-got _ _ _ _ (c .before .before .before .before .before .before .before .before .before .before .pre) (c .before .before .before .before .before .before .before .type-term .ensures) (c .before .before .before .before .before .taken .given .1) (c .before .before .put-node .ensures)
 

@@ -12,73 +12,74 @@ Inv-loop text scratch h from side first n q₀ at₀ i₀ left₀ q at i left = 
 abbrev μ-loop : tie.MeasureT-loop
 μ-loop text scratch h from side first n q₀ at₀ i₀ left₀ q at i left = left
 
--- src/calling.rt:58:5
 loop-holds : tie.Need-loop-holds Inv-loop μ-loop
 loop-holds c =
     let s = c .before .before in
     entering-start (s .args .text .now) (s .args .scratch .now) (s .args .h) (s .args .r) (s .args .from) (s .args .side) (s .args .first) (s .args .n) (s .pre .0 .1) (s .pre .1 .0 .1)
 
--- src/calling.rt:59:13
 next-argument-requires : tie.Need-next-argument-requires Inv-loop μ-loop
 next-argument-requires c κs = search needs
 
--- src/calling.rt:60:28
 enum-known-a : tie.Need-enum-known-a Inv-loop μ-loop
 enum-known-a c = search needs
 
--- src/calling.rt:61:13
 enum-told : tie.Need-enum-told Inv-loop μ-loop
 enum-told c = search needs
 
--- src/calling.rt:61:13
 returns : tie.Need-returns Inv-loop μ-loop
 returns c =
-    let s = c .before .before .before .before .before .before .before in
-    entering-ended (s .args .text .now) (s .args .scratch .now) (s .args .h) (s .args .r) (s .args .from) (s .args .side) (s .args .first) (s .args .n) (c .before .before .before .before .loop .q) (c .before .before .before .before .loop .at) (c .before .before .before .before .loop .i) (c .before .before .before .before .loop .left) (c .before .before .before .before .loop .inv) _ (sym (c .before .before .next-argument .ensures .0) ∙ c .enum-told .given .1)
+    let loop = c .before .before .before .before .loop in
+    let entry = c .before .before .before .before .before .before .before in
+    entering-ended (entry .args .text .now) (entry .args .scratch .now) (entry .args .h) (entry .args .r) (entry .args .from) (entry .args .side) (entry .args .first) (entry .args .n) (loop .q) (loop .at) (loop .i) (loop .left) (loop .inv) _ (sym (c .before .before .next-argument .ensures .0) ∙ c .enum-told .given .1)
 
--- src/calling.rt:63:13
 entry-requires : tie.Need-entry-requires Inv-loop μ-loop
 entry-requires c κs =
-    let s = c .before .before .before .before .before .before .before .before in
-    (s .pre .0 .0 .area, entering-there (s .args .text .now) (s .args .scratch .now) (s .args .h) (s .args .r) (s .args .from) (s .args .side) (s .args .first) (s .args .n) (c .before .before .before .before .before .loop .q) (c .before .before .before .before .before .loop .at) (c .before .before .before .before .before .loop .i) (c .before .before .before .before .before .loop .left) (c .before .before .before .before .before .loop .inv) (c .before .before .before .before .loop-test .taken) (s .pre .0 .0))
+    let loop = c .before .before .before .before .before .loop in
+    let entry = c .before .before .before .before .before .before .before .before in
+    (entry .pre .0 .0 .area, entering-there (entry .args .text .now) (entry .args .scratch .now) (entry .args .h) (entry .args .r) (entry .args .from) (entry .args .side) (entry .args .first) (entry .args .n) (loop .q) (loop .at) (loop .i) (loop .left) (loop .inv) (c .before .before .before .before .loop-test .taken) (entry .pre .0 .0))
 
--- src/calling.rt:64:51
 cast-enter-end : tie.Need-cast-enter-end Inv-loop μ-loop
 cast-enter-end c = omega (arith, c .before .entry .ensures .at)
 
--- src/calling.rt:64:70
 cast-enter-end-2 : tie.Need-cast-enter-end-2 Inv-loop μ-loop
 cast-enter-end-2 c =
-    let s = c .before .before .before .before .before .before .before .before .before .before .before in
-    omega (arith, (node-there (s .args .text .now) (s .args .scratch .now) (s .pre .0 .0) _ (entering-type (s .args .text .now) (s .args .scratch .now) (s .args .h) (s .args .r) (s .args .from) (s .args .side) (s .args .first) (s .args .n) (c .before .before .before .before .before .before .before .before .loop .q) (c .before .before .before .before .before .before .before .before .loop .at) (c .before .before .before .before .before .before .before .before .loop .i) (c .before .before .before .before .before .before .before .before .loop .left) (c .before .before .before .before .before .before .before .before .loop .inv) (c .before .before .before .before .before .before .before .loop-test .taken) (c .before .before .entry .result) (c .before .before .entry .ensures))))
+    let after-loop-test = c .before .before .before .before .before .before .before in
+    let loop = after-loop-test .before .loop in
+    let entry = after-loop-test .before .before .before .before in
+    omega (arith, (node-there (entry .args .text .now) (entry .args .scratch .now) (entry .pre .0 .0) _ (entering-type (entry .args .text .now) (entry .args .scratch .now) (entry .args .h) (entry .args .r) (entry .args .from) (entry .args .side) (entry .args .first) (entry .args .n) (loop .q) (loop .at) (loop .i) (loop .left) (loop .inv) (after-loop-test .loop-test .taken) (c .before .before .entry .result) (c .before .before .entry .ensures))))
 
--- src/calling.rt:64:9
 enter-end-requires : tie.Need-enter-end-requires Inv-loop μ-loop
 enter-end-requires c κs =
-    let s = c .before .before .before .before .before .before .before .before .before .before .before in
-    ((s .pre .1 .0 .0, c .before .before .before .before .before .before .before .before .loop .inv .fits, (entering-type (s .args .text .now) (s .args .scratch .now) (s .args .h) (s .args .r) (s .args .from) (s .args .side) (s .args .first) (s .args .n) (c .before .before .before .before .before .before .before .before .loop .q) (c .before .before .before .before .before .before .before .before .loop .at) (c .before .before .before .before .before .before .before .before .loop .i) (c .before .before .before .before .before .before .before .before .loop .left) (c .before .before .before .before .before .before .before .before .loop .inv) (c .before .before .before .before .before .before .before .loop-test .taken) (c .before .before .entry .result) (c .before .before .entry .ensures))), (omega (arith, c .before .before .before .before .before .before .before .before .loop .inv .few, c .before .before .before .before .before .before .before .loop-test .taken, s .pre .1 .1 .0), c .before .before .entry .ensures .at, s .pre .1 .1 .1, (node-there (s .args .text .now) (s .args .scratch .now) (s .pre .0 .0) _ (entering-type (s .args .text .now) (s .args .scratch .now) (s .args .h) (s .args .r) (s .args .from) (s .args .side) (s .args .first) (s .args .n) (c .before .before .before .before .before .before .before .before .loop .q) (c .before .before .before .before .before .before .before .before .loop .at) (c .before .before .before .before .before .before .before .before .loop .i) (c .before .before .before .before .before .before .before .before .loop .left) (c .before .before .before .before .before .before .before .before .loop .inv) (c .before .before .before .before .before .before .before .loop-test .taken) (c .before .before .entry .result) (c .before .before .entry .ensures)))))
+    let entry = c .before .before .entry in
+    let after-loop-test = c .before .before .before .before .before .before .before in
+    let loop-test = after-loop-test .loop-test in
+    let loop = after-loop-test .before .loop in
+    let entry-frame = after-loop-test .before .before .before .before in
+    let text = entry-frame .args .text .now in
+    let scratch = entry-frame .args .scratch .now in
+    ((entry-frame .pre .1 .0 .0, loop .inv .fits, (entering-type text scratch (entry-frame .args .h) (entry-frame .args .r) (entry-frame .args .from) (entry-frame .args .side) (entry-frame .args .first) (entry-frame .args .n) (loop .q) (loop .at) (loop .i) (loop .left) (loop .inv) (loop-test .taken) (entry .result) (entry .ensures))), (omega (arith, loop .inv .few, loop-test .taken, entry-frame .pre .1 .1 .0), entry .ensures .at, entry-frame .pre .1 .1 .1, (node-there text scratch (entry-frame .pre .0 .0) _ (entering-type text scratch (entry-frame .args .h) (entry-frame .args .r) (entry-frame .args .from) (entry-frame .args .side) (entry-frame .args .first) (entry-frame .args .n) (loop .q) (loop .at) (loop .i) (loop .left) (loop .inv) (loop-test .taken) (entry .result) (entry .ensures)))))
 
--- src/calling.rt:66:9
 add-i : tie.Need-add-i Inv-loop μ-loop
 add-i c =
-    let s = c .before .before .before .before .before .before .before .before .before .before .before .before in
-    omega (arith, entering-there (s .args .text .now) (s .args .scratch .now) (s .args .h) (s .args .r) (s .args .from) (s .args .side) (s .args .first) (s .args .n) (c .before .before .before .before .before .before .before .before .before .loop .q) (c .before .before .before .before .before .before .before .before .before .loop .at) (c .before .before .before .before .before .before .before .before .before .loop .i) (c .before .before .before .before .before .before .before .before .before .loop .left) (c .before .before .before .before .before .before .before .before .before .loop .inv) (c .before .before .before .before .before .before .before .before .loop-test .taken) (s .pre .0 .0))
+    let after-loop-test = c .before .before .before .before .before .before .before .before in
+    let loop = after-loop-test .before .loop in
+    let entry = after-loop-test .before .before .before .before in
+    omega (arith, entering-there (entry .args .text .now) (entry .args .scratch .now) (entry .args .h) (entry .args .r) (entry .args .from) (entry .args .side) (entry .args .first) (entry .args .n) (loop .q) (loop .at) (loop .i) (loop .left) (loop .inv) (after-loop-test .loop-test .taken) (entry .pre .0 .0))
 
--- src/calling.rt:67:9
 sub-left : tie.Need-sub-left Inv-loop μ-loop
 sub-left c = omega (arith, c .before .before .before .before .before .before .before .before .loop-test .taken)
 
--- src/calling.rt:58:5
 loop-less : tie.Need-loop-less Inv-loop μ-loop
 loop-less c = omega (arith, c .before .before .before .before .before .before .before .before .loop-test .taken)
 
--- src/calling.rt:58:5
 loop-again : tie.Need-loop-again Inv-loop μ-loop
 loop-again c =
-    let s = c .before .before .before .before .before .before .before .before .before .before .before .before in
-    entering-on (s .args .text .now) (s .args .scratch .now) (s .args .h) (s .args .r) (s .args .from) (s .args .side) (s .args .first) (s .args .n) (c .before .before .before .before .before .before .before .before .before .loop .q) (c .before .before .before .before .before .before .before .before .before .loop .at) (c .before .before .before .before .before .before .before .before .before .loop .i) (c .before .before .before .before .before .before .before .before .before .loop .left) (c .before .before .before .before .before .before .before .before .before .loop .inv) (c .before .before .before .before .before .before .before .before .loop-test .taken) (c .before .before .before .entry .result) (c .before .before .before .entry .ensures) _ _ _ (sym (c .before .before .before .before .before .before .before .next-argument .ensures .0) ∙ c .before .before .before .before .before .a .given .1) (c .enter-end .ensures)
+    let entry = c .before .before .before .entry in
+    let after-a = c .before .before .before .before .before in
+    let loop = after-a .before .before .before .before .loop in
+    let entry-frame = after-a .before .before .before .before .before .before .before in
+    entering-on (entry-frame .args .text .now) (entry-frame .args .scratch .now) (entry-frame .args .h) (entry-frame .args .r) (entry-frame .args .from) (entry-frame .args .side) (entry-frame .args .first) (entry-frame .args .n) (loop .q) (loop .at) (loop .i) (loop .left) (loop .inv) (after-a .before .before .before .loop-test .taken) (entry .result) (entry .ensures) _ _ _ (sym (after-a .before .before .next-argument .ensures .0) ∙ after-a .a .given .1) (c .enter-end .ensures)
 
--- src/calling.rt:39:1
 returns-2 : tie.Need-returns-2 Inv-loop μ-loop
 returns-2 c =
     let s = c .before .before .before .before in

@@ -3,17 +3,14 @@ use borrow.Author.Needs.{needs}
 use Rattle.run_alone.proofs.calling.past_entries.Statement.{statement}
 use Rattle.run_alone.proofs.calling.past_entries.Tie as tie
 
--- src/calling.rt:91:9
 returns : tie.Need-returns
 returns c = search needs
 
--- src/calling.rt:93:5
 add-result : tie.Need-add-result
 add-result c =
     let s = c .before in
     omega (arith, s .pre .1 (c .if1 .left), s .pre .0)
 
--- src/calling.rt:86:1
 returns-2 : tie.Need-returns-2
 returns-2 c = search needs
 

@@ -3,11 +3,9 @@ use borrow.Author.Needs.{needs}
 use Rattle.run_alone.proofs.forwarding.emptied.Statement.{statement}
 use Rattle.run_alone.proofs.forwarding.emptied.Tie as tie
 
--- src/forwarding.rt:33:9
 no-ends-requires : tie.Need-no-ends-requires
 no-ends-requires c κs = search needs
 
--- src/forwarding.rt:30:1
 returns : tie.Need-returns
 returns c = empties (c .before .args .p) _ (c .no-ends .ensures .0) (c .no-ends .ensures .1)
 

@@ -5,87 +5,79 @@ use borrow.Author.Needs.{needs}
 use Rattle.run_alone.proofs.forwarding.forward.Statement.{statement}
 use Rattle.run_alone.proofs.forwarding.forward.Tie as tie
 
--- src/forwarding.rt:146:9
 find-end-requires : tie.Need-find-end-requires
 find-end-requires c κs = c .before .before .before .before .pre .1 .is .held .many
 
--- src/forwarding.rt:147:23
 enum-known-f : tie.Need-enum-known-f
 enum-known-f c = search needs
 
--- src/forwarding.rt:148:9
 enum-told : tie.Need-enum-told
 enum-told c = search needs
 
--- src/forwarding.rt:148:9
 returns : tie.Need-returns
 returns c =
     let s = c .before .before .before .before .before .before .before in
     no-provided (s .args .text .now) (s .args .scratch .now) (s .args .run .now) (s .args .place) (s .args .p) (s .args .x) (s .args .c) (c .before .before .find-end .ensures) (c .enum-told .given .1)
 
--- src/forwarding.rt:150:9
 find-end-requires-2 : tie.Need-find-end-requires-2
 find-end-requires-2 c κs = c .before .before .before .before .before .before .before .before .pre .1 .is .held .many
 
--- src/forwarding.rt:151:23
 enum-known-g : tie.Need-enum-known-g
 enum-known-g c = search needs
 
--- src/forwarding.rt:152:9
 enum-told-2 : tie.Need-enum-told-2
 enum-told-2 c = search needs
 
--- src/forwarding.rt:152:9
 returns-2 : tie.Need-returns-2
 returns-2 c =
     let s = c .before .before .before .before .before .before .before .before .before .before .before in
     no-used (s .args .text .now) (s .args .scratch .now) (s .args .run .now) (s .args .place) (s .args .p) (s .args .x) (s .args .c) (c .before .before .before .before .before .before .find-end .ensures) (c .before .before .before .before .f .given .1) (c .before .before .find-end2 .ensures) (c .enum-told2 .given .1)
 
--- src/forwarding.rt:154:9
 far-end-requires : tie.Need-far-end-requires
 far-end-requires c κs =
     let s = c .before .before .before .before .before .before .before .before .before .before .before .before .before in
     ((s .pre .0 .wide), ((s .pre .0 .bounds), (end-found {w = (s .args .scratch .now)} (c .before .before .before .before .find-end2 .ensures) (c .before .before .g .given .1) (s .pre .1 .is .held)) .1))
 
--- src/forwarding.rt:155:8
 is-given-up-requires : tie.Need-is-given-up-requires
 is-given-up-requires c κs = search needs
 
--- src/forwarding.rt:156:13
 emptied-requires : tie.Need-emptied-requires
 emptied-requires c κs = search needs
 
--- src/forwarding.rt:157:9
 part-requires : tie.Need-part-requires
 part-requires c κs =
-    let s = c .before .before .before .before .before .before .before .before .before .before .before .before .before .before .before .before .before .before in
-    (s .pre .0, (s .pre .1 .below, ((c .before .emptied .ensures) .fits (s .args .text .now) (s .args .scratch .now) _ (s .pre .1 .is), (end-found {w = (s .args .scratch .now)} (c .before .before .before .before .before .before .before .before .before .before .before .before .before .find-end .ensures) (c .before .before .before .before .before .before .before .before .before .before .before .f .given .1) (s .pre .1 .is .held)) .1)))
+    let after-f = c .before .before .before .before .before .before .before .before .before .before .before in
+    let entry = after-f .before .before .before .before .before .before .before in
+    (entry .pre .0, (entry .pre .1 .below, (c .before .emptied .ensures .fits (entry .args .text .now) (entry .args .scratch .now) _ (entry .pre .1 .is), (end-found {w = (entry .args .scratch .now)} (after-f .before .before .find-end .ensures) (after-f .f .given .1) (entry .pre .1 .is .held)) .1)))
 
--- src/forwarding.rt:157:9
 same-length : tie.Need-same-length
 same-length c = search needs
 
--- src/forwarding.rt:157:9
 returns-3 : tie.Need-returns-3
 returns-3 c =
-    let s = c .before .before .before .before .before .before .before .before .before .before .before .before .before .before .before .before .before .before .before .before .before in
-    forwards-parted (s .args .text .now) (s .args .scratch .now) (s .args .run .now) (s .args .place) (s .args .p) (s .args .x) (s .args .c) (c .before .before .before .before .before .before .before .before .before .before .before .before .before .before .before .before .find-end .ensures) (c .before .before .before .before .before .before .before .before .before .before .before .before .before .before .f .given .1) (c .before .before .before .before .before .before .before .before .before .before .before .before .find-end2 .ensures) (c .before .before .before .before .before .before .before .before .before .before .g .given .1) _ _ (c .before .before .before .before .before .before .before .far-end .ensures) (sym (c .before .before .before .before .before .before .is-given-up .ensures) ∙ c .before .before .before .before .before .if1 .taken) (c .before .before .before .before .emptied .ensures) (c .before .before .part .ensures)
+    let after-if1 = c .before .before .before .before .before in
+    let after-g = after-if1 .before .before .before .before .before in
+    let after-f = after-g .before .before .before .before in
+    let entry = after-f .before .before .before .before .before .before .before in
+    forwards-parted (entry .args .text .now) (entry .args .scratch .now) (entry .args .run .now) (entry .args .place) (entry .args .p) (entry .args .x) (entry .args .c) (after-f .before .before .find-end .ensures) (after-f .f .given .1) (after-g .before .before .find-end2 .ensures) (after-g .g .given .1) _ _ (after-if1 .before .before .far-end .ensures) (sym (after-if1 .before .is-given-up .ensures) ∙ after-if1 .if1 .taken) (c .before .before .before .before .emptied .ensures) (c .before .before .part .ensures)
 
--- src/forwarding.rt:159:5
 join-requires : tie.Need-join-requires
 join-requires c κs =
-    let s = c .before .before .before .before .before .before .before .before .before .before .before .before .before .before .before .before .before in
-    (s .pre .0, (s .pre .1, ((end-found {w = (s .args .scratch .now)} (c .before .before .before .before .before .before .before .before .before .before .before .before .find-end .ensures) (c .before .before .before .before .before .before .before .before .before .before .f .given .1) (s .pre .1 .is .held)) .1, (end-found {w = (s .args .scratch .now)} (c .before .before .before .before .before .before .before .before .find-end2 .ensures) (c .before .before .before .before .before .before .g .given .1) (s .pre .1 .is .held)) .0 .bounds .channel)))
+    let after-g = c .before .before .before .before .before .before in
+    let after-f = after-g .before .before .before .before in
+    let entry = after-f .before .before .before .before .before .before .before in
+    (entry .pre .0, (entry .pre .1, ((end-found {w = (entry .args .scratch .now)} (after-f .before .before .find-end .ensures) (after-f .f .given .1) (entry .pre .1 .is .held)) .1, (end-found {w = (entry .args .scratch .now)} (after-g .before .before .find-end2 .ensures) (after-g .g .given .1) (entry .pre .1 .is .held)) .0 .bounds .channel)))
 
--- src/forwarding.rt:132:1
 same-length-2 : tie.Need-same-length-2
 same-length-2 c = search needs
 
--- src/forwarding.rt:132:1
 returns-4 : tie.Need-returns-4
 returns-4 c =
-    let s = c .before .before .before .before .before .before .before .before .before .before .before .before .before .before .before .before .before .before .before .before in
-    forwards-joined (s .args .text .now) (s .args .scratch .now) (s .args .run .now) (s .args .place) (s .args .p) (s .args .x) (s .args .c) (c .before .before .before .before .before .before .before .before .before .before .before .before .before .before .before .find-end .ensures) (c .before .before .before .before .before .before .before .before .before .before .before .before .before .f .given .1) (c .before .before .before .before .before .before .before .before .before .before .before .find-end2 .ensures) (c .before .before .before .before .before .before .before .before .before .g .given .1) _ (c .before .before .before .before .before .before .far-end .ensures) (sym (c .before .before .before .before .before .is-given-up .ensures) ∙ c .before .before .before .before .if1 .left) (c .before .before .join .ensures)
+    let after-if1 = c .before .before .before .before in
+    let after-g = after-if1 .before .before .before .before .before in
+    let after-f = after-g .before .before .before .before in
+    let entry = after-f .before .before .before .before .before .before .before in
+    forwards-joined (entry .args .text .now) (entry .args .scratch .now) (entry .args .run .now) (entry .args .place) (entry .args .p) (entry .args .x) (entry .args .c) (after-f .before .before .find-end .ensures) (after-f .f .given .1) (after-g .before .before .find-end2 .ensures) (after-g .g .given .1) _ (after-if1 .before .before .far-end .ensures) (sym (after-if1 .before .is-given-up .ensures) ∙ after-if1 .if1 .left) (c .before .before .join .ensures)
 
 pub forward-spec : {M : Type 1} → statement M
 forward-spec =

@@ -10,45 +10,71 @@ use borrow.Author.Needs.{needs}
 use Rattle.run_alone.proofs.forwarding.move_far_end.Statement.{statement}
 use Rattle.run_alone.proofs.forwarding.move_far_end.Tie as tie
 
--- src/forwarding.rt:61:9
 load-requires : tie.Need-load-requires
 load-requires c κs =
     let s = c .before .before .before .before in
     ((s .pre .0 .wide), ((s .pre .0 .bounds), far-place (s .args .text .now) (s .args .scratch .now) (s .args .run .now) (s .args .e) (s .args .j) (s .args .k) (s .pre .1 .1 .1 .0)))
 
--- src/forwarding.rt:63:9
 end-at-requires : tie.Need-end-at-requires
 end-at-requires c κs =
     let s = c .before .before .before .before .before .before in
     (c .before .load .ensures .1 .1, (far-position (s .args .text .now) (s .args .scratch .now) (s .args .run .now) (s .args .e) (s .args .j) (s .args .k) (s .pre .1 .1 .1 .0) (c .before .load .result) (c .before .load .ensures .0)))
 
--- src/forwarding.rt:64:9
 replaced-requires : tie.Need-replaced-requires
 replaced-requires c κs =
-    let s = c .before .before .before .before .before .before .before in
-    let o = all-at (EndIn (s .args .text .now) (s .args .scratch .now)) (heldIn (c .before .before .load .result .held)) (s .args .k) ((stands-at (s .args .text .now) (s .args .scratch .now) (s .args .run .now) (s .args .j) (c .before .before .load .result) (s .pre .0) (c .before .before .load .ensures .0) (c .before .before .load .ensures .1 .0) (c .before .before .load .ensures .1 .1)) .is .held .each) (c .end-at .ensures .0) in ((c .before .before .load .ensures .1 .1, (far-position (s .args .text .now) (s .args .scratch .now) (s .args .run .now) (s .args .e) (s .args .j) (s .args .k) (s .pre .1 .1 .1 .0) (c .before .before .load .result) (c .before .before .load .ensures .0))), (record { name = o .bounds .name; node = o .bounds .node; channel = s .pre .1 .1 .1 .1 }, c .end-at .ensures .1 .0))
+    let load = c .before .before .load in
+    let entry = c .before .before .before .before .before .before .before in
+    let text = entry .args .text .now in
+    let scratch = entry .args .scratch .now in
+    let run = entry .args .run .now in
+    let o = all-at (EndIn text scratch) (heldIn (load .result .held)) (entry .args .k) ((stands-at text scratch run (entry .args .j) (load .result) (entry .pre .0) (load .ensures .0) (load .ensures .1 .0) (load .ensures .1 .1)) .is .held .each) (c .end-at .ensures .0) in
+    ((load .ensures .1 .1, (far-position text scratch run (entry .args .e) (entry .args .j) (entry .args .k) (entry .pre .1 .1 .1 .0) (load .result) (load .ensures .0))), (record { name = o .bounds .name; node = o .bounds .node; channel = entry .pre .1 .1 .1 .1 }, c .end-at .ensures .1 .0))
 
--- src/forwarding.rt:74:5
 store-requires : tie.Need-store-requires
 store-requires c κs =
     let s = c .before .before .before .before .before .before .before .before .before in
     ((s .pre .0 .wide), ((s .pre .0 .bounds), (s .pre .1 .0, bounded-of (s .args .text .now) (s .args .scratch .now) (s .pre .1 .1 .0))))
 
--- src/forwarding.rt:75:5
 store-requires-2 : tie.Need-store-requires-2
 store-requires-2 c κs =
-    let s = c .before .before .before .before .before .before .before .before .before .before .before .before .before in
-    (mid-becomes (s .args .text .now) (s .args .scratch .now) (s .args .run .now) (s .args .e) (s .args .j) (s .args .k) (s .pre .1 .1 .1 .0) (s .pre .0) (s .args .place) (s .args .q) (c .before .before .before .before .before .before .before .before .load .result) (c .before .before .before .before .before .before .end-at .result) (s .args .d) (c .before .before .before .before .before .replaced .result) _ (s .pre .1 .1 .0) (c .before .before .before .store .ensures .0) (c .before .before .before .store .ensures .1) .run .wide, (c .before .before .before .store .ensures .1, (omega (arith, mid-many (s .args .text .now) (s .args .scratch .now) (s .args .run .now) (s .args .e) (s .args .j) (s .args .k) (s .pre .1 .1 .1 .0) (s .pre .0) (s .args .place) (s .args .q) (c .before .before .before .before .before .before .before .before .load .result) (c .before .before .before .before .before .before .end-at .result) (s .args .d) (c .before .before .before .before .before .replaced .result) _ (s .pre .1 .1 .0) (c .before .before .before .store .ensures .0) (c .before .before .before .store .ensures .1), far-place (s .args .text .now) (s .args .scratch .now) (s .args .run .now) (s .args .e) (s .args .j) (s .args .k) (s .pre .1 .1 .1 .0)), bounded-of (s .args .text .now) (s .args .scratch .now) (subst (λ n. ProcessOf (s .args .text .now) (s .args .scratch .now) n (remade (s .args .text .now) (s .args .scratch .now) (s .args .run .now) (s .args .e) (s .args .j) (s .args .k) (s .pre .1 .1 .1 .0) (s .pre .0) (s .args .place) (s .args .q) (c .before .before .before .before .before .before .before .before .load .result) (c .before .before .before .before .before .before .end-at .result) (s .args .d) (c .before .before .before .before .before .replaced .result))) (sym (mid-many (s .args .text .now) (s .args .scratch .now) (s .args .run .now) (s .args .e) (s .args .j) (s .args .k) (s .pre .1 .1 .1 .0) (s .pre .0) (s .args .place) (s .args .q) (c .before .before .before .before .before .before .before .before .load .result) (c .before .before .before .before .before .before .end-at .result) (s .args .d) (c .before .before .before .before .before .replaced .result) _ (s .pre .1 .1 .0) (c .before .before .before .store .ensures .0) (c .before .before .before .store .ensures .1))) (remade-of (s .args .text .now) (s .args .scratch .now) (s .args .run .now) (s .args .e) (s .args .j) (s .args .k) (s .pre .1 .1 .1 .0) (s .pre .0) (s .args .place) (s .args .q) (c .before .before .before .before .before .before .before .before .load .result) (c .before .before .before .before .before .before .end-at .result) (s .args .d) (c .before .before .before .before .before .replaced .result) (stands-at (s .args .text .now) (s .args .scratch .now) (s .args .run .now) (s .args .j) (c .before .before .before .before .before .before .before .before .load .result) (s .pre .0) (c .before .before .before .before .before .before .before .before .load .ensures .0) (c .before .before .before .before .before .before .before .before .load .ensures .1 .0) (c .before .before .before .before .before .before .before .before .load .ensures .1 .1)) (far-held (s .args .text .now) (s .args .scratch .now) (s .args .run .now) (s .args .e) (s .args .j) (s .args .k) (s .pre .1 .1 .1 .0) (c .before .before .before .before .before .before .before .before .load .result) (c .before .before .before .before .before .before .before .before .load .ensures .0) (c .before .before .before .before .before .before .end-at .result) (c .before .before .before .before .before .before .end-at .ensures .0) (s .args .d .channel) _ (c .before .before .before .before .before .replaced .ensures .0) (c .before .before .before .before .before .replaced .ensures .1) ((stands-at (s .args .text .now) (s .args .scratch .now) (s .args .run .now) (s .args .j) (c .before .before .before .before .before .before .before .before .load .result) (s .pre .0) (c .before .before .before .before .before .before .before .before .load .ensures .0) (c .before .before .before .before .before .before .before .before .load .ensures .1 .0) (c .before .before .before .before .before .before .before .before .load .ensures .1 .1)) .is .held) (s .pre .1 .1 .1 .1)))))))
+    let store = c .before .before .before .store in
+    let after-replaced = c .before .before .before .before .before in
+    let replaced = after-replaced .replaced in
+    let end-at = after-replaced .before .end-at in
+    let load = after-replaced .before .before .before .load in
+    let entry = after-replaced .before .before .before .before .before .before .before .before in
+    let text = entry .args .text .now in
+    let scratch = entry .args .scratch .now in
+    let run = entry .args .run .now in
+    let e = entry .args .e in
+    let j = entry .args .j in
+    let k = entry .args .k in
+    let place = entry .args .place in
+    let q = entry .args .q in
+    let d = entry .args .d in
+    (mid-becomes text scratch run e j k (entry .pre .1 .1 .1 .0) (entry .pre .0) place q (load .result) (end-at .result) d (replaced .result) _ (entry .pre .1 .1 .0) (store .ensures .0) (store .ensures .1) .run .wide, (store .ensures .1, (omega (arith, mid-many text scratch run e j k (entry .pre .1 .1 .1 .0) (entry .pre .0) place q (load .result) (end-at .result) d (replaced .result) _ (entry .pre .1 .1 .0) (store .ensures .0) (store .ensures .1), far-place text scratch run e j k (entry .pre .1 .1 .1 .0)), bounded-of text scratch (subst (λ n. ProcessOf text scratch n (remade text scratch run e j k (entry .pre .1 .1 .1 .0) (entry .pre .0) place q (load .result) (end-at .result) d (replaced .result))) (sym (mid-many text scratch run e j k (entry .pre .1 .1 .1 .0) (entry .pre .0) place q (load .result) (end-at .result) d (replaced .result) _ (entry .pre .1 .1 .0) (store .ensures .0) (store .ensures .1))) (remade-of text scratch run e j k (entry .pre .1 .1 .1 .0) (entry .pre .0) place q (load .result) (end-at .result) d (replaced .result) (stands-at text scratch run j (load .result) (entry .pre .0) (load .ensures .0) (load .ensures .1 .0) (load .ensures .1 .1)) (far-held text scratch run e j k (entry .pre .1 .1 .1 .0) (load .result) (load .ensures .0) (end-at .result) (end-at .ensures .0) (d .channel) _ (replaced .ensures .0) (replaced .ensures .1) ((stands-at text scratch run j (load .result) (entry .pre .0) (load .ensures .0) (load .ensures .1 .0) (load .ensures .1 .1)) .is .held) (entry .pre .1 .1 .1 .1)))))))
 
--- src/forwarding.rt:43:1
 same-length : tie.Need-same-length
 same-length c = search needs
 
--- src/forwarding.rt:43:1
 returns : tie.Need-returns
 returns c =
-    let s = c .before .before .before .before .before .before .before .before .before .before .before .before .before .before .before .before in
-    moves-far (s .args .text .now) (s .args .scratch .now) (s .args .run .now) (s .args .e) (s .args .j) (s .args .k) (s .pre .1 .1 .1 .0) (s .pre .0) (s .args .place) (s .args .q) (c .before .before .before .before .before .before .before .before .before .before .before .load .result) (c .before .before .before .before .before .before .before .before .before .end-at .result) (s .args .d) (c .before .before .before .before .before .before .before .before .replaced .result) _ (s .pre .1 .1 .0) (c .before .before .before .before .before .before .store .ensures .0) (c .before .before .before .before .before .before .store .ensures .1) _ (subst (λ n. ProcessOf (s .args .text .now) (s .args .scratch .now) n (remade (s .args .text .now) (s .args .scratch .now) (s .args .run .now) (s .args .e) (s .args .j) (s .args .k) (s .pre .1 .1 .1 .0) (s .pre .0) (s .args .place) (s .args .q) (c .before .before .before .before .before .before .before .before .before .before .before .load .result) (c .before .before .before .before .before .before .before .before .before .end-at .result) (s .args .d) (c .before .before .before .before .before .before .before .before .replaced .result))) (sym (mid-many (s .args .text .now) (s .args .scratch .now) (s .args .run .now) (s .args .e) (s .args .j) (s .args .k) (s .pre .1 .1 .1 .0) (s .pre .0) (s .args .place) (s .args .q) (c .before .before .before .before .before .before .before .before .before .before .before .load .result) (c .before .before .before .before .before .before .before .before .before .end-at .result) (s .args .d) (c .before .before .before .before .before .before .before .before .replaced .result) _ (s .pre .1 .1 .0) (c .before .before .before .before .before .before .store .ensures .0) (c .before .before .before .before .before .before .store .ensures .1))) (remade-of (s .args .text .now) (s .args .scratch .now) (s .args .run .now) (s .args .e) (s .args .j) (s .args .k) (s .pre .1 .1 .1 .0) (s .pre .0) (s .args .place) (s .args .q) (c .before .before .before .before .before .before .before .before .before .before .before .load .result) (c .before .before .before .before .before .before .before .before .before .end-at .result) (s .args .d) (c .before .before .before .before .before .before .before .before .replaced .result) (stands-at (s .args .text .now) (s .args .scratch .now) (s .args .run .now) (s .args .j) (c .before .before .before .before .before .before .before .before .before .before .before .load .result) (s .pre .0) (c .before .before .before .before .before .before .before .before .before .before .before .load .ensures .0) (c .before .before .before .before .before .before .before .before .before .before .before .load .ensures .1 .0) (c .before .before .before .before .before .before .before .before .before .before .before .load .ensures .1 .1)) (far-held (s .args .text .now) (s .args .scratch .now) (s .args .run .now) (s .args .e) (s .args .j) (s .args .k) (s .pre .1 .1 .1 .0) (c .before .before .before .before .before .before .before .before .before .before .before .load .result) (c .before .before .before .before .before .before .before .before .before .before .before .load .ensures .0) (c .before .before .before .before .before .before .before .before .before .end-at .result) (c .before .before .before .before .before .before .before .before .before .end-at .ensures .0) (s .args .d .channel) _ (c .before .before .before .before .before .before .before .before .replaced .ensures .0) (c .before .before .before .before .before .before .before .before .replaced .ensures .1) ((stands-at (s .args .text .now) (s .args .scratch .now) (s .args .run .now) (s .args .j) (c .before .before .before .before .before .before .before .before .before .before .before .load .result) (s .pre .0) (c .before .before .before .before .before .before .before .before .before .before .before .load .ensures .0) (c .before .before .before .before .before .before .before .before .before .before .before .load .ensures .1 .0) (c .before .before .before .before .before .before .before .before .before .before .before .load .ensures .1 .1)) .is .held) (s .pre .1 .1 .1 .1)))) (far-moved (s .args .text .now) (s .args .scratch .now) (s .args .run .now) (s .args .e) (s .args .j) (s .args .k) (s .pre .1 .1 .1 .0) (c .before .before .before .before .before .before .before .before .before .before .before .load .result) (c .before .before .before .before .before .before .before .before .before .before .before .load .ensures .0) (c .before .before .before .before .before .before .before .before .before .end-at .result) (c .before .before .before .before .before .before .before .before .before .end-at .ensures .0) (s .args .d .channel) _ (c .before .before .before .before .before .before .before .before .replaced .ensures .0)) (far-holder (s .args .text .now) (s .args .scratch .now) (s .args .run .now) (s .args .e) (s .args .j) (s .args .k) (s .pre .1 .1 .1 .0) (c .before .before .before .before .before .before .before .before .before .before .before .load .result) (c .before .before .before .before .before .before .before .before .before .before .before .load .ensures .0) (c .before .before .before .before .before .before .before .before .before .end-at .result) (c .before .before .before .before .before .before .before .before .before .end-at .ensures .0)) (c .before .before .store2 .ensures .0) (c .before .before .store2 .ensures .1)
+    let after-store = c .before .before .before .before .before .before in
+    let store = after-store .store in
+    let replaced = after-store .before .before .replaced in
+    let end-at = after-store .before .before .before .end-at in
+    let load = after-store .before .before .before .before .before .load in
+    let entry = after-store .before .before .before .before .before .before .before .before .before .before in
+    let text = entry .args .text .now in
+    let scratch = entry .args .scratch .now in
+    let run = entry .args .run .now in
+    let e = entry .args .e in
+    let j = entry .args .j in
+    let k = entry .args .k in
+    let place = entry .args .place in
+    let q = entry .args .q in
+    let d = entry .args .d in
+    moves-far text scratch run e j k (entry .pre .1 .1 .1 .0) (entry .pre .0) place q (load .result) (end-at .result) d (replaced .result) _ (entry .pre .1 .1 .0) (store .ensures .0) (store .ensures .1) _ (subst (λ n. ProcessOf text scratch n (remade text scratch run e j k (entry .pre .1 .1 .1 .0) (entry .pre .0) place q (load .result) (end-at .result) d (replaced .result))) (sym (mid-many text scratch run e j k (entry .pre .1 .1 .1 .0) (entry .pre .0) place q (load .result) (end-at .result) d (replaced .result) _ (entry .pre .1 .1 .0) (store .ensures .0) (store .ensures .1))) (remade-of text scratch run e j k (entry .pre .1 .1 .1 .0) (entry .pre .0) place q (load .result) (end-at .result) d (replaced .result) (stands-at text scratch run j (load .result) (entry .pre .0) (load .ensures .0) (load .ensures .1 .0) (load .ensures .1 .1)) (far-held text scratch run e j k (entry .pre .1 .1 .1 .0) (load .result) (load .ensures .0) (end-at .result) (end-at .ensures .0) (d .channel) _ (replaced .ensures .0) (replaced .ensures .1) ((stands-at text scratch run j (load .result) (entry .pre .0) (load .ensures .0) (load .ensures .1 .0) (load .ensures .1 .1)) .is .held) (entry .pre .1 .1 .1 .1)))) (far-moved text scratch run e j k (entry .pre .1 .1 .1 .0) (load .result) (load .ensures .0) (end-at .result) (end-at .ensures .0) (d .channel) _ (replaced .ensures .0)) (far-holder text scratch run e j k (entry .pre .1 .1 .1 .0) (load .result) (load .ensures .0) (end-at .result) (end-at .ensures .0)) (c .before .before .store2 .ensures .0) (c .before .before .store2 .ensures .1)
 
 pub move-far-end-spec : {M : Type 1} → statement M
 move-far-end-spec =

@@ -3,15 +3,12 @@ use borrow.Author.Tests.{eq-eqb, ne-eqb}
 use Rattle.run_alone.proofs.handlers.handler_kind.Statement.{statement}
 use Rattle.run_alone.proofs.handlers.handler_kind.Tie as tie
 
--- src/handlers.rt:25:13
 returns : tie.Need-returns
 returns c = rw (c .before .if1 .taken, eq-eqb _ _ (c .if2 .taken)) refl
 
--- src/handlers.rt:27:9
 returns-2 : tie.Need-returns-2
 returns-2 c = rw (c .before .if1 .taken, ne-eqb _ _ (c .if2 .left)) refl
 
--- src/handlers.rt:20:1
 returns-3 : tie.Need-returns-3
 returns-3 c = rw (c .if1 .left) refl
 

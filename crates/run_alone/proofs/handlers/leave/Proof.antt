@@ -5,23 +5,19 @@ use borrow.Author.Needs.{needs}
 use Rattle.run_alone.proofs.handlers.leave.Statement.{statement}
 use Rattle.run_alone.proofs.handlers.leave.Tie as tie
 
--- src/handlers.rt:70:5
 change-handler-requires : tie.Need-change-handler-requires
 change-handler-requires c κs =
     let s = c .before .before .before .before in
     (s .pre .0, s .pre .1 .0 .is .link)
 
--- src/handlers.rt:71:5
 remove-requires : tie.Need-remove-requires
 remove-requires c κs =
     let s = c .before .before .before .before .before .before .before .before in
     ((c .before .before .before .change-handler .ensures) .run .wide, ((c .before .before .before .change-handler .ensures) .run .bounds, (omega (arith, as-many (s .args .text .now) (s .args .scratch .now) (s .args .run .now) _ false (s .args .p .link) (c .before .before .before .change-handler .ensures), s .pre .1 .0 .below), unlinked-still (s .args .text .now) (s .args .scratch .now) (s .args .run .now) _ false (s .args .p .link) (c .before .before .before .change-handler .ensures) (s .args .place) (s .pre .1 .1))))
 
--- src/handlers.rt:64:1
 same-length : tie.Need-same-length
 same-length c = search needs
 
--- src/handlers.rt:64:1
 returns : tie.Need-returns
 returns c =
     let s = c .before .before .before .before .before .before .before .before .before .before .before in

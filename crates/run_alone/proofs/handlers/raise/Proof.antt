@@ -6,23 +6,20 @@ use borrow.Author.Needs.{needs}
 use Rattle.run_alone.proofs.handlers.raise.Statement.{statement}
 use Rattle.run_alone.proofs.handlers.raise.Tie as tie
 
--- src/handlers.rt:89:5
 change-handler-requires : tie.Need-change-handler-requires
 change-handler-requires c κs =
     let s = c .before .before .before .before in
     (s .pre .0, s .pre .1 .0 .is .link)
 
--- src/handlers.rt:91:5
 store-requires : tie.Need-store-requires
 store-requires c κs =
-    let s = c .before .before .before .before .before .before .before .before .before in
-    ((c .before .before .before .before .change-handler .ensures) .run .wide, ((c .before .before .before .before .change-handler .ensures) .run .bounds, (omega (arith, as-many (s .args .text .now) (s .args .scratch .now) (s .args .run .now) _ true (s .args .p .link) (c .before .before .before .before .change-handler .ensures), s .pre .1 .0 .below), bounded-of (s .args .text .now) (s .args .scratch .now) (runs-on ((c .before .before .before .before .change-handler .ensures) .run .tables) (s .args .pointer) 0 (s .args .p .held) tt (s .pre .1 .1) (s .pre .1 .0 .is .held)))))
+    let change-handler = c .before .before .before .before .change-handler in
+    let entry = c .before .before .before .before .before .before .before .before .before in
+    (change-handler .ensures .run .wide, (change-handler .ensures .run .bounds, (omega (arith, as-many (entry .args .text .now) (entry .args .scratch .now) (entry .args .run .now) _ true (entry .args .p .link) (change-handler .ensures), entry .pre .1 .0 .below), bounded-of (entry .args .text .now) (entry .args .scratch .now) (runs-on (change-handler .ensures .run .tables) (entry .args .pointer) 0 (entry .args .p .held) tt (entry .pre .1 .1) (entry .pre .1 .0 .is .held)))))
 
--- src/handlers.rt:76:1
 same-length : tie.Need-same-length
 same-length c = search needs
 
--- src/handlers.rt:76:1
 returns : tie.Need-returns
 returns c =
     let s = c .before .before .before .before .before .before .before .before .before .before .before .before in

@@ -4,65 +4,56 @@ use borrow.Author.Needs.{needs}
 use Rattle.run_alone.proofs.making.spawn.Statement.{statement}
 use Rattle.run_alone.proofs.making.spawn.Tie as tie
 
--- src/making.rt:198:15
 count-requires : tie.Need-count-requires
 count-requires c κs = c .before .before .before .before .pre .0 .wide
 
--- src/making.rt:199:9
 same-length : tie.Need-same-length
 same-length c = search needs
 
--- src/making.rt:199:9
 returns : tie.Need-returns
 returns c =
     let s = c .before .before .before .before .before .before in
     no-room (s .args .text .now) (s .args .scratch .now) (s .args .run .now) (s .args .place) (s .args .p) (s .args .m) (omega (arith, c .if1 .taken, c .before .count .ensures))
 
--- src/making.rt:201:9
 fresh-channel-requires : tie.Need-fresh-channel-requires
 fresh-channel-requires c κs =
     let s = c .before .before .before .before .before .before .before in
     (s .pre .0 .wide, s .pre .0 .bounds)
 
--- src/making.rt:202:19
 enum-known-f : tie.Need-enum-known-f
 enum-known-f c = search needs
 
--- src/making.rt:203:9
 enum-told : tie.Need-enum-told
 enum-told c = search needs
 
--- src/making.rt:203:9
 same-length-2 : tie.Need-same-length-2
 same-length-2 c = search needs
 
--- src/making.rt:203:9
 returns-2 : tie.Need-returns-2
 returns-2 c =
     let s = c .before .before .before .before .before .before .before .before .before .before in
     no-channel (s .args .text .now) (s .args .scratch .now) (s .args .run .now) (s .args .place) (s .args .p) (s .args .m) (c .before .before .fresh-channel .ensures) (omega (arith, c .before .before .before .before .if1 .left, c .before .before .before .before .before .count .ensures)) (c .enum-told .given .1)
 
--- src/making.rt:205:47
 cast-spawn-on : tie.Need-cast-spawn-on
 cast-spawn-on c =
     let s = c .before .before .before .before .before .before .before .before .before .before .before .before in
     omega (arith, fresh-small (s .args .text .now) (s .args .scratch .now) (s .args .run .now) (s .args .place) (s .args .p) (s .args .m) (c .before .before .before .before .fresh-channel .ensures) (c .before .before .f .given .1))
 
--- src/making.rt:205:5
 spawn-on-requires : tie.Need-spawn-on-requires
 spawn-on-requires c κs =
-    let s = c .before .before .before .before .before .before .before .before .before .before .before .before in
-    (s .pre .0, (s .pre .1 .0, (s .pre .1 .1, ((omega (arith, c .before .before .before .before .before .before .if1 .left, c .before .before .before .before .before .before .before .count .ensures)), fresh-small (s .args .text .now) (s .args .scratch .now) (s .args .run .now) (s .args .place) (s .args .p) (s .args .m) (c .before .before .before .before .fresh-channel .ensures) (c .before .before .f .given .1)))))
+    let after-if1 = c .before .before .before .before .before .before in
+    let entry = after-if1 .before .before .before .before .before .before in
+    (entry .pre .0, (entry .pre .1 .0, (entry .pre .1 .1, ((omega (arith, after-if1 .if1 .left, after-if1 .before .count .ensures)), fresh-small (entry .args .text .now) (entry .args .scratch .now) (entry .args .run .now) (entry .args .place) (entry .args .p) (entry .args .m) (c .before .before .before .before .fresh-channel .ensures) (c .before .before .f .given .1)))))
 
--- src/making.rt:185:1
 same-length-3 : tie.Need-same-length-3
 same-length-3 c = search needs
 
--- src/making.rt:185:1
 returns-3 : tie.Need-returns-3
 returns-3 c =
-    let s = c .before .before .before .before .before .before .before .before .before .before .before .before .before .before .before in
-    a-channel (s .args .text .now) (s .args .scratch .now) (s .args .run .now) (s .args .place) (s .args .p) (s .args .m) (c .before .before .before .before .before .before .before .fresh-channel .ensures) (omega (arith, c .before .before .before .before .before .before .before .before .before .if1 .left, c .before .before .before .before .before .before .before .before .before .before .count .ensures)) (c .before .before .before .before .before .f .given .1) (c .before .before .spawn-on .ensures)
+    let after-f = c .before .before .before .before .before in
+    let after-if1 = after-f .before .before .before .before in
+    let entry = after-if1 .before .before .before .before .before .before in
+    a-channel (entry .args .text .now) (entry .args .scratch .now) (entry .args .run .now) (entry .args .place) (entry .args .p) (entry .args .m) (after-f .before .before .fresh-channel .ensures) (omega (arith, after-if1 .if1 .left, after-if1 .before .count .ensures)) (after-f .f .given .1) (c .before .before .spawn-on .ensures)
 
 pub spawn-spec : {M : Type 1} → statement M
 spawn-spec =

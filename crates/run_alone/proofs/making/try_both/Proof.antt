@@ -7,71 +7,74 @@ use borrow.Author.Needs.{needs}
 use Rattle.run_alone.proofs.making.try_both.Statement.{statement}
 use Rattle.run_alone.proofs.making.try_both.Tie as tie
 
--- src/making.rt:65:15
 count-requires : tie.Need-count-requires
 count-requires c κs = c .before .before .before .before .pre .0 .wide
 
--- src/making.rt:66:9
 same-length : tie.Need-same-length
 same-length c = search needs
 
--- src/making.rt:66:9
 returns : tie.Need-returns
 returns c =
     let s = c .before .before .before .before .before .before in
     tries-nowhere (s .args .text .now) (s .args .scratch .now) (s .args .run .now) (s .pre .0) (s .args .place) (s .args .p) (s .pre .1 .0) (s .args .first) (s .args .second) (s .pre .1 .1 .0) (s .pre .1 .1 .1) (omega (arith, c .if1 .taken, c .before .count .ensures))
 
--- src/making.rt:69:9
 try-half-requires : tie.Need-try-half-requires
 try-half-requires c κs =
     let s = c .before .before .before .before .before .before .before in
     (s .pre .0 .tables, (s .pre .1 .1 .0, s .pre .1 .0 .is .held))
 
--- src/making.rt:70:9
 try-half-requires-2 : tie.Need-try-half-requires-2
 try-half-requires-2 c κs =
     let s = c .before .before .before .before .before .before .before .before in
     (s .pre .0 .tables, (s .pre .1 .1 .1, s .pre .1 .0 .is .held))
 
--- src/making.rt:71:9
 moved-link-requires : tie.Need-moved-link-requires
 moved-link-requires c κs =
     let s = c .before .before .before .before .before .before .before .before .before in
     (omega (arith, link-word _ (s .args .p .link) (s .pre .1 .0 .is .link), s .pre .0 .bounds .places), omega (arith, s .pre .1 .0 .below, s .pre .0 .bounds .places))
 
--- src/making.rt:72:5
 insert-requires : tie.Need-insert-requires
 insert-requires c κs =
     let s = c .before .before .before .before .before .before .before .before .before .before .before in
     (s .pre .0 .wide, (s .pre .0 .bounds, ((s .pre .1 .0 .below, (omega (arith, c .before .before .before .before .before .if1 .left, c .before .before .before .before .before .before .count .ensures))), bounded-of (s .args .text .now) (s .args .scratch .now) (handler-of (s .args .text .now) (s .args .scratch .now) (s .args .run .now) (s .pre .0) (s .args .place) (s .args .p) (s .pre .1 .0) (s .args .first) (s .args .second) (s .pre .1 .1 .0) (s .pre .1 .1 .1) _ _ (c .before .moved-link .ensures) (c .before .before .try-half2 .ensures .fits)))))
 
--- src/making.rt:88:20
 add-t12 : tie.Need-add-t12
 add-t12 c =
     let s = c .before .before .before .before .before .before .before .before .before .before .before .before .before .before .before in
     omega (arith, s .pre .1 .0 .below, s .pre .0 .bounds .places)
 
--- src/making.rt:88:19
 cast-t22 : tie.Need-cast-t22
 cast-t22 c =
     let s = c .before .before .before .before .before .before .before .before .before .before .before .before .before .before .before in
     omega (arith, s .pre .1 .0 .below, s .pre .0 .bounds .places)
 
--- src/making.rt:82:5
 store-requires : tie.Need-store-requires
 store-requires c κs =
-    let s = c .before .before .before .before .before .before .before .before .before .before .before .before .before .before .before in
-    (handler-came (s .args .text .now) (s .args .scratch .now) (s .args .run .now) (s .pre .0) (s .args .place) (s .args .p) (s .pre .1 .0) (s .args .first) (s .args .second) (s .pre .1 .1 .0) (s .pre .1 .1 .1) _ _ _ _ (c .before .before .before .before .before .moved-link .ensures) (c .before .before .before .before .before .before .before .try-half .ensures) (c .before .before .before .before .before .before .try-half2 .ensures) (c .before .before .before .insert .ensures .0) (c .before .before .before .insert .ensures .1) .run .wide, (c .before .before .before .insert .ensures .1, (omega (arith, one-more (s .args .text .now) (s .args .scratch .now) (s .args .run .now) (s .pre .0) (s .args .place) (s .args .p) (s .pre .1 .0) (s .args .first) (s .args .second) (s .pre .1 .1 .0) (s .pre .1 .1 .1) _ _ _ _ (c .before .before .before .before .before .moved-link .ensures) (c .before .before .before .before .before .before .before .try-half .ensures) (c .before .before .before .before .before .before .try-half2 .ensures) (c .before .before .before .insert .ensures .0) (c .before .before .before .insert .ensures .1), s .pre .1 .0 .below), bounded-of (s .args .text .now) (s .args .scratch .now) (tried-of (s .args .text .now) (s .args .scratch .now) (s .args .run .now) (s .pre .0) (s .args .place) (s .args .p) (s .pre .1 .0) (s .args .first) (s .args .second) (s .pre .1 .1 .0) (s .pre .1 .1 .1) _ _ _ _ (c .before .before .before .before .before .moved-link .ensures) (c .before .before .before .before .before .before .before .try-half .ensures) (c .before .before .before .before .before .before .try-half2 .ensures) (c .before .before .before .insert .ensures .0) (c .before .before .before .insert .ensures .1) _ refl))))
+    let insert = c .before .before .before .insert in
+    let after-moved-link = c .before .before .before .before .before in
+    let moved-link = after-moved-link .moved-link in
+    let try-half2 = after-moved-link .before .try-half2 in
+    let try-half = after-moved-link .before .before .try-half in
+    let entry = after-moved-link .before .before .before .before .before .before .before .before .before .before in
+    let text = entry .args .text .now in
+    let scratch = entry .args .scratch .now in
+    let run = entry .args .run .now in
+    let place = entry .args .place in
+    let p = entry .args .p in
+    let first = entry .args .first in
+    let second = entry .args .second in
+    (handler-came text scratch run (entry .pre .0) place p (entry .pre .1 .0) first second (entry .pre .1 .1 .0) (entry .pre .1 .1 .1) _ _ _ _ (moved-link .ensures) (try-half .ensures) (try-half2 .ensures) (insert .ensures .0) (insert .ensures .1) .run .wide, (insert .ensures .1, (omega (arith, one-more text scratch run (entry .pre .0) place p (entry .pre .1 .0) first second (entry .pre .1 .1 .0) (entry .pre .1 .1 .1) _ _ _ _ (moved-link .ensures) (try-half .ensures) (try-half2 .ensures) (insert .ensures .0) (insert .ensures .1), entry .pre .1 .0 .below), bounded-of text scratch (tried-of text scratch run (entry .pre .0) place p (entry .pre .1 .0) first second (entry .pre .1 .1 .0) (entry .pre .1 .1 .1) _ _ _ _ (moved-link .ensures) (try-half .ensures) (try-half2 .ensures) (insert .ensures .0) (insert .ensures .1) _ refl))))
 
--- src/making.rt:50:1
 same-length-2 : tie.Need-same-length-2
 same-length-2 c = search needs
 
--- src/making.rt:50:1
 returns-2 : tie.Need-returns-2
 returns-2 c =
-    let s = c .before .before .before .before .before .before .before .before .before .before .before .before .before .before .before .before .before .before in
-    tries (s .args .text .now) (s .args .scratch .now) (s .args .run .now) (s .pre .0) (s .args .place) (s .args .p) (s .pre .1 .0) (s .args .first) (s .args .second) (s .pre .1 .1 .0) (s .pre .1 .1 .1) _ _ _ _ (c .before .before .before .before .before .before .before .before .moved-link .ensures) (c .before .before .before .before .before .before .before .before .before .before .try-half .ensures) (c .before .before .before .before .before .before .before .before .before .try-half2 .ensures) (c .before .before .before .before .before .before .insert .ensures .0) (c .before .before .before .before .before .before .insert .ensures .1) _ _ refl (omega (arith, c .before .before .before .before .before .before .before .before .before .before .before .before .if1 .left, c .before .before .before .before .before .before .before .before .before .before .before .before .before .count .ensures)) (c .before .before .store .ensures .0) (c .before .before .store .ensures .1)
+    let after-insert = c .before .before .before .before .before .before in
+    let insert = after-insert .insert in
+    let after-if1 = after-insert .before .before .before .before .before .before in
+    let entry = after-if1 .before .before .before .before .before .before in
+    tries (entry .args .text .now) (entry .args .scratch .now) (entry .args .run .now) (entry .pre .0) (entry .args .place) (entry .args .p) (entry .pre .1 .0) (entry .args .first) (entry .args .second) (entry .pre .1 .1 .0) (entry .pre .1 .1 .1) _ _ _ _ (after-insert .before .before .moved-link .ensures) (after-insert .before .before .before .before .try-half .ensures) (after-insert .before .before .before .try-half2 .ensures) (insert .ensures .0) (insert .ensures .1) _ _ refl (omega (arith, after-if1 .if1 .left, after-if1 .before .count .ensures)) (c .before .before .store .ensures .0) (c .before .before .store .ensures .1)
 
 pub try-both-spec : {M : Type 1} → statement M
 try-both-spec =

@@ -5,17 +5,14 @@ use borrow.Author.Needs.{needs}
 use Rattle.run_alone.proofs.making.try_half.Statement.{statement}
 use Rattle.run_alone.proofs.making.try_half.Tie as tie
 
--- src/making.rt:45:9
 wide-requires : tie.Need-wide-requires
 wide-requires c κs = search needs
 
--- src/making.rt:46:5
 keep-requires : tie.Need-keep-requires
 keep-requires c κs =
     let s = c .before .before .before in
     (s .pre .0, (subst (ProcessIn (s .args .text .now) (s .args .scratch .now)) (sym (c .wide .ensures)) (s .pre .1 .0), s .pre .1 .1))
 
--- src/making.rt:39:1
 returns : tie.Need-returns
 returns c = half-tried _ _ (c .before .wide .ensures) (c .keep .ensures)
 

@@ -4,39 +4,31 @@ use borrow.Author.Needs.{needs}
 use Rattle.run_alone.proofs.parting.fold_up.Statement.{statement}
 use Rattle.run_alone.proofs.parting.fold_up.Tie as tie
 
--- src/parting.rt:83:9
 leave-requires : tie.Need-leave-requires
 leave-requires c κs = c .before .before .before .before .before .before .before .pre
 
--- src/parting.rt:83:9
 same-length : tie.Need-same-length
 same-length c = search needs
 
--- src/parting.rt:83:9
 returns : tie.Need-returns
 returns c =
     let s = c .before .before .before .before .before .before .before .before .before .before in
     folds-empty (s .args .text .now) (s .args .scratch .now) (s .args .run .now) _ (s .args .place) (s .args .p) _ (c .before .before .before .before .if1 .taken) (c .before .before .leave .ensures)
 
--- src/parting.rt:85:9
 end-at-requires : tie.Need-end-at-requires
 end-at-requires c κs = (c .before .before .before .before .before .before .pre .1 .0 .is .held .many, omega (arith, c .if1 .left))
 
--- src/parting.rt:86:9
 without-requires : tie.Need-without-requires
 without-requires c κs = (c .before .before .before .before .before .before .before .pre .1 .0 .is .held .many, omega (arith, c .before .if1 .left))
 
--- src/parting.rt:87:5
 part-requires : tie.Need-part-requires
 part-requires c κs =
     let s = c .before .before .before .before .before .before .before .before .before in
     (s .pre .0, (s .pre .1 .0 .below, (folds (s .args .text .now) (s .args .scratch .now) (s .args .p) (c .before .without .result) (s .pre .1 .0 .is) (oldest-held (s .args .text .now) (s .args .scratch .now) (s .args .p .held) (c .before .before .end-at .result) (c .before .before .end-at .ensures .0) (c .before .without .result) (c .before .without .ensures .0) (c .before .without .ensures .1) (s .pre .1 .0 .is .held)), c .before .before .end-at .ensures .1 .0)))
 
--- src/parting.rt:69:1
 same-length-2 : tie.Need-same-length-2
 same-length-2 c = search needs
 
--- src/parting.rt:69:1
 returns-2 : tie.Need-returns-2
 returns-2 c =
     let s = c .before .before .before .before .before .before .before .before .before .before .before .before in

@@ -29,8 +29,9 @@ enum-told-2 c = search needs
 
 returns-2 : tie.Need-returns-2
 returns-2 c =
-    let s = c .before .before .before .before .before .before .before .before .before in
-    joined-provided (rawIn (s .args .run .now)) (s .args .i) (s .args .e) (s .pre .1 .1 .1) (c .before .before .before .before .before .before .if1 .left) (sym (c .before .before .before .before .before .far-end .ensures) ∙ c .before .before .before .f .given .1) (c .join .ensures)
+    let after-f = c .before .before .before in
+    let entry = after-f .before .before .before .before .before .before in
+    joined-provided (rawIn (entry .args .run .now)) (entry .args .i) (entry .args .e) (entry .pre .1 .1 .1) (after-f .before .before .before .if1 .left) (sym (after-f .before .before .far-end .ensures) ∙ after-f .f .given .1) (c .join .ensures)
 
 returns-3 : tie.Need-returns-3
 returns-3 c =

@@ -5,7 +5,9 @@ use Rattle.run_messages.proofs.meeting.hear.Statement.{statement}
 use Rattle.run_messages.proofs.meeting.hear.Tie as tie
 
 hear-close-requires : tie.Need-hear-close-requires
-hear-close-requires c κs = (c .before .before .before .before .before .before .before .pre .0, (c .before .before .before .before .before .before .before .pre .1 .0, (c .before .before .before .before .before .before .before .pre .1 .1 .0, (c .before .if1 .taken, omega (arith, c .before .if1 .taken, c .before .before .before .before .before .before .before .pre .1 .1 .1 .0)))))
+hear-close-requires c κs =
+    let entry = c .before .before .before .before .before .before .before in
+    (entry .pre .0, (entry .pre .1 .0, (entry .pre .1 .1 .0, (c .before .if1 .taken, omega (arith, c .before .if1 .taken, entry .pre .1 .1 .1 .0)))))
 
 same-length : tie.Need-same-length
 same-length c = search needs
@@ -14,7 +16,9 @@ returns : tie.Need-returns
 returns c = c .before .before .hear-close .ensures
 
 hear-label-requires : tie.Need-hear-label-requires
-hear-label-requires c κs = (c .before .before .before .before .before .before .before .before .before .pre .0, (c .before .before .before .before .before .before .before .before .before .pre .1 .0, (c .before .before .before .before .before .before .before .before .before .pre .1 .1 .0, (c .before .if2 .taken, omega (arith, c .before .if2 .taken, c .before .before .before .before .before .before .before .before .before .pre .1 .1 .1 .0)))))
+hear-label-requires c κs =
+    let entry = c .before .before .before .before .before .before .before .before .before in
+    (entry .pre .0, (entry .pre .1 .0, (entry .pre .1 .1 .0, (c .before .if2 .taken, omega (arith, c .before .if2 .taken, entry .pre .1 .1 .1 .0)))))
 
 same-length-2 : tie.Need-same-length-2
 same-length-2 c = search needs
@@ -24,9 +28,10 @@ returns-2 c = c .before .before .hear-label .ensures
 
 hear-channel-requires : tie.Need-hear-channel-requires
 hear-channel-requires c κs =
-    let two : c .before .before .before .before .before .before .before .before .before .args .sent .term .kind ≡ 2 = omega (arith, c .before .before .before .before .before .before .before .before .before .pre .1 .0 .node .low, c .before .before .before .before .before .before .before .before .before .pre .1 .0 .node .high, c .before .before .before .if1 .left, c .before .if2 .left) in
-    let seven : c .before .before .before .before .before .before .before .before .before .args .to .term .kind ≡ 7 = omega (arith, two, c .before .before .before .before .before .before .before .before .before .pre .1 .1 .1 .0) in
-    (c .before .before .before .before .before .before .before .before .before .pre .0, (c .before .before .before .before .before .before .before .before .before .pre .1 .0, (c .before .before .before .before .before .before .before .before .before .pre .1 .1 .0, (two, seven, c .before .before .before .before .before .before .before .before .before .pre .1 .1 .1 .1 seven))))
+    let entry = c .before .before .before .before .before .before .before .before .before in
+    let two : entry .args .sent .term .kind ≡ 2 = omega (arith, entry .pre .1 .0 .node .low, entry .pre .1 .0 .node .high, c .before .before .before .if1 .left, c .before .if2 .left) in
+    let seven : entry .args .to .term .kind ≡ 7 = omega (arith, two, entry .pre .1 .1 .1 .0) in
+    (entry .pre .0, (entry .pre .1 .0, (entry .pre .1 .1 .0, (two, seven, entry .pre .1 .1 .1 .1 seven))))
 
 same-length-3 : tie.Need-same-length-3
 same-length-3 c = search needs

@@ -67,8 +67,9 @@ same-length c = search needs
 
 returns-2 : tie.Need-returns-2
 returns-2 c =
-    let s = c .before .before .before .before .before .before .before .before .before .before .before .before .before .before .before .before in
-    sends-on (s .args .text .now) (s .args .scratch .now) (s .args .run .now) (s .args .place) (s .args .p) (s .args .n) (c .before .before .before .before .before .before .before .before .before .before .before .find-end .ensures) (c .before .before .before .before .before .before .before .before .before .f .given .1) (c .before .before .before .before .before .before .after-message .ensures) (c .before .before .before .before .before .after-send .ensures) (c .before .before .deliver .ensures)
+    let after-f = c .before .before .before .before .before .before .before .before .before in
+    let entry = after-f .before .before .before .before .before .before .before in
+    sends-on (entry .args .text .now) (entry .args .scratch .now) (entry .args .run .now) (entry .args .place) (entry .args .p) (entry .args .n) (after-f .before .before .find-end .ensures) (after-f .f .given .1) (c .before .before .before .before .before .before .after-message .ensures) (c .before .before .before .before .before .after-send .ensures) (c .before .before .deliver .ensures)
 
 pub send-spec : {M : Type 1} → statement M
 send-spec =

@@ -5,31 +5,26 @@ use Rattle.read_tables.specs.Program.{plainIn}
 use Rattle.run_messages.proofs.messages.after_message.Statement.{statement}
 use Rattle.run_messages.proofs.messages.after_message.Tie as tie
 
--- src/messages.rt:70:9
 returns : tie.Need-returns
 returns c =
     let s = c .before .before .before .before in
     closed-type (s .args .text .now) (s .args .scratch .now) (s .args .n) (plainIn (s .args .text .now) (s .args .scratch .now) (s .args .i)) (c .if1 .taken) (record { is = refl; type = s .pre .1 .0 })
 
--- src/messages.rt:73:9
 after-passing-requires : tie.Need-after-passing-requires
 after-passing-requires c κs =
     let s = c .before .before .before .before .before .before in
     (s .pre .0, s .pre .1 .0)
 
--- src/messages.rt:73:9
 returns-2 : tie.Need-returns-2
 returns-2 c =
     let s = c .before .before .before .before .before .before .before in
     passed-type (s .args .text .now) (s .args .scratch .now) (s .args .n) (plainIn (s .args .text .now) (s .args .scratch .now) (s .args .i)) (c .before .if2 .taken) (c .after-passing .ensures)
 
--- src/messages.rt:75:5
 after-choosing-requires : tie.Need-after-choosing-requires
 after-choosing-requires c κs =
     let s = c .before .before .before .before .before .before in
     (s .pre .0, s .pre .1 .0)
 
--- src/messages.rt:63:1
 returns-3 : tie.Need-returns-3
 returns-3 c =
     let s = c .before .before .before .before .before .before .before in

@@ -4,31 +4,25 @@ use borrow.Author.Needs.{needs}
 use Rattle.run_messages.proofs.messages.after_passing.Statement.{statement}
 use Rattle.run_messages.proofs.messages.after_passing.Tie as tie
 
--- src/messages.rt:36:9
 standing-requires : tie.Need-standing-requires
 standing-requires c κs = c .before .before .pre
 
--- src/messages.rt:37:9
 passing-requires : tie.Need-passing-requires
 passing-requires c κs =
     let s = c .before .before .before in
     (s .pre .0 .area, node-there (s .args .text .now) (s .args .scratch .now) (s .pre .0) _ (c .standing .ensures .type))
 
--- src/messages.rt:39:29
 enum-told : tie.Need-enum-told
 enum-told c = search needs
 
--- src/messages.rt:39:29
 returns : tie.Need-returns
 returns c =
     let s = c .before .before .before .before .before .before in
     passing-nothing (s .args .text .now) (s .args .scratch .now) (s .pre .0) (s .args .i) _ (s .pre .1) (c .before .before .before .standing .ensures) _ (c .before .before .passing .ensures) (c .enum-told .given .1)
 
--- src/messages.rt:40:25
 enum-known-q : tie.Need-enum-known-q
 enum-known-q c = search needs
 
--- src/messages.rt:40:40
 returns-2 : tie.Need-returns-2
 returns-2 c =
     let s = c .before .before .before .before .before .before .before in

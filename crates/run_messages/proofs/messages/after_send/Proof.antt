@@ -7,39 +7,32 @@ use Rattle.check_contexts.specs.Held.{EndIn}
 use Rattle.run_messages.proofs.messages.after_send.Statement.{statement}
 use Rattle.run_messages.proofs.messages.after_send.Tie as tie
 
--- src/messages.rt:86:9
 drop-end-requires : tie.Need-drop-end-requires
 drop-end-requires c κs = c .before .before .before .before .pre .0 .many
 
--- src/messages.rt:86:9
 returns : tie.Need-returns
 returns c =
     let s = c .before .before .before .before .before in
     sent-close (s .args .text .now) (s .args .scratch .now) (s .args .h) (s .args .n) (s .args .node) _ (c .before .if1 .taken) (c .drop-end .ensures)
 
--- src/messages.rt:89:9
 retype-end-requires : tie.Need-retype-end-requires
 retype-end-requires c κs =
     let s = c .before .before .before .before .before .before in
     ((s .pre .0 .many, s .pre .1 .0), (all-weaken (EndIn (s .args .text .now) (s .args .scratch .now)) BoundedEnd (λ e b. b .bounds) (heldIn (s .args .h)) (s .pre .0 .each)))
 
--- src/messages.rt:89:9
 returns-2 : tie.Need-returns-2
 returns-2 c =
     let s = c .before .before .before .before .before .before .before in
     sent-label (s .args .text .now) (s .args .scratch .now) (s .args .h) (s .args .n) (s .args .node) _ (c .before .if2 .taken) (c .retype-end .ensures)
 
--- src/messages.rt:91:9
 drop-end-requires-2 : tie.Need-drop-end-requires-2
 drop-end-requires-2 c κs = c .before .before .before .before .before .before .pre .0 .many
 
--- src/messages.rt:92:5
 retype-end-requires-2 : tie.Need-retype-end-requires-2
 retype-end-requires-2 c κs =
     let s = c .before .before .before .before .before .before .before in
     let u = c .drop-end2 .ensures .fits (s .args .scratch .now) (s .pre .0) in ((u .many, s .pre .1 .0), (all-weaken (EndIn (s .args .text .now) (s .args .scratch .now)) BoundedEnd (λ e b. b .bounds) (heldIn (c .drop-end2 .result)) (u .each)))
 
--- src/messages.rt:79:1
 returns-3 : tie.Need-returns-3
 returns-3 c =
     let s = c .before .before .before .before .before .before .before .before in

@@ -10,39 +10,30 @@ Inv-loop text scratch at e n place₀ left₀ place left = Searching text scratc
 abbrev μ-loop : tie.MeasureT-loop
 μ-loop text scratch at e n place₀ left₀ place left = left
 
--- src/receiving.rt:151:5
 loop-holds : tie.Need-loop-holds Inv-loop μ-loop
 loop-holds c = search-start _ _ _ _ _ _ (c .before .before .pre .1 .1)
 
--- src/receiving.rt:152:13
 branch-requires : tie.Need-branch-requires Inv-loop μ-loop
 branch-requires c κs = search-there _ _ _ _ _ _ _ (c .before .loop .inv) (c .loop-test .taken) (c .before .before .before .before .pre .0)
 
--- src/receiving.rt:154:12
 labels-equal-requires : tie.Need-labels-equal-requires Inv-loop μ-loop
 labels-equal-requires c κs = search needs
 
--- src/receiving.rt:155:13
 returns : tie.Need-returns Inv-loop μ-loop
 returns c = search-found _ _ _ _ _ _ _ (c .before .before .before .before .loop .inv) (c .before .before .before .loop-test .taken) _ (c .before .before .branch .ensures) (c .before .labels-equal .ensures) (c .if1 .taken)
 
--- src/receiving.rt:157:9
 sub-place : tie.Need-sub-place Inv-loop μ-loop
 sub-place c = omega (arith, search-there _ _ _ _ _ _ _ (c .before .before .before .before .loop .inv) (c .before .before .before .loop-test .taken) (c .before .before .before .before .before .before .before .pre .0))
 
--- src/receiving.rt:158:9
 sub-left : tie.Need-sub-left Inv-loop μ-loop
 sub-left c = omega arith
 
--- src/receiving.rt:151:5
 loop-less : tie.Need-loop-less Inv-loop μ-loop
 loop-less c = omega arith
 
--- src/receiving.rt:151:5
 loop-again : tie.Need-loop-again Inv-loop μ-loop
 loop-again c = search-on _ _ _ _ _ _ _ (c .before .before .before .before .loop .inv) (c .before .before .before .loop-test .taken) _ (c .before .before .branch .ensures) (c .before .labels-equal .ensures) (c .if1 .left)
 
--- src/receiving.rt:145:1
 returns-2 : tie.Need-returns-2 Inv-loop μ-loop
 returns-2 c = search-end _ _ _ _ _ _ _ (c .before .loop .inv) (c .loop-test .left)
 

@@ -3,27 +3,22 @@ use borrow.Author.Needs.{needs}
 use Rattle.run_messages.proofs.receiving.bring_found.Statement.{statement}
 use Rattle.run_messages.proofs.receiving.bring_found.Tie as tie
 
--- src/receiving.rt:95:23
 enum-known-f : tie.Need-enum-known-f
 enum-known-f c = search needs
 
--- src/receiving.rt:95:29
 bring-end-requires : tie.Need-bring-end-requires
 bring-end-requires c κs =
     let s = c .before .before .before in
     let o = found-there (c .before .f .given .1) (s .pre .1) in (s .pre .0 .0, s .pre .0 .1, o .1, o .0 .node, o .0 .channel)
 
--- src/receiving.rt:95:29
 returns : tie.Need-returns
 returns c =
     let s = c .before .before .before .before in
     brings-found (s .args .h) (s .args .f) (s .args .at) _ _ (c .before .before .f .given .1) (c .bring-end .ensures)
 
--- src/receiving.rt:96:28
 enum-told : tie.Need-enum-told
 enum-told c = search needs
 
--- src/receiving.rt:96:28
 returns-2 : tie.Need-returns-2
 returns-2 c =
     let s = c .before .before in

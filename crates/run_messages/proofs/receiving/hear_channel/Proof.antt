@@ -37,11 +37,16 @@ same-length c = search needs
 
 returns : tie.Need-returns
 returns c =
-    let s = c .before .before .before .before .before .before .before .before .before .before .before .before .before .before .before .before .before in
-    let a = s .args in
-    let k = s .pre .1 .1 .1 in
-    hears-kind-channel (a .text .now) (a .scratch .now) (a .run .now) (a .sent) (a .to) (s .pre .1 .0 .type) (k .0) (k .1) (c .before .before .before .before .before .before .before .before .before .before .find-end .ensures)
-    (hears-channel (a .text .now) (a .scratch .now) (a .run .now) (a .sent .place) (a .sent .after) (a .to .place) (a .to .process) (a .to .name) (c .before .before .before .before .bring-found .result) (a .to .term .third) (c .before .before .go-on .ensures) (a .sent .node) (a .to .term .second) (c .before .before .before .before .before .before .before .before .before .before .find-end .result) (c .before .before .before .before .before .before .retype-end .result) (c .before .before .before .before .before .before .retype-end .ensures) (c .before .before .before .before .bring-found .ensures))
+    let retype-end = c .before .before .before .before .before .before .retype-end in
+    let after-find-end = c .before .before .before .before .before .before .before .before .before .before in
+    let find-end = after-find-end .find-end in
+    let entry = after-find-end .before .before .before .before .before .before .before in
+    let run = entry .args .run .now in
+    let sent = entry .args .sent in
+    let to = entry .args .to in
+    let k = entry .pre .1 .1 .1 in
+    hears-kind-channel (entry .args .text .now) (entry .args .scratch .now) run sent to (entry .pre .1 .0 .type) (k .0) (k .1) (find-end .ensures)
+    (hears-channel (entry .args .text .now) (entry .args .scratch .now) run (sent .place) (sent .after) (to .place) (to .process) (to .name) (c .before .before .before .before .bring-found .result) (to .term .third) (c .before .before .go-on .ensures) (sent .node) (to .term .second) (find-end .result) (retype-end .result) (retype-end .ensures) (c .before .before .before .before .bring-found .ensures))
 
 pub hear-channel-spec : {M : Type 1} → statement M
 hear-channel-spec = tie.close (tie.spec find-end-requires retype-end-requires cast-bring-found bring-found-requires go-on-requires same-length returns)

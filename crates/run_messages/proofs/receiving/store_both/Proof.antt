@@ -5,23 +5,27 @@ use borrow.Author.Needs.{needs}
 use Rattle.run_messages.proofs.receiving.store_both.Statement.{statement}
 use Rattle.run_messages.proofs.receiving.store_both.Tie as tie
 
--- src/receiving.rt:46:5
 store-requires : tie.Need-store-requires
 store-requires c κs =
     let s = c .before .before .before .before in
     ((s .pre .0 .wide), ((s .pre .0 .bounds), (s .pre .1 .0 .0, bounded-of (s .args .text .now) (s .args .scratch .now) (s .pre .1 .1 .0))))
 
--- src/receiving.rt:47:5
 store-requires-2 : tie.Need-store-requires-2
 store-requires-2 c κs =
-    let s = c .before .before .before .before .before .before .before .before in
-    (first-set (s .args .text .now) (s .args .scratch .now) (s .args .run .now) _ (s .pre .0) (s .args .place) (s .args .j) (s .args .q) (s .args .r) (s .pre .1 .1 .0) (s .pre .1 .1 .1) (c .before .before .before .store .ensures .0) (c .before .before .before .store .ensures .1) .run .wide, (c .before .before .before .store .ensures .1, (omega (arith, first-many (s .args .text .now) (s .args .scratch .now) (s .args .run .now) _ (s .pre .0) (s .args .place) (s .args .j) (s .args .q) (s .args .r) (s .pre .1 .1 .0) (s .pre .1 .1 .1) (c .before .before .before .store .ensures .0) (c .before .before .before .store .ensures .1), s .pre .1 .0 .1), bounded-of (s .args .text .now) (s .args .scratch .now) (second-of (s .args .text .now) (s .args .scratch .now) (s .args .run .now) _ (s .pre .0) (s .args .place) (s .args .j) (s .args .q) (s .args .r) (s .pre .1 .1 .0) (s .pre .1 .1 .1) (c .before .before .before .store .ensures .0) (c .before .before .before .store .ensures .1)))))
+    let store = c .before .before .before .store in
+    let entry = c .before .before .before .before .before .before .before .before in
+    let text = entry .args .text .now in
+    let scratch = entry .args .scratch .now in
+    let run = entry .args .run .now in
+    let place = entry .args .place in
+    let j = entry .args .j in
+    let q = entry .args .q in
+    let r = entry .args .r in
+    (first-set text scratch run _ (entry .pre .0) place j q r (entry .pre .1 .1 .0) (entry .pre .1 .1 .1) (store .ensures .0) (store .ensures .1) .run .wide, (store .ensures .1, (omega (arith, first-many text scratch run _ (entry .pre .0) place j q r (entry .pre .1 .1 .0) (entry .pre .1 .1 .1) (store .ensures .0) (store .ensures .1), entry .pre .1 .0 .1), bounded-of text scratch (second-of text scratch run _ (entry .pre .0) place j q r (entry .pre .1 .1 .0) (entry .pre .1 .1 .1) (store .ensures .0) (store .ensures .1)))))
 
--- src/receiving.rt:31:1
 same-length : tie.Need-same-length
 same-length c = search needs
 
--- src/receiving.rt:31:1
 returns : tie.Need-returns
 returns c =
     let s = c .before .before .before .before .before .before .before .before .before .before .before in

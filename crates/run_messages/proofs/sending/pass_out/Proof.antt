@@ -32,24 +32,31 @@ returns-2 c =
 
 far-end-requires : tie.Need-far-end-requires
 far-end-requires c κs =
-    let s = c .before .before .before .before .before .before .before .before .before .before .before .before .before .before in
-    ((s .pre .0 .wide), ((s .pre .0 .bounds), (end-found {w = (s .args .scratch .now)} (c .before .before .before .before .before .before .before .find-end .ensures) (c .before .before .before .before .before .f .given .1) (s .pre .1 .0 .stands .is .held)) .1))
+    let after-f = c .before .before .before .before .before in
+    let entry = after-f .before .before .before .before .before .before .before .before .before in
+    ((entry .pre .0 .wide), ((entry .pre .0 .bounds), (end-found {w = (entry .args .scratch .now)} (after-f .before .before .find-end .ensures) (after-f .f .given .1) (entry .pre .1 .0 .stands .is .held)) .1))
 
 is-given-up-requires : tie.Need-is-given-up-requires
 is-given-up-requires c κs = search needs
 
 pass-numbered-requires : tie.Need-pass-numbered-requires
 pass-numbered-requires c κs =
-    let s = c .before .before .before .before .before .before .before .before .before .before .before .before .before .before .before .before .before in
-    (s .pre .0, (s .pre .1 .0, ((c .before .before .before .before .before .given .ensures, omega (arith, c .before .before .before .before .if1 .left), omega (arith, c .before .before .before .before .if1 .left, c .before .before .before .before .before .given .ensures, s .pre .1 .1 .0)), (end-found {w = (s .args .scratch .now)} (c .before .before .before .before .before .before .before .before .before .before .find-end .ensures) (c .before .before .before .before .before .before .before .before .f .given .1) (s .pre .1 .0 .stands .is .held)) .0)))
+    let after-if1 = c .before .before .before .before in
+    let if1 = after-if1 .if1 in
+    let given = after-if1 .before .given in
+    let after-f = after-if1 .before .before .before .before in
+    let entry = after-f .before .before .before .before .before .before .before .before .before in
+    (entry .pre .0, (entry .pre .1 .0, ((given .ensures, omega (arith, if1 .left), omega (arith, if1 .left, given .ensures, entry .pre .1 .1 .0)), (end-found {w = (entry .args .scratch .now)} (after-f .before .before .find-end .ensures) (after-f .f .given .1) (entry .pre .1 .0 .stands .is .held)) .0)))
 
 same-length-2 : tie.Need-same-length-2
 same-length-2 c = search needs
 
 returns-3 : tie.Need-returns-3
 returns-3 c =
-    let s = c .before .before .before .before .before .before .before .before .before .before .before .before .before .before .before .before .before .before .before .before in
-    passes-out (s .args .text .now) (s .args .scratch .now) (s .args .run .now) (s .args .sent) (s .args .number) (s .pre .1 .1 .1) (c .before .before .before .before .before .before .before .before .before .before .before .before .before .find-end .ensures) (c .before .before .before .before .before .before .before .before .before .before .before .f .given .1) _ _ (omega (arith, c .before .before .before .before .before .before .before .if1 .left, c .before .before .before .before .before .before .before .before .given .ensures)) (c .before .before .before .before .before .far-end .ensures) (c .before .before .before .before .is-given-up .ensures) (c .before .before .pass-numbered .ensures)
+    let after-if1 = c .before .before .before .before .before .before .before in
+    let after-f = after-if1 .before .before .before .before in
+    let entry = after-f .before .before .before .before .before .before .before .before .before in
+    passes-out (entry .args .text .now) (entry .args .scratch .now) (entry .args .run .now) (entry .args .sent) (entry .args .number) (entry .pre .1 .1 .1) (after-f .before .before .find-end .ensures) (after-f .f .given .1) _ _ (omega (arith, after-if1 .if1 .left, after-if1 .before .given .ensures)) (c .before .before .before .before .before .far-end .ensures) (c .before .before .before .before .is-given-up .ensures) (c .before .before .pass-numbered .ensures)
 
 pub pass-out-spec : {M : Type 1} → statement M
 pass-out-spec =

@@ -14,21 +14,28 @@ store-requires c κs =
 
 let-go-requires : tie.Need-let-go-requires
 let-go-requires c κs =
-    let s = c .before .before .before .before .before .before .before .before .before .before .before .before .before in
-    ((stored (s .args .text .now) (s .args .scratch .now) (s .args .run .now) _ (s .pre .0) (s .args .sent .place) (s .args .sent .after) (s .pre .1 .0 .after) (c .before .before .before .before .before .store .ensures .0) (c .before .before .before .before .before .store .ensures .1)) .run .wide, c .before .before .before .before .before .store .ensures .1)
+    let store = c .before .before .before .before .before .store in
+    let entry = c .before .before .before .before .before .before .before .before .before .before .before .before .before in
+    ((stored (entry .args .text .now) (entry .args .scratch .now) (entry .args .run .now) _ (entry .pre .0) (entry .args .sent .place) (entry .args .sent .after) (entry .pre .1 .0 .after) (store .ensures .0) (store .ensures .1)) .run .wide, store .ensures .1)
 
 same-length : tie.Need-same-length
 same-length c = search needs
 
 returns : tie.Need-returns
 returns c =
-    let s = c .before .before .before .before .before .before .before .before .before .before .before .before .before .before .before .before in
-    out-close (s .args .text .now) (s .args .scratch .now) (s .args .run .now) (s .args .sent) (s .args .number) _ (stored (s .args .text .now) (s .args .scratch .now) (s .args .run .now) _ (s .pre .0) (s .args .sent .place) (s .args .sent .after) (s .pre .1 .0 .after) (c .before .before .before .before .before .before .before .before .store .ensures .0) (c .before .before .before .before .before .before .before .before .store .ensures .1)) _ (c .before .before .before .before .if1 .taken) (c .before .before .let-go .ensures .0) (c .before .before .let-go .ensures .1)
+    let after-store = c .before .before .before .before .before .before .before .before in
+    let store = after-store .store in
+    let entry = after-store .before .before .before .before .before .before .before .before in
+    let run = entry .args .run .now in
+    let sent = entry .args .sent in
+    out-close (entry .args .text .now) (entry .args .scratch .now) run sent (entry .args .number) _ (stored (entry .args .text .now) (entry .args .scratch .now) run _ (entry .pre .0) (sent .place) (sent .after) (entry .pre .1 .0 .after) (store .ensures .0) (store .ensures .1)) _ (c .before .before .before .before .if1 .taken) (c .before .before .let-go .ensures .0) (c .before .before .let-go .ensures .1)
 
 retype-outside-requires : tie.Need-retype-outside-requires
 retype-outside-requires c κs =
-    let s = c .before .before .before .before .before .before .before .before .before .before .before .before .before in
-    ((stored (s .args .text .now) (s .args .scratch .now) (s .args .run .now) _ (s .pre .0) (s .args .sent .place) (s .args .sent .after) (s .pre .1 .0 .after) (c .before .before .before .before .before .store .ensures .0) (c .before .before .before .before .before .store .ensures .1)) .run .wide, (c .before .before .before .before .before .store .ensures .1, node-there (s .args .text .now) (s .args .scratch .now) (s .pre .0 .tables) (s .args .sent .node) (s .pre .1 .0 .type .type)))
+    let store = c .before .before .before .before .before .store in
+    let entry = c .before .before .before .before .before .before .before .before .before .before .before .before .before in
+    let sent = entry .args .sent in
+    ((stored (entry .args .text .now) (entry .args .scratch .now) (entry .args .run .now) _ (entry .pre .0) (sent .place) (sent .after) (entry .pre .1 .0 .after) (store .ensures .0) (store .ensures .1)) .run .wide, (store .ensures .1, node-there (entry .args .text .now) (entry .args .scratch .now) (entry .pre .0 .tables) (sent .node) (entry .pre .1 .0 .type .type)))
 
 cast-t19 : tie.Need-cast-t19
 cast-t19 c =
@@ -40,8 +47,12 @@ same-length-2 c = search needs
 
 returns-2 : tie.Need-returns-2
 returns-2 c =
-    let s = c .before .before .before .before .before .before .before .before .before .before .before .before .before .before .before .before .before in
-    out-label (s .args .text .now) (s .args .scratch .now) (s .args .run .now) (s .args .sent) (s .args .number) _ (stored (s .args .text .now) (s .args .scratch .now) (s .args .run .now) _ (s .pre .0) (s .args .sent .place) (s .args .sent .after) (s .pre .1 .0 .after) (c .before .before .before .before .before .before .before .before .before .store .ensures .0) (c .before .before .before .before .before .before .before .before .before .store .ensures .1)) (s .pre .1 .0 .type) _ (omega (arith, s .pre .1 .0 .node .low, s .pre .1 .0 .node .high, s .pre .1 .1, c .before .before .before .before .before .if1 .left)) (c .before .before .before .retype-outside .ensures .0) (c .before .before .before .retype-outside .ensures .1)
+    let after-if1 = c .before .before .before .before .before in
+    let store = after-if1 .before .before .before .before .store in
+    let entry = after-if1 .before .before .before .before .before .before .before .before .before .before .before .before in
+    let run = entry .args .run .now in
+    let sent = entry .args .sent in
+    out-label (entry .args .text .now) (entry .args .scratch .now) run sent (entry .args .number) _ (stored (entry .args .text .now) (entry .args .scratch .now) run _ (entry .pre .0) (sent .place) (sent .after) (entry .pre .1 .0 .after) (store .ensures .0) (store .ensures .1)) (entry .pre .1 .0 .type) _ (omega (arith, entry .pre .1 .0 .node .low, entry .pre .1 .0 .node .high, entry .pre .1 .1, after-if1 .if1 .left)) (c .before .before .before .retype-outside .ensures .0) (c .before .before .before .retype-outside .ensures .1)
 
 pub send-shown-spec : {M : Type 1} → statement M
 send-shown-spec =

@@ -29,8 +29,9 @@ same-length c = search needs
 
 returns-2 : tie.Need-returns-2
 returns-2 c =
-    let s = c .before .before .before .before .before .before .before .before .before .before .before .before .before .before .before .before .before in
-    unheard-parts (s .args .text .now) (s .args .scratch .now) (s .args .run .now) (s .args .sent) (c .before .before .before .before .before .before .before .before .before .before .if1 .taken) (c .before .before .before .before .before .before .before .find-end .ensures) (c .before .before .before .before .before .f .given .1) (c .before .before .part .ensures)
+    let after-f = c .before .before .before .before .before in
+    let entry = after-f .before .before .before .before .before .before .before .before .before .before .before .before in
+    unheard-parts (entry .args .text .now) (entry .args .scratch .now) (entry .args .run .now) (entry .args .sent) (after-f .before .before .before .before .before .if1 .taken) (after-f .before .before .find-end .ensures) (after-f .f .given .1) (c .before .before .part .ensures)
 
 store-requires : tie.Need-store-requires
 store-requires c κs =

@@ -20,56 +20,49 @@ Inv-loop text scratch run₀ n i₀ run i = (run ≡ run₀) × Skipped (program
 abbrev μ-loop : tie.MeasureT-loop
 μ-loop text scratch run₀ n i₀ run i = n - i
 
--- src/choosing.rt:30:9
 count-requires : tie.Need-count-requires Inv-loop μ-loop
 count-requires c κs = c .before .before .before .before .pre .0 .wide
 
--- src/choosing.rt:32:5
 loop-holds : tie.Need-loop-holds Inv-loop μ-loop
 loop-holds c = (refl, skipped-none _ _)
 
--- src/choosing.rt:33:13
 step-at-requires : tie.Need-step-at-requires Inv-loop μ-loop
 step-at-requires c κs =
     let s = c .before .before .before .before .before .before .before .before in
     let same = c .before .before .loop .inv .0 in
     (subst (RunOf (s .args .text .now) (s .args .scratch .now)) (sym same) (s .pre .0), (subst (λ l. WellFormed (programIn (s .args .text .now) (s .args .scratch .now)) (configIn (s .args .text .now) (s .args .scratch .now) l)) (sym same) (s .pre .1 .0), s .pre .1 .1))
 
--- src/choosing.rt:34:12
 was-carried-requires : tie.Need-was-carried-requires Inv-loop μ-loop
 was-carried-requires c κs = search needs
 
--- src/choosing.rt:35:13
 same-length : tie.Need-same-length Inv-loop μ-loop
 same-length c = search needs
 
--- src/choosing.rt:35:13
 returns : tie.Need-returns Inv-loop μ-loop
 returns c =
-    let s = c .before .before .before .before .before .before .before .before .before .before .before .before .before in
-    let l = c .before .before .before .before .before .before .before .loop in
-    carries-first (s .args .text .now) (s .args .scratch .now) (s .args .run .now) (l .i) (l .inv .1) (omega (arith, c .before .before .before .before .before .before .loop-test .taken, c .before .before .before .before .before .before .before .before .count .ensures)) (from-same (s .args .text .now) (s .args .scratch .now) (s .args .run .now) (l .i) (l .inv .0) (c .before .before .before .before .step-at .ensures)) (sym (c .before .was-carried .ensures) ∙ c .if1 .taken)
+    let after-loop = c .before .before .before .before .before .before .before in
+    let loop = after-loop .loop in
+    let entry = after-loop .before .before .before .before .before .before in
+    let run = entry .args .run .now in
+    carries-first (entry .args .text .now) (entry .args .scratch .now) run (loop .i) (loop .inv .1) (omega (arith, c .before .before .before .before .before .before .loop-test .taken, after-loop .before .count .ensures)) (from-same (entry .args .text .now) (entry .args .scratch .now) run (loop .i) (loop .inv .0) (c .before .before .before .before .step-at .ensures)) (sym (c .before .was-carried .ensures) ∙ c .if1 .taken)
 
--- src/choosing.rt:37:13
 add-i : tie.Need-add-i Inv-loop μ-loop
 add-i c = search needs
 
--- src/choosing.rt:32:5
 loop-less : tie.Need-loop-less Inv-loop μ-loop
 loop-less c = search needs
 
--- src/choosing.rt:32:5
 loop-again : tie.Need-loop-again Inv-loop μ-loop
 loop-again c =
-    let s = c .before .before .before .before .before .before .before .before .before .before .before .before .before in
-    let l = c .before .before .before .before .before .before .before .loop in
-    skips (s .args .text .now) (s .args .scratch .now) (s .args .run .now) (l .i) (l .inv .1) (omega (arith, c .before .before .before .before .before .before .loop-test .taken, c .before .before .before .before .before .before .before .before .count .ensures)) (from-same (s .args .text .now) (s .args .scratch .now) (s .args .run .now) (l .i) (l .inv .0) (c .before .before .before .before .step-at .ensures)) (sym (c .before .was-carried .ensures) ∙ c .if1 .left)
+    let after-loop = c .before .before .before .before .before .before .before in
+    let loop = after-loop .loop in
+    let entry = after-loop .before .before .before .before .before .before in
+    let run = entry .args .run .now in
+    skips (entry .args .text .now) (entry .args .scratch .now) run (loop .i) (loop .inv .1) (omega (arith, c .before .before .before .before .before .before .loop-test .taken, after-loop .before .count .ensures)) (from-same (entry .args .text .now) (entry .args .scratch .now) run (loop .i) (loop .inv .0) (c .before .before .before .before .step-at .ensures)) (sym (c .before .was-carried .ensures) ∙ c .if1 .left)
 
--- src/choosing.rt:24:1
 same-length-2 : tie.Need-same-length-2 Inv-loop μ-loop
 same-length-2 c = search needs
 
--- src/choosing.rt:24:1
 returns-2 : tie.Need-returns-2 Inv-loop μ-loop
 returns-2 c =
     let s = c .before .before .before .before .before .before .before in

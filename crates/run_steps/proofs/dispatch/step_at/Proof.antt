@@ -9,67 +9,72 @@ use borrow.Author.Needs.{needs}
 use Rattle.run_steps.proofs.dispatch.step_at.Statement.{statement}
 use Rattle.run_steps.proofs.dispatch.step_at.Tie as tie
 
--- src/dispatch.rt:96:8
 count-requires : tie.Need-count-requires
 count-requires c κs = c .before .before .before .before .pre .0 .wide
 
--- src/dispatch.rt:97:9
 same-length : tie.Need-same-length
 same-length c = search needs
 
--- src/dispatch.rt:97:9
 returns : tie.Need-returns
 returns c =
     let s = c .before .before .before .before .before .before in
     steps-nowhere (s .args .text .now) (s .args .scratch .now) (s .args .run .now) (s .args .place) (omega (arith, c .if1 .taken, c .before .count .ensures))
 
--- src/dispatch.rt:99:9
 load-requires : tie.Need-load-requires
 load-requires c κs =
     let s = c .before .before .before .before .before .before .before in
     (s .pre .0 .wide, (s .pre .0 .bounds, omega (arith, c .before .if1 .left, c .before .before .count .ensures)))
 
--- src/dispatch.rt:101:9
 step-running-requires : tie.Need-step-running-requires
 step-running-requires c κs =
-    let s = c .before .before .before .before .before .before .before .before .before .before .before in
-    (s .pre .0, ((stands-at (s .args .text .now) (s .args .scratch .now) (s .args .run .now) (s .args .place) (c .before .before .before .load .result) (s .pre .0) (c .before .before .before .load .ensures .0) (c .before .before .before .load .ensures .1 .0) (c .before .before .before .load .ensures .1 .1)), (s .pre .1 .0, (s .pre .1 .1, c .before .if2 .taken))))
+    let load = c .before .before .before .load in
+    let entry = c .before .before .before .before .before .before .before .before .before .before .before in
+    (entry .pre .0, ((stands-at (entry .args .text .now) (entry .args .scratch .now) (entry .args .run .now) (entry .args .place) (load .result) (entry .pre .0) (load .ensures .0) (load .ensures .1 .0) (load .ensures .1 .1)), (entry .pre .1 .0, (entry .pre .1 .1, c .before .if2 .taken))))
 
--- src/dispatch.rt:101:9
 same-length-2 : tie.Need-same-length-2
 same-length-2 c = search needs
 
--- src/dispatch.rt:101:9
 returns-2 : tie.Need-returns-2
 returns-2 c =
-    let s = c .before .before .before .before .before .before .before .before .before .before .before .before .before .before in
-    steps-as (s .args .text .now) (s .args .scratch .now) (s .args .run .now) (s .pre .0) (s .pre .1 .0) (s .args .place) (c .before .before .before .before .before .before .load .result) (stands-at (s .args .text .now) (s .args .scratch .now) (s .args .run .now) (s .args .place) (c .before .before .before .before .before .before .load .result) (s .pre .0) (c .before .before .before .before .before .before .load .ensures .0) (c .before .before .before .before .before .before .load .ensures .1 .0) (c .before .before .before .before .before .before .load .ensures .1 .1)) 0 (c .before .before .before .before .if2 .taken) (c .before .before .step-running .ensures)
+    let after-if2 = c .before .before .before .before in
+    let load = after-if2 .before .before .load in
+    let entry = after-if2 .before .before .before .before .before .before .before .before .before .before in
+    let run = entry .args .run .now in
+    steps-as (entry .args .text .now) (entry .args .scratch .now) run (entry .pre .0) (entry .pre .1 .0) (entry .args .place) (load .result) (stands-at (entry .args .text .now) (entry .args .scratch .now) run (entry .args .place) (load .result) (entry .pre .0) (load .ensures .0) (load .ensures .1 .0) (load .ensures .1 .1)) 0 (after-if2 .if2 .taken) (c .before .before .step-running .ensures)
 
--- src/dispatch.rt:104:9
 fold-up-requires : tie.Need-fold-up-requires
 fold-up-requires c κs =
-    let s = c .before .before .before .before .before .before .before .before .before .before .before .before .before in
-    (s .pre .0, ((stands-at (s .args .text .now) (s .args .scratch .now) (s .args .run .now) (s .args .place) (c .before .before .before .before .before .load .result) (s .pre .0) (c .before .before .before .before .before .load .ensures .0) (c .before .before .before .before .before .load .ensures .1 .0) (c .before .before .before .before .before .load .ensures .1 .1)), unlinked-here (s .args .text .now) (s .args .scratch .now) (s .args .run .now) (s .pre .1 .0) (s .args .place) (c .before .before .before .before .before .load .result) (stands-at (s .args .text .now) (s .args .scratch .now) (s .args .run .now) (s .args .place) (c .before .before .before .before .before .load .result) (s .pre .0) (c .before .before .before .before .before .load .ensures .0) (c .before .before .before .before .before .load .ensures .1 .0) (c .before .before .before .before .before .load .ensures .1 .1)) (ap (λ k. isWaiting (doingAs (s .args .text .now) (s .args .scratch .now) k (c .before .before .before .before .before .load .result .pointer))) (c .before .if3 .taken))))
+    let load = c .before .before .before .before .before .load in
+    let entry = c .before .before .before .before .before .before .before .before .before .before .before .before .before in
+    let text = entry .args .text .now in
+    let scratch = entry .args .scratch .now in
+    let run = entry .args .run .now in
+    let place = entry .args .place in
+    (entry .pre .0, ((stands-at text scratch run place (load .result) (entry .pre .0) (load .ensures .0) (load .ensures .1 .0) (load .ensures .1 .1)), unlinked-here text scratch run (entry .pre .1 .0) place (load .result) (stands-at text scratch run place (load .result) (entry .pre .0) (load .ensures .0) (load .ensures .1 .0) (load .ensures .1 .1)) (ap (λ k. isWaiting (doingAs text scratch k (load .result .pointer))) (c .before .if3 .taken))))
 
--- src/dispatch.rt:104:9
 same-length-3 : tie.Need-same-length-3
 same-length-3 c = search needs
 
--- src/dispatch.rt:104:9
 returns-3 : tie.Need-returns-3
 returns-3 c =
-    let s = c .before .before .before .before .before .before .before .before .before .before .before .before .before .before .before .before in
-    steps-as (s .args .text .now) (s .args .scratch .now) (s .args .run .now) (s .pre .0) (s .pre .1 .0) (s .args .place) (c .before .before .before .before .before .before .before .before .load .result) (stands-at (s .args .text .now) (s .args .scratch .now) (s .args .run .now) (s .args .place) (c .before .before .before .before .before .before .before .before .load .result) (s .pre .0) (c .before .before .before .before .before .before .before .before .load .ensures .0) (c .before .before .before .before .before .before .before .before .load .ensures .1 .0) (c .before .before .before .before .before .before .before .before .load .ensures .1 .1)) 1 (c .before .before .before .before .if3 .taken) (c .before .before .fold-up .ensures)
+    let after-load = c .before .before .before .before .before .before .before .before in
+    let load = after-load .load in
+    let entry = after-load .before .before .before .before .before .before .before .before in
+    let run = entry .args .run .now in
+    steps-as (entry .args .text .now) (entry .args .scratch .now) run (entry .pre .0) (entry .pre .1 .0) (entry .args .place) (load .result) (stands-at (entry .args .text .now) (entry .args .scratch .now) run (entry .args .place) (load .result) (entry .pre .0) (load .ensures .0) (load .ensures .1 .0) (load .ensures .1 .1)) 1 (c .before .before .before .before .if3 .taken) (c .before .before .fold-up .ensures)
 
--- src/dispatch.rt:90:1
 same-length-4 : tie.Need-same-length-4
 same-length-4 c = search needs
 
--- src/dispatch.rt:90:1
 returns-4 : tie.Need-returns-4
 returns-4 c =
-    let s = c .before .before .before .before .before .before .before .before .before .before .before .before in
-    steps-as (s .args .text .now) (s .args .scratch .now) (s .args .run .now) (s .pre .0) (s .pre .1 .0) (s .args .place) (c .before .before .before .before .load .result) (stands-at (s .args .text .now) (s .args .scratch .now) (s .args .run .now) (s .args .place) (c .before .before .before .before .load .result) (s .pre .0) (c .before .before .before .before .load .ensures .0) (c .before .before .before .before .load .ensures .1 .0) (c .before .before .before .before .load .ensures .1 .1)) 2 (omega (arith, (stands-at (s .args .text .now) (s .args .scratch .now) (s .args .run .now) (s .args .place) (c .before .before .before .before .load .result) (s .pre .0) (c .before .before .before .before .load .ensures .0) (c .before .before .before .before .load .ensures .1 .0) (c .before .before .before .before .load .ensures .1 .1)) .is .kind, c .before .before .if2 .left, c .if3 .left)) (record { is = (refl, refl) })
+    let load = c .before .before .before .before .load in
+    let entry = c .before .before .before .before .before .before .before .before .before .before .before .before in
+    let text = entry .args .text .now in
+    let scratch = entry .args .scratch .now in
+    let run = entry .args .run .now in
+    let place = entry .args .place in
+    steps-as text scratch run (entry .pre .0) (entry .pre .1 .0) place (load .result) (stands-at text scratch run place (load .result) (entry .pre .0) (load .ensures .0) (load .ensures .1 .0) (load .ensures .1 .1)) 2 (omega (arith, (stands-at text scratch run place (load .result) (entry .pre .0) (load .ensures .0) (load .ensures .1 .0) (load .ensures .1 .1)) .is .kind, c .before .before .if2 .left, c .if3 .left)) (record { is = (refl, refl) })
 
 pub step-at-spec : {M : Type 1} → statement M
 step-at-spec =

@@ -11,65 +11,53 @@ use Rattle.run_alone.proofs.forwarding.forward.Reads as forward-reads
 use Rattle.run_alone.proofs.handlers.raise.Reads as raise-reads
 use Rattle.run_alone.proofs.making.try_both.Reads as try-both-reads
 
--- src/dispatch.rt:45:14
 forward-requires : tie.Need-forward-requires
 forward-requires c κs = let s = c .before .before .before .before .before in (s .pre .0, s .pre .1 .0)
 
--- src/dispatch.rt:45:14
 same-length : tie.Need-same-length
 same-length c = search needs
 
--- src/dispatch.rt:45:14
 returns : tie.Need-returns
 returns c = let s = c .before .before .before .before .before .before .before .before in ruled-as (s .args .text .now) (s .args .scratch .now) (s .args .run .now) (s .args .place) (s .args .p) (s .args .n) (s .pre .1 .1 .1 .0) 9 (c .before .before .before .before .match .keys1) (c .before .before .forward .ensures)
 
--- src/dispatch.rt:46:15
 call-requires : tie.Need-call-requires
 call-requires c κs = let s = c .before .before .before .before .before in (s .pre .0, (s .pre .1 .0, call-in (s .args .text .now) (s .args .scratch .now) (s .args .run .now) (s .args .place) (s .args .p) (s .args .n) (s .pre .1 .1 .1 .0) (s .pre .1 .1 .0) (c .before .match .keys2)))
 
--- src/dispatch.rt:46:15
 same-length-2 : tie.Need-same-length-2
 same-length-2 c = search needs
 
--- src/dispatch.rt:46:15
 returns-2 : tie.Need-returns-2
 returns-2 c = let s = c .before .before .before .before .before .before .before .before in ruled-as (s .args .text .now) (s .args .scratch .now) (s .args .run .now) (s .args .place) (s .args .p) (s .args .n) (s .pre .1 .1 .1 .0) 10 (c .before .before .before .before .match .keys2) (c .before .before .call .ensures)
 
--- src/dispatch.rt:47:58
 cast-raise : tie.Need-cast-raise
 cast-raise c = let s = c .before .before .before .before .before .before in omega (arith, pointer-small (s .args .text .now) (s .args .scratch .now) _ (s .pre .0 .tables) (facts-at (s .args .text .now) (s .args .scratch .now) (s .args .run .now) (s .args .place) (s .args .p) (s .args .n) (s .pre .1 .1 .1 .0) 11 (c .before .before .match .keys3)))
 
--- src/dispatch.rt:47:15
 raise-requires : tie.Need-raise-requires
 raise-requires c κs = let s = c .before .before .before .before .before .before in (s .pre .0, (s .pre .1 .0, facts-at (s .args .text .now) (s .args .scratch .now) (s .args .run .now) (s .args .place) (s .args .p) (s .args .n) (s .pre .1 .1 .1 .0) 11 (c .before .before .match .keys3)))
 
--- src/dispatch.rt:47:15
 same-length-3 : tie.Need-same-length-3
 same-length-3 c = search needs
 
--- src/dispatch.rt:47:15
 returns-3 : tie.Need-returns-3
 returns-3 c = let s = c .before .before .before .before .before .before .before .before .before in ruled-as (s .args .text .now) (s .args .scratch .now) (s .args .run .now) (s .args .place) (s .args .p) (s .args .n) (s .pre .1 .1 .1 .0) 11 (c .before .before .before .before .before .match .keys3) (c .before .before .raise .ensures)
 
--- src/dispatch.rt:54:13
 cast-try-both : tie.Need-cast-try-both
 cast-try-both c = let s = c .before .before .before .before .before .before in omega (arith, pointer-small (s .args .text .now) (s .args .scratch .now) _ (s .pre .0 .tables) (try-parts (s .args .text .now) (s .args .scratch .now) (s .args .run .now) (s .args .place) (s .args .p) (s .args .n) (s .pre .1 .1 .1 .0) (omega (arith, s .pre .1 .1 .1 .1, c .before .before .match .rest .1, c .before .before .match .rest .0 .1, c .before .before .match .rest .0 .0 .1)) .0))
 
--- src/dispatch.rt:55:13
 cast-try-both-2 : tie.Need-cast-try-both-2
 cast-try-both-2 c = let s = c .before .before .before .before .before .before .before in omega (arith, pointer-small (s .args .text .now) (s .args .scratch .now) _ (s .pre .0 .tables) (try-parts (s .args .text .now) (s .args .scratch .now) (s .args .run .now) (s .args .place) (s .args .p) (s .args .n) (s .pre .1 .1 .1 .0) (omega (arith, s .pre .1 .1 .1 .1, c .before .before .before .match .rest .1, c .before .before .before .match .rest .0 .1, c .before .before .before .match .rest .0 .0 .1)) .1))
 
--- src/dispatch.rt:48:14
 try-both-requires : tie.Need-try-both-requires
 try-both-requires c κs = let s = c .before .before .before .before .before .before .before in let f = try-parts (s .args .text .now) (s .args .scratch .now) (s .args .run .now) (s .args .place) (s .args .p) (s .args .n) (s .pre .1 .1 .1 .0) (omega (arith, s .pre .1 .1 .1 .1, c .before .before .before .match .rest .1, c .before .before .before .match .rest .0 .1, c .before .before .before .match .rest .0 .0 .1)) in (s .pre .0, (s .pre .1 .0, (f .0, f .1)))
 
--- src/dispatch.rt:48:14
 same-length-4 : tie.Need-same-length-4
 same-length-4 c = search needs
 
--- src/dispatch.rt:48:14
 returns-4 : tie.Need-returns-4
-returns-4 c = let s = c .before .before .before .before .before .before .before .before .before .before in ruled-try (s .args .text .now) (s .args .scratch .now) (s .args .run .now) (s .args .place) (s .args .p) (s .args .n) (s .pre .1 .1 .1 .0) (omega (arith, s .pre .1 .1 .1 .1, c .before .before .before .before .before .before .match .rest .1, c .before .before .before .before .before .before .match .rest .0 .1, c .before .before .before .before .before .before .match .rest .0 .0 .1)) (c .before .before .try-both .ensures)
+returns-4 c =
+    let match = c .before .before .before .before .before .before .match in
+    let entry = c .before .before .before .before .before .before .before .before .before .before in
+    ruled-try (entry .args .text .now) (entry .args .scratch .now) (entry .args .run .now) (entry .args .place) (entry .args .p) (entry .args .n) (entry .pre .1 .1 .1 .0) (omega (arith, entry .pre .1 .1 .1 .1, match .rest .1, match .rest .0 .1, match .rest .0 .0 .1)) (c .before .before .try-both .ensures)
 
 pub step-ending-spec : {M : Type 1} → statement M
 step-ending-spec =

@@ -13,87 +13,70 @@ use Rattle.run_alone.proofs.making.spawn.Reads as spawn-reads
 use Rattle.run_messages.proofs.meeting.send.Reads as send-reads
 use Rattle.run_alone.proofs.parting.cancel.Reads as cancel-reads
 
--- src/dispatch.rt:78:14
 returns : tie.Need-returns
 returns c = let s = c .before .before .before .before in absurd (facts-at (s .args .text .now) (s .args .scratch .now) (s .args .run .now) (s .args .place) (s .args .p) (s .args .n) (s .pre .1 .1 .1 .1) 0 (c .match .keys1))
 
--- src/dispatch.rt:80:67
 cast-cancel : tie.Need-cast-cancel
 cast-cancel c = let s = c .before .before .before .before .before .before in omega (arith, pointer-small (s .args .text .now) (s .args .scratch .now) _ (s .pre .0 .tables) (facts-at (s .args .text .now) (s .args .scratch .now) (s .args .run .now) (s .args .place) (s .args .p) (s .args .n) (s .pre .1 .1 .1 .1) 4 (c .before .before .match .keys2)))
 
--- src/dispatch.rt:80:14
 cancel-requires : tie.Need-cancel-requires
 cancel-requires c κs = let s = c .before .before .before .before .before .before in (s .pre .0, (s .pre .1 .0, facts-at (s .args .text .now) (s .args .scratch .now) (s .args .run .now) (s .args .place) (s .args .p) (s .args .n) (s .pre .1 .1 .1 .1) 4 (c .before .before .match .keys2)))
 
--- src/dispatch.rt:80:14
 same-length : tie.Need-same-length
 same-length c = search needs
 
--- src/dispatch.rt:80:14
 returns-2 : tie.Need-returns-2
 returns-2 c = let s = c .before .before .before .before .before .before .before .before .before in ruled-as (s .args .text .now) (s .args .scratch .now) (s .args .run .now) (s .args .place) (s .args .p) (s .args .n) (s .pre .1 .1 .1 .1) 4 (c .before .before .before .before .before .match .keys2) (c .before .before .cancel .ensures)
 
--- src/dispatch.rt:83:23
 cast-t12 : tie.Need-cast-t12
 cast-t12 c = let s = c .before .before .before .before .before in omega (arith, (s .pre .1 .1 .1 .1) .at)
 
--- src/dispatch.rt:84:23
 cast-t13 : tie.Need-cast-t13
 cast-t13 c = let s = c .before .before .before .before .before .before in omega (arith, node-there (s .args .text .now) (s .args .scratch .now) (s .pre .0 .tables) _ (facts-at (s .args .text .now) (s .args .scratch .now) (s .args .run .now) (s .args .place) (s .args .p) (s .args .n) (s .pre .1 .1 .1 .1) 5 (c .before .before .match .keys3) .0))
 
--- src/dispatch.rt:85:24
 cast-t14 : tie.Need-cast-t14
 cast-t14 c = let s = c .before .before .before .before .before .before .before in omega (arith, pointer-small (s .args .text .now) (s .args .scratch .now) _ (s .pre .0 .tables) (facts-at (s .args .text .now) (s .args .scratch .now) (s .args .run .now) (s .args .place) (s .args .p) (s .args .n) (s .pre .1 .1 .1 .1) 5 (c .before .before .before .match .keys3) .1))
 
--- src/dispatch.rt:86:25
 cast-t15 : tie.Need-cast-t15
 cast-t15 c = let s = c .before .before .before .before .before .before .before .before in omega (arith, pointer-small (s .args .text .now) (s .args .scratch .now) _ (s .pre .0 .tables) (facts-at (s .args .text .now) (s .args .scratch .now) (s .args .run .now) (s .args .place) (s .args .p) (s .args .n) (s .pre .1 .1 .1 .1) 5 (c .before .before .before .before .match .keys3) .2))
 
--- src/dispatch.rt:88:13
 spawn-requires : tie.Need-spawn-requires
 spawn-requires c κs = let s = c .before .before .before .before .before .before .before .before .before in (s .pre .0, (s .pre .1 .0, spawn-in (s .args .text .now) (s .args .scratch .now) (s .args .run .now) (s .args .place) (s .args .p) (s .args .n) (s .pre .1 .1 .1 .1) (c .before .before .before .before .before .match .keys3)))
 
--- src/dispatch.rt:88:13
 same-length-2 : tie.Need-same-length-2
 same-length-2 c = search needs
 
--- src/dispatch.rt:88:13
 returns-3 : tie.Need-returns-3
 returns-3 c = let s = c .before .before .before .before .before .before .before .before .before .before .before .before in ruled-as (s .args .text .now) (s .args .scratch .now) (s .args .run .now) (s .args .place) (s .args .p) (s .args .n) (s .pre .1 .1 .1 .1) 5 (c .before .before .before .before .before .before .before .before .match .keys3) (c .before .before .spawn .ensures)
 
--- src/dispatch.rt:79:18
 send-requires : tie.Need-send-requires
 send-requires c κs = let s = c .before .before .before .before .before .before in (s .pre .0, (s .pre .1 .0, (send-node (s .args .text .now) (s .args .scratch .now) (s .args .run .now) (s .args .place) (s .args .p) (s .args .n) (s .pre .1 .1 .1 .1) (omega (arith, c .before .before .match .rest .0 .0 .1)) (omega (arith, c .before .if1 .taken)), s .pre .1 .1 .0)))
 
--- src/dispatch.rt:79:18
 same-length-3 : tie.Need-same-length-3
 same-length-3 c = search needs
 
--- src/dispatch.rt:79:18
 returns-4 : tie.Need-returns-4
 returns-4 c = let s = c .before .before .before .before .before .before .before .before .before in ruled-send (s .args .text .now) (s .args .scratch .now) (s .args .run .now) (s .args .place) (s .args .p) (s .args .n) (s .pre .1 .1 .1 .1) (omega (arith, c .before .before .before .before .before .match .rest .0 .0 .1)) (omega (arith, c .before .before .before .before .if1 .taken)) (c .before .before .send .ensures)
 
--- src/dispatch.rt:90:18
 receive-requires : tie.Need-receive-requires
 receive-requires c κs = let s = c .before .before .before .before .before .before .before in (s .pre .0, (s .pre .1 .0, s .pre .1 .1 .0))
 
--- src/dispatch.rt:90:18
 same-length-4 : tie.Need-same-length-4
 same-length-4 c = search needs
 
--- src/dispatch.rt:90:18
 returns-5 : tie.Need-returns-5
-returns-5 c = let s = c .before .before .before .before .before .before .before .before .before .before in ruled-receive (s .args .text .now) (s .args .scratch .now) (s .args .run .now) (s .args .place) (s .args .p) (s .args .n) (s .pre .1 .1 .1 .1) (omega (arith, c .before .before .before .before .before .if1 .left, c .before .before .before .before .before .before .match .rest .1, c .before .before .before .before .before .before .match .rest .0 .1, c .before .before .before .before .before .before .match .rest .0 .0 .1)) (omega (arith, c .before .before .before .before .if2 .taken)) (c .before .before .receive .ensures)
+returns-5 c =
+    let after-if2 = c .before .before .before .before in
+    let match = after-if2 .before .before .match in
+    let entry = after-if2 .before .before .before .before .before .before in
+    ruled-receive (entry .args .text .now) (entry .args .scratch .now) (entry .args .run .now) (entry .args .place) (entry .args .p) (entry .args .n) (entry .pre .1 .1 .1 .1) (omega (arith, after-if2 .before .if1 .left, match .rest .1, match .rest .0 .1, match .rest .0 .0 .1)) (omega (arith, after-if2 .if2 .taken)) (c .before .before .receive .ensures)
 
--- src/dispatch.rt:91:16
 step-ending-requires : tie.Need-step-ending-requires
 step-ending-requires c κs = let s = c .before .before .before .before .before .before .before in (s .pre .0, (s .pre .1 .0, (s .pre .1 .1 .1 .0, ((s .pre .1 .1 .1 .1), omega (arith, c .before .if2 .left)))))
 
--- src/dispatch.rt:91:16
 same-length-5 : tie.Need-same-length-5
 same-length-5 c = search needs
 
--- src/dispatch.rt:91:16
 returns-6 : tie.Need-returns-6
 returns-6 c = c .before .before .step-ending .ensures
 

@@ -9,16 +9,22 @@ count-requires : tie.Need-count-requires
 count-requires c κs = search needs
 
 returns : tie.Need-returns
-returns c = spent-done (c .before .before .before .before .before .args .text .now) (c .before .before .before .before .before .args .scratch .now) (c .before .before .before .before .before .args .run .now) (c .before .before .before .before .before .args .taken) (sym (c .before .count .ensures) ∙ c .if1 .taken)
+returns c =
+    let entry = c .before .before .before .before .before in
+    spent-done (entry .args .text .now) (entry .args .scratch .now) (entry .args .run .now) (entry .args .taken) (sym (c .before .count .ensures) ∙ c .if1 .taken)
 
 can-go-on-requires : tie.Need-can-go-on-requires
 can-go-on-requires c κs = search needs
 
 returns-2 : tie.Need-returns-2
-returns-2 c = spent-stopped (c .before .before .before .before .before .before .before .args .text .now) (c .before .before .before .before .before .before .before .args .scratch .now) (c .before .before .before .before .before .before .before .args .run .now) (c .before .before .before .before .before .before .before .args .taken) (omega (arith, c .before .before .if1 .left, c .before .before .before .count .ensures)) (sym (c .before .can-go-on .ensures) ∙ c .if2 .taken)
+returns-2 c =
+    let entry = c .before .before .before .before .before .before .before in
+    spent-stopped (entry .args .text .now) (entry .args .scratch .now) (entry .args .run .now) (entry .args .taken) (omega (arith, c .before .before .if1 .left, c .before .before .before .count .ensures)) (sym (c .before .can-go-on .ensures) ∙ c .if2 .taken)
 
 returns-3 : tie.Need-returns-3
-returns-3 c = spent-full (c .before .before .before .before .before .before .before .args .text .now) (c .before .before .before .before .before .before .before .args .scratch .now) (c .before .before .before .before .before .before .before .args .run .now) (c .before .before .before .before .before .before .before .args .taken) (omega (arith, c .before .before .if1 .left, c .before .before .before .count .ensures)) (sym (c .before .can-go-on .ensures) ∙ c .if2 .left)
+returns-3 c =
+    let entry = c .before .before .before .before .before .before .before in
+    spent-full (entry .args .text .now) (entry .args .scratch .now) (entry .args .run .now) (entry .args .taken) (omega (arith, c .before .before .if1 .left, c .before .before .before .count .ensures)) (sym (c .before .can-go-on .ensures) ∙ c .if2 .left)
 
 pub spent-spec : {M : Type 1} → statement M
 spent-spec = tie.close (tie.spec count-requires returns can-go-on-requires returns-2 returns-3)

@@ -21,7 +21,9 @@ same-length : tie.Need-same-length
 same-length c = search needs
 
 returns : tie.Need-returns
-returns c = ends-spent (c .before .before .before .before .before .before .before .before .before .before .before .args .text .now) (c .before .before .before .before .before .before .before .before .before .before .before .args .scratch .now) (c .before .before .before .before .before .before .before .before .before .before .before .args .run .now) (c .before .before .before .before .before .before .before .before .before .before .before .args .budget) (by-spent (c .before .before .before .before .before .before .steps-within .ensures) (c .before .before .enum-told .given .1)) (c .spent .ensures)
+returns c =
+    let entry = c .before .before .before .before .before .before .before .before .before .before .before in
+    ends-spent (entry .args .text .now) (entry .args .scratch .now) (entry .args .run .now) (entry .args .budget) (by-spent (c .before .before .before .before .before .before .steps-within .ensures) (c .before .before .enum-told .given .1)) (c .spent .ensures)
 
 same-length-2 : tie.Need-same-length-2
 same-length-2 c = search needs

@@ -19,85 +19,89 @@ Inv-loop text scratch run₀ budget taken₀ run taken = Running text scratch ru
 abbrev μ-loop : tie.MeasureT-loop
 μ-loop text scratch run₀ budget taken₀ run taken = budget - taken
 
--- src/running.rt:42:5
 loop-holds : tie.Need-loop-holds Inv-loop μ-loop
-loop-holds c = (running-start (c .before .before .before .args .text .now) (c .before .before .before .args .scratch .now) (c .before .before .before .args .run .now) (c .before .before .before .args .budget) (c .before .before .before .pre .0) (c .before .before .before .pre .1 .0), omega arith)
+loop-holds c =
+    let entry = c .before .before .before in
+    (running-start (entry .args .text .now) (entry .args .scratch .now) (entry .args .run .now) (entry .args .budget) (entry .pre .0) (entry .pre .1 .0), omega arith)
 
--- src/running.rt:43:12
 count-requires : tie.Need-count-requires Inv-loop μ-loop
 count-requires c κs = c .before .before .loop .inv .0 .becomes .run .wide
 
--- src/running.rt:44:13
 same-length : tie.Need-same-length Inv-loop μ-loop
 same-length c = search needs
 
--- src/running.rt:44:13
 returns : tie.Need-returns Inv-loop μ-loop
-returns c = record { is = ends-done (c .before .before .before .before .before .before .before .before .args .text .now) (c .before .before .before .before .before .before .before .before .args .scratch .now) (c .before .before .before .before .before .before .before .before .args .run .now) (c .before .before .before .before .before .before .before .before .args .budget) (c .before .before .before .before .loop .taken) (c .before .before .before .before .loop .inv .0) (sym (c .before .count .ensures) ∙ c .if1 .taken) }
+returns c =
+    let loop = c .before .before .before .before .loop in
+    let entry = c .before .before .before .before .before .before .before .before in
+    record { is = ends-done (entry .args .text .now) (entry .args .scratch .now) (entry .args .run .now) (entry .args .budget) (loop .taken) (loop .inv .0) (sym (c .before .count .ensures) ∙ c .if1 .taken) }
 
--- src/running.rt:46:13
 step-first-requires : tie.Need-step-first-requires Inv-loop μ-loop
 step-first-requires c κs = (c .before .before .before .before .before .loop .inv .0 .becomes .run, (c .before .before .before .before .before .loop .inv .0 .formed, small-signatures (c .before .before .before .before .before .before .before .before .before .pre .1 .1)))
 
--- src/running.rt:48:30
 enum-known-o : tie.Need-enum-known-o Inv-loop μ-loop
 enum-known-o c = search needs
 
--- src/running.rt:49:25
 add-taken : tie.Need-add-taken Inv-loop μ-loop
 add-taken c = search needs
 
--- src/running.rt:50:21
 shows-requires : tie.Need-shows-requires Inv-loop μ-loop
 shows-requires c κs = search needs
 
--- src/running.rt:51:21
 same-length-2 : tie.Need-same-length-2 Inv-loop μ-loop
 same-length-2 c = search needs
 
--- src/running.rt:51:21
 returns-2 : tie.Need-returns-2 Inv-loop μ-loop
-returns-2 c = record { is = ends-shown (c .before .before .before .before .before .before .before .before .before .before .before .before .before .before .before .before .before .args .text .now) (c .before .before .before .before .before .before .before .before .before .before .before .before .before .before .before .before .before .args .scratch .now) (c .before .before .before .before .before .before .before .before .before .before .before .before .before .before .before .before .before .args .run .now) (c .before .before .before .before .before .before .before .before .before .before .before .before .before .before .before .before .before .args .budget) (c .before .before .before .before .before .before .before .before .before .before .before .before .before .loop .taken) (c .before .before .before .before .before .before .before .before .before .before .before .before .before .loop .inv .0) (c .before .before .before .before .before .before .before .before .before .before .before .before .loop-test .taken) (omega (arith, c .before .before .before .before .before .before .before .before .before .if1 .left, c .before .before .before .before .before .before .before .before .before .before .count .ensures)) (c .before .before .before .o .given .1) (c .before .before .before .before .before .before .before .step-first .ensures) (c .before .before .before .before .before .before .before .before .before .before .before .before .before .before .before .before .before .pre .1 .1) (sym (c .before .shows .ensures) ∙ c .if2 .taken) }
+returns-2 c =
+    let after-if1 = c .before .before .before .before .before .before .before .before .before in
+    let loop = after-if1 .before .before .before .before .loop in
+    let entry = after-if1 .before .before .before .before .before .before .before .before in
+    record { is = ends-shown (entry .args .text .now) (entry .args .scratch .now) (entry .args .run .now) (entry .args .budget) (loop .taken) (loop .inv .0) (after-if1 .before .before .before .loop-test .taken) (omega (arith, after-if1 .if1 .left, after-if1 .before .count .ensures)) (c .before .before .before .o .given .1) (c .before .before .before .before .before .before .before .step-first .ensures) (entry .pre .1 .1) (sym (c .before .shows .ensures) ∙ c .if2 .taken) }
 
--- src/running.rt:42:5
 loop-less : tie.Need-loop-less Inv-loop μ-loop
 loop-less c = search needs
 
--- src/running.rt:42:5
 loop-again : tie.Need-loop-again Inv-loop μ-loop
-loop-again c = (running-on (c .before .before .before .before .before .before .before .before .before .before .before .before .before .before .before .before .before .args .text .now) (c .before .before .before .before .before .before .before .before .before .before .before .before .before .before .before .before .before .args .scratch .now) (c .before .before .before .before .before .before .before .before .before .before .before .before .before .before .before .before .before .args .run .now) (c .before .before .before .before .before .before .before .before .before .before .before .before .before .before .before .before .before .args .budget) (c .before .before .before .before .before .before .before .before .before .before .before .before .before .loop .taken) (c .before .before .before .before .before .before .before .before .before .before .before .before .before .loop .inv .0) (c .before .before .before .before .before .before .before .before .before .before .before .before .loop-test .taken) (omega (arith, c .before .before .before .before .before .before .before .before .before .if1 .left, c .before .before .before .before .before .before .before .before .before .before .count .ensures)) (c .before .before .before .o .given .1) (c .before .before .before .before .before .before .before .step-first .ensures) (c .before .before .before .before .before .before .before .before .before .before .before .before .before .before .before .before .before .pre .1 .1) (sym (c .before .shows .ensures) ∙ c .if2 .left), omega (arith, c .before .before .before .before .before .before .before .before .before .before .before .before .loop-test .taken))
+loop-again c =
+    let after-if1 = c .before .before .before .before .before .before .before .before .before in
+    let loop-test = after-if1 .before .before .before .loop-test in
+    let loop = after-if1 .before .before .before .before .loop in
+    let entry = after-if1 .before .before .before .before .before .before .before .before in
+    (running-on (entry .args .text .now) (entry .args .scratch .now) (entry .args .run .now) (entry .args .budget) (loop .taken) (loop .inv .0) (loop-test .taken) (omega (arith, after-if1 .if1 .left, after-if1 .before .count .ensures)) (c .before .before .before .o .given .1) (c .before .before .before .before .before .before .before .step-first .ensures) (entry .pre .1 .1) (sym (c .before .shows .ensures) ∙ c .if2 .left), omega (arith, loop-test .taken))
 
--- src/running.rt:54:54
 enum-told : tie.Need-enum-told Inv-loop μ-loop
 enum-told c = search needs
 
--- src/running.rt:54:33
 same-length-3 : tie.Need-same-length-3 Inv-loop μ-loop
 same-length-3 c = search needs
 
--- src/running.rt:54:33
 returns-3 : tie.Need-returns-3 Inv-loop μ-loop
-returns-3 c = record { is = ends-full (c .before .before .before .before .before .before .before .before .before .before .before .before .before .before .args .text .now) (c .before .before .before .before .before .before .before .before .before .before .before .before .before .before .args .scratch .now) (c .before .before .before .before .before .before .before .before .before .before .before .before .before .before .args .run .now) (c .before .before .before .before .before .before .before .before .before .before .before .before .before .before .args .budget) (c .before .before .before .before .before .before .before .before .before .before .loop .taken) (c .before .before .before .before .before .before .before .before .before .before .loop .inv .0) (c .before .before .before .before .before .before .before .before .before .loop-test .taken) (omega (arith, c .before .before .before .before .before .before .if1 .left, c .before .before .before .before .before .before .before .count .ensures)) (c .before .before .before .before .step-first .ensures) (ap wasCarried (c .enum-told .given .1)) }
+returns-3 c =
+    let after-if1 = c .before .before .before .before .before .before in
+    let loop = after-if1 .before .before .before .before .loop in
+    let entry = after-if1 .before .before .before .before .before .before .before .before in
+    record { is = ends-full (entry .args .text .now) (entry .args .scratch .now) (entry .args .run .now) (entry .args .budget) (loop .taken) (loop .inv .0) (after-if1 .before .before .before .loop-test .taken) (omega (arith, after-if1 .if1 .left, after-if1 .before .count .ensures)) (c .before .before .before .before .step-first .ensures) (ap wasCarried (c .enum-told .given .1)) }
 
--- src/running.rt:55:54
 enum-told-2 : tie.Need-enum-told-2 Inv-loop μ-loop
 enum-told-2 c = search needs
 
--- src/running.rt:55:33
 same-length-4 : tie.Need-same-length-4 Inv-loop μ-loop
 same-length-4 c = search needs
 
--- src/running.rt:55:33
 returns-4 : tie.Need-returns-4 Inv-loop μ-loop
-returns-4 c = record { is = ends-full (c .before .before .before .before .before .before .before .before .before .before .before .before .before .before .args .text .now) (c .before .before .before .before .before .before .before .before .before .before .before .before .before .before .args .scratch .now) (c .before .before .before .before .before .before .before .before .before .before .before .before .before .before .args .run .now) (c .before .before .before .before .before .before .before .before .before .before .before .before .before .before .args .budget) (c .before .before .before .before .before .before .before .before .before .before .loop .taken) (c .before .before .before .before .before .before .before .before .before .before .loop .inv .0) (c .before .before .before .before .before .before .before .before .before .loop-test .taken) (omega (arith, c .before .before .before .before .before .before .if1 .left, c .before .before .before .before .before .before .before .count .ensures)) (c .before .before .before .before .step-first .ensures) (ap wasCarried (c .enum-told2 .given .1)) }
+returns-4 c =
+    let after-if1 = c .before .before .before .before .before .before in
+    let loop = after-if1 .before .before .before .before .loop in
+    let entry = after-if1 .before .before .before .before .before .before .before .before in
+    record { is = ends-full (entry .args .text .now) (entry .args .scratch .now) (entry .args .run .now) (entry .args .budget) (loop .taken) (loop .inv .0) (after-if1 .before .before .before .loop-test .taken) (omega (arith, after-if1 .if1 .left, after-if1 .before .count .ensures)) (c .before .before .before .before .step-first .ensures) (ap wasCarried (c .enum-told2 .given .1)) }
 
--- src/running.rt:35:1
 same-length-5 : tie.Need-same-length-5 Inv-loop μ-loop
 same-length-5 c = search needs
 
--- src/running.rt:35:1
 returns-5 : tie.Need-returns-5 Inv-loop μ-loop
-returns-5 c = record { is = subst (Running (c .before .before .before .before .before .args .text .now) (c .before .before .before .before .before .args .scratch .now) (c .before .before .before .before .before .args .run .now) _ (c .before .before .before .before .before .args .budget)) (omega (arith, c .before .loop .inv .1, c .loop-test .left)) (c .before .loop .inv .0) }
+returns-5 c =
+    let entry = c .before .before .before .before .before in
+    record { is = subst (Running (entry .args .text .now) (entry .args .scratch .now) (entry .args .run .now) _ (entry .args .budget)) (omega (arith, c .before .loop .inv .1, c .loop-test .left)) (c .before .loop .inv .0) }
 
 pub steps-within-spec : {M : Type 1} → statement M
 steps-within-spec =

@@ -14,22 +14,35 @@ cast-set-given : tie.Need-cast-set-given
 cast-set-given c = omega (arith, c .before .before .before .before .before .pre .0 .3)
 
 begin-requires : tie.Need-begin-requires
-begin-requires c κs = let b = ends-bounded _ (c .before .before .start-ends .ensures) (c .before .before .before .before .before .pre .0 .1) (c .before .before .before .before .before .pre .0 .2) in (c .before .before .before .before .before .pre .1, record { kind = omega arith; pointer = c .before .before .before .before .before .pre .0 .3; many = b .0; each = b .1; link = tt })
+begin-requires c κs =
+    let entry = c .before .before .before .before .before in
+    let b = ends-bounded _ (c .before .before .start-ends .ensures) (entry .pre .0 .1) (entry .pre .0 .2) in
+    (entry .pre .1, record { kind = omega arith; pointer = entry .pre .0 .3; many = b .0; each = b .1; link = tt })
 
 use-channels-requires : tie.Need-use-channels-requires
-use-channels-requires c κs = ((c .before .before .before .before .before .before .before .before .before .pre .0 .0, c .before .before .before .before .before .before .before .before .before .pre .0 .1), (omega (arith, c .before .before .before .before .before .before .before .before .before .pre .1, c .before .before .before .begin .ensures .0 .long), c .before .before .before .begin .ensures .1, omega (arith, c .before .before .before .before .before .before .before .before .before .pre .0 .2, ap (λ (C : RawConfig). length (C .outside)) (c .before .before .before .begin .ensures .0 .is))))
+use-channels-requires c κs =
+    let begin = c .before .before .before .begin in
+    let entry = c .before .before .before .before .before .before .before .before .before in
+    ((entry .pre .0 .0, entry .pre .0 .1), (omega (arith, entry .pre .1, begin .ensures .0 .long), begin .ensures .1, omega (arith, entry .pre .0 .2, ap (λ (C : RawConfig). length (C .outside)) (begin .ensures .0 .is))))
 
 cast-set-given-2 : tie.Need-cast-set-given-2
 cast-set-given-2 c = omega (arith, c .before .before .before .before .before .before .before .before .before .before .before .before .before .before .pre .0 .2)
 
 set-given-requires : tie.Need-set-given-requires
-set-given-requires c κs = (omega (arith, c .before .before .before .before .before .before .before .before .before .before .before .before .before .before .pre .1, c .before .before .before .before .before .before .before .before .begin .ensures .0 .long, c .before .before .before .before .use-channels .ensures .0 .long), (c .before .before .before .before .use-channels .ensures .1, omega (arith, c .before .before .before .before .before .before .before .before .before .before .before .before .before .before .pre .0 .2)))
+set-given-requires c κs =
+    let after-begin = c .before .before .before .before .before .before .before .before in
+    let entry = after-begin .before .before .before .before .before .before in
+    (omega (arith, entry .pre .1, after-begin .begin .ensures .0 .long, c .before .before .before .before .use-channels .ensures .0 .long), (c .before .before .before .before .use-channels .ensures .1, omega (arith, entry .pre .0 .2)))
 
 same-length : tie.Need-same-length
 same-length c = search needs
 
 returns : tie.Need-returns
-returns c = (begun (c .before .before .before .before .before .before .before .before .before .before .before .before .before .before .before .before .before .args .scratch .now) (c .before .before .before .before .before .before .before .before .before .before .before .before .before .before .before .before .before .args .d .first) (c .before .before .before .before .before .before .before .before .before .before .before .before .before .before .before .before .before .args .d .provided) (c .before .before .before .before .before .before .before .before .before .before .before .before .before .before .before .before .before .args .d .body) _ (c .before .before .before .before .before .before .before .before .before .before .before .before .before .before .start-ends .ensures) (c .before .before .before .before .before .before .before .before .before .before .before .begin .ensures .0) (c .before .before .before .before .before .before .before .use-channels .ensures .0) (c .before .before .set-given .ensures .0), c .before .before .set-given .ensures .1)
+returns c =
+    let after-begin = c .before .before .before .before .before .before .before .before .before .before .before in
+    let entry = after-begin .before .before .before .before .before .before in
+    let d = entry .args .d in
+    (begun (entry .args .scratch .now) (d .first) (d .provided) (d .body) _ (after-begin .before .before .before .start-ends .ensures) (after-begin .begin .ensures .0) (c .before .before .before .before .before .before .before .use-channels .ensures .0) (c .before .before .set-given .ensures .0), c .before .before .set-given .ensures .1)
 
 pub begin-process-spec : {M : Type 1} → statement M
 begin-process-spec =

@@ -33,7 +33,10 @@ cast-t12 : tie.Need-cast-t12 Inv-loop μ-loop
 cast-t12 c = omega (arith, c .before .before .before .loop-test .taken, c .before .before .before .before .before .before .before .pre .2)
 
 with-requires : tie.Need-with-requires Inv-loop μ-loop
-with-requires c κs = (omega (arith, c .before .before .before .loop-test .taken, c .before .before .before .before .before .before .before .pre .2, c .before .before .before .before .loop .inv .many), (record { name = c .before .before .entry .ensures .at; node = entry-node (c .before .before .before .before .before .before .before .pre .1) (c .before .before .before .loop-test .taken) (c .before .before .entry .ensures); channel = omega (arith, c .before .before .before .loop-test .taken, c .before .before .before .before .before .before .before .pre .2) }, omega arith))
+with-requires c κs =
+    let loop-test = c .before .before .before .loop-test in
+    let entry = c .before .before .before .before .before .before .before in
+    (omega (arith, loop-test .taken, entry .pre .2, c .before .before .before .before .loop .inv .many), (record { name = c .before .before .entry .ensures .at; node = entry-node (entry .pre .1) (loop-test .taken) (c .before .before .entry .ensures); channel = omega (arith, loop-test .taken, entry .pre .2) }, omega arith))
 
 add-k : tie.Need-add-k Inv-loop μ-loop
 add-k c = search needs

@@ -30,7 +30,11 @@ cast-t14 : tie.Need-cast-t14 Inv-loop μ-loop
 cast-t14 c = omega (arith, c .before .before .before .loop-test .taken, c .before .before .before .before .before .before .before .pre .1 .2)
 
 append-outside-requires : tie.Need-append-outside-requires Inv-loop μ-loop
-append-outside-requires c κs = (omega (arith, c .before .before .before .before .before .before .before .pre .1 .0, c .before .before .before .before .loop .inv .is .long), (c .before .before .before .before .loop .inv .bounds, (omega (arith, c .before .before .before .before .before .before .before .pre .1 .2, c .before .before .before .loop-test .taken, used-many (c .before .before .before .before .loop .inv)), record { number = omega (arith, c .before .before .before .loop-test .taken, c .before .before .before .before .before .before .before .pre .1 .2); node = entry-node (c .before .before .before .before .before .before .before .pre .0 .1) (c .before .before .before .loop-test .taken) (c .before .before .entry .ensures); channel = omega (arith, c .before .before .before .loop-test .taken, c .before .before .before .before .before .before .before .pre .1 .2) })))
+append-outside-requires c κs =
+    let loop-test = c .before .before .before .loop-test in
+    let loop = c .before .before .before .before .loop in
+    let entry = c .before .before .before .before .before .before .before in
+    (omega (arith, entry .pre .1 .0, loop .inv .is .long), (loop .inv .bounds, (omega (arith, entry .pre .1 .2, loop-test .taken, used-many (loop .inv)), record { number = omega (arith, loop-test .taken, entry .pre .1 .2); node = entry-node (entry .pre .0 .1) (loop-test .taken) (c .before .before .entry .ensures); channel = omega (arith, loop-test .taken, entry .pre .1 .2) })))
 
 add-number : tie.Need-add-number Inv-loop μ-loop
 add-number c = search needs
@@ -39,7 +43,9 @@ loop-less : tie.Need-loop-less Inv-loop μ-loop
 loop-less c = search needs
 
 loop-again : tie.Need-loop-again Inv-loop μ-loop
-loop-again c = used-on (c .before .before .before .before .before .before .before .loop .inv) (c .before .before .before .before .before .before .loop-test .taken) (c .before .before .before .before .before .entry .ensures) (c .before .before .append-outside .ensures .0) (c .before .before .append-outside .ensures .1)
+loop-again c =
+    let after-entry = c .before .before .before .before .before in
+    used-on (after-entry .before .before .loop .inv) (after-entry .before .loop-test .taken) (after-entry .entry .ensures) (c .before .before .append-outside .ensures .0) (c .before .before .append-outside .ensures .1)
 
 same-length : tie.Need-same-length Inv-loop μ-loop
 same-length c = search needs

@@ -11,7 +11,9 @@ slice-aggregate-step-first : tie.Need-slice-aggregate-step-first
 slice-aggregate-step-first c = search needs
 
 step-first-requires : tie.Need-step-first-requires
-step-first-requires c κs = (run-copied (c .before .before .before .before .before .pre .0) (c .before .copy-of .ensures), (formed-copied (c .before .before .before .before .before .pre .0) (c .before .copy-of .ensures) (c .before .before .before .before .before .pre .1 .0), c .before .before .before .before .before .pre .1 .1))
+step-first-requires c κs =
+    let entry = c .before .before .before .before .before in
+    (run-copied (entry .pre .0) (c .before .copy-of .ensures), (formed-copied (entry .pre .0) (c .before .copy-of .ensures) (entry .pre .1 .0), entry .pre .1 .1))
 
 was-carried-requires : tie.Need-was-carried-requires
 was-carried-requires c κs = search needs

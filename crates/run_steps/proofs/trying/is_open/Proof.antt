@@ -13,19 +13,25 @@ enum-known-o : tie.Need-enum-known-o
 enum-known-o c = search needs
 
 returns : tie.Need-returns
-returns c = sym (ap opens (c .before .o .given .1)) ∙ open-told (programIn (c .before .before .before .before .before .before .before .args .text .now) (c .before .before .before .before .before .before .before .args .scratch .now)) (configIn (c .before .before .before .before .before .before .before .args .text .now) (c .before .before .before .before .before .before .before .args .scratch .now) (c .before .before .before .before .before .before .before .args .run .now)) (c .before .before .before .before .before .before .before .args .place) (c .before .before .before .tried .ensures)
+returns c =
+    let entry = c .before .before .before .before .before .before .before in
+    sym (ap opens (c .before .o .given .1)) ∙ open-told (programIn (entry .args .text .now) (entry .args .scratch .now)) (configIn (entry .args .text .now) (entry .args .scratch .now) (entry .args .run .now)) (entry .args .place) (c .before .before .before .tried .ensures)
 
 enum-told : tie.Need-enum-told
 enum-told c = search needs
 
 returns-2 : tie.Need-returns-2
-returns-2 c = sym (ap opens (c .enum-told .given .1)) ∙ open-told (programIn (c .before .before .before .before .before .before .args .text .now) (c .before .before .before .before .before .before .args .scratch .now)) (configIn (c .before .before .before .before .before .before .args .text .now) (c .before .before .before .before .before .before .args .scratch .now) (c .before .before .before .before .before .before .args .run .now)) (c .before .before .before .before .before .before .args .place) (c .before .before .tried .ensures)
+returns-2 c =
+    let entry = c .before .before .before .before .before .before in
+    sym (ap opens (c .enum-told .given .1)) ∙ open-told (programIn (entry .args .text .now) (entry .args .scratch .now)) (configIn (entry .args .text .now) (entry .args .scratch .now) (entry .args .run .now)) (entry .args .place) (c .before .before .tried .ensures)
 
 enum-told-2 : tie.Need-enum-told-2
 enum-told-2 c = search needs
 
 returns-3 : tie.Need-returns-3
-returns-3 c = sym (ap opens (c .enum-told2 .given .1)) ∙ open-told (programIn (c .before .before .before .before .before .before .args .text .now) (c .before .before .before .before .before .before .args .scratch .now)) (configIn (c .before .before .before .before .before .before .args .text .now) (c .before .before .before .before .before .before .args .scratch .now) (c .before .before .before .before .before .before .args .run .now)) (c .before .before .before .before .before .before .args .place) (c .before .before .tried .ensures)
+returns-3 c =
+    let entry = c .before .before .before .before .before .before in
+    sym (ap opens (c .enum-told2 .given .1)) ∙ open-told (programIn (entry .args .text .now) (entry .args .scratch .now)) (configIn (entry .args .text .now) (entry .args .scratch .now) (entry .args .run .now)) (entry .args .place) (c .before .before .tried .ensures)
 
 pub is-open-spec : {M : Type 1} → statement M
 is-open-spec =

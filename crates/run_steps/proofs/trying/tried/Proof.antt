@@ -10,10 +10,14 @@ slice-aggregate-step-at : tie.Need-slice-aggregate-step-at
 slice-aggregate-step-at c = search needs
 
 step-at-requires : tie.Need-step-at-requires
-step-at-requires c κs = (run-copied (c .before .before .before .before .before .pre .0) (c .before .copy-of .ensures), (formed-copied (c .before .before .before .before .before .pre .0) (c .before .copy-of .ensures) (c .before .before .before .before .before .pre .1 .0), c .before .before .before .before .before .pre .1 .1))
+step-at-requires c κs =
+    let entry = c .before .before .before .before .before in
+    (run-copied (entry .pre .0) (c .before .copy-of .ensures), (formed-copied (entry .pre .0) (c .before .copy-of .ensures) (entry .pre .1 .0), entry .pre .1 .1))
 
 returns : tie.Need-returns
-returns c = tried-so (c .before .before .before .before .before .before .before .pre .0) (c .before .before .before .copy-of .ensures) (c .before .before .before .before .before .before .before .args .place) (c .before .step-at .ensures)
+returns c =
+    let entry = c .before .before .before .before .before .before .before in
+    tried-so (entry .pre .0) (c .before .before .before .copy-of .ensures) (entry .args .place) (c .before .step-at .ensures)
 
 pub tried-spec : {M : Type 1} → statement M
 tried-spec = tie.close (tie.spec copy-of-requires slice-aggregate-step-at step-at-requires returns)

@@ -27,10 +27,16 @@ end-at-requires : tie.Need-end-at-requires Inv-loop μ-loop
 end-at-requires c κs = (c .before .before .before .before .pre .1 .1 .0, omega (arith, c .loop-test .taken, c .before .loop .inv .0))
 
 enter-requires : tie.Need-enter-requires Inv-loop μ-loop
-enter-requires c κs = (c .before .before .before .before .before .before .pre .0, (c .before .before .before .loop .inv .1, (all-at (EndOf (now (c .before .before .before .before .before .before .args .scratch))) (heldIn (c .before .before .before .before .before .before .args .h)) (c .before .before .before .loop .k) (c .before .before .before .before .before .before .pre .1 .1 .1) (c .before .end-at .ensures .0), c .before .end-at .ensures .1 .1, c .before .end-at .ensures .1 .0)))
+enter-requires c κs =
+    let loop = c .before .before .before .loop in
+    let entry = c .before .before .before .before .before .before in
+    (entry .pre .0, (loop .inv .1, (all-at (EndOf (entry .args .scratch .now)) (heldIn (entry .args .h)) (loop .k) (entry .pre .1 .1 .1) (c .before .end-at .ensures .0), c .before .end-at .ensures .1 .1, c .before .end-at .ensures .1 .0)))
 
 returns : tie.Need-returns Inv-loop μ-loop
-returns c = (left-stop (now (c .before .before .before .before .before .before .before .before .args .text)) (now (c .before .before .before .before .before .before .before .before .args .scratch)) (c .before .before .before .before .before .loop .inv .2) _ _ (held-turn (heldIn (c .before .before .before .before .before .before .before .before .args .h)) (c .before .before .before .before .before .loop .k) (c .before .before .before .end-at .ensures .0)) (not-true _ (c .if1 .taken)) (c .before .enter .ensures .0), c .before .enter .ensures .1)
+returns c =
+    let loop = c .before .before .before .before .before .loop in
+    let entry = c .before .before .before .before .before .before .before .before in
+    (left-stop (entry .args .text .now) (entry .args .scratch .now) (loop .inv .2) _ _ (held-turn (heldIn (entry .args .h)) (loop .k) (c .before .before .before .end-at .ensures .0)) (not-true _ (c .if1 .taken)) (c .before .enter .ensures .0), c .before .enter .ensures .1)
 
 add-k : tie.Need-add-k Inv-loop μ-loop
 add-k c = search needs
@@ -39,10 +45,17 @@ loop-less : tie.Need-loop-less Inv-loop μ-loop
 loop-less c = search needs
 
 loop-again : tie.Need-loop-again Inv-loop μ-loop
-loop-again c = (c .before .before .before .before .before .loop .inv .0, c .before .enter .ensures .1, left-next (now (c .before .before .before .before .before .before .before .before .args .text)) (now (c .before .before .before .before .before .before .before .before .args .scratch)) (c .before .before .before .before .before .loop .inv .2) _ _ (held-turn (heldIn (c .before .before .before .before .before .before .before .before .args .h)) (c .before .before .before .before .before .loop .k) (c .before .before .before .end-at .ensures .0)) (not-false _ (c .if1 .left)) (c .before .enter .ensures .0))
+loop-again c =
+    let loop = c .before .before .before .before .before .loop in
+    let entry = c .before .before .before .before .before .before .before .before in
+    (loop .inv .0, c .before .enter .ensures .1, left-next (entry .args .text .now) (entry .args .scratch .now) (loop .inv .2) _ _ (held-turn (heldIn (entry .args .h)) (loop .k) (c .before .before .before .end-at .ensures .0)) (not-false _ (c .if1 .left)) (c .before .enter .ensures .0))
 
 returns-2 : tie.Need-returns-2 Inv-loop μ-loop
-returns-2 c = (left-end (now (c .before .before .before .before .args .text)) (now (c .before .before .before .before .args .scratch)) (c .before .loop .inv .2) (nothing-left (heldIn (c .before .before .before .before .args .h)) (c .before .before .before .before .args .h .count) (c .before .loop .k) (sym (held-length (c .before .before .before .before .args .h))) (omega (arith, c .loop-test .left, c .before .loop .inv .0))), c .before .loop .inv .1)
+returns-2 c =
+    let loop = c .before .loop in
+    let entry = c .before .before .before .before in
+    let h = entry .args .h in
+    (left-end (entry .args .text .now) (entry .args .scratch .now) (loop .inv .2) (nothing-left (heldIn h) (h .count) (loop .k) (sym (held-length h)) (omega (arith, c .loop-test .left, loop .inv .0))), loop .inv .1)
 
 pub enter-held-spec : {M : Type 1} → statement M
 enter-held-spec = tie.close (tie.spec Inv-loop μ-loop loop-holds end-at-requires enter-requires returns add-k loop-less loop-again returns-2)

@@ -19,7 +19,9 @@ add-result : tie.Need-add-result
 add-result c = omega (arith, c .before .wide .ensures, c .wide2 .ensures, c .before .before .pre .0, c .before .before .pre .1)
 
 returns : tie.Need-returns
-returns c = ((λ i. 2 * (c .before .wide .ensures i) + (c .wide2 .ensures i)) ∙ (place-so (c .before .before .args .channel) (c .before .before .args .side) (c .before .before .pre .1)), omega (arith, c .before .wide .ensures, c .wide2 .ensures, c .before .before .pre .0, c .before .before .pre .1))
+returns c =
+    let entry = c .before .before in
+    ((λ i. 2 * (c .before .wide .ensures i) + (c .wide2 .ensures i)) ∙ (place-so (entry .args .channel) (entry .args .side) (entry .pre .1)), omega (arith, c .before .wide .ensures, c .wide2 .ensures, entry .pre .0, entry .pre .1))
 
 pub place-spec : {M : Type 1} → statement M
 place-spec = tie.close (tie.spec wide-requires mul-result wide-requires-2 add-result returns)

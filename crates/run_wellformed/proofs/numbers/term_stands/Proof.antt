@@ -1,6 +1,5 @@
 use borrow.Author.Needs.{needs}
 use mathlib.Core.Path.{sym, subst}
-use denote.Ref.{now}
 use Rattle.run_words.proofs.Decisions.{accepted, decided-by}
 use Rattle.run_wellformed.specs.OfText.{Pointer}
 use Rattle.run_wellformed.proofs.numbers.term_stands.Statement.{statement}
@@ -16,7 +15,9 @@ pointer-stands-requires : tie.Need-pointer-stands-requires
 pointer-stands-requires c κs = search needs
 
 returns-2 : tie.Need-returns-2
-returns-2 c = decided-by (λ p _. subst (Pointer (now (c .before .before .before .before .args .scratch))) (c .before .wide .ensures) p) (λ f. subst (Pointer (now (c .before .before .before .before .args .scratch))) (sym (c .before .wide .ensures)) (f (c .before .before .if1 .left))) (c .pointer-stands .ensures)
+returns-2 c =
+    let entry = c .before .before .before .before in
+    decided-by (λ p _. subst (Pointer (entry .args .scratch .now)) (c .before .wide .ensures) p) (λ f. subst (Pointer (entry .args .scratch .now)) (sym (c .before .wide .ensures)) (f (c .before .before .if1 .left))) (c .pointer-stands .ensures)
 
 pub term-stands-spec : {M : Type 1} → statement M
 term-stands-spec = tie.close (tie.spec returns wide-requires pointer-stands-requires returns-2)

@@ -36,13 +36,25 @@ loop-less : tie.Need-loop-less Inv-loop μ-loop
 loop-less c = omega (arith, c .before .before .before .before .without .ensures .1)
 
 loop-again : tie.Need-loop-again Inv-loop μ-loop
-loop-again c = left-on (now (c .before .before .before .before .before .before .before .before .before .before .args .text)) (c .before .before .before .before .before .before .before .before .before .before .args .h) (c .before .before .before .before .before .before .before .before .loop .rest) (c .before .before .before .before .without .result) (c .before .before .before .before .before .before .before .before .loop .inv) {raw = endIn (c .before .before .before .before .before .end-at .result)} (c .before .before .before .before .before .end-at .ensures .0) (c .before .before .before .before .without .ensures .0) (subst (λ n. Sees (now (c .before .before .before .before .before .before .before .before .before .before .args .text)) (c .before .before .before .before .without .result) n (c .before .before .find-end .result)) (c .before .before .before .wide .ensures) (c .before .before .find-end .ensures)) (c .enum-told .given .1) (omega (arith, c .before .before .before .before .before .before .before .before .loop .inv .few, c .before .before .before .before .without .ensures .1))
+loop-again c =
+    let after-wide = c .before .before .before in
+    let without = after-wide .before .without in
+    let end-at = after-wide .before .before .end-at in
+    let loop = after-wide .before .before .before .before .before .loop in
+    let entry = after-wide .before .before .before .before .before .before .before in
+    left-on (entry .args .text .now) (entry .args .h) (loop .rest) (without .result) (loop .inv) {raw = endIn (end-at .result)} (end-at .ensures .0) (without .ensures .0) (subst (λ n. Sees (entry .args .text .now) (without .result) n (c .before .before .find-end .result)) (after-wide .wide .ensures) (c .before .before .find-end .ensures)) (c .enum-told .given .1) (omega (arith, loop .inv .few, without .ensures .1))
 
 enum-told-2 : tie.Need-enum-told-2 Inv-loop μ-loop
 enum-told-2 c = search needs
 
 returns : tie.Need-returns Inv-loop μ-loop
-returns c = left-twice (now (c .before .before .before .before .before .before .before .before .before .before .args .text)) (c .before .before .before .before .before .before .before .before .before .before .args .h) (c .before .before .before .before .before .before .before .before .loop .rest) (c .before .before .before .before .without .result) (c .before .before .before .before .before .before .before .before .loop .inv) {raw = endIn (c .before .before .before .before .before .end-at .result)} (c .before .before .before .before .before .end-at .ensures .0) (c .before .before .before .before .without .ensures .0) (subst (λ n. Sees (now (c .before .before .before .before .before .before .before .before .before .before .args .text)) (c .before .before .before .before .without .result) n (c .before .before .find-end .result)) (c .before .before .before .wide .ensures) (c .before .before .find-end .ensures)) _ (c .enum-told2 .given .1)
+returns c =
+    let after-wide = c .before .before .before in
+    let without = after-wide .before .without in
+    let end-at = after-wide .before .before .end-at in
+    let loop = after-wide .before .before .before .before .before .loop in
+    let entry = after-wide .before .before .before .before .before .before .before in
+    left-twice (entry .args .text .now) (entry .args .h) (loop .rest) (without .result) (loop .inv) {raw = endIn (end-at .result)} (end-at .ensures .0) (without .ensures .0) (subst (λ n. Sees (entry .args .text .now) (without .result) n (c .before .before .find-end .result)) (after-wide .wide .ensures) (c .before .before .find-end .ensures)) _ (c .enum-told2 .given .1)
 
 returns-2 : tie.Need-returns-2 Inv-loop μ-loop
 returns-2 c = left-none (now (c .before .before .before .before .args .text)) (c .before .before .before .before .args .h) (c .before .before .loop .rest) (c .before .before .loop .inv) (omega (arith, c .if1 .left))

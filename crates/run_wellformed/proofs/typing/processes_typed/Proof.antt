@@ -3,7 +3,6 @@ use native.Mathlib.Omega.{arith}
 use borrow.Author.Tests.{not-true, not-false}
 use mathlib.Core.Path.{sym, _∙_}
 use Prim.Native.Nat.{_-_}
-use denote.Ref.{now}
 use Rattle.run_wellformed.specs.Typing.{typedIn}
 use Rattle.run_words.specs.Raw.{rawIn}
 use Rattle.run_words.specs.ListLaws.{all-at}
@@ -25,13 +24,19 @@ loop-holds : tie.Need-loop-holds Inv-loop μ-loop
 loop-holds c = each-start (c .count .ensures)
 
 load-requires : tie.Need-load-requires Inv-loop μ-loop
-load-requires c κs = (c .before .before .before .before .before .before .pre .1 .0, (c .before .before .before .before .before .before .pre .1 .1 .0, omega (arith, c .loop-test .taken, c .before .before .count .ensures)))
+load-requires c κs =
+    let entry = c .before .before .before .before .before .before in
+    (entry .pre .1 .0, (entry .pre .1 .1 .0, omega (arith, c .loop-test .taken, c .before .before .count .ensures)))
 
 process-typed-requires : tie.Need-process-typed-requires Inv-loop μ-loop
-process-typed-requires c κs = (c .before .before .before .before .before .before .before .pre .0, (all-at (ProcessOf (now (c .before .before .before .before .before .before .before .args .scratch))) ((rawIn (now (c .before .before .before .before .before .before .before .args .run))) .processes) (c .before .before .loop .i) (c .before .before .before .before .before .before .before .pre .1 .1 .1 .processes) (c .load .ensures .0), (_, c .load .ensures .1 .0), c .load .ensures .1 .1))
+process-typed-requires c κs =
+    let entry = c .before .before .before .before .before .before .before in
+    (entry .pre .0, (all-at (ProcessOf (entry .args .scratch .now)) ((rawIn (entry .args .run .now)) .processes) (c .before .before .loop .i) (entry .pre .1 .1 .1 .processes) (c .load .ensures .0), (_, c .load .ensures .1 .0), c .load .ensures .1 .1))
 
 returns : tie.Need-returns Inv-loop μ-loop
-returns c = sym (all-from (typedIn (now (c .before .before .before .before .before .before .before .before .before .args .text)) (now (c .before .before .before .before .before .before .before .before .before .args .scratch))) 0 ((rawIn (now (c .before .before .before .before .before .before .before .before .before .args .run))) .processes) ∙ each-failed (c .before .before .before .before .loop .inv) (c .before .before .load .ensures .0) (sym (c .before .process-typed .ensures) ∙ not-true _ (c .if1 .taken)))
+returns c =
+    let entry = c .before .before .before .before .before .before .before .before .before in
+    sym (all-from (typedIn (entry .args .text .now) (entry .args .scratch .now)) 0 ((rawIn (entry .args .run .now)) .processes) ∙ each-failed (c .before .before .before .before .loop .inv) (c .before .before .load .ensures .0) (sym (c .before .process-typed .ensures) ∙ not-true _ (c .if1 .taken)))
 
 add-i : tie.Need-add-i Inv-loop μ-loop
 add-i c = search needs
@@ -43,7 +48,9 @@ loop-again : tie.Need-loop-again Inv-loop μ-loop
 loop-again c = each-passed (c .before .before .before .before .loop .inv) (c .before .before .load .ensures .0) (sym (c .before .process-typed .ensures) ∙ not-false _ (c .if1 .left))
 
 returns-2 : tie.Need-returns-2 Inv-loop μ-loop
-returns-2 c = sym (all-from (typedIn (now (c .before .before .before .before .before .before .args .text)) (now (c .before .before .before .before .before .before .args .scratch))) 0 ((rawIn (now (c .before .before .before .before .before .before .args .run))) .processes) ∙ each-end (c .before .loop .inv) (c .loop-test .left))
+returns-2 c =
+    let entry = c .before .before .before .before .before .before in
+    sym (all-from (typedIn (entry .args .text .now) (entry .args .scratch .now)) 0 ((rawIn (entry .args .run .now)) .processes) ∙ each-end (c .before .loop .inv) (c .loop-test .left))
 
 pub processes-typed-spec : {M : Type 1} → statement M
 processes-typed-spec = tie.close (tie.spec Inv-loop μ-loop count-requires loop-holds load-requires process-typed-requires returns add-i loop-less loop-again returns-2)

@@ -36,8 +36,10 @@ outside-bounded-requires c κs = let s = c .before .before .before .before .befo
 
 returns-5 : tie.Need-returns-5
 returns-5 c =
-    let ws = c .before .before .before .before .before .before .before .before .before .before .args .run .now in
-    config-decided (rawIn ws) (omega (arith, counted ws, c .before .before .before .before .before .before .before .if1 .left)) (omega (arith, numbered ws, c .before .before .before .before .before .if2 .left)) (omega (arith, counted-outside ws, c .before .before .before .if3 .left))
+    let after-if2 = c .before .before .before .before .before in
+    let entry = after-if2 .before .before .before .before .before in
+    let run = entry .args .run .now in
+    config-decided (rawIn run) (omega (arith, counted run, after-if2 .before .before .if1 .left)) (omega (arith, numbered run, after-if2 .if2 .left)) (omega (arith, counted-outside run, c .before .before .before .if3 .left))
     (c .before .before .processes-bounded .ensures .yes (not-false _ (c .before .if4 .left))) (c .outside-bounded .ensures)
 
 pub bounded-spec : {M : Type 1} → statement M

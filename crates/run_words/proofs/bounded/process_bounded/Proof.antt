@@ -51,9 +51,10 @@ ends-bounded-requires c κs = search needs
 
 returns-5 : tie.Need-returns-5
 returns-5 c =
-    let a = c .before .before .before .before .before .before .before .before .before .before .before .before .args in
-    let g = c .before .before .before .before .before .before .before .before .get in
-    process-decided (a .n) (processRow (a .run .now) (a .i)) (g .result) (g .ensures .0) (omega (arith, c .before .before .before .before .before .before .if2 .left)) (omega (arith, c .before .before .before .before .if3 .left)) (g .ensures .1) (omega (arith, c .before .before .if4 .left)) (c .ends-bounded .ensures)
+    let after-if2 = c .before .before .before .before .before .before in
+    let get = after-if2 .before .before .get in
+    let entry = after-if2 .before .before .before .before .before .before in
+    process-decided (entry .args .n) (processRow (entry .args .run .now) (entry .args .i)) (get .result) (get .ensures .0) (omega (arith, after-if2 .if2 .left)) (omega (arith, c .before .before .before .before .if3 .left)) (get .ensures .1) (omega (arith, c .before .before .if4 .left)) (c .ends-bounded .ensures)
 
 pub process-bounded-spec : {M : Type 1} → statement M
 process-bounded-spec =

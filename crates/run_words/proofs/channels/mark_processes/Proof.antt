@@ -31,11 +31,12 @@ sub-i c = search needs
 
 mark-held-requires : tie.Need-mark-held-requires Inv-loop μ-loop
 mark-held-requires c κs =
-    let a = c .before .before .before .before .before .args in
-    let b = c .before .before .loop in
-    let w = c .before .before .before .before .before .pre .1 in
-    let here : b .i - 1 < length (rawIn (a .run .now) .processes) = omega arith in
-    ((c .before .before .before .before .before .pre .0, omega (arith, w .places)), held-few (a .run .now) (b .i - 1) w here)
+    let loop = c .before .before .loop in
+    let entry = c .before .before .before .before .before in
+    let run = entry .args .run .now in
+    let w = entry .pre .1 in
+    let here : loop .i - 1 < length (rawIn run .processes) = omega arith in
+    ((entry .pre .0, omega (arith, w .places)), held-few run (loop .i - 1) w here)
 
 loop-less : tie.Need-loop-less Inv-loop μ-loop
 loop-less c = search needs

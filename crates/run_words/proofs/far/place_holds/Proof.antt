@@ -67,9 +67,9 @@ shared-slice-read-if2 c = search needs
 
 returns : tie.Need-returns Inv-loop μ-loop
 returns c =
-    let a = c .before .before .before .before .before .before .before .before .before .args in
-    let b = c .before .before .before .before .before .loop in
-    sym (b .inv .1 ∙ there-stops (a .run .now) (a .i) (b .k) _ (omega arith) refl (a .channel) (a .side) (c .before .before .before .before .before .before .before .before .before .pre .0 .2) (c .before .before .if1 .taken) (c .if2 .taken))
+    let loop = c .before .before .before .before .before .loop in
+    let entry = c .before .before .before .before .before .before .before .before .before in
+    sym (loop .inv .1 ∙ there-stops (entry .args .run .now) (entry .args .i) (loop .k) _ (omega arith) refl (entry .args .channel) (entry .args .side) (entry .pre .0 .2) (c .before .before .if1 .taken) (c .if2 .taken))
 
 add-k : tie.Need-add-k Inv-loop μ-loop
 add-k c = search needs
@@ -79,12 +79,13 @@ loop-less c = search needs
 
 loop-again : tie.Need-loop-again Inv-loop μ-loop
 loop-again c =
-    let a = c .before .before .before .before .before .before .before .args in
-    let b = c .before .before .before .loop in (
-      b .inv .0,
-      b .inv .1 ∙ ⊎-elim
-          (λ w. there-other-side (a .run .now) (a .i) (b .k) _ (omega arith) refl (a .channel) (a .side) (c .before .before .before .before .before .before .before .pre .0 .2) (w .0 .taken) (w .2 .left))
-          (λ w. there-elsewhere (a .run .now) (a .i) (b .k) _ (omega arith) refl (a .channel) (a .side) (c .before .before .before .before .before .before .before .pre .0 .2) (w .left))
+    let loop = c .before .before .before .loop in
+    let entry = c .before .before .before .before .before .before .before in
+    let run = entry .args .run .now in (
+      loop .inv .0,
+      loop .inv .1 ∙ ⊎-elim
+          (λ w. there-other-side run (entry .args .i) (loop .k) _ (omega arith) refl (entry .args .channel) (entry .args .side) (entry .pre .0 .2) (w .0 .taken) (w .2 .left))
+          (λ w. there-elsewhere run (entry .args .i) (loop .k) _ (omega arith) refl (entry .args .channel) (entry .args .side) (entry .pre .0 .2) (w .left))
           (c .if1 .came),
     )
 

@@ -21,35 +21,41 @@ same-length c = search needs
 
 returns : tie.Need-returns
 returns c =
-    let ws = c .before .before .before .before .before .args .run .now in
-    unchanged ws _ (changed-same ws (c .before .before .before .before .before .args .channel) (changedBy (c .before .before .before .before .before .args .change)) (sym (c .before .before .find-outside .ensures) ∙ c .enum-told .given .1)) (c .before .before .before .before .before .pre .1 .0)
+    let entry = c .before .before .before .before .before in
+    let run = entry .args .run .now in
+    unchanged run _ (changed-same run (entry .args .channel) (changedBy (entry .args .change)) (sym (c .before .before .find-outside .ensures) ∙ c .enum-told .given .1)) (entry .pre .1 .0)
 
 outside-at-requires : tie.Need-outside-at-requires
 outside-at-requires c κs =
-    (c .before .before .before .before .before .before .before .pre .0, (c .before .before .before .before .before .before .before .pre .1 .0, outside-below (c .before .before .before .before .before .before .before .args .channel) (rawIn (c .before .before .before .before .before .before .before .args .run .now) .outside) _ (sym (c .before .before .before .before .find-outside .ensures) ∙ c .before .before .f .given .1)))
+    let entry = c .before .before .before .before .before .before .before in
+    (entry .pre .0, (entry .pre .1 .0, outside-below (entry .args .channel) (rawIn (entry .args .run .now) .outside) _ (sym (c .before .before .before .before .find-outside .ensures) ∙ c .before .before .f .given .1)))
 
 changed-requires : tie.Need-changed-requires
 changed-requires c κs = search needs
 
 set-outside-requires : tie.Need-set-outside-requires
-set-outside-requires c κs = (
-  c .before .before .before .before .before .before .before .before .before .before .pre .0,
-  (
-    c .before .before .before .before .before .before .before .before .before .before .pre .1 .0,
-    (
-      outside-below (c .before .before .before .before .before .before .before .before .before .before .args .channel) (rawIn (c .before .before .before .before .before .before .before .before .before .before .args .run .now) .outside) _ (sym (c .before .before .before .before .before .before .before .find-outside .ensures) ∙ c .before .before .before .before .before .f .given .1),
-      subst (λ (o : RawOutside). BoundedOutside o) (sym (c .before .changed .ensures)) (c .before .before .before .before .before .before .before .before .before .before .pre .1 .1 _ (c .before .before .outside-at .ensures .1)),
-    ),
-  ),
-)
+set-outside-requires c κs =
+    let after-f = c .before .before .before .before .before in
+    let entry = after-f .before .before .before .before .before in (
+      entry .pre .0,
+      (
+        entry .pre .1 .0,
+        (
+          outside-below (entry .args .channel) (rawIn (entry .args .run .now) .outside) _ (sym (after-f .before .before .find-outside .ensures) ∙ after-f .f .given .1),
+          subst (λ (o : RawOutside). BoundedOutside o) (sym (c .before .changed .ensures)) (entry .pre .1 .1 _ (c .before .before .outside-at .ensures .1)),
+        ),
+      ),
+    )
 
 same-length-2 : tie.Need-same-length-2
 same-length-2 c = search needs
 
 returns-2 : tie.Need-returns-2
 returns-2 c =
+    let after-f = c .before .before .before .before .before .before .before .before in
+    let entry = after-f .before .before .before .before .before in
     let r = c .before .before .set-outside .ensures in
-    (changed-changes (c .before .before .before .before .before .before .before .before .before .before .before .before .before .args .run .now) _ (c .before .before .before .before .before .before .before .before .before .before .before .before .before .args .channel) _ (changedBy (c .before .before .before .before .before .before .before .before .before .before .before .before .before .args .change)) (sym (c .before .before .before .before .before .before .before .before .before .before .find-outside .ensures) ∙ c .before .before .before .before .before .before .before .before .f .given .1) (c .before .before .before .before .before .outside-at .ensures .0) (c .before .before .before .before .changed .ensures) (r .0), r .1)
+    (changed-changes (entry .args .run .now) _ (entry .args .channel) _ (changedBy (entry .args .change)) (sym (after-f .before .before .find-outside .ensures) ∙ after-f .f .given .1) (c .before .before .before .before .before .outside-at .ensures .0) (c .before .before .before .before .changed .ensures) (r .0), r .1)
 
 pub change-outside-spec : {M : Type 1} → statement M
 change-outside-spec =

@@ -38,10 +38,10 @@ add-put c = search needs
 
 put-requires : tie.Need-put-requires
 put-requires c κs =
-    let s = c .before .before .before .before .before .before .before .before .before .before .before .before in
-    let b = s .pre .1 .1 .1 in
-    let n = c .before .before .before .before .before .before .before .before .before .count in
-    (omega (arith, c .before .before .before .move-up .ensures .long, c .before .before .before .before .before .before .before .relink .ensures .long, n .ensures), (b .kind, b .pointer, omega (arith, b .many, held-length (s .args .p .held))))
+    let after-relink = c .before .before .before .before .before .before .before in
+    let entry = after-relink .before .before .before .before .before in
+    let b = entry .pre .1 .1 .1 in
+    (omega (arith, c .before .before .before .move-up .ensures .long, after-relink .relink .ensures .long, after-relink .before .before .count .ensures), (b .kind, b .pointer, omega (arith, b .many, held-length (entry .args .p .held))))
 
 add-run : tie.Need-add-run
 add-run c = search needs
@@ -57,11 +57,12 @@ same-length c = simp length-set (c .before .before .put .ensures .long ∙ c .be
 
 returns : tie.Need-returns
 returns c =
-    let s = c .before .before .before .before .before .before .before .before .before .before .before .before .before .before .before in
-    let ws = s .args .run .now in
-    let n = c .before .before .before .before .before .before .before .before .before .before .before .before .count in
-    let e = inserted-words ws _ (n .result) (s .args .i) (s .pre .1 .0) (s .pre .0) (n .ensures) (omega arith) _ _ _ (omega arith) (c .before .before .before .before .before .before .before .before .before .before .relink .ensures) (c .before .before .before .before .before .before .move-up .ensures) (c .before .before .put .ensures) in
-    keeps e (bounded-insert (rawIn ws) (s .pre .1 .0) (s .args .i) (processIn (s .args .p)) (s .pre .1 .1 .0 .1) (s .pre .1 .1 .1))
+    let after-relink = c .before .before .before .before .before .before .before .before .before .before in
+    let count = after-relink .before .before .count in
+    let entry = after-relink .before .before .before .before .before in
+    let run = entry .args .run .now in
+    let e = inserted-words run _ (count .result) (entry .args .i) (entry .pre .1 .0) (entry .pre .0) (count .ensures) (omega arith) _ _ _ (omega arith) (after-relink .relink .ensures) (c .before .before .before .before .before .before .move-up .ensures) (c .before .before .put .ensures) in
+    keeps e (bounded-insert (rawIn run) (entry .pre .1 .0) (entry .args .i) (processIn (entry .args .p)) (entry .pre .1 .1 .0 .1) (entry .pre .1 .1 .1))
 
 pub insert-spec : {M : Type 1} → statement M
 insert-spec =

@@ -18,9 +18,15 @@ branches-mention-met t =
     -- returns
     (λ c. no-branch _ _ _ _ (c .if1 .taken) _)
     -- branch-requires
-    (λ c κs. let b = branch-there _ _ (c .before .before .before .pre .1 .0) _ _ _ (some-branch _ _ _ _ _ (c .if1 .left) (c .before .before .before .pre .1 .1)) in (c .before .before .before .pre .1 .0 .area, b .0, b .1))
+    (λ c κs.
+    let entry = c .before .before .before in
+    let b = branch-there _ _ (entry .pre .1 .0) _ _ _ (some-branch _ _ _ _ _ (c .if1 .left) (entry .pre .1 .1)) in
+    (entry .pre .1 .0 .area, b .0, b .1))
     -- mentions-requires
-    (λ c κs. let f = (c .branch .ensures .says _ _ _ (some-branch _ _ _ _ _ (c .before .if1 .left) (c .before .before .before .before .pre .1 .1))) in (omega (arith, c .before .before .before .before .pre .0, weight-part _ _ (f .smaller), f .past), (c .before .before .before .before .pre .1 .0, f .process)))
+    (λ c κs.
+    let entry = c .before .before .before .before in
+    let f = (c .branch .ensures .says _ _ _ (some-branch _ _ _ _ _ (c .before .if1 .left) (entry .pre .1 .1))) in
+    (omega (arith, entry .pre .0, weight-part _ _ (f .smaller), f .past), (entry .pre .1 .0, f .process)))
     -- returns-2
     (λ c. branch-so _ _ _ _ _ _ _ (c .before .before .before .if1 .left) (c .before .before .branch .ensures .says _ _ _ (some-branch _ _ _ _ _ (c .before .before .before .if1 .left) (c .before .before .before .before .before .before .pre .1 .1))) _ (sym (c .before .mentions .ensures) ∙ c .if2 .taken))
     -- sub-branches-mention
@@ -28,6 +34,9 @@ branches-mention-met t =
     -- sub-branches-mention-2
     (λ c. search needs)
     -- branches-mention-requires
-    (λ c κs. let f = (c .before .before .branch .ensures .says _ _ _ (some-branch _ _ _ _ _ (c .before .before .before .if1 .left) (c .before .before .before .before .before .before .pre .1 .1))) in (omega (arith, c .before .before .before .before .before .before .pre .0, f .past), (c .before .before .before .before .before .before .pre .1 .0, f .rest)))
+    (λ c κs.
+    let entry = c .before .before .before .before .before .before in
+    let f = (c .before .before .branch .ensures .says _ _ _ (some-branch _ _ _ _ _ (c .before .before .before .if1 .left) (entry .pre .1 .1))) in
+    (omega (arith, entry .pre .0, f .past), (entry .pre .1 .0, f .rest)))
     -- returns-3
     (λ c. rest-so _ _ _ _ _ _ _ (c .before .before .before .before .if1 .left) (c .before .before .before .branch .ensures .says _ _ _ (some-branch _ _ _ _ _ (c .before .before .before .before .if1 .left) (c .before .before .before .before .before .before .before .pre .1 .1))) _ (sym (c .before .before .mentions .ensures) ∙ c .before .if2 .left) (c .branches-mention .ensures))

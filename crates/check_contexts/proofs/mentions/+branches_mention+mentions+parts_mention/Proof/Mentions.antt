@@ -23,12 +23,22 @@ mentions-met t =
     -- acts-on-requires
     (λ c κs. (node-mentions _ _ _ _ (c .before .before .before .before .pre .1 .0) (c .before .before .before .before .pre .1 .1) (c .before .if1 .left) (c .term-node .ensures)) .calls)
     -- returns-2
-    (λ c. acts-so _ _ _ _ _ (node-mentions _ _ _ _ (c .before .before .before .before .before .before .pre .1 .0) (c .before .before .before .before .before .before .pre .1 .1) (c .before .before .before .if1 .left) (c .before .before .term-node .ensures)) _ (sym (c .before .acts-on .ensures) ∙ c .if2 .taken))
+    (λ c.
+    let entry = c .before .before .before .before .before .before in
+    acts-so _ _ _ _ _ (node-mentions _ _ _ _ (entry .pre .1 .0) (entry .pre .1 .1) (c .before .before .before .if1 .left) (c .before .before .term-node .ensures)) _ (sym (c .before .acts-on .ensures) ∙ c .if2 .taken))
     -- binds-anew-requires
     (λ c κs. search needs)
     -- returns-3
-    (λ c. bound-so _ _ _ _ _ (node-mentions _ _ _ _ (c .before .before .before .before .before .before .before .before .pre .1 .0) (c .before .before .before .before .before .before .before .before .pre .1 .1) (c .before .before .before .before .before .if1 .left) (c .before .before .before .before .term-node .ensures)) _ (sym (c .before .before .before .acts-on .ensures) ∙ c .before .before .if2 .left) (sym (c .before .binds-anew .ensures) ∙ c .if3 .taken))
+    (λ c.
+    let entry = c .before .before .before .before .before .before .before .before in
+    bound-so _ _ _ _ _ (node-mentions _ _ _ _ (entry .pre .1 .0) (entry .pre .1 .1) (c .before .before .before .before .before .if1 .left) (c .before .before .before .before .term-node .ensures)) _ (sym (c .before .before .before .acts-on .ensures) ∙ c .before .before .if2 .left) (sym (c .before .binds-anew .ensures) ∙ c .if3 .taken))
     -- parts-mention-requires
-    (λ c κs. (omega (arith, c .before .before .before .before .before .before .before .before .pre .0, weight-at _ (c .before .before .before .before .before .if1 .left)), (c .before .before .before .before .before .before .before .before .pre .1 .0, (node-mentions _ _ _ _ (c .before .before .before .before .before .before .before .before .pre .1 .0) (c .before .before .before .before .before .before .before .before .pre .1 .1) (c .before .before .before .before .before .if1 .left) (c .before .before .before .before .term-node .ensures)) .parts)))
+    (λ c κs.
+    let if1 = c .before .before .before .before .before .if1 in
+    let entry = c .before .before .before .before .before .before .before .before in
+    (omega (arith, entry .pre .0, weight-at _ (if1 .left)), (entry .pre .1 .0, (node-mentions _ _ _ _ (entry .pre .1 .0) (entry .pre .1 .1) (if1 .left) (c .before .before .before .before .term-node .ensures)) .parts)))
     -- returns-4
-    (λ c. parts-so _ _ _ _ _ (node-mentions _ _ _ _ (c .before .before .before .before .before .before .before .before .before .pre .1 .0) (c .before .before .before .before .before .before .before .before .before .pre .1 .1) (c .before .before .before .before .before .before .if1 .left) (c .before .before .before .before .before .term-node .ensures)) _ (sym (c .before .before .before .before .acts-on .ensures) ∙ c .before .before .before .if2 .left) (sym (c .before .before .binds-anew .ensures) ∙ c .before .if3 .left) (c .parts-mention .ensures))
+    (λ c.
+    let after-if2 = c .before .before .before in
+    let entry = after-if2 .before .before .before .before .before .before in
+    parts-so _ _ _ _ _ (node-mentions _ _ _ _ (entry .pre .1 .0) (entry .pre .1 .1) (after-if2 .before .before .before .if1 .left) (after-if2 .before .before .term-node .ensures)) _ (sym (after-if2 .before .acts-on .ensures) ∙ after-if2 .if2 .left) (sym (c .before .before .binds-anew .ensures) ∙ c .before .if3 .left) (c .parts-mention .ensures))

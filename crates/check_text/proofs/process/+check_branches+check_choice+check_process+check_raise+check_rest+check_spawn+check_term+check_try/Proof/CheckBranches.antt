@@ -3,7 +3,6 @@ use borrow.Author.Needs.{needs}
 use Prim.Native.Nat.{ℕ, _-_}
 use native.Mathlib.Omega.{arith}
 use mathlib.Core.Path.{_≡_, refl, sym, _∙_, ap, subst}
-use denote.Ref.{now}
 use Rattle.check_contexts.specs.Falling.{weight-at, weight-part}
 use Rattle.calculus.specs.Checking.{check, checkBranches}
 use Rattle.read_tables.specs.Decode.{processIn}
@@ -29,9 +28,14 @@ pub check-branches-met : {M : Type 1} (t : ℕ) → check-branches-lts.Closed (b
 check-branches-met t =
     check-branches-lts.spec (branch-reads.Asked, branch-reads.Learnt, labelled-reads.Asked, labelled-reads.Learnt, narrow-reads.Asked, narrow-reads.Learnt, retype-end-reads.Asked, retype-end-reads.Learnt, check-process-below t, check-process.Post, check-branches-below t, check-branches.Post) (check-branches-at t) check-branches.Post
     -- returns
-    (λ c. no-branch (now (c .before .before .before .args .text)) (now (c .before .before .before .args .scratch)) (contextIn (now (c .before .before .before .args .text)) (now (c .before .before .before .args .scratch)) (c .before .before .before .args .h)) (c .before .before .before .args .link) (c .before .before .before .args .at) _ _ (c .before .before .before .args .d) (c .before .before .before .args .k) (c .if1 .taken))
+    (λ c.
+    let entry = c .before .before .before in
+    no-branch (entry .args .text .now) (entry .args .scratch .now) (contextIn (entry .args .text .now) (entry .args .scratch .now) (entry .args .h)) (entry .args .link) (entry .args .at) _ _ (entry .args .d) (entry .args .k) (c .if1 .taken))
     -- branch-requires
-    (λ c κs. let b = branch-there (now (c .before .before .before .args .text)) (now (c .before .before .before .args .scratch)) (c .before .before .before .pre .1 .0) _ _ _ (some-branch (now (c .before .before .before .args .text)) (now (c .before .before .before .args .scratch)) (c .before .before .before .args .p) (c .before .before .before .args .d) (c .before .before .before .args .k) (c .if1 .left) (c .before .before .before .pre .1 .3)) in ((c .before .before .before .pre .1 .0) .area, b .0, b .1))
+    (λ c κs.
+    let entry = c .before .before .before in
+    let b = branch-there (entry .args .text .now) (entry .args .scratch .now) (entry .pre .1 .0) _ _ _ (some-branch (entry .args .text .now) (entry .args .scratch .now) (entry .args .p) (entry .args .d) (entry .args .k) (c .if1 .left) (entry .pre .1 .3)) in
+    (entry .pre .1 .0 .area, b .0, b .1))
     -- labelled-requires
     (λ c κs. ((c .before .before .before .before .pre .1 .0), c .before .before .before .before .pre .1 .2))
     -- enum-known-f
@@ -39,24 +43,82 @@ check-branches-met t =
     -- enum-told
     (λ c. search needs)
     -- returns-2
-    (λ c. branch-unlabelled (now (c .before .before .before .before .before .before .before .args .text)) (now (c .before .before .before .before .before .before .before .args .scratch)) (c .before .before .before .before .before .before .before .args .h) (c .before .before .before .before .before .before .before .args .link) (c .before .before .before .before .before .before .before .args .at) (c .before .before .before .before .before .before .before .args .c) (c .before .before .before .before .before .before .before .args .e) (c .before .before .before .before .before .before .before .args .m) (c .before .before .before .before .before .before .before .args .p) (c .before .before .before .before .before .before .before .args .d) (c .before .before .before .before .before .before .before .args .k) (c .before .before .before .before .if1 .left) (c .before .before .before .branch .result .at) (c .before .before .before .branch .result .number) (c .before .before .before .branch .ensures .says (now (c .before .before .before .before .before .before .before .args .text)) (c .before .before .before .before .before .before .before .args .p) _ (some-branch (now (c .before .before .before .before .before .before .before .args .text)) (now (c .before .before .before .before .before .before .before .args .scratch)) (c .before .before .before .before .before .before .before .args .p) (c .before .before .before .before .before .before .before .args .d) (c .before .before .before .before .before .before .before .args .k) (c .before .before .before .before .if1 .left) (c .before .before .before .before .before .before .before .pre .1 .3))) _ (c .before .before .labelled .ensures) (c .enum-told .given .1))
+    (λ c.
+    let branch = c .before .before .before .branch in
+    let if1 = c .before .before .before .before .if1 in
+    let entry = c .before .before .before .before .before .before .before in
+    let text = entry .args .text .now in
+    let p = entry .args .p in
+    branch-unlabelled text (entry .args .scratch .now) (entry .args .h) (entry .args .link) (entry .args .at) (entry .args .c) (entry .args .e) (entry .args .m) p (entry .args .d) (entry .args .k) (if1 .left) (branch .result .at) (branch .result .number) (branch .ensures .says text p _ (some-branch text (entry .args .scratch .now) p (entry .args .d) (entry .args .k) (if1 .left) (entry .pre .1 .3))) _ (c .before .before .labelled .ensures) (c .enum-told .given .1))
     -- narrow-requires
-    (λ c κs. omega (arith, node-there (now (c .before .before .before .before .before .before .before .before .args .text)) (now (c .before .before .before .before .before .before .before .before .args .scratch)) (c .before .before .before .before .before .before .before .before .pre .1 .0) _ (c .before .before .before .labelled .ensures .type (c .before .f .given .0 .0) (c .before .f .given .1))))
+    (λ c κs.
+    let entry = c .before .before .before .before .before .before .before .before in
+    omega (arith, node-there (entry .args .text .now) (entry .args .scratch .now) (entry .pre .1 .0) _ (c .before .before .before .labelled .ensures .type (c .before .f .given .0 .0) (c .before .f .given .1))))
     -- retype-end-requires
-    (λ c κs. (((c .before .before .before .before .before .before .before .before .before .pre .1 .1) .many, omega (arith, node-there (now (c .before .before .before .before .before .before .before .before .before .args .text)) (now (c .before .before .before .before .before .before .before .before .before .args .scratch)) (c .before .before .before .before .before .before .before .before .before .pre .1 .0) _ (c .before .before .before .before .labelled .ensures .type (c .before .before .f .given .0 .0) (c .before .before .f .given .1)), c .narrow .ensures)), bounded-ends (now (c .before .before .before .before .before .before .before .before .before .args .text)) (now (c .before .before .before .before .before .before .before .before .before .args .scratch)) (c .before .before .before .before .before .before .before .before .before .args .h) (c .before .before .before .before .before .before .before .before .before .pre .1 .1)))
+    (λ c κs.
+    let f = c .before .before .f in
+    let entry = c .before .before .before .before .before .before .before .before .before in
+    ((entry .pre .1 .1 .many, omega (arith, node-there (entry .args .text .now) (entry .args .scratch .now) (entry .pre .1 .0) _ (c .before .before .before .before .labelled .ensures .type (f .given .0 .0) (f .given .1)), c .narrow .ensures)), bounded-ends (entry .args .text .now) (entry .args .scratch .now) (entry .args .h) (entry .pre .1 .1)))
     -- check-process-requires
-    (λ c κs. (omega (arith, c .before .before .before .before .before .before .before .before .before .before .pre .0, weight-part (c .before .before .before .before .before .before .before .before .before .before .args .p) _ ((c .before .before .before .before .before .before .branch .ensures .says (now (c .before .before .before .before .before .before .before .before .before .before .args .text)) (c .before .before .before .before .before .before .before .before .before .before .args .p) _ (some-branch (now (c .before .before .before .before .before .before .before .before .before .before .args .text)) (now (c .before .before .before .before .before .before .before .before .before .before .args .scratch)) (c .before .before .before .before .before .before .before .before .before .before .args .p) (c .before .before .before .before .before .before .before .before .before .before .args .d) (c .before .before .before .before .before .before .before .before .before .before .args .k) (c .before .before .before .before .before .before .before .if1 .left) (c .before .before .before .before .before .before .before .before .before .before .pre .1 .3))) .smaller), (c .before .before .before .before .before .before .branch .ensures .says (now (c .before .before .before .before .before .before .before .before .before .before .args .text)) (c .before .before .before .before .before .before .before .before .before .before .args .p) _ (some-branch (now (c .before .before .before .before .before .before .before .before .before .before .args .text)) (now (c .before .before .before .before .before .before .before .before .before .before .args .scratch)) (c .before .before .before .before .before .before .before .before .before .before .args .p) (c .before .before .before .before .before .before .before .before .before .before .args .d) (c .before .before .before .before .before .before .before .before .before .before .args .k) (c .before .before .before .before .before .before .before .if1 .left) (c .before .before .before .before .before .before .before .before .before .before .pre .1 .3))) .past), ((c .before .before .before .before .before .before .before .before .before .before .pre .1 .0), (subst (λ j. Retypes (now (c .before .before .before .before .before .before .before .before .before .before .args .text)) (c .before .before .before .before .before .before .before .before .before .before .args .h) (c .before .before .before .before .before .before .before .before .before .before .args .c) j (c .retype-end .result)) (c .before .narrow .ensures) (c .retype-end .ensures)) .fits (now (c .before .before .before .before .before .before .before .before .before .before .args .scratch)) (c .before .before .before .before .before .labelled .ensures .type (c .before .before .before .f .given .0 .0) (c .before .before .before .f .given .1)) (c .before .before .before .before .before .before .before .before .before .before .pre .1 .1), (c .before .before .before .before .before .before .branch .ensures .says (now (c .before .before .before .before .before .before .before .before .before .before .args .text)) (c .before .before .before .before .before .before .before .before .before .before .args .p) _ (some-branch (now (c .before .before .before .before .before .before .before .before .before .before .args .text)) (now (c .before .before .before .before .before .before .before .before .before .before .args .scratch)) (c .before .before .before .before .before .before .before .before .before .before .args .p) (c .before .before .before .before .before .before .before .before .before .before .args .d) (c .before .before .before .before .before .before .before .before .before .before .args .k) (c .before .before .before .before .before .before .before .if1 .left) (c .before .before .before .before .before .before .before .before .before .before .pre .1 .3))) .process)))
+    (λ c κs.
+    let after-f = c .before .before .before in
+    let f = after-f .f in
+    let branch = after-f .before .before .before .branch in
+    let if1 = after-f .before .before .before .before .if1 in
+    let entry = after-f .before .before .before .before .before .before .before in
+    let p = entry .args .p in
+    let text = entry .args .text .now in
+    let scratch = entry .args .scratch .now in
+    let d = entry .args .d in
+    let k = entry .args .k in
+    (omega (arith, entry .pre .0, weight-part p _ ((branch .ensures .says text p _ (some-branch text scratch p d k (if1 .left) (entry .pre .1 .3))) .smaller), (branch .ensures .says text p _ (some-branch text scratch p d k (if1 .left) (entry .pre .1 .3))) .past), ((entry .pre .1 .0), (subst (λ j. Retypes text (entry .args .h) (entry .args .c) j (c .retype-end .result)) (c .before .narrow .ensures) (c .retype-end .ensures)) .fits scratch (after-f .before .before .labelled .ensures .type (f .given .0 .0) (f .given .1)) (entry .pre .1 .1), (branch .ensures .says text p _ (some-branch text scratch p d k (if1 .left) (entry .pre .1 .3))) .process)))
     -- enum-told-2
     (λ c. search needs)
     -- enum-told-3
     (λ c. search needs)
     -- returns-3
-    (λ c. branch-labelled (now (c .before .before .before .before .before .before .before .before .before .before .before .before .before .args .text)) (now (c .before .before .before .before .before .before .before .before .before .before .before .before .before .args .scratch)) (c .before .before .before .before .before .before .before .before .before .before .before .before .before .args .h) (c .before .before .before .before .before .before .before .before .before .before .before .before .before .args .link) (c .before .before .before .before .before .before .before .before .before .before .before .before .before .args .at) (c .before .before .before .before .before .before .before .before .before .before .before .before .before .args .c) (c .before .before .before .before .before .before .before .before .before .before .before .before .before .args .e) (c .before .before .before .before .before .before .before .before .before .before .before .before .before .args .m) (c .before .before .before .before .before .before .before .before .before .before .before .before .before .args .p) (c .before .before .before .before .before .before .before .before .before .before .before .before .before .args .d) (c .before .before .before .before .before .before .before .before .before .before .before .before .before .args .k) (c .before .before .before .before .before .before .before .before .before .before .if1 .left) (c .before .before .before .before .before .before .before .before .before .branch .result .at) (c .before .before .before .before .before .before .before .before .before .branch .result .number) (c .before .before .before .before .before .before .before .before .before .branch .ensures .says (now (c .before .before .before .before .before .before .before .before .before .before .before .before .before .args .text)) (c .before .before .before .before .before .before .before .before .before .before .before .before .before .args .p) _ (some-branch (now (c .before .before .before .before .before .before .before .before .before .before .before .before .before .args .text)) (now (c .before .before .before .before .before .before .before .before .before .before .before .before .before .args .scratch)) (c .before .before .before .before .before .before .before .before .before .before .before .before .before .args .p) (c .before .before .before .before .before .before .before .before .before .before .before .before .before .args .d) (c .before .before .before .before .before .before .before .before .before .before .before .before .before .args .k) (c .before .before .before .before .before .before .before .before .before .before .if1 .left) (c .before .before .before .before .before .before .before .before .before .before .before .before .before .pre .1 .3))) _ (c .before .before .before .before .before .before .before .before .labelled .ensures) (c .before .before .before .before .before .before .f .given .0 .0) (c .before .before .before .before .before .before .f .given .1) _ (subst (λ j. Retypes (now (c .before .before .before .before .before .before .before .before .before .before .before .before .before .args .text)) (c .before .before .before .before .before .before .before .before .before .before .before .before .before .args .h) (c .before .before .before .before .before .before .before .before .before .before .before .before .before .args .c) j (c .before .before .before .retype-end .result)) (c .before .before .before .before .narrow .ensures) (c .before .before .before .retype-end .ensures)) (then-refused (checkBranches (programIn (now (c .before .before .before .before .before .before .before .before .before .before .before .before .before .args .text)) (now (c .before .before .before .before .before .before .before .before .before .before .before .before .before .args .scratch))) (contextIn (now (c .before .before .before .before .before .before .before .before .before .before .before .before .before .args .text)) (now (c .before .before .before .before .before .before .before .before .before .before .before .before .before .args .scratch)) (c .before .before .before .before .before .before .before .before .before .before .before .before .before .args .h)) (c .before .before .before .before .before .before .before .before .before .before .before .before .before .args .link) (c .before .before .before .before .before .before .before .before .before .before .before .before .before .args .at) (nameAt (now (c .before .before .before .before .before .before .before .before .before .before .before .before .before .args .text)) (c .before .before .before .before .before .before .before .before .before .before .before .before .before .args .c)) (plains (alternativesIn (now (c .before .before .before .before .before .before .before .before .before .before .before .before .before .args .text)) (now (c .before .before .before .before .before .before .before .before .before .before .before .before .before .args .scratch)) (c .before .before .before .before .before .before .before .before .before .before .before .before .before .args .e) (c .before .before .before .before .before .before .before .before .before .before .before .before .before .args .m))) (branchesIn (now (c .before .before .before .before .before .before .before .before .before .before .before .before .before .args .text)) (now (c .before .before .before .before .before .before .before .before .before .before .before .before .before .args .scratch)) (c .before .before .before .before .before .before .before .before .before .before .before .before .before .args .d - 1) (c .before .before .before .before .before .before .before .before .before .before .before .before .before .args .k - 1))) (c .before .before .check-process .result) _ _ (c .enum-told3 .given .1) (c .before .before .check-process .ensures)))
+    (λ c.
+    let after-f = c .before .before .before .before .before .before in
+    let f = after-f .f in
+    let branch = after-f .before .before .before .branch in
+    let if1 = after-f .before .before .before .before .if1 in
+    let entry = after-f .before .before .before .before .before .before .before in
+    let text = entry .args .text .now in
+    let scratch = entry .args .scratch .now in
+    let h = entry .args .h in
+    let c-arg = entry .args .c in
+    let p = entry .args .p in
+    let d = entry .args .d in
+    let k = entry .args .k in
+    branch-labelled text scratch h (entry .args .link) (entry .args .at) c-arg (entry .args .e) (entry .args .m) p d k (if1 .left) (branch .result .at) (branch .result .number) (branch .ensures .says text p _ (some-branch text scratch p d k (if1 .left) (entry .pre .1 .3))) _ (after-f .before .before .labelled .ensures) (f .given .0 .0) (f .given .1) _ (subst (λ j. Retypes text h c-arg j (c .before .before .before .retype-end .result)) (c .before .before .before .before .narrow .ensures) (c .before .before .before .retype-end .ensures)) (then-refused (checkBranches (programIn text scratch) (contextIn text scratch h) (entry .args .link) (entry .args .at) (nameAt text c-arg) (plains (alternativesIn text scratch (entry .args .e) (entry .args .m))) (branchesIn text scratch (d - 1) (k - 1))) (c .before .before .check-process .result) _ _ (c .enum-told3 .given .1) (c .before .before .check-process .ensures)))
     -- sub-check-branches
-    (λ c. omega (arith, (c .before .before .before .before .before .before .before .before .before .branch .ensures .says (now (c .before .before .before .before .before .before .before .before .before .before .before .before .before .args .text)) (c .before .before .before .before .before .before .before .before .before .before .before .before .before .args .p) _ (some-branch (now (c .before .before .before .before .before .before .before .before .before .before .before .before .before .args .text)) (now (c .before .before .before .before .before .before .before .before .before .before .before .before .before .args .scratch)) (c .before .before .before .before .before .before .before .before .before .before .before .before .before .args .p) (c .before .before .before .before .before .before .before .before .before .before .before .before .before .args .d) (c .before .before .before .before .before .before .before .before .before .before .before .before .before .args .k) (c .before .before .before .before .before .before .before .before .before .before .if1 .left) (c .before .before .before .before .before .before .before .before .before .before .before .before .before .pre .1 .3))) .past))
+    (λ c.
+    let after-branch = c .before .before .before .before .before .before .before .before .before in
+    let entry = after-branch .before .before .before .before in
+    omega (arith, (after-branch .branch .ensures .says (entry .args .text .now) (entry .args .p) _ (some-branch (entry .args .text .now) (entry .args .scratch .now) (entry .args .p) (entry .args .d) (entry .args .k) (after-branch .before .if1 .left) (entry .pre .1 .3))) .past))
     -- sub-check-branches-2
     (λ c. search needs)
     -- check-branches-requires
-    (λ c κs. (omega (arith, c .before .before .before .before .before .before .before .before .before .before .before .before .before .pre .0, (c .before .before .before .before .before .before .before .before .before .branch .ensures .says (now (c .before .before .before .before .before .before .before .before .before .before .before .before .before .args .text)) (c .before .before .before .before .before .before .before .before .before .before .before .before .before .args .p) _ (some-branch (now (c .before .before .before .before .before .before .before .before .before .before .before .before .before .args .text)) (now (c .before .before .before .before .before .before .before .before .before .before .before .before .before .args .scratch)) (c .before .before .before .before .before .before .before .before .before .before .before .before .before .args .p) (c .before .before .before .before .before .before .before .before .before .before .before .before .before .args .d) (c .before .before .before .before .before .before .before .before .before .before .before .before .before .args .k) (c .before .before .before .before .before .before .before .before .before .before .if1 .left) (c .before .before .before .before .before .before .before .before .before .before .before .before .before .pre .1 .3))) .past), ((c .before .before .before .before .before .before .before .before .before .before .before .before .before .pre .1 .0), (c .before .before .before .before .before .before .before .before .before .before .before .before .before .pre .1 .1), c .before .before .before .before .before .before .before .before .before .before .before .before .before .pre .1 .2, (c .before .before .before .before .before .before .before .before .before .branch .ensures .says (now (c .before .before .before .before .before .before .before .before .before .before .before .before .before .args .text)) (c .before .before .before .before .before .before .before .before .before .before .before .before .before .args .p) _ (some-branch (now (c .before .before .before .before .before .before .before .before .before .before .before .before .before .args .text)) (now (c .before .before .before .before .before .before .before .before .before .before .before .before .before .args .scratch)) (c .before .before .before .before .before .before .before .before .before .before .before .before .before .args .p) (c .before .before .before .before .before .before .before .before .before .before .before .before .before .args .d) (c .before .before .before .before .before .before .before .before .before .before .before .before .before .args .k) (c .before .before .before .before .before .before .before .before .before .before .if1 .left) (c .before .before .before .before .before .before .before .before .before .before .before .before .before .pre .1 .3))) .rest)))
+    (λ c κs.
+    let after-branch = c .before .before .before .before .before .before .before .before .before in
+    let branch = after-branch .branch in
+    let if1 = after-branch .before .if1 in
+    let entry = after-branch .before .before .before .before in
+    let text = entry .args .text .now in
+    let p = entry .args .p in
+    (omega (arith, entry .pre .0, (branch .ensures .says text p _ (some-branch text (entry .args .scratch .now) p (entry .args .d) (entry .args .k) (if1 .left) (entry .pre .1 .3))) .past), ((entry .pre .1 .0), (entry .pre .1 .1), entry .pre .1 .2, (branch .ensures .says text p _ (some-branch text (entry .args .scratch .now) p (entry .args .d) (entry .args .k) (if1 .left) (entry .pre .1 .3))) .rest)))
     -- returns-4
-    (λ c. branch-labelled (now (c .before .before .before .before .before .before .before .before .before .before .before .before .before .before .args .text)) (now (c .before .before .before .before .before .before .before .before .before .before .before .before .before .before .args .scratch)) (c .before .before .before .before .before .before .before .before .before .before .before .before .before .before .args .h) (c .before .before .before .before .before .before .before .before .before .before .before .before .before .before .args .link) (c .before .before .before .before .before .before .before .before .before .before .before .before .before .before .args .at) (c .before .before .before .before .before .before .before .before .before .before .before .before .before .before .args .c) (c .before .before .before .before .before .before .before .before .before .before .before .before .before .before .args .e) (c .before .before .before .before .before .before .before .before .before .before .before .before .before .before .args .m) (c .before .before .before .before .before .before .before .before .before .before .before .before .before .before .args .p) (c .before .before .before .before .before .before .before .before .before .before .before .before .before .before .args .d) (c .before .before .before .before .before .before .before .before .before .before .before .before .before .before .args .k) (c .before .before .before .before .before .before .before .before .before .before .before .if1 .left) (c .before .before .before .before .before .before .before .before .before .before .branch .result .at) (c .before .before .before .before .before .before .before .before .before .before .branch .result .number) (c .before .before .before .before .before .before .before .before .before .before .branch .ensures .says (now (c .before .before .before .before .before .before .before .before .before .before .before .before .before .before .args .text)) (c .before .before .before .before .before .before .before .before .before .before .before .before .before .before .args .p) _ (some-branch (now (c .before .before .before .before .before .before .before .before .before .before .before .before .before .before .args .text)) (now (c .before .before .before .before .before .before .before .before .before .before .before .before .before .before .args .scratch)) (c .before .before .before .before .before .before .before .before .before .before .before .before .before .before .args .p) (c .before .before .before .before .before .before .before .before .before .before .before .before .before .before .args .d) (c .before .before .before .before .before .before .before .before .before .before .before .before .before .before .args .k) (c .before .before .before .before .before .before .before .before .before .before .before .if1 .left) (c .before .before .before .before .before .before .before .before .before .before .before .before .before .before .pre .1 .3))) _ (c .before .before .before .before .before .before .before .before .before .labelled .ensures) (c .before .before .before .before .before .before .before .f .given .0 .0) (c .before .before .before .before .before .before .before .f .given .1) _ (subst (λ j. Retypes (now (c .before .before .before .before .before .before .before .before .before .before .before .before .before .before .args .text)) (c .before .before .before .before .before .before .before .before .before .before .before .before .before .before .args .h) (c .before .before .before .before .before .before .before .before .before .before .before .before .before .before .args .c) j (c .before .before .before .before .retype-end .result)) (c .before .before .before .before .before .narrow .ensures) (c .before .before .before .before .retype-end .ensures)) (then-fine (checkBranches (programIn (now (c .before .before .before .before .before .before .before .before .before .before .before .before .before .before .args .text)) (now (c .before .before .before .before .before .before .before .before .before .before .before .before .before .before .args .scratch))) (contextIn (now (c .before .before .before .before .before .before .before .before .before .before .before .before .before .before .args .text)) (now (c .before .before .before .before .before .before .before .before .before .before .before .before .before .before .args .scratch)) (c .before .before .before .before .before .before .before .before .before .before .before .before .before .before .args .h)) (c .before .before .before .before .before .before .before .before .before .before .before .before .before .before .args .link) (c .before .before .before .before .before .before .before .before .before .before .before .before .before .before .args .at) (nameAt (now (c .before .before .before .before .before .before .before .before .before .before .before .before .before .before .args .text)) (c .before .before .before .before .before .before .before .before .before .before .before .before .before .before .args .c)) (plains (alternativesIn (now (c .before .before .before .before .before .before .before .before .before .before .before .before .before .before .args .text)) (now (c .before .before .before .before .before .before .before .before .before .before .before .before .before .before .args .scratch)) (c .before .before .before .before .before .before .before .before .before .before .before .before .before .before .args .e) (c .before .before .before .before .before .before .before .before .before .before .before .before .before .before .args .m))) (branchesIn (now (c .before .before .before .before .before .before .before .before .before .before .before .before .before .before .args .text)) (now (c .before .before .before .before .before .before .before .before .before .before .before .before .before .before .args .scratch)) (c .before .before .before .before .before .before .before .before .before .before .before .before .before .before .args .d - 1) (c .before .before .before .before .before .before .before .before .before .before .before .before .before .before .args .k - 1))) (c .before .before .before .check-process .result) (c .before .enum-told2 .given .1) (c .before .before .before .check-process .ensures) (c .check-branches .ensures)))
+    (λ c.
+    let after-f = c .before .before .before .before .before .before .before in
+    let f = after-f .f in
+    let branch = after-f .before .before .before .branch in
+    let if1 = after-f .before .before .before .before .if1 in
+    let entry = after-f .before .before .before .before .before .before .before in
+    let text = entry .args .text .now in
+    let scratch = entry .args .scratch .now in
+    let h = entry .args .h in
+    let c-arg = entry .args .c in
+    let p = entry .args .p in
+    let d = entry .args .d in
+    let k = entry .args .k in
+    branch-labelled text scratch h (entry .args .link) (entry .args .at) c-arg (entry .args .e) (entry .args .m) p d k (if1 .left) (branch .result .at) (branch .result .number) (branch .ensures .says text p _ (some-branch text scratch p d k (if1 .left) (entry .pre .1 .3))) _ (after-f .before .before .labelled .ensures) (f .given .0 .0) (f .given .1) _ (subst (λ j. Retypes text h c-arg j (c .before .before .before .before .retype-end .result)) (c .before .before .before .before .before .narrow .ensures) (c .before .before .before .before .retype-end .ensures)) (then-fine (checkBranches (programIn text scratch) (contextIn text scratch h) (entry .args .link) (entry .args .at) (nameAt text c-arg) (plains (alternativesIn text scratch (entry .args .e) (entry .args .m))) (branchesIn text scratch (d - 1) (k - 1))) (c .before .before .before .check-process .result) (c .before .enum-told2 .given .1) (c .before .before .before .check-process .ensures) (c .check-branches .ensures)))

@@ -3,7 +3,6 @@ use borrow.Author.Needs.{needs}
 use Prim.Native.Nat.{ℕ, _-_}
 use native.Mathlib.Omega.{arith}
 use mathlib.Core.Path.{_≡_, refl, sym, _∙_, ap, subst}
-use denote.Ref.{now}
 use Rattle.check_contexts.specs.Falling.{weight-at, weight-part}
 use Rattle.check_text.specs.Process.{empty-fine, empty-left, node-in}
 use Rattle.read_tables.proofs.access.term_node.Reads as term-node-reads
@@ -16,12 +15,18 @@ pub check-process-met : {M : Type 1} (t : ℕ) → check-process-lts.Closed (ter
 check-process-met t =
     check-process-lts.spec (term-node-reads.Asked, term-node-reads.Learnt, check-term-below t, check-term.Post) (check-process-at t) check-process.Post
     -- returns
-    (λ c. empty-fine (now (c .before .before .before .before .before .args .text)) (now (c .before .before .before .before .before .args .scratch)) (c .before .before .before .before .before .args .h) (c .before .before .before .before .before .args .link) (c .before .before .before .before .before .args .p) (c .before .before .before .before .before .pre .1 .0) (c .before .before .before .before .before .pre .1 .2) (c .before .before .if1 .taken) (c .if2 .taken))
+    (λ c.
+    let entry = c .before .before .before .before .before in
+    empty-fine (entry .args .text .now) (entry .args .scratch .now) (entry .args .h) (entry .args .link) (entry .args .p) (entry .pre .1 .0) (entry .pre .1 .2) (c .before .before .if1 .taken) (c .if2 .taken))
     -- returns-2
-    (λ c. empty-left (now (c .before .before .before .before .before .args .text)) (now (c .before .before .before .before .before .args .scratch)) (c .before .before .before .before .before .args .h) (c .before .before .before .before .before .args .link) (c .before .before .before .before .before .args .p) (c .before .before .before .before .before .pre .1 .0) (c .before .before .before .before .before .pre .1 .2) (c .before .before .if1 .taken) (c .if2 .left))
+    (λ c.
+    let entry = c .before .before .before .before .before in
+    empty-left (entry .args .text .now) (entry .args .scratch .now) (entry .args .h) (entry .args .link) (entry .args .p) (entry .pre .1 .0) (entry .pre .1 .2) (c .before .before .if1 .taken) (c .if2 .left))
     -- term-node-requires
     (λ c κs. ((c .before .before .before .pre .1 .0) .area, c .if1 .left))
     -- check-term-requires
-    (λ c κs. (omega (arith, c .before .before .before .before .pre .0, weight-at (c .before .before .before .before .args .p) (c .before .if1 .left)), ((c .before .before .before .before .pre .1 .0), (c .before .before .before .before .pre .1 .1), node-in (now (c .before .before .before .before .args .text)) (now (c .before .before .before .before .args .scratch)) (c .before .before .before .before .args .p) _ (c .before .before .before .before .pre .1 .0) (c .before .before .before .before .pre .1 .2) (c .before .if1 .left) (c .term-node .ensures))))
+    (λ c κs.
+    let entry = c .before .before .before .before in
+    (omega (arith, entry .pre .0, weight-at (entry .args .p) (c .before .if1 .left)), ((entry .pre .1 .0), (entry .pre .1 .1), node-in (entry .args .text .now) (entry .args .scratch .now) (entry .args .p) _ (entry .pre .1 .0) (entry .pre .1 .2) (c .before .if1 .left) (c .term-node .ensures))))
     -- returns-3
     (λ c. c .check-term .ensures)

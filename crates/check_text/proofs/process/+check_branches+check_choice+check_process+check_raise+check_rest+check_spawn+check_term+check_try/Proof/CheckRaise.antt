@@ -3,7 +3,6 @@ use borrow.Author.Needs.{needs}
 use Prim.Native.Nat.{ℕ, _-_}
 use native.Mathlib.Omega.{arith}
 use mathlib.Core.Path.{_≡_, refl, sym, _∙_, ap, subst}
-use denote.Ref.{now}
 use Rattle.check_contexts.specs.Falling.{weight-at, weight-part}
 use Rattle.calculus.specs.Checking.{check, checkBranches}
 use Rattle.read_tables.specs.Decode.{processIn}
@@ -21,8 +20,21 @@ pub check-raise-met : {M : Type 1} (t : ℕ) → check-raise-lts.Closed (check-p
 check-raise-met t =
     check-raise-lts.spec (check-process-below t, check-process.Post) (check-raise-at t) check-raise.Post
     -- check-process-requires
-    (λ c κs. (omega (arith, c .before .before .before .pre .0, weight-part (c .before .before .before .args .p) _ (((raise-at (now (c .before .before .before .args .text)) (now (c .before .before .before .args .scratch)) (c .before .before .before .args .p) (c .before .before .before .args .n) (c .before .before .before .pre .1 .2)) (c .before .before .before .pre .1 .3)) .0 .0)), ((c .before .before .before .pre .1 .0), (c .before .before .before .pre .1 .1), ((raise-at (now (c .before .before .before .args .text)) (now (c .before .before .before .args .scratch)) (c .before .before .before .args .p) (c .before .before .before .args .n) (c .before .before .before .pre .1 .2)) (c .before .before .before .pre .1 .3)) .0 .1)))
+    (λ c κs.
+    let entry = c .before .before .before in
+    let p = entry .args .p in
+    (omega (arith, entry .pre .0, weight-part p _ (((raise-at (entry .args .text .now) (entry .args .scratch .now) p (entry .args .n) (entry .pre .1 .2)) (entry .pre .1 .3)) .0 .0)), ((entry .pre .1 .0), (entry .pre .1 .1), ((raise-at (entry .args .text .now) (entry .args .scratch .now) p (entry .args .n) (entry .pre .1 .2)) (entry .pre .1 .3)) .0 .1)))
     -- returns
-    (λ c. c .check-process .ensures ∙ sym (((raise-at (now (c .before .before .before .before .args .text)) (now (c .before .before .before .before .args .scratch)) (c .before .before .before .before .args .p) (c .before .before .before .before .args .n) (c .before .before .before .before .pre .1 .2)) (c .before .before .before .before .pre .1 .3)) .1 (c .before .before .before .before .args .link) (contextIn (now (c .before .before .before .before .args .text)) (now (c .before .before .before .before .args .scratch)) (c .before .before .before .before .args .h)) ∙ ap (λ b. demand 14 ((c .before .before .before .before .args .n) .at) b (check (programIn (now (c .before .before .before .before .args .text)) (now (c .before .before .before .before .args .scratch))) (contextIn (now (c .before .before .before .before .args .text)) (now (c .before .before .before .before .args .scratch)) (c .before .before .before .before .args .h)) false (processIn (now (c .before .before .before .before .args .text)) (now (c .before .before .before .before .args .scratch)) ((c .before .before .before .before .args .n) .third)))) (c .before .if1 .taken)))
+    (λ c.
+    let entry = c .before .before .before .before in
+    let text = entry .args .text .now in
+    let scratch = entry .args .scratch .now in
+    let n = entry .args .n in
+    c .check-process .ensures ∙ sym (((raise-at text scratch (entry .args .p) n (entry .pre .1 .2)) (entry .pre .1 .3)) .1 (entry .args .link) (contextIn text scratch (entry .args .h)) ∙ ap (λ b. demand 14 (n .at) b (check (programIn text scratch) (contextIn text scratch (entry .args .h)) false (processIn text scratch (n .third)))) (c .before .if1 .taken)))
     -- returns-2
-    (λ c. sym (((raise-at (now (c .before .before .before .args .text)) (now (c .before .before .before .args .scratch)) (c .before .before .before .args .p) (c .before .before .before .args .n) (c .before .before .before .pre .1 .2)) (c .before .before .before .pre .1 .3)) .1 (c .before .before .before .args .link) (contextIn (now (c .before .before .before .args .text)) (now (c .before .before .before .args .scratch)) (c .before .before .before .args .h)) ∙ ap (λ b. demand 14 ((c .before .before .before .args .n) .at) b (check (programIn (now (c .before .before .before .args .text)) (now (c .before .before .before .args .scratch))) (contextIn (now (c .before .before .before .args .text)) (now (c .before .before .before .args .scratch)) (c .before .before .before .args .h)) false (processIn (now (c .before .before .before .args .text)) (now (c .before .before .before .args .scratch)) ((c .before .before .before .args .n) .third)))) (c .if1 .left)))
+    (λ c.
+    let entry = c .before .before .before in
+    let text = entry .args .text .now in
+    let scratch = entry .args .scratch .now in
+    let n = entry .args .n in
+    sym (((raise-at text scratch (entry .args .p) n (entry .pre .1 .2)) (entry .pre .1 .3)) .1 (entry .args .link) (contextIn text scratch (entry .args .h)) ∙ ap (λ b. demand 14 (n .at) b (check (programIn text scratch) (contextIn text scratch (entry .args .h)) false (processIn text scratch (n .third)))) (c .if1 .left)))

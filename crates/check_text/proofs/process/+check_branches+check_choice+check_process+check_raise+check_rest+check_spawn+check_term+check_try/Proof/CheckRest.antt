@@ -3,7 +3,6 @@ use borrow.Author.Needs.{needs}
 use Prim.Native.Nat.{ℕ, _-_}
 use native.Mathlib.Omega.{arith}
 use mathlib.Core.Path.{_≡_, refl, sym, _∙_, ap, subst}
-use denote.Ref.{now}
 use Rattle.check_contexts.specs.Falling.{weight-at, weight-part}
 use Rattle.calculus.specs.Checking.{check, checkBranches}
 use Rattle.read_tables.specs.Decode.{processIn}
@@ -19,8 +18,18 @@ pub check-rest-met : {M : Type 1} (t : ℕ) → check-rest-lts.Closed (check-pro
 check-rest-met t =
     check-rest-lts.spec (check-process-below t, check-process.Post) (check-rest-at t) check-rest.Post
     -- check-process-requires
-    (λ c κs. (omega (arith, c .before .before .before .before .before .pre .0, weight-part (c .before .before .before .before .before .args .p) _ (c .before .before .before .before .before .pre .1 .2)), ((c .before .before .before .before .before .pre .1 .0), c .before .before .before .before .before .pre .1 .1 (c .before .if1 .taken), c .before .before .before .before .before .pre .1 .3)))
+    (λ c κs.
+    let entry = c .before .before .before .before .before in
+    (omega (arith, entry .pre .0, weight-part (entry .args .p) _ (entry .pre .1 .2)), ((entry .pre .1 .0), entry .pre .1 .1 (c .before .if1 .taken), entry .pre .1 .3)))
     -- returns
-    (λ c. rest-on (now (c .before .before .before .before .before .before .args .text)) (now (c .before .before .before .before .before .before .args .scratch)) (c .before .before .before .before .before .before .args .x) (c .before .before .before .before .before .before .args .at) (λ J. check (programIn (now (c .before .before .before .before .before .before .args .text)) (now (c .before .before .before .before .before .before .args .scratch))) J (c .before .before .before .before .before .before .args .link) (processIn (now (c .before .before .before .before .before .before .args .text)) (now (c .before .before .before .before .before .before .args .scratch)) (c .before .before .before .before .before .before .args .rest))) (c .before .before .if1 .taken) (c .check-process .ensures))
+    (λ c.
+    let entry = c .before .before .before .before .before .before in
+    let text = entry .args .text .now in
+    let scratch = entry .args .scratch .now in
+    rest-on text scratch (entry .args .x) (entry .args .at) (λ J. check (programIn text scratch) J (entry .args .link) (processIn text scratch (entry .args .rest))) (c .before .before .if1 .taken) (c .check-process .ensures))
     -- returns-2
-    (λ c. rest-stops (now (c .before .before .before .before .args .text)) (now (c .before .before .before .before .args .scratch)) (c .before .before .before .before .args .x) (c .before .before .before .before .args .at) (λ J. check (programIn (now (c .before .before .before .before .args .text)) (now (c .before .before .before .before .args .scratch))) J (c .before .before .before .before .args .link) (processIn (now (c .before .before .before .before .args .text)) (now (c .before .before .before .before .args .scratch)) (c .before .before .before .before .args .rest))) (c .if1 .left))
+    (λ c.
+    let entry = c .before .before .before .before in
+    let text = entry .args .text .now in
+    let scratch = entry .args .scratch .now in
+    rest-stops text scratch (entry .args .x) (entry .args .at) (λ J. check (programIn text scratch) J (entry .args .link) (processIn text scratch (entry .args .rest))) (c .if1 .left))

@@ -3,7 +3,6 @@ use borrow.Author.Needs.{needs}
 use Prim.Native.Nat.{ℕ, _-_}
 use native.Mathlib.Omega.{arith}
 use mathlib.Core.Path.{_≡_, refl, sym, _∙_, ap, subst}
-use denote.Ref.{now}
 use Rattle.check_contexts.specs.Falling.{weight-at, weight-part}
 use Rattle.calculus.specs.Checking.{check, checkBranches}
 use Rattle.read_tables.specs.Decode.{processIn}
@@ -24,22 +23,56 @@ pub check-spawn-met : {M : Type 1} (t : ℕ) → check-spawn-lts.Closed (spawn-r
 check-spawn-met t =
     check-spawn-lts.spec (spawn-refusal-reads.Asked, spawn-refusal-reads.Learnt, spawn-half-reads.Asked, spawn-half-reads.Learnt, check-process-below t, check-process.Post) (check-spawn-at t) check-spawn.Post
     -- spawn-refusal-requires
-    (λ c κs. ((c .before .before .pre .1 .0), (c .before .before .pre .1 .1), ((spawn-at (now (c .before .before .args .text)) (now (c .before .before .args .scratch)) (c .before .before .args .p) (c .before .before .args .n) (c .before .before .pre .1 .2)) (c .before .before .pre .1 .3)) .1 .1, ((spawn-at (now (c .before .before .args .text)) (now (c .before .before .args .scratch)) (c .before .before .args .p) (c .before .before .args .n) (c .before .before .pre .1 .2)) (c .before .before .pre .1 .3)) .2 .1))
+    (λ c κs.
+    let entry = c .before .before in
+    ((entry .pre .1 .0), (entry .pre .1 .1), ((spawn-at (entry .args .text .now) (entry .args .scratch .now) (entry .args .p) (entry .args .n) (entry .pre .1 .2)) (entry .pre .1 .3)) .1 .1, ((spawn-at (entry .args .text .now) (entry .args .scratch .now) (entry .args .p) (entry .args .n) (entry .pre .1 .2)) (entry .pre .1 .3)) .2 .1))
     -- returns
-    (λ c. spawn-stops (now (c .before .before .before .before .args .text)) (now (c .before .before .before .before .args .scratch)) (c .before .before .before .before .args .n) (contextIn (now (c .before .before .before .before .args .text)) (now (c .before .before .before .before .args .scratch)) (c .before .before .before .before .args .h)) ((c .before .before .before .before .args .n) .at) (λ J. andThen (check (programIn (now (c .before .before .before .before .args .text)) (now (c .before .before .before .before .args .scratch))) (halfContext (now (c .before .before .before .before .args .text)) (now (c .before .before .before .before .args .scratch)) (c .before .before .before .before .args .n) J true) false (processIn (now (c .before .before .before .before .args .text)) (now (c .before .before .before .before .args .scratch)) ((c .before .before .before .before .args .n) .second))) (check (programIn (now (c .before .before .before .before .args .text)) (now (c .before .before .before .before .args .scratch))) (halfContext (now (c .before .before .before .before .args .text)) (now (c .before .before .before .before .args .scratch)) (c .before .before .before .before .args .n) J false) (c .before .before .before .before .args .link) (processIn (now (c .before .before .before .before .args .text)) (now (c .before .before .before .before .args .scratch)) ((c .before .before .before .before .args .n) .third)))) _ (c .before .spawn-refusal .ensures) (c .if1 .taken) ∙ sym (((spawn-at (now (c .before .before .before .before .args .text)) (now (c .before .before .before .before .args .scratch)) (c .before .before .before .before .args .p) (c .before .before .before .before .args .n) (c .before .before .before .before .pre .1 .2)) (c .before .before .before .before .pre .1 .3)) .3 (c .before .before .before .before .args .link) (contextIn (now (c .before .before .before .before .args .text)) (now (c .before .before .before .before .args .scratch)) (c .before .before .before .before .args .h))))
+    (λ c.
+    let entry = c .before .before .before .before in
+    let text = entry .args .text .now in
+    let scratch = entry .args .scratch .now in
+    let n = entry .args .n in
+    spawn-stops text scratch n (contextIn text scratch (entry .args .h)) (n .at) (λ J. andThen (check (programIn text scratch) (halfContext text scratch n J true) false (processIn text scratch (n .second))) (check (programIn text scratch) (halfContext text scratch n J false) (entry .args .link) (processIn text scratch (n .third)))) _ (c .before .spawn-refusal .ensures) (c .if1 .taken) ∙ sym (((spawn-at text scratch (entry .args .p) n (entry .pre .1 .2)) (entry .pre .1 .3)) .3 (entry .args .link) (contextIn text scratch (entry .args .h))))
     -- spawn-half-requires
-    (λ c κs. (((c .before .before .before .before .pre .1 .0), (c .before .before .before .before .pre .1 .1), ((spawn-at (now (c .before .before .before .before .args .text)) (now (c .before .before .before .before .args .scratch)) (c .before .before .before .before .args .p) (c .before .before .before .before .args .n) (c .before .before .before .before .pre .1 .2)) (c .before .before .before .before .pre .1 .3)) .1 .1, ((spawn-at (now (c .before .before .before .before .args .text)) (now (c .before .before .before .before .args .scratch)) (c .before .before .before .before .args .p) (c .before .before .before .before .args .n) (c .before .before .before .before .pre .1 .2)) (c .before .before .before .before .pre .1 .3)) .0, (c .before .before .before .before .pre .1 .2) .at), sym (c .before .spawn-refusal .ensures) ∙ c .if1 .left))
+    (λ c κs.
+    let entry = c .before .before .before .before in
+    (((entry .pre .1 .0), (entry .pre .1 .1), ((spawn-at (entry .args .text .now) (entry .args .scratch .now) (entry .args .p) (entry .args .n) (entry .pre .1 .2)) (entry .pre .1 .3)) .1 .1, ((spawn-at (entry .args .text .now) (entry .args .scratch .now) (entry .args .p) (entry .args .n) (entry .pre .1 .2)) (entry .pre .1 .3)) .0, entry .pre .1 .2 .at), sym (c .before .spawn-refusal .ensures) ∙ c .if1 .left))
     -- check-process-requires
-    (λ c κs. (omega (arith, c .before .before .before .before .before .pre .0, weight-part (c .before .before .before .before .before .args .p) _ (((spawn-at (now (c .before .before .before .before .before .args .text)) (now (c .before .before .before .before .before .args .scratch)) (c .before .before .before .before .before .args .p) (c .before .before .before .before .before .args .n) (c .before .before .before .before .before .pre .1 .2)) (c .before .before .before .before .before .pre .1 .3)) .1 .0)), ((c .before .before .before .before .before .pre .1 .0), c .spawn-half .ensures .fits, ((spawn-at (now (c .before .before .before .before .before .args .text)) (now (c .before .before .before .before .before .args .scratch)) (c .before .before .before .before .before .args .p) (c .before .before .before .before .before .args .n) (c .before .before .before .before .before .pre .1 .2)) (c .before .before .before .before .before .pre .1 .3)) .1 .1)))
+    (λ c κs.
+    let entry = c .before .before .before .before .before in
+    let p = entry .args .p in
+    (omega (arith, entry .pre .0, weight-part p _ (((spawn-at (entry .args .text .now) (entry .args .scratch .now) p (entry .args .n) (entry .pre .1 .2)) (entry .pre .1 .3)) .1 .0)), ((entry .pre .1 .0), c .spawn-half .ensures .fits, ((spawn-at (entry .args .text .now) (entry .args .scratch .now) p (entry .args .n) (entry .pre .1 .2)) (entry .pre .1 .3)) .1 .1)))
     -- enum-told
     (λ c. search needs)
     -- enum-told-2
     (λ c. search needs)
     -- returns-2
-    (λ c. then-refused (check (programIn (now (c .before .before .before .before .before .before .before .before .args .text)) (now (c .before .before .before .before .before .before .before .before .args .scratch))) (halfContext (now (c .before .before .before .before .before .before .before .before .args .text)) (now (c .before .before .before .before .before .before .before .before .args .scratch)) (c .before .before .before .before .before .before .before .before .args .n) (contextIn (now (c .before .before .before .before .before .before .before .before .args .text)) (now (c .before .before .before .before .before .before .before .before .args .scratch)) (c .before .before .before .before .before .before .before .before .args .h)) false) (c .before .before .before .before .before .before .before .before .args .link) (processIn (now (c .before .before .before .before .before .before .before .before .args .text)) (now (c .before .before .before .before .before .before .before .before .args .scratch)) ((c .before .before .before .before .before .before .before .before .args .n) .third))) (c .before .before .check-process .result) _ _ (c .enum-told2 .given .1) (c .before .before .check-process .ensures ∙ ap (λ J. check (programIn (now (c .before .before .before .before .before .before .before .before .args .text)) (now (c .before .before .before .before .before .before .before .before .args .scratch))) J false (processIn (now (c .before .before .before .before .before .before .before .before .args .text)) (now (c .before .before .before .before .before .before .before .before .args .scratch)) ((c .before .before .before .before .before .before .before .before .args .n) .second))) (c .before .before .before .spawn-half .ensures .is)) ∙ (sym (((spawn-at (now (c .before .before .before .before .before .before .before .before .args .text)) (now (c .before .before .before .before .before .before .before .before .args .scratch)) (c .before .before .before .before .before .before .before .before .args .p) (c .before .before .before .before .before .before .before .before .args .n) (c .before .before .before .before .before .before .before .before .pre .1 .2)) (c .before .before .before .before .before .before .before .before .pre .1 .3)) .3 (c .before .before .before .before .before .before .before .before .args .link) (contextIn (now (c .before .before .before .before .before .before .before .before .args .text)) (now (c .before .before .before .before .before .before .before .before .args .scratch)) (c .before .before .before .before .before .before .before .before .args .h)) ∙ spawn-goes (now (c .before .before .before .before .before .before .before .before .args .text)) (now (c .before .before .before .before .before .before .before .before .args .scratch)) (c .before .before .before .before .before .before .before .before .args .n) (contextIn (now (c .before .before .before .before .before .before .before .before .args .text)) (now (c .before .before .before .before .before .before .before .before .args .scratch)) (c .before .before .before .before .before .before .before .before .args .h)) ((c .before .before .before .before .before .before .before .before .args .n) .at) (λ J. andThen (check (programIn (now (c .before .before .before .before .before .before .before .before .args .text)) (now (c .before .before .before .before .before .before .before .before .args .scratch))) (halfContext (now (c .before .before .before .before .before .before .before .before .args .text)) (now (c .before .before .before .before .before .before .before .before .args .scratch)) (c .before .before .before .before .before .before .before .before .args .n) J true) false (processIn (now (c .before .before .before .before .before .before .before .before .args .text)) (now (c .before .before .before .before .before .before .before .before .args .scratch)) ((c .before .before .before .before .before .before .before .before .args .n) .second))) (check (programIn (now (c .before .before .before .before .before .before .before .before .args .text)) (now (c .before .before .before .before .before .before .before .before .args .scratch))) (halfContext (now (c .before .before .before .before .before .before .before .before .args .text)) (now (c .before .before .before .before .before .before .before .before .args .scratch)) (c .before .before .before .before .before .before .before .before .args .n) J false) (c .before .before .before .before .before .before .before .before .args .link) (processIn (now (c .before .before .before .before .before .before .before .before .args .text)) (now (c .before .before .before .before .before .before .before .before .args .scratch)) ((c .before .before .before .before .before .before .before .before .args .n) .third)))) _ (c .before .before .before .before .before .spawn-refusal .ensures) (c .before .before .before .before .if1 .left))))
+    (λ c.
+    let after-if1 = c .before .before .before .before in
+    let entry = after-if1 .before .before .before .before in
+    let text = entry .args .text .now in
+    let scratch = entry .args .scratch .now in
+    let n = entry .args .n in
+    let h = entry .args .h in
+    let link = entry .args .link in
+    then-refused (check (programIn text scratch) (halfContext text scratch n (contextIn text scratch h) false) link (processIn text scratch (n .third))) (c .before .before .check-process .result) _ _ (c .enum-told2 .given .1) (c .before .before .check-process .ensures ∙ ap (λ J. check (programIn text scratch) J false (processIn text scratch (n .second))) (c .before .before .before .spawn-half .ensures .is)) ∙ (sym (((spawn-at text scratch (entry .args .p) n (entry .pre .1 .2)) (entry .pre .1 .3)) .3 link (contextIn text scratch h) ∙ spawn-goes text scratch n (contextIn text scratch h) (n .at) (λ J. andThen (check (programIn text scratch) (halfContext text scratch n J true) false (processIn text scratch (n .second))) (check (programIn text scratch) (halfContext text scratch n J false) link (processIn text scratch (n .third)))) _ (after-if1 .before .spawn-refusal .ensures) (after-if1 .if1 .left))))
     -- spawn-half-requires-2
-    (λ c κs. (((c .before .before .before .before .before .before .before .before .pre .1 .0), (c .before .before .before .before .before .before .before .before .pre .1 .1), ((spawn-at (now (c .before .before .before .before .before .before .before .before .args .text)) (now (c .before .before .before .before .before .before .before .before .args .scratch)) (c .before .before .before .before .before .before .before .before .args .p) (c .before .before .before .before .before .before .before .before .args .n) (c .before .before .before .before .before .before .before .before .pre .1 .2)) (c .before .before .before .before .before .before .before .before .pre .1 .3)) .1 .1, ((spawn-at (now (c .before .before .before .before .before .before .before .before .args .text)) (now (c .before .before .before .before .before .before .before .before .args .scratch)) (c .before .before .before .before .before .before .before .before .args .p) (c .before .before .before .before .before .before .before .before .args .n) (c .before .before .before .before .before .before .before .before .pre .1 .2)) (c .before .before .before .before .before .before .before .before .pre .1 .3)) .0, (c .before .before .before .before .before .before .before .before .pre .1 .2) .at), sym (c .before .before .before .before .before .spawn-refusal .ensures) ∙ c .before .before .before .before .if1 .left))
+    (λ c κs.
+    let after-if1 = c .before .before .before .before in
+    let entry = after-if1 .before .before .before .before in
+    (((entry .pre .1 .0), (entry .pre .1 .1), ((spawn-at (entry .args .text .now) (entry .args .scratch .now) (entry .args .p) (entry .args .n) (entry .pre .1 .2)) (entry .pre .1 .3)) .1 .1, ((spawn-at (entry .args .text .now) (entry .args .scratch .now) (entry .args .p) (entry .args .n) (entry .pre .1 .2)) (entry .pre .1 .3)) .0, entry .pre .1 .2 .at), sym (after-if1 .before .spawn-refusal .ensures) ∙ after-if1 .if1 .left))
     -- check-process-requires-2
-    (λ c κs. (omega (arith, c .before .before .before .before .before .before .before .before .before .pre .0, weight-part (c .before .before .before .before .before .before .before .before .before .args .p) _ (((spawn-at (now (c .before .before .before .before .before .before .before .before .before .args .text)) (now (c .before .before .before .before .before .before .before .before .before .args .scratch)) (c .before .before .before .before .before .before .before .before .before .args .p) (c .before .before .before .before .before .before .before .before .before .args .n) (c .before .before .before .before .before .before .before .before .before .pre .1 .2)) (c .before .before .before .before .before .before .before .before .before .pre .1 .3)) .2 .0)), ((c .before .before .before .before .before .before .before .before .before .pre .1 .0), c .spawn-half2 .ensures .fits, ((spawn-at (now (c .before .before .before .before .before .before .before .before .before .args .text)) (now (c .before .before .before .before .before .before .before .before .before .args .scratch)) (c .before .before .before .before .before .before .before .before .before .args .p) (c .before .before .before .before .before .before .before .before .before .args .n) (c .before .before .before .before .before .before .before .before .before .pre .1 .2)) (c .before .before .before .before .before .before .before .before .before .pre .1 .3)) .2 .1)))
+    (λ c κs.
+    let entry = c .before .before .before .before .before .before .before .before .before in
+    let p = entry .args .p in
+    (omega (arith, entry .pre .0, weight-part p _ (((spawn-at (entry .args .text .now) (entry .args .scratch .now) p (entry .args .n) (entry .pre .1 .2)) (entry .pre .1 .3)) .2 .0)), ((entry .pre .1 .0), c .spawn-half2 .ensures .fits, ((spawn-at (entry .args .text .now) (entry .args .scratch .now) p (entry .args .n) (entry .pre .1 .2)) (entry .pre .1 .3)) .2 .1)))
     -- returns-3
-    (λ c. then-fine (check (programIn (now (c .before .before .before .before .before .before .before .before .before .before .args .text)) (now (c .before .before .before .before .before .before .before .before .before .before .args .scratch))) (halfContext (now (c .before .before .before .before .before .before .before .before .before .before .args .text)) (now (c .before .before .before .before .before .before .before .before .before .before .args .scratch)) (c .before .before .before .before .before .before .before .before .before .before .args .n) (contextIn (now (c .before .before .before .before .before .before .before .before .before .before .args .text)) (now (c .before .before .before .before .before .before .before .before .before .before .args .scratch)) (c .before .before .before .before .before .before .before .before .before .before .args .h)) false) (c .before .before .before .before .before .before .before .before .before .before .args .link) (processIn (now (c .before .before .before .before .before .before .before .before .before .before .args .text)) (now (c .before .before .before .before .before .before .before .before .before .before .args .scratch)) ((c .before .before .before .before .before .before .before .before .before .before .args .n) .third))) (c .before .before .before .before .check-process .result) (c .before .before .enum-told .given .1) (c .before .before .before .before .check-process .ensures ∙ ap (λ J. check (programIn (now (c .before .before .before .before .before .before .before .before .before .before .args .text)) (now (c .before .before .before .before .before .before .before .before .before .before .args .scratch))) J false (processIn (now (c .before .before .before .before .before .before .before .before .before .before .args .text)) (now (c .before .before .before .before .before .before .before .before .before .before .args .scratch)) ((c .before .before .before .before .before .before .before .before .before .before .args .n) .second))) (c .before .before .before .before .before .spawn-half .ensures .is)) (c .check-process2 .ensures ∙ ap (λ J. check (programIn (now (c .before .before .before .before .before .before .before .before .before .before .args .text)) (now (c .before .before .before .before .before .before .before .before .before .before .args .scratch))) J (c .before .before .before .before .before .before .before .before .before .before .args .link) (processIn (now (c .before .before .before .before .before .before .before .before .before .before .args .text)) (now (c .before .before .before .before .before .before .before .before .before .before .args .scratch)) ((c .before .before .before .before .before .before .before .before .before .before .args .n) .third))) (c .before .spawn-half2 .ensures .is)) ∙ (sym (((spawn-at (now (c .before .before .before .before .before .before .before .before .before .before .args .text)) (now (c .before .before .before .before .before .before .before .before .before .before .args .scratch)) (c .before .before .before .before .before .before .before .before .before .before .args .p) (c .before .before .before .before .before .before .before .before .before .before .args .n) (c .before .before .before .before .before .before .before .before .before .before .pre .1 .2)) (c .before .before .before .before .before .before .before .before .before .before .pre .1 .3)) .3 (c .before .before .before .before .before .before .before .before .before .before .args .link) (contextIn (now (c .before .before .before .before .before .before .before .before .before .before .args .text)) (now (c .before .before .before .before .before .before .before .before .before .before .args .scratch)) (c .before .before .before .before .before .before .before .before .before .before .args .h)) ∙ spawn-goes (now (c .before .before .before .before .before .before .before .before .before .before .args .text)) (now (c .before .before .before .before .before .before .before .before .before .before .args .scratch)) (c .before .before .before .before .before .before .before .before .before .before .args .n) (contextIn (now (c .before .before .before .before .before .before .before .before .before .before .args .text)) (now (c .before .before .before .before .before .before .before .before .before .before .args .scratch)) (c .before .before .before .before .before .before .before .before .before .before .args .h)) ((c .before .before .before .before .before .before .before .before .before .before .args .n) .at) (λ J. andThen (check (programIn (now (c .before .before .before .before .before .before .before .before .before .before .args .text)) (now (c .before .before .before .before .before .before .before .before .before .before .args .scratch))) (halfContext (now (c .before .before .before .before .before .before .before .before .before .before .args .text)) (now (c .before .before .before .before .before .before .before .before .before .before .args .scratch)) (c .before .before .before .before .before .before .before .before .before .before .args .n) J true) false (processIn (now (c .before .before .before .before .before .before .before .before .before .before .args .text)) (now (c .before .before .before .before .before .before .before .before .before .before .args .scratch)) ((c .before .before .before .before .before .before .before .before .before .before .args .n) .second))) (check (programIn (now (c .before .before .before .before .before .before .before .before .before .before .args .text)) (now (c .before .before .before .before .before .before .before .before .before .before .args .scratch))) (halfContext (now (c .before .before .before .before .before .before .before .before .before .before .args .text)) (now (c .before .before .before .before .before .before .before .before .before .before .args .scratch)) (c .before .before .before .before .before .before .before .before .before .before .args .n) J false) (c .before .before .before .before .before .before .before .before .before .before .args .link) (processIn (now (c .before .before .before .before .before .before .before .before .before .before .args .text)) (now (c .before .before .before .before .before .before .before .before .before .before .args .scratch)) ((c .before .before .before .before .before .before .before .before .before .before .args .n) .third)))) _ (c .before .before .before .before .before .before .before .spawn-refusal .ensures) (c .before .before .before .before .before .before .if1 .left))))
+    (λ c.
+    let after-if1 = c .before .before .before .before .before .before in
+    let entry = after-if1 .before .before .before .before in
+    let text = entry .args .text .now in
+    let scratch = entry .args .scratch .now in
+    let n = entry .args .n in
+    let h = entry .args .h in
+    let link = entry .args .link in
+    then-fine (check (programIn text scratch) (halfContext text scratch n (contextIn text scratch h) false) link (processIn text scratch (n .third))) (c .before .before .before .before .check-process .result) (c .before .before .enum-told .given .1) (c .before .before .before .before .check-process .ensures ∙ ap (λ J. check (programIn text scratch) J false (processIn text scratch (n .second))) (c .before .before .before .before .before .spawn-half .ensures .is)) (c .check-process2 .ensures ∙ ap (λ J. check (programIn text scratch) J link (processIn text scratch (n .third))) (c .before .spawn-half2 .ensures .is)) ∙ (sym (((spawn-at text scratch (entry .args .p) n (entry .pre .1 .2)) (entry .pre .1 .3)) .3 link (contextIn text scratch h) ∙ spawn-goes text scratch n (contextIn text scratch h) (n .at) (λ J. andThen (check (programIn text scratch) (halfContext text scratch n J true) false (processIn text scratch (n .second))) (check (programIn text scratch) (halfContext text scratch n J false) link (processIn text scratch (n .third)))) _ (after-if1 .before .spawn-refusal .ensures) (after-if1 .if1 .left))))

@@ -3,7 +3,6 @@ use borrow.Author.Needs.{needs}
 use Prim.Native.Nat.{ℕ, _-_}
 use native.Mathlib.Omega.{arith}
 use mathlib.Core.Path.{_≡_, refl, sym, _∙_, ap, subst}
-use denote.Ref.{now}
 use Rattle.check_contexts.specs.Falling.{weight-at, weight-part}
 use Rattle.calculus.specs.Checking.{check, checkBranches}
 use Rattle.read_tables.specs.Decode.{processIn}
@@ -28,36 +27,71 @@ pub check-term-met : {M : Type 1} (t : ℕ) → check-term-lts.Closed (check-spa
 check-term-met t =
     check-term-lts.spec (check-spawn-below t, check-spawn.Post, check-choice-below t, check-choice.Post, check-raise-below t, check-raise.Post, send-next-reads.Asked, send-next-reads.Learnt, check-rest-below t, check-rest.Post, receive-one-reads.Asked, receive-one-reads.Learnt, ending-refusal-reads.Asked, ending-refusal-reads.Learnt, ended-reads.Asked, ended-reads.Learnt, check-try-below t, check-try.Post) (check-term-at t) check-term.Post
     -- check-spawn-requires
-    (λ c κs. (omega (arith, c .before .before .before .pre .0), ((c .before .before .before .pre .1 .0), (c .before .before .before .pre .1 .1), (c .before .before .before .pre .1 .2), c .match .keys1)))
+    (λ c κs.
+    let entry = c .before .before .before in
+    (omega (arith, entry .pre .0), ((entry .pre .1 .0), (entry .pre .1 .1), (entry .pre .1 .2), c .match .keys1)))
     -- returns
     (λ c. c .check-spawn .ensures)
     -- check-choice-requires
-    (λ c κs. (omega (arith, c .before .before .before .pre .0), ((c .before .before .before .pre .1 .0), (c .before .before .before .pre .1 .1), (c .before .before .before .pre .1 .2), c .match .keys2)))
+    (λ c κs.
+    let entry = c .before .before .before in
+    (omega (arith, entry .pre .0), ((entry .pre .1 .0), (entry .pre .1 .1), (entry .pre .1 .2), c .match .keys2)))
     -- returns-2
     (λ c. c .check-choice .ensures)
     -- check-raise-requires
-    (λ c κs. (omega (arith, c .before .before .before .pre .0), ((c .before .before .before .pre .1 .0), (c .before .before .before .pre .1 .1), (c .before .before .before .pre .1 .2), c .match .keys3)))
+    (λ c κs.
+    let entry = c .before .before .before in
+    (omega (arith, entry .pre .0), ((entry .pre .1 .0), (entry .pre .1 .1), (entry .pre .1 .2), c .match .keys3)))
     -- returns-3
     (λ c. c .check-raise .ensures)
     -- send-next-requires
     (λ c κs. ((c .before .before .before .before .pre .1 .0), (c .before .before .before .before .pre .1 .1)))
     -- check-rest-requires
-    (λ c κs. (omega (arith, c .before .before .before .before .before .pre .0), ((c .before .before .before .before .before .pre .1 .0), c .send-next .ensures .fits, ((send-at (now (c .before .before .before .before .before .args .text)) (now (c .before .before .before .before .before .args .scratch)) (c .before .before .before .before .before .args .p) (c .before .before .before .before .before .args .n) (c .before .before .before .before .before .pre .1 .2)) (some-kind (now (c .before .before .before .before .before .args .text)) (now (c .before .before .before .before .before .args .scratch)) (c .before .before .before .before .before .args .p) (c .before .before .before .before .before .args .n) (c .before .before .before .before .before .pre .1 .2)) (omega (arith, c .before .if1 .taken))) .0 .0, ((send-at (now (c .before .before .before .before .before .args .text)) (now (c .before .before .before .before .before .args .scratch)) (c .before .before .before .before .before .args .p) (c .before .before .before .before .before .args .n) (c .before .before .before .before .before .pre .1 .2)) (some-kind (now (c .before .before .before .before .before .args .text)) (now (c .before .before .before .before .before .args .scratch)) (c .before .before .before .before .before .args .p) (c .before .before .before .before .before .args .n) (c .before .before .before .before .before .pre .1 .2)) (omega (arith, c .before .if1 .taken))) .0 .1)))
+    (λ c κs.
+    let entry = c .before .before .before .before .before in
+    let text = entry .args .text .now in
+    let scratch = entry .args .scratch .now in
+    let p = entry .args .p in
+    let n = entry .args .n in
+    (omega (arith, entry .pre .0), ((entry .pre .1 .0), c .send-next .ensures .fits, ((send-at text scratch p n (entry .pre .1 .2)) (some-kind text scratch p n (entry .pre .1 .2)) (omega (arith, c .before .if1 .taken))) .0 .0, ((send-at text scratch p n (entry .pre .1 .2)) (some-kind text scratch p n (entry .pre .1 .2)) (omega (arith, c .before .if1 .taken))) .0 .1)))
     -- returns-4
-    (λ c. rest-of (now (c .before .before .before .before .before .before .args .text)) (now (c .before .before .before .before .before .before .args .scratch)) _ ((c .before .before .before .before .before .before .args .n) .at) (λ J. check (programIn (now (c .before .before .before .before .before .before .args .text)) (now (c .before .before .before .before .before .before .args .scratch))) J (c .before .before .before .before .before .before .args .link) (processIn (now (c .before .before .before .before .before .before .args .text)) (now (c .before .before .before .before .before .before .args .scratch)) ((c .before .before .before .before .before .before .args .n) .third))) _ (c .before .send-next .ensures) (c .check-rest .ensures) (((send-at (now (c .before .before .before .before .before .before .args .text)) (now (c .before .before .before .before .before .before .args .scratch)) (c .before .before .before .before .before .before .args .p) (c .before .before .before .before .before .before .args .n) (c .before .before .before .before .before .before .pre .1 .2)) (some-kind (now (c .before .before .before .before .before .before .args .text)) (now (c .before .before .before .before .before .before .args .scratch)) (c .before .before .before .before .before .before .args .p) (c .before .before .before .before .before .before .args .n) (c .before .before .before .before .before .before .pre .1 .2)) (omega (arith, c .before .before .if1 .taken))) .1 (c .before .before .before .before .before .before .args .link) (contextIn (now (c .before .before .before .before .before .before .args .text)) (now (c .before .before .before .before .before .before .args .scratch)) (c .before .before .before .before .before .before .args .h))))
+    (λ c.
+    let entry = c .before .before .before .before .before .before in
+    let text = entry .args .text .now in
+    let scratch = entry .args .scratch .now in
+    let n = entry .args .n in
+    rest-of text scratch _ (n .at) (λ J. check (programIn text scratch) J (entry .args .link) (processIn text scratch (n .third))) _ (c .before .send-next .ensures) (c .check-rest .ensures) (((send-at text scratch (entry .args .p) n (entry .pre .1 .2)) (some-kind text scratch (entry .args .p) n (entry .pre .1 .2)) (omega (arith, c .before .before .if1 .taken))) .1 (entry .args .link) (contextIn text scratch (entry .args .h))))
     -- receive-one-requires
-    (λ c κs. ((c .before .before .before .before .before .pre .1 .0), (c .before .before .before .before .before .pre .1 .1), ((receive-at (now (c .before .before .before .before .before .args .text)) (now (c .before .before .before .before .before .args .scratch)) (c .before .before .before .before .before .args .p) (c .before .before .before .before .before .args .n) (c .before .before .before .before .before .pre .1 .2)) (omega (arith, c .before .if1 .left, c .before .before .match .rest .0 .0 .1)) (omega (arith, c .if2 .taken))) .1, omega (arith, c .before .if1 .left, c .before .before .match .rest .0 .0 .1), omega (arith, c .if2 .taken)))
+    (λ c κs.
+    let entry = c .before .before .before .before .before in
+    ((entry .pre .1 .0), (entry .pre .1 .1), ((receive-at (entry .args .text .now) (entry .args .scratch .now) (entry .args .p) (entry .args .n) (entry .pre .1 .2)) (omega (arith, c .before .if1 .left, c .before .before .match .rest .0 .0 .1)) (omega (arith, c .if2 .taken))) .1, omega (arith, c .before .if1 .left, c .before .before .match .rest .0 .0 .1), omega (arith, c .if2 .taken)))
     -- check-rest-requires-2
-    (λ c κs. (omega (arith, c .before .before .before .before .before .before .pre .0), ((c .before .before .before .before .before .before .pre .1 .0), c .receive-one .ensures .fits, ((receive-at (now (c .before .before .before .before .before .before .args .text)) (now (c .before .before .before .before .before .before .args .scratch)) (c .before .before .before .before .before .before .args .p) (c .before .before .before .before .before .before .args .n) (c .before .before .before .before .before .before .pre .1 .2)) (omega (arith, c .before .before .if1 .left, c .before .before .before .match .rest .0 .0 .1)) (omega (arith, c .before .if2 .taken))) .0 .0, ((receive-at (now (c .before .before .before .before .before .before .args .text)) (now (c .before .before .before .before .before .before .args .scratch)) (c .before .before .before .before .before .before .args .p) (c .before .before .before .before .before .before .args .n) (c .before .before .before .before .before .before .pre .1 .2)) (omega (arith, c .before .before .if1 .left, c .before .before .before .match .rest .0 .0 .1)) (omega (arith, c .before .if2 .taken))) .0 .1)))
+    (λ c κs.
+    let match = c .before .before .before .match in
+    let entry = c .before .before .before .before .before .before in
+    (omega (arith, entry .pre .0), ((entry .pre .1 .0), c .receive-one .ensures .fits, ((receive-at (entry .args .text .now) (entry .args .scratch .now) (entry .args .p) (entry .args .n) (entry .pre .1 .2)) (omega (arith, c .before .before .if1 .left, match .rest .0 .0 .1)) (omega (arith, c .before .if2 .taken))) .0 .0, ((receive-at (entry .args .text .now) (entry .args .scratch .now) (entry .args .p) (entry .args .n) (entry .pre .1 .2)) (omega (arith, c .before .before .if1 .left, match .rest .0 .0 .1)) (omega (arith, c .before .if2 .taken))) .0 .1)))
     -- returns-5
-    (λ c. rest-of (now (c .before .before .before .before .before .before .before .args .text)) (now (c .before .before .before .before .before .before .before .args .scratch)) _ ((c .before .before .before .before .before .before .before .args .n) .at) (λ J. check (programIn (now (c .before .before .before .before .before .before .before .args .text)) (now (c .before .before .before .before .before .before .before .args .scratch))) J (c .before .before .before .before .before .before .before .args .link) (processIn (now (c .before .before .before .before .before .before .before .args .text)) (now (c .before .before .before .before .before .before .before .args .scratch)) ((c .before .before .before .before .before .before .before .args .n) .third))) _ (c .before .receive-one .ensures) (c .check-rest2 .ensures) (((receive-at (now (c .before .before .before .before .before .before .before .args .text)) (now (c .before .before .before .before .before .before .before .args .scratch)) (c .before .before .before .before .before .before .before .args .p) (c .before .before .before .before .before .before .before .args .n) (c .before .before .before .before .before .before .before .pre .1 .2)) (omega (arith, c .before .before .before .if1 .left, c .before .before .before .before .match .rest .0 .0 .1)) (omega (arith, c .before .before .if2 .taken))) .2 (c .before .before .before .before .before .before .before .args .link) (contextIn (now (c .before .before .before .before .before .before .before .args .text)) (now (c .before .before .before .before .before .before .before .args .scratch)) (c .before .before .before .before .before .before .before .args .h))))
+    (λ c.
+    let entry = c .before .before .before .before .before .before .before in
+    let text = entry .args .text .now in
+    let scratch = entry .args .scratch .now in
+    let n = entry .args .n in
+    rest-of text scratch _ (n .at) (λ J. check (programIn text scratch) J (entry .args .link) (processIn text scratch (n .third))) _ (c .before .receive-one .ensures) (c .check-rest2 .ensures) (((receive-at text scratch (entry .args .p) n (entry .pre .1 .2)) (omega (arith, c .before .before .before .if1 .left, c .before .before .before .before .match .rest .0 .0 .1)) (omega (arith, c .before .before .if2 .taken))) .2 (entry .args .link) (contextIn text scratch (entry .args .h))))
     -- ending-refusal-requires
-    (λ c κs. (((c .before .before .before .before .before .before .pre .1 .0), (c .before .before .before .before .before .before .pre .1 .1)), ((end-at (now (c .before .before .before .before .before .before .args .text)) (now (c .before .before .before .before .before .before .args .scratch)) (c .before .before .before .before .before .before .args .p) (c .before .before .before .before .before .before .args .n) (c .before .before .before .before .before .before .pre .1 .2)) (omega (arith, c .before .if2 .left, c .before .before .before .match .rest .0 .1)) (omega (arith, c .if3 .taken))) .0))
+    (λ c κs.
+    let entry = c .before .before .before .before .before .before in
+    (((entry .pre .1 .0), (entry .pre .1 .1)), ((end-at (entry .args .text .now) (entry .args .scratch .now) (entry .args .p) (entry .args .n) (entry .pre .1 .2)) (omega (arith, c .before .if2 .left, c .before .before .before .match .rest .0 .1)) (omega (arith, c .if3 .taken))) .0))
     -- ended-requires
     (λ c κs. search needs)
     -- returns-6
-    (λ c. ends-so (now (c .before .before .before .before .before .before .before .before .args .text)) (now (c .before .before .before .before .before .before .before .before .args .scratch)) (c .before .before .before .before .before .before .before .before .args .n) (contextIn (now (c .before .before .before .before .before .before .before .before .args .text)) (now (c .before .before .before .before .before .before .before .before .args .scratch)) (c .before .before .before .before .before .before .before .before .args .h)) _ (c .before .ending-refusal .ensures) (c .ended .ensures) (((end-at (now (c .before .before .before .before .before .before .before .before .args .text)) (now (c .before .before .before .before .before .before .before .before .args .scratch)) (c .before .before .before .before .before .before .before .before .args .p) (c .before .before .before .before .before .before .before .before .args .n) (c .before .before .before .before .before .before .before .before .pre .1 .2)) (omega (arith, c .before .before .before .if2 .left, c .before .before .before .before .before .match .rest .0 .1)) (omega (arith, c .before .before .if3 .taken))) .1 (c .before .before .before .before .before .before .before .before .args .link) (contextIn (now (c .before .before .before .before .before .before .before .before .args .text)) (now (c .before .before .before .before .before .before .before .before .args .scratch)) (c .before .before .before .before .before .before .before .before .args .h))))
+    (λ c.
+    let entry = c .before .before .before .before .before .before .before .before in
+    let text = entry .args .text .now in
+    let scratch = entry .args .scratch .now in
+    ends-so text scratch (entry .args .n) (contextIn text scratch (entry .args .h)) _ (c .before .ending-refusal .ensures) (c .ended .ensures) (((end-at text scratch (entry .args .p) (entry .args .n) (entry .pre .1 .2)) (omega (arith, c .before .before .before .if2 .left, c .before .before .before .before .before .match .rest .0 .1)) (omega (arith, c .before .before .if3 .taken))) .1 (entry .args .link) (contextIn text scratch (entry .args .h))))
     -- check-try-requires
-    (λ c κs. (omega (arith, c .before .before .before .before .before .before .pre .0), ((c .before .before .before .before .before .before .pre .1 .0), (c .before .before .before .before .before .before .pre .1 .1), (c .before .before .before .before .before .before .pre .1 .2), omega (arith, c .if3 .left, c .before .before .before .match .rest .1))))
+    (λ c κs.
+    let entry = c .before .before .before .before .before .before in
+    (omega (arith, entry .pre .0), ((entry .pre .1 .0), (entry .pre .1 .1), (entry .pre .1 .2), omega (arith, c .if3 .left, c .before .before .before .match .rest .1))))
     -- returns-7
     (λ c. c .check-try .ensures)

@@ -3,7 +3,6 @@ use borrow.Author.Needs.{needs}
 use Prim.Native.Nat.{ℕ, _-_}
 use native.Mathlib.Omega.{arith}
 use mathlib.Core.Path.{_≡_, refl, sym, _∙_, ap, subst}
-use denote.Ref.{now}
 use Rattle.check_contexts.specs.Falling.{weight-at, weight-part}
 use Rattle.calculus.specs.Checking.{check, checkBranches}
 use Rattle.read_tables.specs.Decode.{processIn}
@@ -27,22 +26,56 @@ pub check-try-met : {M : Type 1} (t : ℕ) → check-try-lts.Closed (divides-rea
 check-try-met t =
     check-try-lts.spec (divides-reads.Asked, divides-reads.Learnt, keep-reads.Asked, keep-reads.Learnt, check-process-below t, check-process.Post) (check-try-at t) check-try.Post
     -- divides-requires
-    (λ c κs. ((c .before .before .pre .1 .0), (((try-at (now (c .before .before .args .text)) (now (c .before .before .args .scratch)) (c .before .before .args .p) (c .before .before .args .n) (c .before .before .pre .1 .2)) (c .before .before .pre .1 .3)) .0 .1, (((try-at (now (c .before .before .args .text)) (now (c .before .before .args .scratch)) (c .before .before .args .p) (c .before .before .args .n) (c .before .before .pre .1 .2)) (c .before .before .pre .1 .3)) .1 .1, (c .before .before .pre .1 .1) .many))))
+    (λ c κs.
+    let entry = c .before .before in
+    ((entry .pre .1 .0), (((try-at (entry .args .text .now) (entry .args .scratch .now) (entry .args .p) (entry .args .n) (entry .pre .1 .2)) (entry .pre .1 .3)) .0 .1, (((try-at (entry .args .text .now) (entry .args .scratch .now) (entry .args .p) (entry .args .n) (entry .pre .1 .2)) (entry .pre .1 .3)) .1 .1, entry .pre .1 .1 .many))))
     -- returns
-    (λ c. (sym (((try-at (now (c .before .before .before .before .args .text)) (now (c .before .before .before .before .args .scratch)) (c .before .before .before .before .args .p) (c .before .before .before .before .args .n) (c .before .before .before .before .pre .1 .2)) (c .before .before .before .before .pre .1 .3)) .2 (c .before .before .before .before .args .link) (contextIn (now (c .before .before .before .before .args .text)) (now (c .before .before .before .before .args .scratch)) (c .before .before .before .before .args .h)) ∙ ap (λ b. demand 13 ((c .before .before .before .before .args .n) .at) b (andThen (check (programIn (now (c .before .before .before .before .args .text)) (now (c .before .before .before .before .args .scratch))) (tryTakes (processIn (now (c .before .before .before .before .args .text)) (now (c .before .before .before .before .args .scratch)) ((c .before .before .before .before .args .n) .second)) (contextIn (now (c .before .before .before .before .args .text)) (now (c .before .before .before .before .args .scratch)) (c .before .before .before .before .args .h))) true (processIn (now (c .before .before .before .before .args .text)) (now (c .before .before .before .before .args .scratch)) ((c .before .before .before .before .args .n) .second))) (check (programIn (now (c .before .before .before .before .args .text)) (now (c .before .before .before .before .args .scratch))) (tryTakes (processIn (now (c .before .before .before .before .args .text)) (now (c .before .before .before .before .args .scratch)) ((c .before .before .before .before .args .n) .third)) (contextIn (now (c .before .before .before .before .args .text)) (now (c .before .before .before .before .args .scratch)) (c .before .before .before .before .args .h))) (c .before .before .before .before .args .link) (processIn (now (c .before .before .before .before .args .text)) (now (c .before .before .before .before .args .scratch)) ((c .before .before .before .before .args .n) .third))))) (sym (tried-once (now (c .before .before .before .before .args .text)) (now (c .before .before .before .before .args .scratch)) (c .before .before .before .before .args .h) _ _ _ (c .before .divides .ensures)) ∙ (not-true _ (c .if1 .taken))))))
+    (λ c.
+    let entry = c .before .before .before .before in
+    let text = entry .args .text .now in
+    let scratch = entry .args .scratch .now in
+    let n = entry .args .n in
+    let h = entry .args .h in
+    (sym (((try-at text scratch (entry .args .p) n (entry .pre .1 .2)) (entry .pre .1 .3)) .2 (entry .args .link) (contextIn text scratch h) ∙ ap (λ b. demand 13 (n .at) b (andThen (check (programIn text scratch) (tryTakes (processIn text scratch (n .second)) (contextIn text scratch h)) true (processIn text scratch (n .second))) (check (programIn text scratch) (tryTakes (processIn text scratch (n .third)) (contextIn text scratch h)) (entry .args .link) (processIn text scratch (n .third))))) (sym (tried-once text scratch h _ _ _ (c .before .divides .ensures)) ∙ (not-true _ (c .if1 .taken))))))
     -- keep-requires
-    (λ c κs. ((c .before .before .before .before .pre .1 .0), (((try-at (now (c .before .before .before .before .args .text)) (now (c .before .before .before .before .args .scratch)) (c .before .before .before .before .args .p) (c .before .before .before .before .args .n) (c .before .before .before .before .pre .1 .2)) (c .before .before .before .before .pre .1 .3)) .0 .1, (c .before .before .before .before .pre .1 .1))))
+    (λ c κs.
+    let entry = c .before .before .before .before in
+    ((entry .pre .1 .0), (((try-at (entry .args .text .now) (entry .args .scratch .now) (entry .args .p) (entry .args .n) (entry .pre .1 .2)) (entry .pre .1 .3)) .0 .1, (entry .pre .1 .1))))
     -- check-process-requires
-    (λ c κs. (omega (arith, c .before .before .before .before .before .pre .0, weight-part (c .before .before .before .before .before .args .p) _ (((try-at (now (c .before .before .before .before .before .args .text)) (now (c .before .before .before .before .before .args .scratch)) (c .before .before .before .before .before .args .p) (c .before .before .before .before .before .args .n) (c .before .before .before .before .before .pre .1 .2)) (c .before .before .before .before .before .pre .1 .3)) .0 .0)), ((c .before .before .before .before .before .pre .1 .0), c .keep .ensures .fits, ((try-at (now (c .before .before .before .before .before .args .text)) (now (c .before .before .before .before .before .args .scratch)) (c .before .before .before .before .before .args .p) (c .before .before .before .before .before .args .n) (c .before .before .before .before .before .pre .1 .2)) (c .before .before .before .before .before .pre .1 .3)) .0 .1)))
+    (λ c κs.
+    let entry = c .before .before .before .before .before in
+    let p = entry .args .p in
+    (omega (arith, entry .pre .0, weight-part p _ (((try-at (entry .args .text .now) (entry .args .scratch .now) p (entry .args .n) (entry .pre .1 .2)) (entry .pre .1 .3)) .0 .0)), ((entry .pre .1 .0), c .keep .ensures .fits, ((try-at (entry .args .text .now) (entry .args .scratch .now) p (entry .args .n) (entry .pre .1 .2)) (entry .pre .1 .3)) .0 .1)))
     -- enum-told
     (λ c. search needs)
     -- enum-told-2
     (λ c. search needs)
     -- returns-2
-    (λ c. then-refused (check (programIn (now (c .before .before .before .before .before .before .before .before .args .text)) (now (c .before .before .before .before .before .before .before .before .args .scratch))) (tryTakes (processIn (now (c .before .before .before .before .before .before .before .before .args .text)) (now (c .before .before .before .before .before .before .before .before .args .scratch)) ((c .before .before .before .before .before .before .before .before .args .n) .third)) (contextIn (now (c .before .before .before .before .before .before .before .before .args .text)) (now (c .before .before .before .before .before .before .before .before .args .scratch)) (c .before .before .before .before .before .before .before .before .args .h))) (c .before .before .before .before .before .before .before .before .args .link) (processIn (now (c .before .before .before .before .before .before .before .before .args .text)) (now (c .before .before .before .before .before .before .before .before .args .scratch)) ((c .before .before .before .before .before .before .before .before .args .n) .third))) (c .before .before .check-process .result) _ _ (c .enum-told2 .given .1) (c .before .before .check-process .ensures ∙ ap (λ J. check (programIn (now (c .before .before .before .before .before .before .before .before .args .text)) (now (c .before .before .before .before .before .before .before .before .args .scratch))) J true (processIn (now (c .before .before .before .before .before .before .before .before .args .text)) (now (c .before .before .before .before .before .before .before .before .args .scratch)) ((c .before .before .before .before .before .before .before .before .args .n) .second))) (tried (now (c .before .before .before .before .before .before .before .before .args .text)) (now (c .before .before .before .before .before .before .before .before .args .scratch)) (c .before .before .before .before .before .before .before .before .args .h) _ _ (c .before .before .before .keep .ensures))) ∙ (sym (((try-at (now (c .before .before .before .before .before .before .before .before .args .text)) (now (c .before .before .before .before .before .before .before .before .args .scratch)) (c .before .before .before .before .before .before .before .before .args .p) (c .before .before .before .before .before .before .before .before .args .n) (c .before .before .before .before .before .before .before .before .pre .1 .2)) (c .before .before .before .before .before .before .before .before .pre .1 .3)) .2 (c .before .before .before .before .before .before .before .before .args .link) (contextIn (now (c .before .before .before .before .before .before .before .before .args .text)) (now (c .before .before .before .before .before .before .before .before .args .scratch)) (c .before .before .before .before .before .before .before .before .args .h)) ∙ ap (λ b. demand 13 ((c .before .before .before .before .before .before .before .before .args .n) .at) b (andThen (check (programIn (now (c .before .before .before .before .before .before .before .before .args .text)) (now (c .before .before .before .before .before .before .before .before .args .scratch))) (tryTakes (processIn (now (c .before .before .before .before .before .before .before .before .args .text)) (now (c .before .before .before .before .before .before .before .before .args .scratch)) ((c .before .before .before .before .before .before .before .before .args .n) .second)) (contextIn (now (c .before .before .before .before .before .before .before .before .args .text)) (now (c .before .before .before .before .before .before .before .before .args .scratch)) (c .before .before .before .before .before .before .before .before .args .h))) true (processIn (now (c .before .before .before .before .before .before .before .before .args .text)) (now (c .before .before .before .before .before .before .before .before .args .scratch)) ((c .before .before .before .before .before .before .before .before .args .n) .second))) (check (programIn (now (c .before .before .before .before .before .before .before .before .args .text)) (now (c .before .before .before .before .before .before .before .before .args .scratch))) (tryTakes (processIn (now (c .before .before .before .before .before .before .before .before .args .text)) (now (c .before .before .before .before .before .before .before .before .args .scratch)) ((c .before .before .before .before .before .before .before .before .args .n) .third)) (contextIn (now (c .before .before .before .before .before .before .before .before .args .text)) (now (c .before .before .before .before .before .before .before .before .args .scratch)) (c .before .before .before .before .before .before .before .before .args .h))) (c .before .before .before .before .before .before .before .before .args .link) (processIn (now (c .before .before .before .before .before .before .before .before .args .text)) (now (c .before .before .before .before .before .before .before .before .args .scratch)) ((c .before .before .before .before .before .before .before .before .args .n) .third))))) (sym (tried-once (now (c .before .before .before .before .before .before .before .before .args .text)) (now (c .before .before .before .before .before .before .before .before .args .scratch)) (c .before .before .before .before .before .before .before .before .args .h) _ _ _ (c .before .before .before .before .before .divides .ensures)) ∙ (not-false _ (c .before .before .before .before .if1 .left))))))
+    (λ c.
+    let after-if1 = c .before .before .before .before in
+    let entry = after-if1 .before .before .before .before in
+    let text = entry .args .text .now in
+    let scratch = entry .args .scratch .now in
+    let n = entry .args .n in
+    let h = entry .args .h in
+    let link = entry .args .link in
+    then-refused (check (programIn text scratch) (tryTakes (processIn text scratch (n .third)) (contextIn text scratch h)) link (processIn text scratch (n .third))) (c .before .before .check-process .result) _ _ (c .enum-told2 .given .1) (c .before .before .check-process .ensures ∙ ap (λ J. check (programIn text scratch) J true (processIn text scratch (n .second))) (tried text scratch h _ _ (c .before .before .before .keep .ensures))) ∙ (sym (((try-at text scratch (entry .args .p) n (entry .pre .1 .2)) (entry .pre .1 .3)) .2 link (contextIn text scratch h) ∙ ap (λ b. demand 13 (n .at) b (andThen (check (programIn text scratch) (tryTakes (processIn text scratch (n .second)) (contextIn text scratch h)) true (processIn text scratch (n .second))) (check (programIn text scratch) (tryTakes (processIn text scratch (n .third)) (contextIn text scratch h)) link (processIn text scratch (n .third))))) (sym (tried-once text scratch h _ _ _ (after-if1 .before .divides .ensures)) ∙ (not-false _ (after-if1 .if1 .left))))))
     -- keep-requires-2
-    (λ c κs. ((c .before .before .before .before .before .before .before .before .pre .1 .0), (((try-at (now (c .before .before .before .before .before .before .before .before .args .text)) (now (c .before .before .before .before .before .before .before .before .args .scratch)) (c .before .before .before .before .before .before .before .before .args .p) (c .before .before .before .before .before .before .before .before .args .n) (c .before .before .before .before .before .before .before .before .pre .1 .2)) (c .before .before .before .before .before .before .before .before .pre .1 .3)) .1 .1, (c .before .before .before .before .before .before .before .before .pre .1 .1))))
+    (λ c κs.
+    let entry = c .before .before .before .before .before .before .before .before in
+    ((entry .pre .1 .0), (((try-at (entry .args .text .now) (entry .args .scratch .now) (entry .args .p) (entry .args .n) (entry .pre .1 .2)) (entry .pre .1 .3)) .1 .1, (entry .pre .1 .1))))
     -- check-process-requires-2
-    (λ c κs. (omega (arith, c .before .before .before .before .before .before .before .before .before .pre .0, weight-part (c .before .before .before .before .before .before .before .before .before .args .p) _ (((try-at (now (c .before .before .before .before .before .before .before .before .before .args .text)) (now (c .before .before .before .before .before .before .before .before .before .args .scratch)) (c .before .before .before .before .before .before .before .before .before .args .p) (c .before .before .before .before .before .before .before .before .before .args .n) (c .before .before .before .before .before .before .before .before .before .pre .1 .2)) (c .before .before .before .before .before .before .before .before .before .pre .1 .3)) .1 .0)), ((c .before .before .before .before .before .before .before .before .before .pre .1 .0), c .keep2 .ensures .fits, ((try-at (now (c .before .before .before .before .before .before .before .before .before .args .text)) (now (c .before .before .before .before .before .before .before .before .before .args .scratch)) (c .before .before .before .before .before .before .before .before .before .args .p) (c .before .before .before .before .before .before .before .before .before .args .n) (c .before .before .before .before .before .before .before .before .before .pre .1 .2)) (c .before .before .before .before .before .before .before .before .before .pre .1 .3)) .1 .1)))
+    (λ c κs.
+    let entry = c .before .before .before .before .before .before .before .before .before in
+    let p = entry .args .p in
+    (omega (arith, entry .pre .0, weight-part p _ (((try-at (entry .args .text .now) (entry .args .scratch .now) p (entry .args .n) (entry .pre .1 .2)) (entry .pre .1 .3)) .1 .0)), ((entry .pre .1 .0), c .keep2 .ensures .fits, ((try-at (entry .args .text .now) (entry .args .scratch .now) p (entry .args .n) (entry .pre .1 .2)) (entry .pre .1 .3)) .1 .1)))
     -- returns-3
-    (λ c. then-fine (check (programIn (now (c .before .before .before .before .before .before .before .before .before .before .args .text)) (now (c .before .before .before .before .before .before .before .before .before .before .args .scratch))) (tryTakes (processIn (now (c .before .before .before .before .before .before .before .before .before .before .args .text)) (now (c .before .before .before .before .before .before .before .before .before .before .args .scratch)) ((c .before .before .before .before .before .before .before .before .before .before .args .n) .third)) (contextIn (now (c .before .before .before .before .before .before .before .before .before .before .args .text)) (now (c .before .before .before .before .before .before .before .before .before .before .args .scratch)) (c .before .before .before .before .before .before .before .before .before .before .args .h))) (c .before .before .before .before .before .before .before .before .before .before .args .link) (processIn (now (c .before .before .before .before .before .before .before .before .before .before .args .text)) (now (c .before .before .before .before .before .before .before .before .before .before .args .scratch)) ((c .before .before .before .before .before .before .before .before .before .before .args .n) .third))) (c .before .before .before .before .check-process .result) (c .before .before .enum-told .given .1) (c .before .before .before .before .check-process .ensures ∙ ap (λ J. check (programIn (now (c .before .before .before .before .before .before .before .before .before .before .args .text)) (now (c .before .before .before .before .before .before .before .before .before .before .args .scratch))) J true (processIn (now (c .before .before .before .before .before .before .before .before .before .before .args .text)) (now (c .before .before .before .before .before .before .before .before .before .before .args .scratch)) ((c .before .before .before .before .before .before .before .before .before .before .args .n) .second))) (tried (now (c .before .before .before .before .before .before .before .before .before .before .args .text)) (now (c .before .before .before .before .before .before .before .before .before .before .args .scratch)) (c .before .before .before .before .before .before .before .before .before .before .args .h) _ _ (c .before .before .before .before .before .keep .ensures))) (c .check-process2 .ensures ∙ ap (λ J. check (programIn (now (c .before .before .before .before .before .before .before .before .before .before .args .text)) (now (c .before .before .before .before .before .before .before .before .before .before .args .scratch))) J (c .before .before .before .before .before .before .before .before .before .before .args .link) (processIn (now (c .before .before .before .before .before .before .before .before .before .before .args .text)) (now (c .before .before .before .before .before .before .before .before .before .before .args .scratch)) ((c .before .before .before .before .before .before .before .before .before .before .args .n) .third))) (tried (now (c .before .before .before .before .before .before .before .before .before .before .args .text)) (now (c .before .before .before .before .before .before .before .before .before .before .args .scratch)) (c .before .before .before .before .before .before .before .before .before .before .args .h) _ _ (c .before .keep2 .ensures))) ∙ (sym (((try-at (now (c .before .before .before .before .before .before .before .before .before .before .args .text)) (now (c .before .before .before .before .before .before .before .before .before .before .args .scratch)) (c .before .before .before .before .before .before .before .before .before .before .args .p) (c .before .before .before .before .before .before .before .before .before .before .args .n) (c .before .before .before .before .before .before .before .before .before .before .pre .1 .2)) (c .before .before .before .before .before .before .before .before .before .before .pre .1 .3)) .2 (c .before .before .before .before .before .before .before .before .before .before .args .link) (contextIn (now (c .before .before .before .before .before .before .before .before .before .before .args .text)) (now (c .before .before .before .before .before .before .before .before .before .before .args .scratch)) (c .before .before .before .before .before .before .before .before .before .before .args .h)) ∙ ap (λ b. demand 13 ((c .before .before .before .before .before .before .before .before .before .before .args .n) .at) b (andThen (check (programIn (now (c .before .before .before .before .before .before .before .before .before .before .args .text)) (now (c .before .before .before .before .before .before .before .before .before .before .args .scratch))) (tryTakes (processIn (now (c .before .before .before .before .before .before .before .before .before .before .args .text)) (now (c .before .before .before .before .before .before .before .before .before .before .args .scratch)) ((c .before .before .before .before .before .before .before .before .before .before .args .n) .second)) (contextIn (now (c .before .before .before .before .before .before .before .before .before .before .args .text)) (now (c .before .before .before .before .before .before .before .before .before .before .args .scratch)) (c .before .before .before .before .before .before .before .before .before .before .args .h))) true (processIn (now (c .before .before .before .before .before .before .before .before .before .before .args .text)) (now (c .before .before .before .before .before .before .before .before .before .before .args .scratch)) ((c .before .before .before .before .before .before .before .before .before .before .args .n) .second))) (check (programIn (now (c .before .before .before .before .before .before .before .before .before .before .args .text)) (now (c .before .before .before .before .before .before .before .before .before .before .args .scratch))) (tryTakes (processIn (now (c .before .before .before .before .before .before .before .before .before .before .args .text)) (now (c .before .before .before .before .before .before .before .before .before .before .args .scratch)) ((c .before .before .before .before .before .before .before .before .before .before .args .n) .third)) (contextIn (now (c .before .before .before .before .before .before .before .before .before .before .args .text)) (now (c .before .before .before .before .before .before .before .before .before .before .args .scratch)) (c .before .before .before .before .before .before .before .before .before .before .args .h))) (c .before .before .before .before .before .before .before .before .before .before .args .link) (processIn (now (c .before .before .before .before .before .before .before .before .before .before .args .text)) (now (c .before .before .before .before .before .before .before .before .before .before .args .scratch)) ((c .before .before .before .before .before .before .before .before .before .before .args .n) .third))))) (sym (tried-once (now (c .before .before .before .before .before .before .before .before .before .before .args .text)) (now (c .before .before .before .before .before .before .before .before .before .before .args .scratch)) (c .before .before .before .before .before .before .before .before .before .before .args .h) _ _ _ (c .before .before .before .before .before .before .before .divides .ensures)) ∙ (not-false _ (c .before .before .before .before .before .before .if1 .left))))))
+    (λ c.
+    let after-keep = c .before .before .before .before .before in
+    let entry = after-keep .before .before .before .before .before in
+    let text = entry .args .text .now in
+    let scratch = entry .args .scratch .now in
+    let n = entry .args .n in
+    let h = entry .args .h in
+    let link = entry .args .link in
+    then-fine (check (programIn text scratch) (tryTakes (processIn text scratch (n .third)) (contextIn text scratch h)) link (processIn text scratch (n .third))) (c .before .before .before .before .check-process .result) (c .before .before .enum-told .given .1) (c .before .before .before .before .check-process .ensures ∙ ap (λ J. check (programIn text scratch) J true (processIn text scratch (n .second))) (tried text scratch h _ _ (after-keep .keep .ensures))) (c .check-process2 .ensures ∙ ap (λ J. check (programIn text scratch) J link (processIn text scratch (n .third))) (tried text scratch h _ _ (c .before .keep2 .ensures))) ∙ (sym (((try-at text scratch (entry .args .p) n (entry .pre .1 .2)) (entry .pre .1 .3)) .2 link (contextIn text scratch h) ∙ ap (λ b. demand 13 (n .at) b (andThen (check (programIn text scratch) (tryTakes (processIn text scratch (n .second)) (contextIn text scratch h)) true (processIn text scratch (n .second))) (check (programIn text scratch) (tryTakes (processIn text scratch (n .third)) (contextIn text scratch h)) link (processIn text scratch (n .third))))) (sym (tried-once text scratch h _ _ _ (after-keep .before .before .divides .ensures)) ∙ (not-false _ (after-keep .before .if1 .left))))))

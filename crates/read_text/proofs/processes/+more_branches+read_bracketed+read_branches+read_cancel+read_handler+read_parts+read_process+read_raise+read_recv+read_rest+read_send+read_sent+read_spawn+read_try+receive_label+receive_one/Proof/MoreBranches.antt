@@ -28,14 +28,26 @@ more-branches-met t =
     -- refusal-requires
     (λ c κs. search needs)
     -- returns
-    (λ c. more-branches-no _ _ _ _ (c .before .before .before .before .before .before .before .before .pre .1 .0) _ (c .before .before .before .before .before .before .before .before .pre .1 .1) (eq-eqb _ _ (sym (c .before .before .before .before .before .kind-at .ensures) ∙ c .before .before .before .before .if1 .taken)) (c .before .before .before .expect .ensures) (c .before .enum-told .given .1) (c .refusal .ensures))
+    (λ c.
+    let after-if1 = c .before .before .before .before in
+    let entry = after-if1 .before .before .before .before in
+    more-branches-no _ _ _ _ (entry .pre .1 .0) _ (entry .pre .1 .1) (eq-eqb _ _ (sym (after-if1 .before .kind-at .ensures) ∙ after-if1 .if1 .taken)) (c .before .before .before .expect .ensures) (c .before .enum-told .given .1) (c .refusal .ensures))
     -- read-branches-requires
-    (λ c κs. (omega (arith, c .before .before .before .before .before .before .before .before .before .pre, c .before .before .before .before .expect .ensures .on _ _ (c .before .before .bar .given .1)), omega (arith, c .before .before .before .before .before .before .before .before .before .pre, c .before .before .before .before .expect .ensures .on _ _ (c .before .before .bar .given .1))))
+    (λ c κs.
+    let expect = c .before .before .before .before .expect in
+    let entry = c .before .before .before .before .before .before .before .before .before in
+    (omega (arith, entry .pre, expect .ensures .on _ _ (c .before .before .bar .given .1)), omega (arith, entry .pre, expect .ensures .on _ _ (c .before .before .bar .given .1))))
     -- same-length
     (λ c. search needs)
     -- returns-2
-    (λ c. more-branches-list _ _ _ _ (c .before .before .before .before .before .before .before .before .before .before .before .before .pre .1 .0) _ (c .before .before .before .before .before .before .before .before .before .before .before .before .pre .1 .1) (eq-eqb _ _ (sym (c .before .before .before .before .before .before .before .before .before .kind-at .ensures) ∙ c .before .before .before .before .before .before .before .before .if1 .taken)) (c .before .before .before .before .before .before .before .expect .ensures) (c .before .before .before .before .before .bar .given .1) (c .before .before .read-branches .ensures))
+    (λ c.
+    let after-bar = c .before .before .before .before .before in
+    let after-if1 = after-bar .before .before .before in
+    let entry = after-if1 .before .before .before .before in
+    more-branches-list _ _ _ _ (entry .pre .1 .0) _ (entry .pre .1 .1) (eq-eqb _ _ (sym (after-if1 .before .kind-at .ensures) ∙ after-if1 .if1 .taken)) (after-bar .before .before .expect .ensures) (after-bar .bar .given .1) (c .before .before .read-branches .ensures))
     -- lasting-requires
     (λ c κs. search needs)
     -- returns-3
-    (λ c. rw (c .lasting .ensures) (more-branches-none _ _ _ _ (c .before .before .before .before .before .pre .1 .0) _ (c .before .before .before .before .before .pre .1 .1) (ne-eqb _ _ (λ e. c .before .if1 .left (c .before .before .kind-at .ensures ∙ e)))))
+    (λ c.
+    let entry = c .before .before .before .before .before in
+    rw (c .lasting .ensures) (more-branches-none _ _ _ _ (entry .pre .1 .0) _ (entry .pre .1 .1) (ne-eqb _ _ (λ e. c .before .if1 .left (c .before .before .kind-at .ensures ∙ e)))))

@@ -27,7 +27,9 @@ read-branches-met t =
     -- returns
     (λ c. branches-no _ _ _ _ (c .before .before .before .before .before .before .pre .1) _ (c .before .before .before .label-then .ensures) (c .before .enum-told .given .1) (c .refusal .ensures))
     -- read-process-requires
-    (λ c κs. (omega (arith, c .before .before .before .before .before .before .before .pre, c .before .before .before .before .label-then .ensures .on _ _ (c .before .before .labelled .given .1)), omega (arith, c .before .before .before .before .before .before .before .pre, c .before .before .before .before .label-then .ensures .on _ _ (c .before .before .labelled .given .1))))
+    (λ c κs.
+    let entry = c .before .before .before .before .before .before .before in
+    (omega (arith, entry .pre, c .before .before .before .before .label-then .ensures .on _ _ (c .before .before .labelled .given .1)), omega (arith, entry .pre, c .before .before .before .before .label-then .ensures .on _ _ (c .before .before .labelled .given .1))))
     -- enum-known-inner
     (λ c. search needs)
     -- enum-told-2
@@ -35,11 +37,22 @@ read-branches-met t =
     -- same-length
     (λ c. search needs)
     -- returns-2
-    (λ c. branches-inner-no _ _ _ _ (c .before .before .before .before .before .before .before .before .before .before .before .before .pre .1) _ (c .before .before .before .before .before .before .before .before .before .label-then .ensures) (c .before .before .before .before .before .before .before .labelled .given .1) (c .before .before .before .before .read-process .ensures) (c .enum-told2 .given .1))
+    (λ c.
+    let after-labelled = c .before .before .before .before .before .before .before in
+    let entry = after-labelled .before .before .before .before .before in
+    branches-inner-no _ _ _ _ (entry .pre .1) _ (after-labelled .before .before .label-then .ensures) (after-labelled .labelled .given .1) (c .before .before .before .before .read-process .ensures) (c .enum-told2 .given .1))
     -- add-more-branches
-    (λ c. omega (arith, branch-few _ _ _ (c .before .before .before .before .before .before .before .before .before .before .before .label-then .ensures) (c .before .before .before .before .before .before .before .before .before .labelled .given .1)))
+    (λ c.
+    let after-labelled = c .before .before .before .before .before .before .before .before .before in
+    omega (arith, branch-few _ _ _ (after-labelled .before .before .label-then .ensures) (after-labelled .labelled .given .1)))
     -- more-branches-requires
-    (λ c κs. (omega (arith, c .before .before .before .before .before .before .before .before .before .before .before .before .before .before .pre, c .before .before .before .before .before .before .before .before .before .before .before .label-then .ensures .on _ _ (c .before .before .before .before .before .before .before .before .before .labelled .given .1), c .before .before .before .before .before .before .read-process .ensures .on _ _ (c .before .before .inner .given .1), c .before .before .before .before .before .before .read-process .ensures .kept .long, branch-few _ _ _ (c .before .before .before .before .before .before .before .before .before .before .before .label-then .ensures) (c .before .before .before .before .before .before .before .before .before .labelled .given .1)), omega (arith, c .before .before .before .before .before .before .before .before .before .before .before .before .before .before .pre, c .before .before .before .before .before .before .before .before .before .before .before .label-then .ensures .on _ _ (c .before .before .before .before .before .before .before .before .before .labelled .given .1), c .before .before .before .before .before .before .read-process .ensures .on _ _ (c .before .before .inner .given .1), c .before .before .before .before .before .before .read-process .ensures .kept .long, branch-few _ _ _ (c .before .before .before .before .before .before .before .before .before .before .before .label-then .ensures) (c .before .before .before .before .before .before .before .before .before .labelled .given .1))))
+    (λ c κs.
+    let read-process = c .before .before .before .before .before .before .read-process in
+    let after-labelled = c .before .before .before .before .before .before .before .before .before in
+    let labelled = after-labelled .labelled in
+    let label-then = after-labelled .before .before .label-then in
+    let entry = after-labelled .before .before .before .before .before in
+    (omega (arith, entry .pre, label-then .ensures .on _ _ (labelled .given .1), read-process .ensures .on _ _ (c .before .before .inner .given .1), read-process .ensures .kept .long, branch-few _ _ _ (label-then .ensures) (labelled .given .1)), omega (arith, entry .pre, label-then .ensures .on _ _ (labelled .given .1), read-process .ensures .on _ _ (c .before .before .inner .given .1), read-process .ensures .kept .long, branch-few _ _ _ (label-then .ensures) (labelled .given .1))))
     -- enum-known-rest
     (λ c. search needs)
     -- enum-told-3
@@ -47,10 +60,25 @@ read-branches-met t =
     -- same-length-2
     (λ c. search needs)
     -- returns-3
-    (λ c. branches-more-no _ _ _ _ (c .before .before .before .before .before .before .before .before .before .before .before .before .before .before .before .before .before .before .before .pre .1) _ (c .before .before .before .before .before .before .before .before .before .before .before .before .before .before .before .before .label-then .ensures) (c .before .before .before .before .before .before .before .before .before .before .before .before .before .before .labelled .given .1) (c .before .before .before .before .before .before .before .before .before .before .before .read-process .ensures) (c .before .before .before .before .before .before .before .inner .given .1) (c .before .before .before .before .more-branches .ensures) (c .enum-told3 .given .1))
+    (λ c.
+    let after-inner = c .before .before .before .before .before .before .before in
+    let after-labelled = after-inner .before .before .before .before .before .before .before in
+    let entry = after-labelled .before .before .before .before .before in
+    branches-more-no _ _ _ _ (entry .pre .1) _ (after-labelled .before .before .label-then .ensures) (after-labelled .labelled .given .1) (after-inner .before .before .before .before .read-process .ensures) (after-inner .inner .given .1) (c .before .before .before .before .more-branches .ensures) (c .enum-told3 .given .1))
     -- put-branch-requires
-    (λ c κs. omega (arith, c .before .before .before .before .before .before .before .before .before .before .before .before .before .before .before .before .before .before .before .before .before .pre, c .before .before .before .before .before .before .before .before .before .before .before .before .before .before .before .before .before .before .label-then .ensures .on _ _ (c .before .before .before .before .before .before .before .before .before .before .before .before .before .before .before .before .labelled .given .1), c .before .before .before .before .before .before .before .before .before .before .before .before .before .read-process .ensures .on _ _ (c .before .before .before .before .before .before .before .before .before .inner .given .1), c .before .before .before .before .before .before .before .before .before .before .before .before .before .read-process .ensures .kept .long, c .before .before .before .before .before .before .more-branches .ensures .on _ _ (c .before .before .rest .given .1), c .before .before .before .before .before .before .more-branches .ensures .kept .long))
+    (λ c κs.
+    let more-branches = c .before .before .before .before .before .before .more-branches in
+    let after-inner = c .before .before .before .before .before .before .before .before .before in
+    let read-process = after-inner .before .before .before .before .read-process in
+    let after-labelled = after-inner .before .before .before .before .before .before .before in
+    let entry = after-labelled .before .before .before .before .before in
+    omega (arith, entry .pre, after-labelled .before .before .label-then .ensures .on _ _ (after-labelled .labelled .given .1), read-process .ensures .on _ _ (after-inner .inner .given .1), read-process .ensures .kept .long, more-branches .ensures .on _ _ (c .before .before .rest .given .1), more-branches .ensures .kept .long))
     -- same-length-3
     (λ c. c .before .before .put-branch .ensures .kept .long ∙ c .before .before .before .before .before .before .before .before .before .more-branches .ensures .kept .long ∙ c .before .before .before .before .before .before .before .before .before .before .before .before .before .before .before .before .read-process .ensures .kept .long)
     -- returns-4
-    (λ c. branches-got _ _ _ _ (c .before .before .before .before .before .before .before .before .before .before .before .before .before .before .before .before .before .before .before .before .before .before .before .before .pre .1) _ (c .before .before .before .before .before .before .before .before .before .before .before .before .before .before .before .before .before .before .before .before .before .label-then .ensures) (c .before .before .before .before .before .before .before .before .before .before .before .before .before .before .before .before .before .before .before .labelled .given .1) (c .before .before .before .before .before .before .before .before .before .before .before .before .before .before .before .before .read-process .ensures) (c .before .before .before .before .before .before .before .before .before .before .before .before .inner .given .1) (c .before .before .before .before .before .before .before .before .before .more-branches .ensures) (c .before .before .before .before .before .rest .given .1) (c .before .before .put-branch .ensures))
+    (λ c.
+    let after-rest = c .before .before .before .before .before in
+    let after-inner = after-rest .before .before .before .before .before .before .before in
+    let after-labelled = after-inner .before .before .before .before .before .before .before in
+    let entry = after-labelled .before .before .before .before .before in
+    branches-got _ _ _ _ (entry .pre .1) _ (after-labelled .before .before .label-then .ensures) (after-labelled .labelled .given .1) (after-inner .before .before .before .before .read-process .ensures) (after-inner .inner .given .1) (after-rest .before .before .before .before .more-branches .ensures) (after-rest .rest .given .1) (c .before .before .put-branch .ensures))

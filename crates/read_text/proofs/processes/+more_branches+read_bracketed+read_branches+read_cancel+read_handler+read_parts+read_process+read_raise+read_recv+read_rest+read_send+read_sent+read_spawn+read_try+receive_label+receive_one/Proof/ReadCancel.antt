@@ -36,7 +36,13 @@ read-cancel-met t =
     -- returns-2
     (λ c. cancel-name-no _ _ _ _ (c .before .before .before .before .before .before .before .before .before .before .pre .1) (c .before .before .before .before .before .before .before .process-term .ensures) (c .before .before .before .before .before .term .given .1) (c .before .before .before .expect .ensures) (c .before .enum-told2 .given .1) (c .refusal2 .ensures))
     -- read-rest-requires
-    (λ c κs. (omega (arith, c .before .before .before .before .before .before .before .before .before .before .before .pre, c .before .before .before .before .before .before .before .before .process-term .ensures .on _ _ (c .before .before .before .before .before .before .term .given .1), c .before .before .before .before .expect .ensures .on _ _ (c .before .before .named .given .1)), omega (arith, c .before .before .before .before .before .before .before .before .before .before .before .pre, c .before .before .before .before .before .before .before .before .process-term .ensures .on _ _ (c .before .before .before .before .before .before .term .given .1), c .before .before .before .before .expect .ensures .on _ _ (c .before .before .named .given .1))))
+    (λ c κs.
+    let expect = c .before .before .before .before .expect in
+    let after-term = c .before .before .before .before .before .before in
+    let term = after-term .term in
+    let process-term = after-term .before .before .process-term in
+    let entry = after-term .before .before .before .before .before in
+    (omega (arith, entry .pre, process-term .ensures .on _ _ (term .given .1), expect .ensures .on _ _ (c .before .before .named .given .1)), omega (arith, entry .pre, process-term .ensures .on _ _ (term .given .1), expect .ensures .on _ _ (c .before .before .named .given .1))))
     -- enum-known-rest
     (λ c. search needs)
     -- enum-told-3
@@ -44,10 +50,28 @@ read-cancel-met t =
     -- same-length
     (λ c. search needs)
     -- returns-3
-    (λ c. cancel-rest-no _ _ _ _ (c .before .before .before .before .before .before .before .before .before .before .before .before .before .before .before .before .pre .1) (c .before .before .before .before .before .before .before .before .before .before .before .before .before .process-term .ensures) (c .before .before .before .before .before .before .before .before .before .before .before .term .given .1) (c .before .before .before .before .before .before .before .before .before .expect .ensures) (c .before .before .before .before .before .before .before .named .given .1) (c .before .before .before .before .read-rest .ensures) (c .enum-told3 .given .1))
+    (λ c.
+    let after-named = c .before .before .before .before .before .before .before in
+    let after-term = after-named .before .before .before .before in
+    let entry = after-term .before .before .before .before .before in
+    cancel-rest-no _ _ _ _ (entry .pre .1) (after-term .before .before .process-term .ensures) (after-term .term .given .1) (after-named .before .before .expect .ensures) (after-named .named .given .1) (c .before .before .before .before .read-rest .ensures) (c .enum-told3 .given .1))
     -- put-term-requires
-    (λ c κs. (omega (arith, c .before .before .before .before .before .before .before .before .before .before .before .before .before .before .before .before .before .before .pre, c .before .before .before .before .before .before .before .before .before .before .before .before .before .before .before .process-term .ensures .on _ _ (c .before .before .before .before .before .before .before .before .before .before .before .before .before .term .given .1), c .before .before .before .before .before .before .before .before .before .before .before .expect .ensures .on _ _ (c .before .before .before .before .before .before .before .before .before .named .given .1), c .before .before .before .before .before .before .read-rest .ensures .on _ _ (c .before .before .rest .given .1), c .before .before .before .before .before .before .read-rest .ensures .kept .long), omega (arith, c .before .before .before .before .before .before .before .before .before .before .before .before .before .before .before .before .before .before .pre, c .before .before .before .before .before .before .before .before .before .before .before .before .before .before .before .process-term .ensures .on _ _ (c .before .before .before .before .before .before .before .before .before .before .before .before .before .term .given .1), c .before .before .before .before .before .before .before .before .before .before .before .expect .ensures .on _ _ (c .before .before .before .before .before .before .before .before .before .named .given .1), c .before .before .before .before .before .before .read-rest .ensures .on _ _ (c .before .before .rest .given .1), c .before .before .before .before .before .before .read-rest .ensures .kept .long)))
+    (λ c κs.
+    let read-rest = c .before .before .before .before .before .before .read-rest in
+    let after-named = c .before .before .before .before .before .before .before .before .before in
+    let named = after-named .named in
+    let expect = after-named .before .before .expect in
+    let after-term = after-named .before .before .before .before in
+    let term = after-term .term in
+    let process-term = after-term .before .before .process-term in
+    let entry = after-term .before .before .before .before .before in
+    (omega (arith, entry .pre, process-term .ensures .on _ _ (term .given .1), expect .ensures .on _ _ (named .given .1), read-rest .ensures .on _ _ (c .before .before .rest .given .1), read-rest .ensures .kept .long), omega (arith, entry .pre, process-term .ensures .on _ _ (term .given .1), expect .ensures .on _ _ (named .given .1), read-rest .ensures .on _ _ (c .before .before .rest .given .1), read-rest .ensures .kept .long)))
     -- same-length-2
     (λ c. search needs)
     -- returns-4
-    (λ c. cancel-got _ _ _ _ (c .before .before .before .before .before .before .before .before .before .before .before .before .before .before .before .before .before .before .before .before .before .pre .1) (c .before .before .before .before .before .before .before .before .before .before .before .before .before .before .before .before .before .before .process-term .ensures) (c .before .before .before .before .before .before .before .before .before .before .before .before .before .before .before .before .term .given .1) (c .before .before .before .before .before .before .before .before .before .before .before .before .before .before .expect .ensures) (c .before .before .before .before .before .before .before .before .before .before .before .before .named .given .1) (c .before .before .before .before .before .before .before .before .before .read-rest .ensures) (c .before .before .before .before .before .rest .given .1) (c .before .before .put-term .ensures))
+    (λ c.
+    let after-rest = c .before .before .before .before .before in
+    let after-named = after-rest .before .before .before .before .before .before .before in
+    let after-term = after-named .before .before .before .before in
+    let entry = after-term .before .before .before .before .before in
+    cancel-got _ _ _ _ (entry .pre .1) (after-term .before .before .process-term .ensures) (after-term .term .given .1) (after-named .before .before .expect .ensures) (after-named .named .given .1) (after-rest .before .before .before .before .read-rest .ensures) (after-rest .rest .given .1) (c .before .before .put-term .ensures))

@@ -23,15 +23,21 @@ read-handler-met t =
     -- enum-told
     (λ c. search needs)
     -- receive-one-requires
-    (λ c κs. (omega (arith, c .before .before .before .before .before .before .before .pre), omega (arith, c .before .before .before .before .before .before .before .pre)))
+    (λ c κs.
+    let entry = c .before .before .before .before .before .before .before in
+    (omega (arith, entry .pre), omega (arith, entry .pre)))
     -- enum-told-2
     (λ c. search needs)
     -- receive-one-requires-2
-    (λ c κs. (omega (arith, c .before .before .before .before .before .before .before .pre), omega (arith, c .before .before .before .before .before .before .before .pre)))
+    (λ c κs.
+    let entry = c .before .before .before .before .before .before .before in
+    (omega (arith, entry .pre), omega (arith, entry .pre)))
     -- enum-told-3
     (λ c. search needs)
     -- receive-label-requires
-    (λ c κs. (omega (arith, c .before .before .before .before .before .before .before .pre), omega (arith, c .before .before .before .before .before .before .before .pre)))
+    (λ c κs.
+    let entry = c .before .before .before .before .before .before .before in
+    (omega (arith, entry .pre), omega (arith, entry .pre)))
     -- enum-told-4
     (λ c. search needs)
     -- misfit-requires

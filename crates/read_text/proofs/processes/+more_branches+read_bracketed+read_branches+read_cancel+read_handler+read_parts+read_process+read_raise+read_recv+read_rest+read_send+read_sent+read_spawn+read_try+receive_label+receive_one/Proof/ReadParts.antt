@@ -23,9 +23,14 @@ read-parts-met t =
     -- same-length
     (λ c. search needs)
     -- returns
-    (λ c. parts-no _ _ _ _ (c .before .before .before .before .before .before .before .before .pre .1 .0 .0) (c .before .before .before .before .before .before .before .before .pre .1 .0 .1) _ (c .before .before .before .before .read-bracketed .ensures) (c .enum-told .given .1))
+    (λ c.
+    let entry = c .before .before .before .before .before .before .before .before in
+    parts-no _ _ _ _ (entry .pre .1 .0 .0) (entry .pre .1 .0 .1) _ (c .before .before .before .before .read-bracketed .ensures) (c .enum-told .given .1))
     -- read-rest-requires
-    (λ c κs. (omega (arith, c .before .before .before .before .before .before .before .before .before .before .pre, c .before .before .before .before .before .before .read-bracketed .ensures .on _ _ (c .before .before .new .given .1), c .before .before .before .before .before .before .read-bracketed .ensures .kept .long), omega (arith, c .before .before .before .before .before .before .before .before .before .before .pre, c .before .before .before .before .before .before .read-bracketed .ensures .on _ _ (c .before .before .new .given .1), c .before .before .before .before .before .before .read-bracketed .ensures .kept .long)))
+    (λ c κs.
+    let read-bracketed = c .before .before .before .before .before .before .read-bracketed in
+    let entry = c .before .before .before .before .before .before .before .before .before .before in
+    (omega (arith, entry .pre, read-bracketed .ensures .on _ _ (c .before .before .new .given .1), read-bracketed .ensures .kept .long), omega (arith, entry .pre, read-bracketed .ensures .on _ _ (c .before .before .new .given .1), read-bracketed .ensures .kept .long)))
     -- enum-known-rest
     (λ c. search needs)
     -- enum-told-2
@@ -33,10 +38,25 @@ read-parts-met t =
     -- same-length-2
     (λ c. search needs)
     -- returns-2
-    (λ c. parts-rest-no _ _ _ _ (c .before .before .before .before .before .before .before .before .before .before .before .before .before .before .before .pre .1 .0 .0) (c .before .before .before .before .before .before .before .before .before .before .before .before .before .before .before .pre .1 .0 .1) _ (c .before .before .before .before .before .before .before .before .before .before .before .read-bracketed .ensures) (c .before .before .before .before .before .before .before .new .given .1) (c .before .before .before .before .read-rest .ensures) (c .enum-told2 .given .1))
+    (λ c.
+    let after-new = c .before .before .before .before .before .before .before in
+    let entry = after-new .before .before .before .before .before .before .before .before in
+    parts-rest-no _ _ _ _ (entry .pre .1 .0 .0) (entry .pre .1 .0 .1) _ (after-new .before .before .before .before .read-bracketed .ensures) (after-new .new .given .1) (c .before .before .before .before .read-rest .ensures) (c .enum-told2 .given .1))
     -- put-term-requires
-    (λ c κs. (omega (arith, c .before .before .before .before .before .before .before .before .before .before .before .before .before .before .before .before .before .pre, c .before .before .before .before .before .before .before .before .before .before .before .before .before .read-bracketed .ensures .on _ _ (c .before .before .before .before .before .before .before .before .before .new .given .1), c .before .before .before .before .before .before .read-rest .ensures .on _ _ (c .before .before .rest .given .1), c .before .before .before .before .before .before .before .before .before .before .before .before .before .read-bracketed .ensures .kept .long, c .before .before .before .before .before .before .read-rest .ensures .kept .long), omega (arith, c .before .before .before .before .before .before .before .before .before .before .before .before .before .before .before .before .before .pre, c .before .before .before .before .before .before .before .before .before .before .before .before .before .read-bracketed .ensures .on _ _ (c .before .before .before .before .before .before .before .before .before .new .given .1), c .before .before .before .before .before .before .read-rest .ensures .on _ _ (c .before .before .rest .given .1), c .before .before .before .before .before .before .before .before .before .before .before .before .before .read-bracketed .ensures .kept .long, c .before .before .before .before .before .before .read-rest .ensures .kept .long)))
+    (λ c κs.
+    let read-rest = c .before .before .before .before .before .before .read-rest in
+    let after-new = c .before .before .before .before .before .before .before .before .before in
+    let new = after-new .new in
+    let read-bracketed = after-new .before .before .before .before .read-bracketed in
+    let entry = after-new .before .before .before .before .before .before .before .before in
+    (omega (arith, entry .pre, read-bracketed .ensures .on _ _ (new .given .1), read-rest .ensures .on _ _ (c .before .before .rest .given .1), read-bracketed .ensures .kept .long, read-rest .ensures .kept .long), omega (arith, entry .pre, read-bracketed .ensures .on _ _ (new .given .1), read-rest .ensures .on _ _ (c .before .before .rest .given .1), read-bracketed .ensures .kept .long, read-rest .ensures .kept .long)))
     -- same-length-3
-    (λ c. c .before .before .put-term .ensures .kept .long ∙ c .before .before .before .before .before .before .before .before .before .read-rest .ensures .kept .long ∙ c .before .before .before .before .before .before .before .before .before .before .before .before .before .before .before .before .read-bracketed .ensures .kept .long)
+    (λ c.
+    let after-read-rest = c .before .before .before .before .before .before .before .before .before in
+    c .before .before .put-term .ensures .kept .long ∙ after-read-rest .read-rest .ensures .kept .long ∙ after-read-rest .before .before .before .before .before .before .before .read-bracketed .ensures .kept .long)
     -- returns-3
-    (λ c. parts-got _ _ _ _ (c .before .before .before .before .before .before .before .before .before .before .before .before .before .before .before .before .before .before .before .before .pre .1 .0 .0) (c .before .before .before .before .before .before .before .before .before .before .before .before .before .before .before .before .before .before .before .before .pre .1 .0 .1) _ (c .before .before .before .before .before .before .before .before .before .before .before .before .before .before .before .before .read-bracketed .ensures) (c .before .before .before .before .before .before .before .before .before .before .before .before .new .given .1) (c .before .before .before .before .before .before .before .before .before .read-rest .ensures) (c .before .before .before .before .before .rest .given .1) (c .before .before .put-term .ensures))
+    (λ c.
+    let after-rest = c .before .before .before .before .before in
+    let after-new = after-rest .before .before .before .before .before .before .before in
+    let entry = after-new .before .before .before .before .before .before .before .before in
+    parts-got _ _ _ _ (entry .pre .1 .0 .0) (entry .pre .1 .0 .1) _ (after-new .before .before .before .before .read-bracketed .ensures) (after-new .new .given .1) (after-rest .before .before .before .before .read-rest .ensures) (after-rest .rest .given .1) (c .before .before .put-term .ensures))

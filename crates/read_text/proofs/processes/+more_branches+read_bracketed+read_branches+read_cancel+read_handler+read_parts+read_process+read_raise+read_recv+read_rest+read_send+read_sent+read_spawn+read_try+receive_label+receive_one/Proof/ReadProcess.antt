@@ -29,11 +29,15 @@ read-process-met t =
     -- enum-told
     (λ c. search needs)
     -- read-send-requires
-    (λ c κs. (omega (arith, c .before .before .before .before .before .before .before .pre), c .before .before .before .before .before .before .before .pre .1))
+    (λ c κs.
+    let entry = c .before .before .before .before .before .before .before in
+    (omega (arith, entry .pre), entry .pre .1))
     -- enum-told-2
     (λ c. search needs)
     -- read-recv-requires
-    (λ c κs. (omega (arith, c .before .before .before .before .before .before .before .pre), c .before .before .before .before .before .before .before .pre .1))
+    (λ c κs.
+    let entry = c .before .before .before .before .before .before .before in
+    (omega (arith, entry .pre), entry .pre .1))
     -- enum-told-3
     (λ c. search needs)
     -- read-fwd-requires
@@ -45,19 +49,27 @@ read-process-met t =
     -- enum-told-5
     (λ c. search needs)
     -- read-cancel-requires
-    (λ c κs. (omega (arith, c .before .before .before .before .before .before .before .pre), c .before .before .before .before .before .before .before .pre .1))
+    (λ c κs.
+    let entry = c .before .before .before .before .before .before .before in
+    (omega (arith, entry .pre), entry .pre .1))
     -- enum-told-6
     (λ c. search needs)
     -- read-raise-requires
-    (λ c κs. (omega (arith, c .before .before .before .before .before .before .before .pre), c .before .before .before .before .before .before .before .pre .1))
+    (λ c κs.
+    let entry = c .before .before .before .before .before .before .before in
+    (omega (arith, entry .pre), entry .pre .1))
     -- enum-told-7
     (λ c. search needs)
     -- read-try-requires
-    (λ c κs. (omega (arith, c .before .before .before .before .before .before .before .pre), c .before .before .before .before .before .before .before .pre .1))
+    (λ c κs.
+    let entry = c .before .before .before .before .before .before .before in
+    (omega (arith, entry .pre), entry .pre .1))
     -- enum-told-8
     (λ c. search needs)
     -- read-spawn-requires
-    (λ c κs. (omega (arith, c .before .before .before .before .before .before .before .pre), c .before .before .before .before .before .before .before .pre .1))
+    (λ c κs.
+    let entry = c .before .before .before .before .before .before .before in
+    (omega (arith, entry .pre), entry .pre .1))
     -- enum-told-9
     (λ c. search needs)
     -- add-lasting
@@ -67,34 +79,69 @@ read-process-met t =
     -- same-length
     (λ c. search needs)
     -- returns
-    (λ c. process-as _ _ _ _ (c .before .before .before .before .before .before .before .before .before .before .pre .1) (c .before .before .before .before .before .before .before .next-token .result) (c .before .before .before .before .before .before .before .next-token .ensures .0) (c .before .before .before .before .before .before .before .next-token .ensures .1) _ (sym (c .before .before .before .before .before .before .term-head .ensures) ∙ c .before .before .before .before .enum-told .given .1) (c .before .before .read-send .ensures))
+    (λ c.
+    let after-term-head = c .before .before .before .before .before .before in
+    let next-token = after-term-head .before .next-token in
+    let entry = after-term-head .before .before .before .before in
+    process-as _ _ _ _ (entry .pre .1) (next-token .result) (next-token .ensures .0) (next-token .ensures .1) _ (sym (after-term-head .term-head .ensures) ∙ c .before .before .before .before .enum-told .given .1) (c .before .before .read-send .ensures))
     -- same-length-2
     (λ c. search needs)
     -- returns-2
-    (λ c. process-as _ _ _ _ (c .before .before .before .before .before .before .before .before .before .before .pre .1) (c .before .before .before .before .before .before .before .next-token .result) (c .before .before .before .before .before .before .before .next-token .ensures .0) (c .before .before .before .before .before .before .before .next-token .ensures .1) _ (sym (c .before .before .before .before .before .before .term-head .ensures) ∙ c .before .before .before .before .enum-told2 .given .1) (c .before .before .read-recv .ensures))
+    (λ c.
+    let after-term-head = c .before .before .before .before .before .before in
+    let next-token = after-term-head .before .next-token in
+    let entry = after-term-head .before .before .before .before in
+    process-as _ _ _ _ (entry .pre .1) (next-token .result) (next-token .ensures .0) (next-token .ensures .1) _ (sym (after-term-head .term-head .ensures) ∙ c .before .before .before .before .enum-told2 .given .1) (c .before .before .read-recv .ensures))
     -- same-length-3
     (λ c. search needs)
     -- returns-3
-    (λ c. process-as _ _ _ _ (c .before .before .before .before .before .before .before .before .before .before .pre .1) (c .before .before .before .before .before .before .before .next-token .result) (c .before .before .before .before .before .before .before .next-token .ensures .0) (c .before .before .before .before .before .before .before .next-token .ensures .1) _ (sym (c .before .before .before .before .before .before .term-head .ensures) ∙ c .before .before .before .before .enum-told3 .given .1) (c .before .before .read-fwd .ensures))
+    (λ c.
+    let after-term-head = c .before .before .before .before .before .before in
+    let next-token = after-term-head .before .next-token in
+    let entry = after-term-head .before .before .before .before in
+    process-as _ _ _ _ (entry .pre .1) (next-token .result) (next-token .ensures .0) (next-token .ensures .1) _ (sym (after-term-head .term-head .ensures) ∙ c .before .before .before .before .enum-told3 .given .1) (c .before .before .read-fwd .ensures))
     -- same-length-4
     (λ c. search needs)
     -- returns-4
-    (λ c. process-as _ _ _ _ (c .before .before .before .before .before .before .before .before .before .before .pre .1) (c .before .before .before .before .before .before .before .next-token .result) (c .before .before .before .before .before .before .before .next-token .ensures .0) (c .before .before .before .before .before .before .before .next-token .ensures .1) _ (sym (c .before .before .before .before .before .before .term-head .ensures) ∙ c .before .before .before .before .enum-told4 .given .1) (c .before .before .read-call .ensures))
+    (λ c.
+    let after-term-head = c .before .before .before .before .before .before in
+    let next-token = after-term-head .before .next-token in
+    let entry = after-term-head .before .before .before .before in
+    process-as _ _ _ _ (entry .pre .1) (next-token .result) (next-token .ensures .0) (next-token .ensures .1) _ (sym (after-term-head .term-head .ensures) ∙ c .before .before .before .before .enum-told4 .given .1) (c .before .before .read-call .ensures))
     -- same-length-5
     (λ c. search needs)
     -- returns-5
-    (λ c. process-as _ _ _ _ (c .before .before .before .before .before .before .before .before .before .before .pre .1) (c .before .before .before .before .before .before .before .next-token .result) (c .before .before .before .before .before .before .before .next-token .ensures .0) (c .before .before .before .before .before .before .before .next-token .ensures .1) _ (sym (c .before .before .before .before .before .before .term-head .ensures) ∙ c .before .before .before .before .enum-told5 .given .1) (c .before .before .read-cancel .ensures))
+    (λ c.
+    let after-term-head = c .before .before .before .before .before .before in
+    let next-token = after-term-head .before .next-token in
+    let entry = after-term-head .before .before .before .before in
+    process-as _ _ _ _ (entry .pre .1) (next-token .result) (next-token .ensures .0) (next-token .ensures .1) _ (sym (after-term-head .term-head .ensures) ∙ c .before .before .before .before .enum-told5 .given .1) (c .before .before .read-cancel .ensures))
     -- same-length-6
     (λ c. search needs)
     -- returns-6
-    (λ c. process-as _ _ _ _ (c .before .before .before .before .before .before .before .before .before .before .pre .1) (c .before .before .before .before .before .before .before .next-token .result) (c .before .before .before .before .before .before .before .next-token .ensures .0) (c .before .before .before .before .before .before .before .next-token .ensures .1) _ (sym (c .before .before .before .before .before .before .term-head .ensures) ∙ c .before .before .before .before .enum-told6 .given .1) (c .before .before .read-raise .ensures))
+    (λ c.
+    let after-term-head = c .before .before .before .before .before .before in
+    let next-token = after-term-head .before .next-token in
+    let entry = after-term-head .before .before .before .before in
+    process-as _ _ _ _ (entry .pre .1) (next-token .result) (next-token .ensures .0) (next-token .ensures .1) _ (sym (after-term-head .term-head .ensures) ∙ c .before .before .before .before .enum-told6 .given .1) (c .before .before .read-raise .ensures))
     -- same-length-7
     (λ c. search needs)
     -- returns-7
-    (λ c. process-as _ _ _ _ (c .before .before .before .before .before .before .before .before .before .before .pre .1) (c .before .before .before .before .before .before .before .next-token .result) (c .before .before .before .before .before .before .before .next-token .ensures .0) (c .before .before .before .before .before .before .before .next-token .ensures .1) _ (sym (c .before .before .before .before .before .before .term-head .ensures) ∙ c .before .before .before .before .enum-told7 .given .1) (c .before .before .read-try .ensures))
+    (λ c.
+    let after-term-head = c .before .before .before .before .before .before in
+    let next-token = after-term-head .before .next-token in
+    let entry = after-term-head .before .before .before .before in
+    process-as _ _ _ _ (entry .pre .1) (next-token .result) (next-token .ensures .0) (next-token .ensures .1) _ (sym (after-term-head .term-head .ensures) ∙ c .before .before .before .before .enum-told7 .given .1) (c .before .before .read-try .ensures))
     -- same-length-8
     (λ c. search needs)
     -- returns-8
-    (λ c. process-as _ _ _ _ (c .before .before .before .before .before .before .before .before .before .before .pre .1) (c .before .before .before .before .before .before .before .next-token .result) (c .before .before .before .before .before .before .before .next-token .ensures .0) (c .before .before .before .before .before .before .before .next-token .ensures .1) _ (sym (c .before .before .before .before .before .before .term-head .ensures) ∙ c .before .before .before .before .enum-told8 .given .1) (c .before .before .read-spawn .ensures))
+    (λ c.
+    let after-term-head = c .before .before .before .before .before .before in
+    let next-token = after-term-head .before .next-token in
+    let entry = after-term-head .before .before .before .before in
+    process-as _ _ _ _ (entry .pre .1) (next-token .result) (next-token .ensures .0) (next-token .ensures .1) _ (sym (after-term-head .term-head .ensures) ∙ c .before .before .before .before .enum-told8 .given .1) (c .before .before .read-spawn .ensures))
     -- returns-9
-    (λ c. rw (c .lasting .ensures) (process-empty _ _ _ _ (c .before .before .before .before .before .before .before .before .pre .1) (c .before .before .before .before .before .next-token .result) (c .before .before .before .before .before .next-token .ensures .0) (c .before .before .before .before .before .next-token .ensures .1) (sym (c .before .before .before .before .term-head .ensures) ∙ c .before .before .enum-told9 .given .1)))
+    (λ c.
+    let next-token = c .before .before .before .before .before .next-token in
+    let entry = c .before .before .before .before .before .before .before .before in
+    rw (c .lasting .ensures) (process-empty _ _ _ _ (entry .pre .1) (next-token .result) (next-token .ensures .0) (next-token .ensures .1) (sym (c .before .before .before .before .term-head .ensures) ∙ c .before .before .enum-told9 .given .1)))

@@ -25,7 +25,9 @@ read-raise-met t =
     -- returns
     (λ c. raise-no _ _ _ _ (c .before .before .before .before .before .before .pre .1) (c .before .before .before .process-term .ensures) (c .before .enum-told .given .1) (c .refusal .ensures))
     -- read-process-requires
-    (λ c κs. (omega (arith, c .before .before .before .before .before .before .before .pre, c .before .before .before .before .process-term .ensures .on _ _ (c .before .before .term .given .1)), omega (arith, c .before .before .before .before .before .before .before .pre, c .before .before .before .before .process-term .ensures .on _ _ (c .before .before .term .given .1))))
+    (λ c κs.
+    let entry = c .before .before .before .before .before .before .before in
+    (omega (arith, entry .pre, c .before .before .before .before .process-term .ensures .on _ _ (c .before .before .term .given .1)), omega (arith, entry .pre, c .before .before .before .before .process-term .ensures .on _ _ (c .before .before .term .given .1))))
     -- enum-known-inner
     (λ c. search needs)
     -- enum-told-2
@@ -33,10 +35,23 @@ read-raise-met t =
     -- same-length
     (λ c. search needs)
     -- returns-2
-    (λ c. raise-inner-no _ _ _ _ (c .before .before .before .before .before .before .before .before .before .before .before .before .pre .1) (c .before .before .before .before .before .before .before .before .before .process-term .ensures) (c .before .before .before .before .before .before .before .term .given .1) (c .before .before .before .before .read-process .ensures) (c .enum-told2 .given .1))
+    (λ c.
+    let after-term = c .before .before .before .before .before .before .before in
+    let entry = after-term .before .before .before .before .before in
+    raise-inner-no _ _ _ _ (entry .pre .1) (after-term .before .before .process-term .ensures) (after-term .term .given .1) (c .before .before .before .before .read-process .ensures) (c .enum-told2 .given .1))
     -- put-term-requires
-    (λ c κs. (omega (arith, c .before .before .before .before .before .before .before .before .before .before .before .before .before .before .pre, c .before .before .before .before .before .before .before .before .before .before .before .process-term .ensures .on _ _ (c .before .before .before .before .before .before .before .before .before .term .given .1), c .before .before .before .before .before .before .read-process .ensures .on _ _ (c .before .before .inner .given .1), c .before .before .before .before .before .before .read-process .ensures .kept .long), omega (arith, c .before .before .before .before .before .before .before .before .before .before .before .before .before .before .pre, c .before .before .before .before .before .before .before .before .before .before .before .process-term .ensures .on _ _ (c .before .before .before .before .before .before .before .before .before .term .given .1), c .before .before .before .before .before .before .read-process .ensures .on _ _ (c .before .before .inner .given .1), c .before .before .before .before .before .before .read-process .ensures .kept .long)))
+    (λ c κs.
+    let read-process = c .before .before .before .before .before .before .read-process in
+    let after-term = c .before .before .before .before .before .before .before .before .before in
+    let term = after-term .term in
+    let process-term = after-term .before .before .process-term in
+    let entry = after-term .before .before .before .before .before in
+    (omega (arith, entry .pre, process-term .ensures .on _ _ (term .given .1), read-process .ensures .on _ _ (c .before .before .inner .given .1), read-process .ensures .kept .long), omega (arith, entry .pre, process-term .ensures .on _ _ (term .given .1), read-process .ensures .on _ _ (c .before .before .inner .given .1), read-process .ensures .kept .long)))
     -- same-length-2
     (λ c. search needs)
     -- returns-3
-    (λ c. raise-got _ _ _ _ (c .before .before .before .before .before .before .before .before .before .before .before .before .before .before .before .before .before .pre .1) (c .before .before .before .before .before .before .before .before .before .before .before .before .before .before .process-term .ensures) (c .before .before .before .before .before .before .before .before .before .before .before .before .term .given .1) (c .before .before .before .before .before .before .before .before .before .read-process .ensures) (c .before .before .before .before .before .inner .given .1) (c .before .before .put-term .ensures))
+    (λ c.
+    let after-inner = c .before .before .before .before .before in
+    let after-term = after-inner .before .before .before .before .before .before .before in
+    let entry = after-term .before .before .before .before .before in
+    raise-got _ _ _ _ (entry .pre .1) (after-term .before .before .process-term .ensures) (after-term .term .given .1) (after-inner .before .before .before .before .read-process .ensures) (after-inner .inner .given .1) (c .before .before .put-term .ensures))

@@ -44,9 +44,22 @@ read-recv-met t =
     -- refusal-requires-3
     (λ c κs. search needs)
     -- returns-3
-    (λ c. recv-open-no _ _ _ _ (c .before .before .before .before .before .before .before .before .before .before .before .before .before .before .pre .1) (c .before .before .before .before .before .before .before .before .before .before .before .process-term .ensures) (c .before .before .before .before .before .before .before .before .before .term .given .1) (c .before .before .before .before .before .before .before .expect .ensures) (c .before .before .before .before .before .named .given .1) (c .before .before .before .opening .ensures) (c .before .enum-told3 .given .1) (c .refusal3 .ensures))
+    (λ c.
+    let after-named = c .before .before .before .before .before in
+    let after-term = after-named .before .before .before .before in
+    let entry = after-term .before .before .before .before .before in
+    recv-open-no _ _ _ _ (entry .pre .1) (after-term .before .before .process-term .ensures) (after-term .term .given .1) (after-named .before .before .expect .ensures) (after-named .named .given .1) (c .before .before .before .opening .ensures) (c .before .enum-told3 .given .1) (c .refusal3 .ensures))
     -- read-handler-requires
-    (λ c κs. (omega (arith, c .before .before .before .before .before .before .before .before .before .before .before .before .before .before .before .pre, c .before .before .before .before .before .before .before .before .before .before .before .before .process-term .ensures .on _ _ (c .before .before .before .before .before .before .before .before .before .before .term .given .1), c .before .before .before .before .before .before .before .before .expect .ensures .on _ _ (c .before .before .before .before .before .before .named .given .1), c .before .before .before .before .opening .ensures .on _ _ (c .before .before .opened .given .1)), omega (arith, c .before .before .before .before .before .before .before .before .before .before .before .before .before .before .before .pre, c .before .before .before .before .before .before .before .before .before .before .before .before .process-term .ensures .on _ _ (c .before .before .before .before .before .before .before .before .before .before .term .given .1), c .before .before .before .before .before .before .before .before .expect .ensures .on _ _ (c .before .before .before .before .before .before .named .given .1), c .before .before .before .before .opening .ensures .on _ _ (c .before .before .opened .given .1))))
+    (λ c κs.
+    let opening = c .before .before .before .before .opening in
+    let after-named = c .before .before .before .before .before .before in
+    let named = after-named .named in
+    let expect = after-named .before .before .expect in
+    let after-term = after-named .before .before .before .before in
+    let term = after-term .term in
+    let process-term = after-term .before .before .process-term in
+    let entry = after-term .before .before .before .before .before in
+    (omega (arith, entry .pre, process-term .ensures .on _ _ (term .given .1), expect .ensures .on _ _ (named .given .1), opening .ensures .on _ _ (c .before .before .opened .given .1)), omega (arith, entry .pre, process-term .ensures .on _ _ (term .given .1), expect .ensures .on _ _ (named .given .1), opening .ensures .on _ _ (c .before .before .opened .given .1))))
     -- enum-known-inner
     (λ c. search needs)
     -- enum-told-4
@@ -54,7 +67,12 @@ read-recv-met t =
     -- same-length
     (λ c. search needs)
     -- returns-4
-    (λ c. recv-handler-no _ _ _ _ (c .before .before .before .before .before .before .before .before .before .before .before .before .before .before .before .before .before .before .before .before .pre .1) (c .before .before .before .before .before .before .before .before .before .before .before .before .before .before .before .before .before .process-term .ensures) (c .before .before .before .before .before .before .before .before .before .before .before .before .before .before .before .term .given .1) (c .before .before .before .before .before .before .before .before .before .before .before .before .before .expect .ensures) (c .before .before .before .before .before .before .before .before .before .before .before .named .given .1) (c .before .before .before .before .before .before .before .before .before .opening .ensures) (c .before .before .before .before .before .before .before .opened .given .1) (c .before .before .before .before .read-handler .ensures) (c .enum-told4 .given .1))
+    (λ c.
+    let after-opened = c .before .before .before .before .before .before .before in
+    let after-named = after-opened .before .before .before .before in
+    let after-term = after-named .before .before .before .before in
+    let entry = after-term .before .before .before .before .before in
+    recv-handler-no _ _ _ _ (entry .pre .1) (after-term .before .before .process-term .ensures) (after-term .term .given .1) (after-named .before .before .expect .ensures) (after-named .named .given .1) (after-opened .before .before .opening .ensures) (after-opened .opened .given .1) (c .before .before .before .before .read-handler .ensures) (c .enum-told4 .given .1))
     -- expect-requires-2
     (λ c κs. search needs)
     -- enum-known-closed
@@ -66,8 +84,20 @@ read-recv-met t =
     -- same-length-2
     (λ c. search needs)
     -- returns-5
-    (λ c. recv-close-no _ _ _ _ (c .before .before .before .before .before .before .before .before .before .before .before .before .before .before .before .before .before .before .before .before .before .before .before .before .before .pre .1) (c .before .before .before .before .before .before .before .before .before .before .before .before .before .before .before .before .before .before .before .before .before .before .process-term .ensures) (c .before .before .before .before .before .before .before .before .before .before .before .before .before .before .before .before .before .before .before .before .term .given .1) (c .before .before .before .before .before .before .before .before .before .before .before .before .before .before .before .before .before .before .expect .ensures) (c .before .before .before .before .before .before .before .before .before .before .before .before .before .before .before .before .named .given .1) (c .before .before .before .before .before .before .before .before .before .before .before .before .before .before .opening .ensures) (c .before .before .before .before .before .before .before .before .before .before .before .before .opened .given .1) (c .before .before .before .before .before .before .before .before .before .read-handler .ensures) (c .before .before .before .before .before .inner .given .1) (c .before .before .before .expect2 .ensures) (c .before .enum-told5 .given .1) (c .refusal4 .ensures))
+    (λ c.
+    let after-inner = c .before .before .before .before .before in
+    let after-opened = after-inner .before .before .before .before .before .before .before in
+    let after-named = after-opened .before .before .before .before in
+    let after-term = after-named .before .before .before .before in
+    let entry = after-term .before .before .before .before .before in
+    recv-close-no _ _ _ _ (entry .pre .1) (after-term .before .before .process-term .ensures) (after-term .term .given .1) (after-named .before .before .expect .ensures) (after-named .named .given .1) (after-opened .before .before .opening .ensures) (after-opened .opened .given .1) (after-inner .before .before .before .before .read-handler .ensures) (after-inner .inner .given .1) (c .before .before .before .expect2 .ensures) (c .before .enum-told5 .given .1) (c .refusal4 .ensures))
     -- same-length-3
     (λ c. search needs)
     -- returns-6
-    (λ c. recv-got _ _ _ _ (c .before .before .before .before .before .before .before .before .before .before .before .before .before .before .before .before .before .before .before .before .before .before .before .before .before .pre .1) (c .before .before .before .before .before .before .before .before .before .before .before .before .before .before .before .before .before .before .before .before .before .before .process-term .ensures) (c .before .before .before .before .before .before .before .before .before .before .before .before .before .before .before .before .before .before .before .before .term .given .1) (c .before .before .before .before .before .before .before .before .before .before .before .before .before .before .before .before .before .before .expect .ensures) (c .before .before .before .before .before .before .before .before .before .before .before .before .before .before .before .before .named .given .1) (c .before .before .before .before .before .before .before .before .before .before .before .before .before .before .opening .ensures) (c .before .before .before .before .before .before .before .before .before .before .before .before .opened .given .1) (c .before .before .before .before .before .before .before .before .before .read-handler .ensures) (c .before .before .before .before .before .inner .given .1) (c .before .before .before .expect2 .ensures) (c .before .closed .given .1))
+    (λ c.
+    let after-inner = c .before .before .before .before .before in
+    let after-opened = after-inner .before .before .before .before .before .before .before in
+    let after-named = after-opened .before .before .before .before in
+    let after-term = after-named .before .before .before .before in
+    let entry = after-term .before .before .before .before .before in
+    recv-got _ _ _ _ (entry .pre .1) (after-term .before .before .process-term .ensures) (after-term .term .given .1) (after-named .before .before .expect .ensures) (after-named .named .given .1) (after-opened .before .before .opening .ensures) (after-opened .opened .given .1) (after-inner .before .before .before .before .read-handler .ensures) (after-inner .inner .given .1) (c .before .before .before .expect2 .ensures) (c .before .closed .given .1))

@@ -26,16 +26,31 @@ read-rest-met t =
     -- refusal-requires
     (λ c κs. search needs)
     -- returns
-    (λ c. rest-mark-no _ _ _ _ (c .before .before .before .before .before .before .before .before .before .pre .1) (c .before .before .before .before .before .before .next-token .result) (c .before .before .before .before .before .before .next-token .ensures .0) (c .before .before .before .before .before .before .next-token .ensures .1) (c .before .before .before .before .if1 .taken) (c .before .before .before .expect .ensures) (c .before .enum-told .given .1) (c .refusal .ensures))
+    (λ c.
+    let after-if1 = c .before .before .before .before in
+    let next-token = after-if1 .before .before .next-token in
+    let entry = after-if1 .before .before .before .before .before in
+    rest-mark-no _ _ _ _ (entry .pre .1) (next-token .result) (next-token .ensures .0) (next-token .ensures .1) (after-if1 .if1 .taken) (c .before .before .before .expect .ensures) (c .before .enum-told .given .1) (c .refusal .ensures))
     -- read-process-requires
-    (λ c κs. (omega (arith, c .before .before .before .before .before .before .before .before .before .before .pre, c .before .before .before .before .expect .ensures .on _ _ (c .before .before .mark .given .1)), omega (arith, c .before .before .before .before .before .before .before .before .before .before .pre, c .before .before .before .before .expect .ensures .on _ _ (c .before .before .mark .given .1))))
+    (λ c κs.
+    let expect = c .before .before .before .before .expect in
+    let entry = c .before .before .before .before .before .before .before .before .before .before in
+    (omega (arith, entry .pre, expect .ensures .on _ _ (c .before .before .mark .given .1)), omega (arith, entry .pre, expect .ensures .on _ _ (c .before .before .mark .given .1))))
     -- same-length
     (λ c. search needs)
     -- returns-2
-    (λ c. rest-process _ _ _ _ (c .before .before .before .before .before .before .before .before .before .before .before .before .before .pre .1) (c .before .before .before .before .before .before .before .before .before .before .next-token .result) (c .before .before .before .before .before .before .before .before .before .before .next-token .ensures .0) (c .before .before .before .before .before .before .before .before .before .before .next-token .ensures .1) (c .before .before .before .before .before .before .before .before .if1 .taken) (c .before .before .before .before .before .before .before .expect .ensures) (c .before .before .before .before .before .mark .given .1) (c .before .before .read-process .ensures))
+    (λ c.
+    let after-mark = c .before .before .before .before .before in
+    let after-if1 = after-mark .before .before .before in
+    let next-token = after-if1 .before .before .next-token in
+    let entry = after-if1 .before .before .before .before .before in
+    rest-process _ _ _ _ (entry .pre .1) (next-token .result) (next-token .ensures .0) (next-token .ensures .1) (after-if1 .if1 .taken) (after-mark .before .before .expect .ensures) (after-mark .mark .given .1) (c .before .before .read-process .ensures))
     -- add-lasting
     (λ c. omega (arith, c .before .before .before .next-token .ensures .1 .starts, c .before .before .before .before .before .before .pre))
     -- lasting-requires
     (λ c κs. search needs)
     -- returns-3
-    (λ c. rw (c .lasting .ensures) (rest-none _ _ _ _ (c .before .before .before .before .before .before .before .pre .1) (c .before .before .before .before .next-token .result) (c .before .before .before .before .next-token .ensures .0) (c .before .before .before .before .next-token .ensures .1) (c .before .before .if1 .left)))
+    (λ c.
+    let next-token = c .before .before .before .before .next-token in
+    let entry = c .before .before .before .before .before .before .before in
+    rw (c .lasting .ensures) (rest-none _ _ _ _ (entry .pre .1) (next-token .result) (next-token .ensures .0) (next-token .ensures .1) (c .before .before .if1 .left)))

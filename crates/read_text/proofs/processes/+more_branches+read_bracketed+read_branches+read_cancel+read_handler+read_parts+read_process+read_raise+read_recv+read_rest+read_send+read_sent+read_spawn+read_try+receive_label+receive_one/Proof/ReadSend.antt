@@ -41,8 +41,19 @@ read-send-met t =
     -- payload-head-requires
     (λ c κs. search needs)
     -- read-sent-requires
-    (λ c κs. (omega (arith, c .before .before .before .before .before .before .before .before .before .before .before .before .before .pre, c .before .before .before .before .before .before .before .before .before .before .process-term .ensures .on _ _ (c .before .before .before .before .before .before .before .before .term .given .1), c .before .before .before .before .before .before .expect .ensures .on _ _ (c .before .before .before .before .named .given .1)), omega (arith, c .before .before .before .before .before .before .before .before .before .before .before .before .before .pre, c .before .before .before .before .before .before .before .before .before .before .process-term .ensures .on _ _ (c .before .before .before .before .before .before .before .before .term .given .1), c .before .before .before .before .before .before .expect .ensures .on _ _ (c .before .before .before .before .named .given .1))))
+    (λ c κs.
+    let named = c .before .before .before .before .named in
+    let expect = c .before .before .before .before .before .before .expect in
+    let after-term = c .before .before .before .before .before .before .before .before in
+    let term = after-term .term in
+    let process-term = after-term .before .before .process-term in
+    let entry = after-term .before .before .before .before .before in
+    (omega (arith, entry .pre, process-term .ensures .on _ _ (term .given .1), expect .ensures .on _ _ (named .given .1)), omega (arith, entry .pre, process-term .ensures .on _ _ (term .given .1), expect .ensures .on _ _ (named .given .1))))
     -- same-length
     (λ c. search needs)
     -- returns-3
-    (λ c. send-got _ _ _ _ (c .before .before .before .before .before .before .before .before .before .before .before .before .before .before .before .before .pre .1) (c .before .before .before .before .before .before .before .before .before .before .before .before .before .process-term .ensures) (c .before .before .before .before .before .before .before .before .before .before .before .term .given .1) (c .before .before .before .before .before .before .before .before .before .expect .ensures) (c .before .before .before .before .before .before .before .named .given .1) (rw (← c .before .before .before .before .before .kind-at .ensures, ← c .before .before .before .before .payload-head .ensures) (c .before .before .read-sent .ensures)))
+    (λ c.
+    let after-named = c .before .before .before .before .before .before .before in
+    let after-term = after-named .before .before .before .before in
+    let entry = after-term .before .before .before .before .before in
+    send-got _ _ _ _ (entry .pre .1) (after-term .before .before .process-term .ensures) (after-term .term .given .1) (after-named .before .before .expect .ensures) (after-named .named .given .1) (rw (← c .before .before .before .before .before .kind-at .ensures, ← c .before .before .before .before .payload-head .ensures) (c .before .before .read-sent .ensures)))

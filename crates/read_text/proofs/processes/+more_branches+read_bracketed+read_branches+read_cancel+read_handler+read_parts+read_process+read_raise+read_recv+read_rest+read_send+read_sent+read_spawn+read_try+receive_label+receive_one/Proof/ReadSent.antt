@@ -24,9 +24,13 @@ read-sent-met t =
     -- refusal-requires
     (λ c κs. search needs)
     -- returns
-    (λ c. sent-no _ _ _ _ (c .before .before .before .before .before .before .pre .1 .0 .0) (c .before .before .before .before .before .before .pre .1 .0 .1) _ _ (c .before .before .before .before .before .before .pre .1 .1 .0) (c .before .before .before .before .before .before .pre .1 .1 .1) _ (c .before .before .before .payload-token .ensures) (c .before .enum-told .given .1) (c .refusal .ensures))
+    (λ c.
+    let entry = c .before .before .before .before .before .before in
+    sent-no _ _ _ _ (entry .pre .1 .0 .0) (entry .pre .1 .0 .1) _ _ (entry .pre .1 .1 .0) (entry .pre .1 .1 .1) _ (c .before .before .before .payload-token .ensures) (c .before .enum-told .given .1) (c .refusal .ensures))
     -- read-rest-requires
-    (λ c κs. (omega (arith, c .before .before .before .before .before .before .before .pre, c .before .before .before .before .payload-token .ensures .on _ _ (c .before .before .sent .given .1)), omega (arith, c .before .before .before .before .before .before .before .pre, c .before .before .before .before .payload-token .ensures .on _ _ (c .before .before .sent .given .1))))
+    (λ c κs.
+    let entry = c .before .before .before .before .before .before .before in
+    (omega (arith, entry .pre, c .before .before .before .before .payload-token .ensures .on _ _ (c .before .before .sent .given .1)), omega (arith, entry .pre, c .before .before .before .before .payload-token .ensures .on _ _ (c .before .before .sent .given .1))))
     -- enum-known-rest
     (λ c. search needs)
     -- enum-told-2
@@ -34,12 +38,26 @@ read-sent-met t =
     -- same-length
     (λ c. search needs)
     -- returns-2
-    (λ c. sent-rest-no _ _ _ _ (c .before .before .before .before .before .before .before .before .before .before .before .before .pre .1 .0 .0) (c .before .before .before .before .before .before .before .before .before .before .before .before .pre .1 .0 .1) _ _ (c .before .before .before .before .before .before .before .before .before .before .before .before .pre .1 .1 .0) (c .before .before .before .before .before .before .before .before .before .before .before .before .pre .1 .1 .1) _ (c .before .before .before .before .before .before .before .before .before .payload-token .ensures) (c .before .before .before .before .before .before .before .sent .given .1) (c .before .before .before .before .read-rest .ensures) (c .enum-told2 .given .1))
+    (λ c.
+    let after-sent = c .before .before .before .before .before .before .before in
+    let entry = after-sent .before .before .before .before .before in
+    sent-rest-no _ _ _ _ (entry .pre .1 .0 .0) (entry .pre .1 .0 .1) _ _ (entry .pre .1 .1 .0) (entry .pre .1 .1 .1) _ (after-sent .before .before .payload-token .ensures) (after-sent .sent .given .1) (c .before .before .before .before .read-rest .ensures) (c .enum-told2 .given .1))
     -- sent-node-requires
-    (λ c κs. omega (arith, c .before .before .before .before .before .before .before .before .before .before .before .before .before .pre, c .before .before .before .before .before .before .before .before .before .before .payload-token .ensures .on _ _ (c .before .before .before .before .before .before .before .before .sent .given .1), c .before .before .before .before .before .read-rest .ensures .on _ _ (c .before .rest .given .1)))
+    (λ c κs.
+    let after-sent = c .before .before .before .before .before .before .before .before in
+    let entry = after-sent .before .before .before .before .before in
+    omega (arith, entry .pre, after-sent .before .before .payload-token .ensures .on _ _ (after-sent .sent .given .1), c .before .before .before .before .before .read-rest .ensures .on _ _ (c .before .rest .given .1)))
     -- put-term-requires
-    (λ c κs. (omega (arith, c .before .before .before .before .before .before .before .before .before .before .before .before .before .before .before .pre, c .before .before .before .before .before .before .before .before .before .before .before .before .payload-token .ensures .on _ _ (c .before .before .before .before .before .before .before .before .before .before .sent .given .1), c .before .before .before .before .before .before .before .read-rest .ensures .on _ _ (c .before .before .before .rest .given .1), c .before .before .before .before .before .before .before .read-rest .ensures .kept .long), c .before .sent-node .ensures .1))
+    (λ c κs.
+    let read-rest = c .before .before .before .before .before .before .before .read-rest in
+    let after-sent = c .before .before .before .before .before .before .before .before .before .before in
+    let entry = after-sent .before .before .before .before .before in
+    (omega (arith, entry .pre, after-sent .before .before .payload-token .ensures .on _ _ (after-sent .sent .given .1), read-rest .ensures .on _ _ (c .before .before .before .rest .given .1), read-rest .ensures .kept .long), c .before .sent-node .ensures .1))
     -- same-length-2
     (λ c. search needs)
     -- returns-3
-    (λ c. sent-got _ _ _ _ (c .before .before .before .before .before .before .before .before .before .before .before .before .before .before .before .before .before .before .pre .1 .0 .0) (c .before .before .before .before .before .before .before .before .before .before .before .before .before .before .before .before .before .before .pre .1 .0 .1) _ _ (c .before .before .before .before .before .before .before .before .before .before .before .before .before .before .before .before .before .before .pre .1 .1 .0) (c .before .before .before .before .before .before .before .before .before .before .before .before .before .before .before .before .before .before .pre .1 .1 .1) _ (c .before .before .before .before .before .before .before .before .before .before .before .before .before .before .before .payload-token .ensures) (c .before .before .before .before .before .before .before .before .before .before .before .before .before .sent .given .1) (c .before .before .before .before .before .before .before .before .before .before .read-rest .ensures) (c .before .before .before .before .before .before .rest .given .1) (rw (← c .before .before .before .before .sent-node .ensures .0) (c .before .before .put-term .ensures)))
+    (λ c.
+    let after-rest = c .before .before .before .before .before .before in
+    let after-sent = after-rest .before .before .before .before .before .before .before in
+    let entry = after-sent .before .before .before .before .before in
+    sent-got _ _ _ _ (entry .pre .1 .0 .0) (entry .pre .1 .0 .1) _ _ (entry .pre .1 .1 .0) (entry .pre .1 .1 .1) _ (after-sent .before .before .payload-token .ensures) (after-sent .sent .given .1) (after-rest .before .before .before .before .read-rest .ensures) (after-rest .rest .given .1) (rw (← c .before .before .before .before .sent-node .ensures .0) (c .before .before .put-term .ensures)))

@@ -34,7 +34,10 @@ read-spawn-met t =
     -- same-length
     (λ c. search needs)
     -- returns-2
-    (λ c. spawn-type-no _ _ _ _ (c .before .before .before .before .before .before .before .before .before .before .before .before .pre .1) (c .before .before .before .before .before .before .before .before .before .name-colon .ensures) (c .before .before .before .before .before .before .before .named .given .1) (c .before .before .before .before .read-type .ensures) (c .enum-told2 .given .1))
+    (λ c.
+    let after-named = c .before .before .before .before .before .before .before in
+    let entry = after-named .before .before .before .before .before in
+    spawn-type-no _ _ _ _ (entry .pre .1) (after-named .before .before .name-colon .ensures) (after-named .named .given .1) (c .before .before .before .before .read-type .ensures) (c .enum-told2 .given .1))
     -- expect-requires
     (λ c κs. search needs)
     -- enum-known-arrow
@@ -46,10 +49,28 @@ read-spawn-met t =
     -- same-length-2
     (λ c. search needs)
     -- returns-3
-    (λ c. spawn-arrow-no _ _ _ _ (c .before .before .before .before .before .before .before .before .before .before .before .before .before .before .before .before .before .pre .1) (c .before .before .before .before .before .before .before .before .before .before .before .before .before .before .name-colon .ensures) (c .before .before .before .before .before .before .before .before .before .before .before .before .named .given .1) (c .before .before .before .before .before .before .before .before .before .read-type .ensures) (c .before .before .before .before .before .typed .given .1) (c .before .before .before .expect .ensures) (c .before .enum-told3 .given .1) (c .refusal2 .ensures))
+    (λ c.
+    let after-typed = c .before .before .before .before .before in
+    let after-named = after-typed .before .before .before .before .before .before .before in
+    let entry = after-named .before .before .before .before .before in
+    spawn-arrow-no _ _ _ _ (entry .pre .1) (after-named .before .before .name-colon .ensures) (after-named .named .given .1) (after-typed .before .before .before .before .read-type .ensures) (after-typed .typed .given .1) (c .before .before .before .expect .ensures) (c .before .enum-told3 .given .1) (c .refusal2 .ensures))
     -- read-parts-requires
-    (λ c κs. (omega (arith, c .before .before .before .before .before .before .before .before .before .before .before .before .before .before .before .before .before .before .pre, c .before .before .before .before .before .before .before .before .before .before .before .before .before .before .before .name-colon .ensures .on _ _ (c .before .before .before .before .before .before .before .before .before .before .before .before .before .named .given .1), c .before .before .before .before .before .before .before .before .before .before .read-type .ensures .on _ _ (c .before .before .before .before .before .before .typed .given .1), c .before .before .before .before .expect .ensures .on _ _ (c .before .before .arrow .given .1), c .before .before .before .before .before .before .before .before .before .before .read-type .ensures .kept .long), omega (arith, c .before .before .before .before .before .before .before .before .before .before .before .before .before .before .before .before .before .before .pre, c .before .before .before .before .before .before .before .before .before .before .before .before .before .before .before .name-colon .ensures .on _ _ (c .before .before .before .before .before .before .before .before .before .before .before .before .before .named .given .1), c .before .before .before .before .before .before .before .before .before .before .read-type .ensures .on _ _ (c .before .before .before .before .before .before .typed .given .1), c .before .before .before .before .expect .ensures .on _ _ (c .before .before .arrow .given .1), c .before .before .before .before .before .before .before .before .before .before .read-type .ensures .kept .long)))
+    (λ c κs.
+    let expect = c .before .before .before .before .expect in
+    let after-typed = c .before .before .before .before .before .before in
+    let typed = after-typed .typed in
+    let read-type = after-typed .before .before .before .before .read-type in
+    let after-named = after-typed .before .before .before .before .before .before .before in
+    let named = after-named .named in
+    let name-colon = after-named .before .before .name-colon in
+    let entry = after-named .before .before .before .before .before in
+    (omega (arith, entry .pre, name-colon .ensures .on _ _ (named .given .1), read-type .ensures .on _ _ (typed .given .1), expect .ensures .on _ _ (c .before .before .arrow .given .1), read-type .ensures .kept .long), omega (arith, entry .pre, name-colon .ensures .on _ _ (named .given .1), read-type .ensures .on _ _ (typed .given .1), expect .ensures .on _ _ (c .before .before .arrow .given .1), read-type .ensures .kept .long)))
     -- same-length-3
     (λ c. search needs)
     -- returns-4
-    (λ c. spawn-got _ _ _ _ (c .before .before .before .before .before .before .before .before .before .before .before .before .before .before .before .before .before .before .before .before .before .pre .1) (c .before .before .before .before .before .before .before .before .before .before .before .before .before .before .before .before .before .before .name-colon .ensures) (c .before .before .before .before .before .before .before .before .before .before .before .before .before .before .before .before .named .given .1) (c .before .before .before .before .before .before .before .before .before .before .before .before .before .read-type .ensures) (c .before .before .before .before .before .before .before .before .before .typed .given .1) (c .before .before .before .before .before .before .before .expect .ensures) (c .before .before .before .before .before .arrow .given .1) (c .before .before .read-parts .ensures))
+    (λ c.
+    let after-arrow = c .before .before .before .before .before in
+    let after-typed = after-arrow .before .before .before .before in
+    let after-named = after-typed .before .before .before .before .before .before .before in
+    let entry = after-named .before .before .before .before .before in
+    spawn-got _ _ _ _ (entry .pre .1) (after-named .before .before .name-colon .ensures) (after-named .named .given .1) (after-typed .before .before .before .before .read-type .ensures) (after-typed .typed .given .1) (after-arrow .before .before .expect .ensures) (after-arrow .arrow .given .1) (c .before .before .read-parts .ensures))

@@ -27,7 +27,9 @@ read-try-met t =
     -- returns
     (λ c. try-no _ _ _ _ (c .before .before .before .before .before .before .pre .1) (c .before .before .before .process-term .ensures) (c .before .enum-told .given .1) (c .refusal .ensures))
     -- read-bracketed-requires
-    (λ c κs. (omega (arith, c .before .before .before .before .before .before .before .pre, c .before .before .before .before .process-term .ensures .on _ _ (c .before .before .term .given .1)), omega (arith, c .before .before .before .before .before .before .before .pre, c .before .before .before .before .process-term .ensures .on _ _ (c .before .before .term .given .1))))
+    (λ c κs.
+    let entry = c .before .before .before .before .before .before .before in
+    (omega (arith, entry .pre, c .before .before .before .before .process-term .ensures .on _ _ (c .before .before .term .given .1)), omega (arith, entry .pre, c .before .before .before .before .process-term .ensures .on _ _ (c .before .before .term .given .1))))
     -- enum-known-main
     (λ c. search needs)
     -- enum-told-2
@@ -35,7 +37,10 @@ read-try-met t =
     -- same-length
     (λ c. search needs)
     -- returns-2
-    (λ c. try-main-no _ _ _ _ (c .before .before .before .before .before .before .before .before .before .before .before .before .pre .1) (c .before .before .before .before .before .before .before .before .before .process-term .ensures) (c .before .before .before .before .before .before .before .term .given .1) (c .before .before .before .before .read-bracketed .ensures) (c .enum-told2 .given .1))
+    (λ c.
+    let after-term = c .before .before .before .before .before .before .before in
+    let entry = after-term .before .before .before .before .before in
+    try-main-no _ _ _ _ (entry .pre .1) (after-term .before .before .process-term .ensures) (after-term .term .given .1) (c .before .before .before .before .read-bracketed .ensures) (c .enum-told2 .given .1))
     -- expect-requires
     (λ c κs. search needs)
     -- enum-known-word
@@ -47,9 +52,22 @@ read-try-met t =
     -- same-length-2
     (λ c. search needs)
     -- returns-3
-    (λ c. try-catch-no _ _ _ _ (c .before .before .before .before .before .before .before .before .before .before .before .before .before .before .before .before .before .pre .1) (c .before .before .before .before .before .before .before .before .before .before .before .before .before .before .process-term .ensures) (c .before .before .before .before .before .before .before .before .before .before .before .before .term .given .1) (c .before .before .before .before .before .before .before .before .before .read-bracketed .ensures) (c .before .before .before .before .before .main .given .1) (c .before .before .before .expect .ensures) (c .before .enum-told3 .given .1) (c .refusal2 .ensures))
+    (λ c.
+    let after-main = c .before .before .before .before .before in
+    let after-term = after-main .before .before .before .before .before .before .before in
+    let entry = after-term .before .before .before .before .before in
+    try-catch-no _ _ _ _ (entry .pre .1) (after-term .before .before .process-term .ensures) (after-term .term .given .1) (after-main .before .before .before .before .read-bracketed .ensures) (after-main .main .given .1) (c .before .before .before .expect .ensures) (c .before .enum-told3 .given .1) (c .refusal2 .ensures))
     -- read-bracketed-requires-2
-    (λ c κs. (omega (arith, c .before .before .before .before .before .before .before .before .before .before .before .before .before .before .before .before .before .before .pre, c .before .before .before .before .before .before .before .before .before .before .before .before .before .before .before .process-term .ensures .on _ _ (c .before .before .before .before .before .before .before .before .before .before .before .before .before .term .given .1), c .before .before .before .before .before .before .before .before .before .before .read-bracketed .ensures .on _ _ (c .before .before .before .before .before .before .main .given .1), c .before .before .before .before .expect .ensures .on _ _ (c .before .before .word .given .1), c .before .before .before .before .before .before .before .before .before .before .read-bracketed .ensures .kept .long), omega (arith, c .before .before .before .before .before .before .before .before .before .before .before .before .before .before .before .before .before .before .pre, c .before .before .before .before .before .before .before .before .before .before .before .before .before .before .before .process-term .ensures .on _ _ (c .before .before .before .before .before .before .before .before .before .before .before .before .before .term .given .1), c .before .before .before .before .before .before .before .before .before .before .read-bracketed .ensures .on _ _ (c .before .before .before .before .before .before .main .given .1), c .before .before .before .before .expect .ensures .on _ _ (c .before .before .word .given .1), c .before .before .before .before .before .before .before .before .before .before .read-bracketed .ensures .kept .long)))
+    (λ c κs.
+    let expect = c .before .before .before .before .expect in
+    let after-main = c .before .before .before .before .before .before in
+    let main = after-main .main in
+    let read-bracketed = after-main .before .before .before .before .read-bracketed in
+    let after-term = after-main .before .before .before .before .before .before .before in
+    let term = after-term .term in
+    let process-term = after-term .before .before .process-term in
+    let entry = after-term .before .before .before .before .before in
+    (omega (arith, entry .pre, process-term .ensures .on _ _ (term .given .1), read-bracketed .ensures .on _ _ (main .given .1), expect .ensures .on _ _ (c .before .before .word .given .1), read-bracketed .ensures .kept .long), omega (arith, entry .pre, process-term .ensures .on _ _ (term .given .1), read-bracketed .ensures .on _ _ (main .given .1), expect .ensures .on _ _ (c .before .before .word .given .1), read-bracketed .ensures .kept .long)))
     -- enum-known-handler
     (λ c. search needs)
     -- enum-told-4
@@ -57,10 +75,33 @@ read-try-met t =
     -- same-length-3
     (λ c. search needs)
     -- returns-4
-    (λ c. try-handler-no _ _ _ _ (c .before .before .before .before .before .before .before .before .before .before .before .before .before .before .before .before .before .before .before .before .before .before .before .pre .1) (c .before .before .before .before .before .before .before .before .before .before .before .before .before .before .before .before .before .before .before .before .process-term .ensures) (c .before .before .before .before .before .before .before .before .before .before .before .before .before .before .before .before .before .before .term .given .1) (c .before .before .before .before .before .before .before .before .before .before .before .before .before .before .before .read-bracketed .ensures) (c .before .before .before .before .before .before .before .before .before .before .before .main .given .1) (c .before .before .before .before .before .before .before .before .before .expect .ensures) (c .before .before .before .before .before .before .before .word .given .1) (c .before .before .before .before .read-bracketed2 .ensures) (c .enum-told4 .given .1))
+    (λ c.
+    let after-word = c .before .before .before .before .before .before .before in
+    let after-main = after-word .before .before .before .before in
+    let after-term = after-main .before .before .before .before .before .before .before in
+    let entry = after-term .before .before .before .before .before in
+    try-handler-no _ _ _ _ (entry .pre .1) (after-term .before .before .process-term .ensures) (after-term .term .given .1) (after-main .before .before .before .before .read-bracketed .ensures) (after-main .main .given .1) (after-word .before .before .expect .ensures) (after-word .word .given .1) (c .before .before .before .before .read-bracketed2 .ensures) (c .enum-told4 .given .1))
     -- put-term-requires
-    (λ c κs. (omega (arith, c .before .before .before .before .before .before .before .before .before .before .before .before .before .before .before .before .before .before .before .before .before .before .before .before .before .pre, c .before .before .before .before .before .before .before .before .before .before .before .before .before .before .before .before .before .before .before .before .before .before .process-term .ensures .on _ _ (c .before .before .before .before .before .before .before .before .before .before .before .before .before .before .before .before .before .before .before .before .term .given .1), c .before .before .before .before .before .before .before .before .before .before .before .before .before .before .before .before .before .read-bracketed .ensures .on _ _ (c .before .before .before .before .before .before .before .before .before .before .before .before .before .main .given .1), c .before .before .before .before .before .before .before .before .before .before .before .expect .ensures .on _ _ (c .before .before .before .before .before .before .before .before .before .word .given .1), c .before .before .before .before .before .before .read-bracketed2 .ensures .on _ _ (c .before .before .handler .given .1), c .before .before .before .before .before .before .before .before .before .before .before .before .before .before .before .before .before .read-bracketed .ensures .kept .long, c .before .before .before .before .before .before .read-bracketed2 .ensures .kept .long), omega (arith, c .before .before .before .before .before .before .before .before .before .before .before .before .before .before .before .before .before .before .before .before .before .before .before .before .before .pre, c .before .before .before .before .before .before .before .before .before .before .before .before .before .before .before .before .before .before .before .before .before .before .process-term .ensures .on _ _ (c .before .before .before .before .before .before .before .before .before .before .before .before .before .before .before .before .before .before .before .before .term .given .1), c .before .before .before .before .before .before .before .before .before .before .before .before .before .before .before .before .before .read-bracketed .ensures .on _ _ (c .before .before .before .before .before .before .before .before .before .before .before .before .before .main .given .1), c .before .before .before .before .before .before .before .before .before .before .before .expect .ensures .on _ _ (c .before .before .before .before .before .before .before .before .before .word .given .1), c .before .before .before .before .before .before .read-bracketed2 .ensures .on _ _ (c .before .before .handler .given .1), c .before .before .before .before .before .before .before .before .before .before .before .before .before .before .before .before .before .read-bracketed .ensures .kept .long, c .before .before .before .before .before .before .read-bracketed2 .ensures .kept .long)))
+    (λ c κs.
+    let read-bracketed2 = c .before .before .before .before .before .before .read-bracketed2 in
+    let after-word = c .before .before .before .before .before .before .before .before .before in
+    let word = after-word .word in
+    let expect = after-word .before .before .expect in
+    let after-main = after-word .before .before .before .before in
+    let main = after-main .main in
+    let read-bracketed = after-main .before .before .before .before .read-bracketed in
+    let after-term = after-main .before .before .before .before .before .before .before in
+    let term = after-term .term in
+    let process-term = after-term .before .before .process-term in
+    let entry = after-term .before .before .before .before .before in
+    (omega (arith, entry .pre, process-term .ensures .on _ _ (term .given .1), read-bracketed .ensures .on _ _ (main .given .1), expect .ensures .on _ _ (word .given .1), read-bracketed2 .ensures .on _ _ (c .before .before .handler .given .1), read-bracketed .ensures .kept .long, read-bracketed2 .ensures .kept .long), omega (arith, entry .pre, process-term .ensures .on _ _ (term .given .1), read-bracketed .ensures .on _ _ (main .given .1), expect .ensures .on _ _ (word .given .1), read-bracketed2 .ensures .on _ _ (c .before .before .handler .given .1), read-bracketed .ensures .kept .long, read-bracketed2 .ensures .kept .long)))
     -- same-length-4
     (λ c. c .before .before .put-term .ensures .kept .long ∙ c .before .before .before .before .before .before .before .before .before .read-bracketed2 .ensures .kept .long ∙ c .before .before .before .before .before .before .before .before .before .before .before .before .before .before .before .before .before .before .before .before .read-bracketed .ensures .kept .long)
     -- returns-5
-    (λ c. try-got _ _ _ _ (c .before .before .before .before .before .before .before .before .before .before .before .before .before .before .before .before .before .before .before .before .before .before .before .before .before .before .before .before .pre .1) (c .before .before .before .before .before .before .before .before .before .before .before .before .before .before .before .before .before .before .before .before .before .before .before .before .before .process-term .ensures) (c .before .before .before .before .before .before .before .before .before .before .before .before .before .before .before .before .before .before .before .before .before .before .before .term .given .1) (c .before .before .before .before .before .before .before .before .before .before .before .before .before .before .before .before .before .before .before .before .read-bracketed .ensures) (c .before .before .before .before .before .before .before .before .before .before .before .before .before .before .before .before .main .given .1) (c .before .before .before .before .before .before .before .before .before .before .before .before .before .before .expect .ensures) (c .before .before .before .before .before .before .before .before .before .before .before .before .word .given .1) (c .before .before .before .before .before .before .before .before .before .read-bracketed2 .ensures) (c .before .before .before .before .before .handler .given .1) (c .before .before .put-term .ensures))
+    (λ c.
+    let after-handler = c .before .before .before .before .before in
+    let after-word = after-handler .before .before .before .before .before .before .before in
+    let after-main = after-word .before .before .before .before in
+    let after-term = after-main .before .before .before .before .before .before .before in
+    let entry = after-term .before .before .before .before .before in
+    try-got _ _ _ _ (entry .pre .1) (after-term .before .before .process-term .ensures) (after-term .term .given .1) (after-main .before .before .before .before .read-bracketed .ensures) (after-main .main .given .1) (after-word .before .before .expect .ensures) (after-word .word .given .1) (after-handler .before .before .before .before .read-bracketed2 .ensures) (after-handler .handler .given .1) (c .before .before .put-term .ensures))

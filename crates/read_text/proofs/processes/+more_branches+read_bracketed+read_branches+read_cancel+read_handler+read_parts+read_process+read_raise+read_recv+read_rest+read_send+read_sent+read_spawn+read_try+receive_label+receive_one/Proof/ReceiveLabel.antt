@@ -21,10 +21,18 @@ receive-label-met t =
     -- same-length
     (λ c. search needs)
     -- returns
-    (λ c. labels-no _ _ _ _ (c .before .before .before .before .before .before .before .before .pre .1 .0 .0) (c .before .before .before .before .before .before .before .before .pre .1 .0 .1) _ _ (c .before .before .before .before .before .before .before .before .pre .1 .1 .0) (c .before .before .before .before .before .before .before .before .pre .1 .1 .1) (c .before .before .before .before .read-branches .ensures) (c .enum-told .given .1))
+    (λ c.
+    let entry = c .before .before .before .before .before .before .before .before in
+    labels-no _ _ _ _ (entry .pre .1 .0 .0) (entry .pre .1 .0 .1) _ _ (entry .pre .1 .1 .0) (entry .pre .1 .1 .1) (c .before .before .before .before .read-branches .ensures) (c .enum-told .given .1))
     -- put-term-requires
-    (λ c κs. (omega (arith, c .before .before .before .before .before .before .before .before .before .before .pre, c .before .before .before .before .before .before .read-branches .ensures .on _ _ (c .before .before .inner .given .1), c .before .before .before .before .before .before .read-branches .ensures .kept .long), omega (arith, c .before .before .before .before .before .before .before .before .before .before .pre, c .before .before .before .before .before .before .read-branches .ensures .on _ _ (c .before .before .inner .given .1), c .before .before .before .before .before .before .read-branches .ensures .kept .long)))
+    (λ c κs.
+    let read-branches = c .before .before .before .before .before .before .read-branches in
+    let entry = c .before .before .before .before .before .before .before .before .before .before in
+    (omega (arith, entry .pre, read-branches .ensures .on _ _ (c .before .before .inner .given .1), read-branches .ensures .kept .long), omega (arith, entry .pre, read-branches .ensures .on _ _ (c .before .before .inner .given .1), read-branches .ensures .kept .long)))
     -- same-length-2
     (λ c. search needs)
     -- returns-2
-    (λ c. labels-got _ _ _ _ (c .before .before .before .before .before .before .before .before .before .before .before .before .before .pre .1 .0 .0) (c .before .before .before .before .before .before .before .before .before .before .before .before .before .pre .1 .0 .1) _ _ (c .before .before .before .before .before .before .before .before .before .before .before .before .before .pre .1 .1 .0) (c .before .before .before .before .before .before .before .before .before .before .before .before .before .pre .1 .1 .1) (c .before .before .before .before .before .before .before .before .before .read-branches .ensures) (c .before .before .before .before .before .inner .given .1) (c .before .before .put-term .ensures))
+    (λ c.
+    let after-inner = c .before .before .before .before .before in
+    let entry = after-inner .before .before .before .before .before .before .before .before in
+    labels-got _ _ _ _ (entry .pre .1 .0 .0) (entry .pre .1 .0 .1) _ _ (entry .pre .1 .1 .0) (entry .pre .1 .1 .1) (after-inner .before .before .before .before .read-branches .ensures) (after-inner .inner .given .1) (c .before .before .put-term .ensures))

@@ -24,9 +24,13 @@ receive-one-met t =
     -- refusal-requires
     (λ c κs. search needs)
     -- returns
-    (λ c. one-no _ _ _ _ (c .before .before .before .before .before .before .pre .1 .0 .0) (c .before .before .before .before .before .before .pre .1 .0 .1) _ _ (c .before .before .before .before .before .before .pre .1 .1 .0) (c .before .before .before .before .before .before .pre .1 .1 .1) _ (c .before .before .before .payload-then .ensures) (c .before .enum-told .given .1) (c .refusal .ensures))
+    (λ c.
+    let entry = c .before .before .before .before .before .before in
+    one-no _ _ _ _ (entry .pre .1 .0 .0) (entry .pre .1 .0 .1) _ _ (entry .pre .1 .1 .0) (entry .pre .1 .1 .1) _ (c .before .before .before .payload-then .ensures) (c .before .enum-told .given .1) (c .refusal .ensures))
     -- read-process-requires
-    (λ c κs. (omega (arith, c .before .before .before .before .before .before .before .pre, c .before .before .before .before .payload-then .ensures .on _ _ (c .before .before .taken .given .1)), omega (arith, c .before .before .before .before .before .before .before .pre, c .before .before .before .before .payload-then .ensures .on _ _ (c .before .before .taken .given .1))))
+    (λ c κs.
+    let entry = c .before .before .before .before .before .before .before in
+    (omega (arith, entry .pre, c .before .before .before .before .payload-then .ensures .on _ _ (c .before .before .taken .given .1)), omega (arith, entry .pre, c .before .before .before .before .payload-then .ensures .on _ _ (c .before .before .taken .given .1))))
     -- enum-known-inner
     (λ c. search needs)
     -- enum-told-2
@@ -34,12 +38,26 @@ receive-one-met t =
     -- same-length
     (λ c. search needs)
     -- returns-2
-    (λ c. one-inner-no _ _ _ _ (c .before .before .before .before .before .before .before .before .before .before .before .before .pre .1 .0 .0) (c .before .before .before .before .before .before .before .before .before .before .before .before .pre .1 .0 .1) _ _ (c .before .before .before .before .before .before .before .before .before .before .before .before .pre .1 .1 .0) (c .before .before .before .before .before .before .before .before .before .before .before .before .pre .1 .1 .1) _ (c .before .before .before .before .before .before .before .before .before .payload-then .ensures) (c .before .before .before .before .before .before .before .taken .given .1) (c .before .before .before .before .read-process .ensures) (c .enum-told2 .given .1))
+    (λ c.
+    let after-taken = c .before .before .before .before .before .before .before in
+    let entry = after-taken .before .before .before .before .before in
+    one-inner-no _ _ _ _ (entry .pre .1 .0 .0) (entry .pre .1 .0 .1) _ _ (entry .pre .1 .1 .0) (entry .pre .1 .1 .1) _ (after-taken .before .before .payload-then .ensures) (after-taken .taken .given .1) (c .before .before .before .before .read-process .ensures) (c .enum-told2 .given .1))
     -- received-node-requires
-    (λ c κs. omega (arith, c .before .before .before .before .before .before .before .before .before .before .before .before .before .pre, c .before .before .before .before .before .before .before .before .before .before .payload-then .ensures .on _ _ (c .before .before .before .before .before .before .before .before .taken .given .1), c .before .before .before .before .before .read-process .ensures .on _ _ (c .before .inner .given .1)))
+    (λ c κs.
+    let after-taken = c .before .before .before .before .before .before .before .before in
+    let entry = after-taken .before .before .before .before .before in
+    omega (arith, entry .pre, after-taken .before .before .payload-then .ensures .on _ _ (after-taken .taken .given .1), c .before .before .before .before .before .read-process .ensures .on _ _ (c .before .inner .given .1)))
     -- put-term-requires
-    (λ c κs. (omega (arith, c .before .before .before .before .before .before .before .before .before .before .before .before .before .before .before .pre, c .before .before .before .before .before .before .before .before .before .before .before .before .payload-then .ensures .on _ _ (c .before .before .before .before .before .before .before .before .before .before .taken .given .1), c .before .before .before .before .before .before .before .read-process .ensures .on _ _ (c .before .before .before .inner .given .1), c .before .before .before .before .before .before .before .read-process .ensures .kept .long), c .before .received-node .ensures .1))
+    (λ c κs.
+    let read-process = c .before .before .before .before .before .before .before .read-process in
+    let after-taken = c .before .before .before .before .before .before .before .before .before .before in
+    let entry = after-taken .before .before .before .before .before in
+    (omega (arith, entry .pre, after-taken .before .before .payload-then .ensures .on _ _ (after-taken .taken .given .1), read-process .ensures .on _ _ (c .before .before .before .inner .given .1), read-process .ensures .kept .long), c .before .received-node .ensures .1))
     -- same-length-2
     (λ c. search needs)
     -- returns-3
-    (λ c. one-got _ _ _ _ (c .before .before .before .before .before .before .before .before .before .before .before .before .before .before .before .before .before .before .pre .1 .0 .0) (c .before .before .before .before .before .before .before .before .before .before .before .before .before .before .before .before .before .before .pre .1 .0 .1) _ _ (c .before .before .before .before .before .before .before .before .before .before .before .before .before .before .before .before .before .before .pre .1 .1 .0) (c .before .before .before .before .before .before .before .before .before .before .before .before .before .before .before .before .before .before .pre .1 .1 .1) _ (c .before .before .before .before .before .before .before .before .before .before .before .before .before .before .before .payload-then .ensures) (c .before .before .before .before .before .before .before .before .before .before .before .before .before .taken .given .1) (c .before .before .before .before .before .before .before .before .before .before .read-process .ensures) (c .before .before .before .before .before .before .inner .given .1) (rw (← c .before .before .before .before .received-node .ensures .0) (c .before .before .put-term .ensures)))
+    (λ c.
+    let after-inner = c .before .before .before .before .before .before in
+    let after-taken = after-inner .before .before .before .before .before .before .before in
+    let entry = after-taken .before .before .before .before .before in
+    one-got _ _ _ _ (entry .pre .1 .0 .0) (entry .pre .1 .0 .1) _ _ (entry .pre .1 .1 .0) (entry .pre .1 .1 .1) _ (after-taken .before .before .payload-then .ensures) (after-taken .taken .given .1) (after-inner .before .before .before .before .read-process .ensures) (after-inner .inner .given .1) (rw (← c .before .before .before .before .received-node .ensures .0) (c .before .before .put-term .ensures)))

@@ -32,11 +32,18 @@ read-names-met t =
     -- enum-told-2
     (λ c. search needs)
     -- returns-2
-    (λ c. names-comma-no _ _ _ (c .before .before .before .before .before .before .before .before .expect .ensures) (c .before .before .before .before .before .before .named .given .1) (eq-eqb _ _ (sym (c .before .before .before .before .kind-at .ensures) ∙ c .before .before .before .if1 .taken)) (c .before .before .expect2 .ensures) (c .enum-told2 .given .1))
+    (λ c.
+    let after-if1 = c .before .before .before in
+    names-comma-no _ _ _ (after-if1 .before .before .before .before .before .expect .ensures) (after-if1 .before .before .before .named .given .1) (eq-eqb _ _ (sym (after-if1 .before .kind-at .ensures) ∙ after-if1 .if1 .taken)) (c .before .before .expect2 .ensures) (c .enum-told2 .given .1))
     -- read-names-requires
-    (λ c κs. (omega (arith, c .before .before .before .before .before .before .before .before .before .before .before .pre, c .before .before .before .before .before .before .before .before .before .expect .ensures .on _ _ (c .before .before .before .before .before .before .before .named .given .1), c .before .before .before .expect2 .ensures .on _ _ (c .before .comma .given .1)), c .before .before .before .before .before .before .before .before .before .before .before .pre .1))
+    (λ c κs.
+    let after-named = c .before .before .before .before .before .before .before in
+    let entry = after-named .before .before .before .before in
+    (omega (arith, entry .pre, after-named .before .before .expect .ensures .on _ _ (after-named .named .given .1), c .before .before .before .expect2 .ensures .on _ _ (c .before .comma .given .1)), entry .pre .1))
     -- returns-3
-    (λ c. names-more _ _ _ (c .before .before .before .before .before .before .before .before .before .before .expect .ensures) (c .before .before .before .before .before .before .before .before .named .given .1) (eq-eqb _ _ (sym (c .before .before .before .before .before .before .kind-at .ensures) ∙ c .before .before .before .before .before .if1 .taken)) (c .before .before .before .before .expect2 .ensures) (c .before .before .comma .given .1) (c .read-names .ensures))
+    (λ c.
+    let after-if1 = c .before .before .before .before .before in
+    names-more _ _ _ (after-if1 .before .before .before .before .before .expect .ensures) (after-if1 .before .before .before .named .given .1) (eq-eqb _ _ (sym (after-if1 .before .kind-at .ensures) ∙ after-if1 .if1 .taken)) (c .before .before .before .before .expect2 .ensures) (c .before .before .comma .given .1) (c .read-names .ensures))
     -- list-end-requires
     (λ c κs. c .before .before .before .before .before .before .before .pre .1)
     -- returns-4

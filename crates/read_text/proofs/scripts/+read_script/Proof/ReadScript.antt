@@ -28,13 +28,21 @@ read-script-met t =
     -- same-length
     (λ c. search needs)
     -- returns-2
-    (λ c. script-no _ _ _ _ (c .before .before .before .before .before .before .before .before .before .before .before .pre .1 .0) (c .before .before .before .before .before .before .before .before .before .before .before .pre .1 .1) (c .before .before .before .before .before .before .before .before .kind-at .ensures) (c .before .before .before .before .before .before .before .if1 .left) (c .before .before .before .before .before .declaration-head .ensures) (c .before .before .before .before .declare .ensures) (c .enum-told .given .1))
+    (λ c.
+    let after-if1 = c .before .before .before .before .before .before .before in
+    let entry = after-if1 .before .before .before .before in
+    script-no _ _ _ _ (entry .pre .1 .0) (entry .pre .1 .1) (after-if1 .before .kind-at .ensures) (after-if1 .if1 .left) (c .before .before .before .before .before .declaration-head .ensures) (c .before .before .before .before .declare .ensures) (c .enum-told .given .1))
     -- read-script-requires
     (λ c κs.
+    let entry = c .before .before .before .before .before .before .before .before .before .before .before .before .before in
     let one = c .before .before .before .before .before .before .declare .ensures in
     let o = one .on _ _ (c .before .before .one .given .1) in
-    (omega (arith, c .before .before .before .before .before .before .before .before .before .before .before .before .before .pre, o .0), omega (arith, c .before .before .before .before .before .before .before .before .before .before .before .before .before .pre, o .0, o .2 (c .before .before .before .before .before .before .before .before .before .before .before .before .before .pre .1 .1), one .kept .long)))
+    (omega (arith, entry .pre, o .0), omega (arith, entry .pre, o .0, o .2 (entry .pre .1 .1), one .kept .long)))
     -- same-length-2
     (λ c. search needs)
     -- returns-3
-    (λ c. script-more _ _ _ _ (c .before .before .before .before .before .before .before .before .before .before .before .before .before .before .before .before .pre .1 .0) (c .before .before .before .before .before .before .before .before .before .before .before .before .before .before .before .before .pre .1 .1) (c .before .before .before .before .before .before .before .before .before .before .before .before .before .kind-at .ensures) (c .before .before .before .before .before .before .before .before .before .before .before .before .if1 .left) (c .before .before .before .before .before .before .before .before .before .before .declaration-head .ensures) (c .before .before .before .before .before .before .before .before .before .declare .ensures) (c .before .before .before .before .before .one .given .1) (c .before .before .read-script .ensures))
+    (λ c.
+    let after-declare = c .before .before .before .before .before .before .before .before .before in
+    let after-if1 = after-declare .before .before .before in
+    let entry = after-if1 .before .before .before .before in
+    script-more _ _ _ _ (entry .pre .1 .0) (entry .pre .1 .1) (after-if1 .before .kind-at .ensures) (after-if1 .if1 .left) (after-declare .before .declaration-head .ensures) (after-declare .declare .ensures) (c .before .before .before .before .before .one .given .1) (c .before .before .read-script .ensures))

@@ -35,12 +35,32 @@ read-entries-met t =
     -- same-length
     (λ c. search needs)
     -- returns-2
-    (λ c. entries-type-no _ _ _ _ (c .before .before .before .before .before .before .before .before .before .before .before .before .pre .1 .0) _ (c .before .before .before .before .before .before .before .before .before .entry-name .ensures) (c .before .before .before .before .before .before .before .named .given .1) (c .before .before .before .before .read-type .ensures) (c .enum-told2 .given .1))
+    (λ c.
+    let after-named = c .before .before .before .before .before .before .before in
+    let entry = after-named .before .before .before .before .before in
+    entries-type-no _ _ _ _ (entry .pre .1 .0) _ (after-named .before .before .entry-name .ensures) (after-named .named .given .1) (c .before .before .before .before .read-type .ensures) (c .enum-told2 .given .1))
     -- put-entry-requires
-    (λ c κs. omega (arith, c .before .before .before .before .before .before .before .before .before .before .before .before .before .before .pre, c .before .before .before .before .before .before .before .before .before .before .before .entry-name .ensures .on _ _ (c .before .before .before .before .before .before .before .before .before .named .given .1), c .before .before .before .before .before .before .read-type .ensures .on _ _ (c .before .before .typed .given .1), c .before .before .before .before .before .before .read-type .ensures .kept .long))
+    (λ c κs.
+    let read-type = c .before .before .before .before .before .before .read-type in
+    let after-named = c .before .before .before .before .before .before .before .before .before in
+    let entry = after-named .before .before .before .before .before in
+    omega (arith, entry .pre, after-named .before .before .entry-name .ensures .on _ _ (after-named .named .given .1), read-type .ensures .on _ _ (c .before .before .typed .given .1), read-type .ensures .kept .long))
     -- more-entries-requires
-    (λ c κs. (omega (arith, c .before .before .before .before .before .before .before .before .before .before .before .before .before .before .before .before .before .before .pre, c .before .before .before .before .before .before .before .before .before .before .before .before .before .before .before .entry-name .ensures .on _ _ (c .before .before .before .before .before .before .before .before .before .before .before .before .before .named .given .1), c .before .before .before .before .before .before .before .before .before .before .read-type .ensures .on _ _ (c .before .before .before .before .before .before .typed .given .1), c .before .before .before .before .before .before .before .before .before .before .read-type .ensures .kept .long, c .before .before .before .put-entry .ensures .kept .long, ap (λ x. x .nodes) (c .before .before .before .put-entry .ensures .is), ap (λ x. x .alternatives) (c .before .before .before .put-entry .ensures .is), ap (λ x. x .entries) (c .before .before .before .put-entry .ensures .is), ap (λ x. x .terms) (c .before .before .before .put-entry .ensures .is), ap (λ x. x .branches) (c .before .before .before .put-entry .ensures .is)), omega (arith, c .before .before .before .before .before .before .before .before .before .before .before .before .before .before .before .before .before .before .pre, c .before .before .before .before .before .before .before .before .before .before .before .before .before .before .before .entry-name .ensures .on _ _ (c .before .before .before .before .before .before .before .before .before .before .before .before .before .named .given .1), c .before .before .before .before .before .before .before .before .before .before .read-type .ensures .on _ _ (c .before .before .before .before .before .before .typed .given .1), c .before .before .before .before .before .before .before .before .before .before .read-type .ensures .kept .long, c .before .before .before .put-entry .ensures .kept .long, ap (λ x. x .nodes) (c .before .before .before .put-entry .ensures .is), ap (λ x. x .alternatives) (c .before .before .before .put-entry .ensures .is), ap (λ x. x .entries) (c .before .before .before .put-entry .ensures .is), ap (λ x. x .terms) (c .before .before .before .put-entry .ensures .is), ap (λ x. x .branches) (c .before .before .before .put-entry .ensures .is))))
+    (λ c κs.
+    let put-entry = c .before .before .before .put-entry in
+    let after-typed = c .before .before .before .before .before .before in
+    let typed = after-typed .typed in
+    let read-type = after-typed .before .before .before .before .read-type in
+    let after-named = after-typed .before .before .before .before .before .before .before in
+    let named = after-named .named in
+    let entry-name = after-named .before .before .entry-name in
+    let entry = after-named .before .before .before .before .before in
+    (omega (arith, entry .pre, entry-name .ensures .on _ _ (named .given .1), read-type .ensures .on _ _ (typed .given .1), read-type .ensures .kept .long, put-entry .ensures .kept .long, ap (λ x. x .nodes) (put-entry .ensures .is), ap (λ x. x .alternatives) (put-entry .ensures .is), ap (λ x. x .entries) (put-entry .ensures .is), ap (λ x. x .terms) (put-entry .ensures .is), ap (λ x. x .branches) (put-entry .ensures .is)), omega (arith, entry .pre, entry-name .ensures .on _ _ (named .given .1), read-type .ensures .on _ _ (typed .given .1), read-type .ensures .kept .long, put-entry .ensures .kept .long, ap (λ x. x .nodes) (put-entry .ensures .is), ap (λ x. x .alternatives) (put-entry .ensures .is), ap (λ x. x .entries) (put-entry .ensures .is), ap (λ x. x .terms) (put-entry .ensures .is), ap (λ x. x .branches) (put-entry .ensures .is))))
     -- same-length-2
     (λ c. c .before .before .more-entries .ensures .kept .long ∙ c .before .before .before .before .before .before .put-entry .ensures .kept .long ∙ c .before .before .before .before .before .before .before .before .before .before .before .before .before .read-type .ensures .kept .long)
     -- returns-3
-    (λ c. entries-more _ _ _ _ (c .before .before .before .before .before .before .before .before .before .before .before .before .before .before .before .before .before .before .before .before .before .pre .1 .0) _ (c .before .before .before .before .before .before .before .before .before .before .before .before .before .before .before .before .before .before .entry-name .ensures) (c .before .before .before .before .before .before .before .before .before .before .before .before .before .before .before .before .named .given .1) (c .before .before .before .before .before .before .before .before .before .before .before .before .before .read-type .ensures) (c .before .before .before .before .before .before .before .before .before .typed .given .1) (c .before .before .before .before .before .before .put-entry .ensures) (c .before .before .more-entries .ensures))
+    (λ c.
+    let after-typed = c .before .before .before .before .before .before .before .before .before in
+    let after-named = after-typed .before .before .before .before .before .before .before in
+    let entry = after-named .before .before .before .before .before in
+    entries-more _ _ _ _ (entry .pre .1 .0) _ (after-named .before .before .entry-name .ensures) (after-named .named .given .1) (after-typed .before .before .before .before .read-type .ensures) (after-typed .typed .given .1) (c .before .before .before .before .before .before .put-entry .ensures) (c .before .before .more-entries .ensures))

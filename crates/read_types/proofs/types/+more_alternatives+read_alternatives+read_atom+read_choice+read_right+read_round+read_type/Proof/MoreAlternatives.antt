@@ -27,12 +27,21 @@ more-alternatives-met t =
     -- refusal-requires
     (λ c κs. search needs)
     -- returns
-    (λ c. more-comma-no _ _ _ _ (c .before .before .before .before .before .before .before .before .pre .1 .0) _ (c .before .before .before .before .before .before .before .before .pre .1 .1) (eq-eqb _ _ (sym (c .before .before .before .before .before .kind-at .ensures) ∙ c .before .before .before .before .if1 .taken)) (c .before .before .before .expect .ensures) (c .before .enum-told .given .1) (c .refusal .ensures))
+    (λ c.
+    let after-if1 = c .before .before .before .before in
+    let entry = after-if1 .before .before .before .before in
+    more-comma-no _ _ _ _ (entry .pre .1 .0) _ (entry .pre .1 .1) (eq-eqb _ _ (sym (after-if1 .before .kind-at .ensures) ∙ after-if1 .if1 .taken)) (c .before .before .before .expect .ensures) (c .before .enum-told .given .1) (c .refusal .ensures))
     -- read-alternatives-requires
-    (λ c κs. (omega (arith, c .before .before .before .before .before .before .before .before .before .pre, c .before .before .before .before .expect .ensures .on _ _ (c .before .before .comma .given .1)), omega (arith, c .before .before .before .before .before .before .before .before .before .pre, c .before .before .before .before .expect .ensures .on _ _ (c .before .before .comma .given .1))))
+    (λ c κs.
+    let expect = c .before .before .before .before .expect in
+    let entry = c .before .before .before .before .before .before .before .before .before in
+    (omega (arith, entry .pre, expect .ensures .on _ _ (c .before .before .comma .given .1)), omega (arith, entry .pre, expect .ensures .on _ _ (c .before .before .comma .given .1))))
     -- same-length
     (λ c. search needs)
     -- returns-2
-    (λ c. more-list _ _ _ _ (c .before .before .before .before .before .before .before .before .before .before .before .before .pre .1 .0) _ (c .before .before .before .before .before .before .before .before .before .before .before .before .pre .1 .1) (eq-eqb _ _ (sym (c .before .before .before .before .before .before .before .before .before .kind-at .ensures) ∙ c .before .before .before .before .before .before .before .before .if1 .taken)) (c .before .before .before .before .before .before .before .expect .ensures) (c .before .before .before .before .before .comma .given .1) (c .before .before .read-alternatives .ensures))
+    (λ c.
+    let after-expect = c .before .before .before .before .before .before .before in
+    let entry = after-expect .before .before .before .before .before in
+    more-list _ _ _ _ (entry .pre .1 .0) _ (entry .pre .1 .1) (eq-eqb _ _ (sym (after-expect .before .before .kind-at .ensures) ∙ after-expect .before .if1 .taken)) (after-expect .expect .ensures) (c .before .before .before .before .before .comma .given .1) (c .before .before .read-alternatives .ensures))
     -- returns-3
     (λ c. more-none _ _ _ _ (c .before .before .before .before .pre .1 .0) _ (c .before .before .before .before .pre .1 .1) (ne-eqb _ _ (λ e. c .if1 .left (c .before .kind-at .ensures ∙ e))))

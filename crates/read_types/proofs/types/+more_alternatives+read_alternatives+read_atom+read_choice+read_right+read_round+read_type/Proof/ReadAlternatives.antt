@@ -27,7 +27,9 @@ read-alternatives-met t =
     -- returns
     (λ c. alternatives-no _ _ _ _ (c .before .before .before .before .before .before .pre .1) _ (c .before .before .before .label-colon .ensures) (c .before .enum-told .given .1) (c .refusal .ensures))
     -- read-type-requires
-    (λ c κs. (omega (arith, c .before .before .before .before .before .before .before .pre, c .before .before .before .before .label-colon .ensures .on _ _ (c .before .before .labelled .given .1)), omega (arith, c .before .before .before .before .before .before .before .pre, c .before .before .before .before .label-colon .ensures .on _ _ (c .before .before .labelled .given .1))))
+    (λ c κs.
+    let entry = c .before .before .before .before .before .before .before in
+    (omega (arith, entry .pre, c .before .before .before .before .label-colon .ensures .on _ _ (c .before .before .labelled .given .1)), omega (arith, entry .pre, c .before .before .before .before .label-colon .ensures .on _ _ (c .before .before .labelled .given .1))))
     -- enum-known-typed
     (λ c. search needs)
     -- enum-told-2
@@ -35,11 +37,22 @@ read-alternatives-met t =
     -- same-length
     (λ c. search needs)
     -- returns-2
-    (λ c. alternatives-type-no _ _ _ _ (c .before .before .before .before .before .before .before .before .before .before .before .before .pre .1) _ (c .before .before .before .before .before .before .before .before .before .label-colon .ensures) (c .before .before .before .before .before .before .before .labelled .given .1) (c .before .before .before .before .read-type .ensures) (c .enum-told2 .given .1))
+    (λ c.
+    let after-labelled = c .before .before .before .before .before .before .before in
+    let entry = after-labelled .before .before .before .before .before in
+    alternatives-type-no _ _ _ _ (entry .pre .1) _ (after-labelled .before .before .label-colon .ensures) (after-labelled .labelled .given .1) (c .before .before .before .before .read-type .ensures) (c .enum-told2 .given .1))
     -- add-more-alternatives
-    (λ c. omega (arith, label-few _ _ _ (c .before .before .before .before .before .before .before .before .before .before .before .label-colon .ensures) (c .before .before .before .before .before .before .before .before .before .labelled .given .1)))
+    (λ c.
+    let after-labelled = c .before .before .before .before .before .before .before .before .before in
+    omega (arith, label-few _ _ _ (after-labelled .before .before .label-colon .ensures) (after-labelled .labelled .given .1)))
     -- more-alternatives-requires
-    (λ c κs. (omega (arith, c .before .before .before .before .before .before .before .before .before .before .before .before .before .before .pre, c .before .before .before .before .before .before .before .before .before .before .before .label-colon .ensures .on _ _ (c .before .before .before .before .before .before .before .before .before .labelled .given .1), c .before .before .before .before .before .before .read-type .ensures .on _ _ (c .before .before .typed .given .1), c .before .before .before .before .before .before .read-type .ensures .kept .long, label-few _ _ _ (c .before .before .before .before .before .before .before .before .before .before .before .label-colon .ensures) (c .before .before .before .before .before .before .before .before .before .labelled .given .1)), omega (arith, c .before .before .before .before .before .before .before .before .before .before .before .before .before .before .pre, c .before .before .before .before .before .before .before .before .before .before .before .label-colon .ensures .on _ _ (c .before .before .before .before .before .before .before .before .before .labelled .given .1), c .before .before .before .before .before .before .read-type .ensures .on _ _ (c .before .before .typed .given .1), c .before .before .before .before .before .before .read-type .ensures .kept .long, label-few _ _ _ (c .before .before .before .before .before .before .before .before .before .before .before .label-colon .ensures) (c .before .before .before .before .before .before .before .before .before .labelled .given .1))))
+    (λ c κs.
+    let read-type = c .before .before .before .before .before .before .read-type in
+    let after-labelled = c .before .before .before .before .before .before .before .before .before in
+    let labelled = after-labelled .labelled in
+    let label-colon = after-labelled .before .before .label-colon in
+    let entry = after-labelled .before .before .before .before .before in
+    (omega (arith, entry .pre, label-colon .ensures .on _ _ (labelled .given .1), read-type .ensures .on _ _ (c .before .before .typed .given .1), read-type .ensures .kept .long, label-few _ _ _ (label-colon .ensures) (labelled .given .1)), omega (arith, entry .pre, label-colon .ensures .on _ _ (labelled .given .1), read-type .ensures .on _ _ (c .before .before .typed .given .1), read-type .ensures .kept .long, label-few _ _ _ (label-colon .ensures) (labelled .given .1))))
     -- enum-known-rest
     (λ c. search needs)
     -- enum-told-3
@@ -47,10 +60,25 @@ read-alternatives-met t =
     -- same-length-2
     (λ c. search needs)
     -- returns-3
-    (λ c. alternatives-more-no _ _ _ _ (c .before .before .before .before .before .before .before .before .before .before .before .before .before .before .before .before .before .before .before .pre .1) _ (c .before .before .before .before .before .before .before .before .before .before .before .before .before .before .before .before .label-colon .ensures) (c .before .before .before .before .before .before .before .before .before .before .before .before .before .before .labelled .given .1) (c .before .before .before .before .before .before .before .before .before .before .before .read-type .ensures) (c .before .before .before .before .before .before .before .typed .given .1) (c .before .before .before .before .more-alternatives .ensures) (c .enum-told3 .given .1))
+    (λ c.
+    let after-typed = c .before .before .before .before .before .before .before in
+    let after-labelled = after-typed .before .before .before .before .before .before .before in
+    let entry = after-labelled .before .before .before .before .before in
+    alternatives-more-no _ _ _ _ (entry .pre .1) _ (after-labelled .before .before .label-colon .ensures) (after-labelled .labelled .given .1) (after-typed .before .before .before .before .read-type .ensures) (after-typed .typed .given .1) (c .before .before .before .before .more-alternatives .ensures) (c .enum-told3 .given .1))
     -- put-alternative-requires
-    (λ c κs. omega (arith, c .before .before .before .before .before .before .before .before .before .before .before .before .before .before .before .before .before .before .before .before .before .pre, c .before .before .before .before .before .before .before .before .before .before .before .before .before .before .before .before .before .before .label-colon .ensures .on _ _ (c .before .before .before .before .before .before .before .before .before .before .before .before .before .before .before .before .labelled .given .1), c .before .before .before .before .before .before .before .before .before .before .before .before .before .read-type .ensures .on _ _ (c .before .before .before .before .before .before .before .before .before .typed .given .1), c .before .before .before .before .before .before .before .before .before .before .before .before .before .read-type .ensures .kept .long, c .before .before .before .before .before .before .more-alternatives .ensures .on _ _ (c .before .before .rest .given .1), c .before .before .before .before .before .before .more-alternatives .ensures .kept .long))
+    (λ c κs.
+    let more-alternatives = c .before .before .before .before .before .before .more-alternatives in
+    let after-typed = c .before .before .before .before .before .before .before .before .before in
+    let read-type = after-typed .before .before .before .before .read-type in
+    let after-labelled = after-typed .before .before .before .before .before .before .before in
+    let entry = after-labelled .before .before .before .before .before in
+    omega (arith, entry .pre, after-labelled .before .before .label-colon .ensures .on _ _ (after-labelled .labelled .given .1), read-type .ensures .on _ _ (after-typed .typed .given .1), read-type .ensures .kept .long, more-alternatives .ensures .on _ _ (c .before .before .rest .given .1), more-alternatives .ensures .kept .long))
     -- same-length-3
     (λ c. c .before .before .put-alternative .ensures .kept .long ∙ c .before .before .before .before .before .before .before .before .before .more-alternatives .ensures .kept .long ∙ c .before .before .before .before .before .before .before .before .before .before .before .before .before .before .before .before .read-type .ensures .kept .long)
     -- returns-4
-    (λ c. alternatives-got _ _ _ _ (c .before .before .before .before .before .before .before .before .before .before .before .before .before .before .before .before .before .before .before .before .before .before .before .before .pre .1) _ (c .before .before .before .before .before .before .before .before .before .before .before .before .before .before .before .before .before .before .before .before .before .label-colon .ensures) (c .before .before .before .before .before .before .before .before .before .before .before .before .before .before .before .before .before .before .before .labelled .given .1) (c .before .before .before .before .before .before .before .before .before .before .before .before .before .before .before .before .read-type .ensures) (c .before .before .before .before .before .before .before .before .before .before .before .before .typed .given .1) (c .before .before .before .before .before .before .before .before .before .more-alternatives .ensures) (c .before .before .before .before .before .rest .given .1) (c .before .before .put-alternative .ensures))
+    (λ c.
+    let after-rest = c .before .before .before .before .before in
+    let after-typed = after-rest .before .before .before .before .before .before .before in
+    let after-labelled = after-typed .before .before .before .before .before .before .before in
+    let entry = after-labelled .before .before .before .before .before in
+    alternatives-got _ _ _ _ (entry .pre .1) _ (after-labelled .before .before .label-colon .ensures) (after-labelled .labelled .given .1) (after-typed .before .before .before .before .read-type .ensures) (after-typed .typed .given .1) (after-rest .before .before .before .before .more-alternatives .ensures) (after-rest .rest .given .1) (c .before .before .put-alternative .ensures))

@@ -33,15 +33,21 @@ read-atom-met t =
     -- enum-told-3
     (λ c. search needs)
     -- read-round-requires
-    (λ c κs. (omega (arith, c .before .before .before .before .before .before .before .pre), c .before .before .before .before .before .before .before .pre .1))
+    (λ c κs.
+    let entry = c .before .before .before .before .before .before .before in
+    (omega (arith, entry .pre), entry .pre .1))
     -- enum-told-4
     (λ c. search needs)
     -- read-choice-requires
-    (λ c κs. (omega (arith, c .before .before .before .before .before .before .before .pre), (c .before .before .before .before .before .before .before .pre .1, (omega arith, omega arith))))
+    (λ c κs.
+    let entry = c .before .before .before .before .before .before .before in
+    (omega (arith, entry .pre), (entry .pre .1, (omega arith, omega arith))))
     -- enum-told-5
     (λ c. search needs)
     -- read-choice-requires-2
-    (λ c κs. (omega (arith, c .before .before .before .before .before .before .before .pre), (c .before .before .before .before .before .before .before .pre .1, (omega arith, omega arith))))
+    (λ c κs.
+    let entry = c .before .before .before .before .before .before .before in
+    (omega (arith, entry .pre), (entry .pre .1, (omega arith, omega arith))))
     -- enum-told-6
     (λ c. search needs)
     -- misfit-requires

@@ -24,9 +24,13 @@ read-choice-met t =
     -- refusal-requires
     (λ c κs. search needs)
     -- returns
-    (λ c. choice-no _ _ _ _ (c .before .before .before .before .before .before .pre .1 .0) _ (c .before .before .before .before .before .before .pre .1 .1 .0) (c .before .before .before .before .before .before .pre .1 .1 .1) (c .before .before .before .choice-opening .ensures) (c .before .enum-told .given .1) (c .refusal .ensures))
+    (λ c.
+    let entry = c .before .before .before .before .before .before in
+    choice-no _ _ _ _ (entry .pre .1 .0) _ (entry .pre .1 .1 .0) (entry .pre .1 .1 .1) (c .before .before .before .choice-opening .ensures) (c .before .enum-told .given .1) (c .refusal .ensures))
     -- read-alternatives-requires
-    (λ c κs. (omega (arith, c .before .before .before .before .before .before .before .pre, c .before .before .before .before .choice-opening .ensures .on _ _ (c .before .before .opened .given .1)), omega (arith, c .before .before .before .before .before .before .before .pre, c .before .before .before .before .choice-opening .ensures .on _ _ (c .before .before .opened .given .1))))
+    (λ c κs.
+    let entry = c .before .before .before .before .before .before .before in
+    (omega (arith, entry .pre, c .before .before .before .before .choice-opening .ensures .on _ _ (c .before .before .opened .given .1)), omega (arith, entry .pre, c .before .before .before .before .choice-opening .ensures .on _ _ (c .before .before .opened .given .1))))
     -- enum-known-inner
     (λ c. search needs)
     -- enum-told-2
@@ -34,7 +38,10 @@ read-choice-met t =
     -- same-length
     (λ c. search needs)
     -- returns-2
-    (λ c. choice-list-no _ _ _ _ (c .before .before .before .before .before .before .before .before .before .before .before .before .pre .1 .0) _ (c .before .before .before .before .before .before .before .before .before .before .before .before .pre .1 .1 .0) (c .before .before .before .before .before .before .before .before .before .before .before .before .pre .1 .1 .1) (c .before .before .before .before .before .before .before .before .before .choice-opening .ensures) (c .before .before .before .before .before .before .before .opened .given .1) (c .before .before .before .before .read-alternatives .ensures) (c .enum-told2 .given .1))
+    (λ c.
+    let after-opened = c .before .before .before .before .before .before .before in
+    let entry = after-opened .before .before .before .before .before in
+    choice-list-no _ _ _ _ (entry .pre .1 .0) _ (entry .pre .1 .1 .0) (entry .pre .1 .1 .1) (after-opened .before .before .choice-opening .ensures) (after-opened .opened .given .1) (c .before .before .before .before .read-alternatives .ensures) (c .enum-told2 .given .1))
     -- expect-requires
     (λ c κs. search needs)
     -- enum-known-closed
@@ -46,12 +53,30 @@ read-choice-met t =
     -- same-length-2
     (λ c. search needs)
     -- returns-3
-    (λ c. choice-close-no _ _ _ _ (c .before .before .before .before .before .before .before .before .before .before .before .before .before .before .before .before .before .pre .1 .0) _ (c .before .before .before .before .before .before .before .before .before .before .before .before .before .before .before .before .before .pre .1 .1 .0) (c .before .before .before .before .before .before .before .before .before .before .before .before .before .before .before .before .before .pre .1 .1 .1) (c .before .before .before .before .before .before .before .before .before .before .before .before .before .before .choice-opening .ensures) (c .before .before .before .before .before .before .before .before .before .before .before .before .opened .given .1) (c .before .before .before .before .before .before .before .before .before .read-alternatives .ensures) (c .before .before .before .before .before .inner .given .1) (c .before .before .before .expect .ensures) (c .before .enum-told3 .given .1) (c .refusal2 .ensures))
+    (λ c.
+    let after-inner = c .before .before .before .before .before in
+    let after-opened = after-inner .before .before .before .before .before .before .before in
+    let entry = after-opened .before .before .before .before .before in
+    choice-close-no _ _ _ _ (entry .pre .1 .0) _ (entry .pre .1 .1 .0) (entry .pre .1 .1 .1) (after-opened .before .before .choice-opening .ensures) (after-opened .opened .given .1) (after-inner .before .before .before .before .read-alternatives .ensures) (after-inner .inner .given .1) (c .before .before .before .expect .ensures) (c .before .enum-told3 .given .1) (c .refusal2 .ensures))
     -- sub-t18
     (λ c. omega (arith, c .before .before .before .before .before .before .before .before .before .before .before .before .before .before .before .before .before .before .pre))
     -- put-node-requires
-    (λ c κs. (omega (arith, c .before .before .before .before .before .before .before .before .before .before .before .before .before .before .before .before .before .before .pre, c .before .before .before .before .before .before .before .before .before .before .before .before .before .before .before .choice-opening .ensures .on _ _ (c .before .before .before .before .before .before .before .before .before .before .before .before .before .opened .given .1), c .before .before .before .before .before .before .before .before .before .before .read-alternatives .ensures .on _ _ (c .before .before .before .before .before .before .inner .given .1), c .before .before .before .before .before .before .before .before .before .before .read-alternatives .ensures .kept .long, c .before .before .before .before .expect .ensures .on _ _ (c .before .before .closed .given .1)), omega (arith, c .before .before .before .before .before .before .before .before .before .before .before .before .before .before .before .before .before .before .pre, c .before .before .before .before .before .before .before .before .before .before .before .before .before .before .before .choice-opening .ensures .on _ _ (c .before .before .before .before .before .before .before .before .before .before .before .before .before .opened .given .1), c .before .before .before .before .before .before .before .before .before .before .read-alternatives .ensures .on _ _ (c .before .before .before .before .before .before .inner .given .1), c .before .before .before .before .before .before .before .before .before .before .read-alternatives .ensures .kept .long, c .before .before .before .before .expect .ensures .on _ _ (c .before .before .closed .given .1))))
+    (λ c κs.
+    let expect = c .before .before .before .before .expect in
+    let after-inner = c .before .before .before .before .before .before in
+    let inner = after-inner .inner in
+    let read-alternatives = after-inner .before .before .before .before .read-alternatives in
+    let after-opened = after-inner .before .before .before .before .before .before .before in
+    let opened = after-opened .opened in
+    let choice-opening = after-opened .before .before .choice-opening in
+    let entry = after-opened .before .before .before .before .before in
+    (omega (arith, entry .pre, choice-opening .ensures .on _ _ (opened .given .1), read-alternatives .ensures .on _ _ (inner .given .1), read-alternatives .ensures .kept .long, expect .ensures .on _ _ (c .before .before .closed .given .1)), omega (arith, entry .pre, choice-opening .ensures .on _ _ (opened .given .1), read-alternatives .ensures .on _ _ (inner .given .1), read-alternatives .ensures .kept .long, expect .ensures .on _ _ (c .before .before .closed .given .1))))
     -- same-length-3
     (λ c. search needs)
     -- returns-4
-    (λ c. choice-got _ _ _ _ (c .before .before .before .before .before .before .before .before .before .before .before .before .before .before .before .before .before .before .before .before .before .pre .1 .0) _ (c .before .before .before .before .before .before .before .before .before .before .before .before .before .before .before .before .before .before .before .before .before .pre .1 .1 .0) (c .before .before .before .before .before .before .before .before .before .before .before .before .before .before .before .before .before .before .before .before .before .pre .1 .1 .1) (c .before .before .before .before .before .before .before .before .before .before .before .before .before .before .before .before .before .before .choice-opening .ensures) (c .before .before .before .before .before .before .before .before .before .before .before .before .before .before .before .before .opened .given .1) (c .before .before .before .before .before .before .before .before .before .before .before .before .before .read-alternatives .ensures) (c .before .before .before .before .before .before .before .before .before .inner .given .1) (c .before .before .before .before .before .before .before .expect .ensures) (c .before .before .before .before .before .closed .given .1) (c .before .before .put-node .ensures))
+    (λ c.
+    let after-closed = c .before .before .before .before .before in
+    let after-inner = after-closed .before .before .before .before in
+    let after-opened = after-inner .before .before .before .before .before .before .before in
+    let entry = after-opened .before .before .before .before .before in
+    choice-got _ _ _ _ (entry .pre .1 .0) _ (entry .pre .1 .1 .0) (entry .pre .1 .1 .1) (after-opened .before .before .choice-opening .ensures) (after-opened .opened .given .1) (after-inner .before .before .before .before .read-alternatives .ensures) (after-inner .inner .given .1) (after-closed .before .before .expect .ensures) (after-closed .closed .given .1) (c .before .before .put-node .ensures))

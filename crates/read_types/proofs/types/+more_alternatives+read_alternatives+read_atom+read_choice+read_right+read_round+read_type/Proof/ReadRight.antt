@@ -25,9 +25,14 @@ read-right-met t =
     -- refusal-requires
     (λ c κs. search needs)
     -- returns
-    (λ c. right-no _ _ _ _ (c .before .before .before .before .before .before .pre .1 .0) _ (c .before .before .before .type-term .ensures) (width-pos (c .before .before .before .before .before .before .args .kind)) (c .before .enum-told .given .1) (c .refusal .ensures))
+    (λ c.
+    let entry = c .before .before .before .before .before .before in
+    right-no _ _ _ _ (entry .pre .1 .0) _ (c .before .before .before .type-term .ensures) (width-pos (entry .args .kind)) (c .before .enum-told .given .1) (c .refusal .ensures))
     -- read-type-requires
-    (λ c κs. (omega (arith, c .before .before .before .before .before .before .before .pre, c .before .before .before .before .type-term .ensures .on _ _ (c .before .before .mark .given .1), width-pos (c .before .before .before .before .before .before .before .args .kind)), omega (arith, c .before .before .before .before .before .before .before .pre, c .before .before .before .before .type-term .ensures .on _ _ (c .before .before .mark .given .1), width-pos (c .before .before .before .before .before .before .before .args .kind))))
+    (λ c κs.
+    let type-term = c .before .before .before .before .type-term in
+    let entry = c .before .before .before .before .before .before .before in
+    (omega (arith, entry .pre, type-term .ensures .on _ _ (c .before .before .mark .given .1), width-pos (entry .args .kind)), omega (arith, entry .pre, type-term .ensures .on _ _ (c .before .before .mark .given .1), width-pos (entry .args .kind))))
     -- enum-known-second
     (λ c. search needs)
     -- enum-told-2
@@ -35,12 +40,25 @@ read-right-met t =
     -- same-length
     (λ c. search needs)
     -- returns-2
-    (λ c. right-type-no _ _ _ _ (c .before .before .before .before .before .before .before .before .before .before .before .before .pre .1 .0) _ (c .before .before .before .before .before .before .before .before .before .type-term .ensures) (width-pos (c .before .before .before .before .before .before .before .before .before .before .before .before .args .kind)) (c .before .before .before .before .before .before .before .mark .given .1) (c .before .before .before .before .read-type .ensures) (c .enum-told2 .given .1))
+    (λ c.
+    let after-mark = c .before .before .before .before .before .before .before in
+    let entry = after-mark .before .before .before .before .before in
+    right-type-no _ _ _ _ (entry .pre .1 .0) _ (after-mark .before .before .type-term .ensures) (width-pos (entry .args .kind)) (after-mark .mark .given .1) (c .before .before .before .before .read-type .ensures) (c .enum-told2 .given .1))
     -- infix-kind-requires
     (λ c κs. search needs)
     -- put-node-requires
-    (λ c κs. (omega (arith, c .before .before .before .before .before .before .before .before .before .before .before .before .before .before .before .pre, c .before .before .before .before .before .before .before .before .before .before .before .before .type-term .ensures .on _ _ (c .before .before .before .before .before .before .before .before .before .before .mark .given .1), c .before .before .before .before .before .before .before .read-type .ensures .on _ _ (c .before .before .before .second .given .1), c .before .before .before .before .before .before .before .read-type .ensures .kept .long, c .infix-kind .ensures .1), omega (arith, c .before .before .before .before .before .before .before .before .before .before .before .before .before .before .before .pre, c .before .before .before .before .before .before .before .before .before .before .before .before .type-term .ensures .on _ _ (c .before .before .before .before .before .before .before .before .before .before .mark .given .1), c .before .before .before .before .before .before .before .read-type .ensures .on _ _ (c .before .before .before .second .given .1), c .before .before .before .before .before .before .before .read-type .ensures .kept .long, c .infix-kind .ensures .1)))
+    (λ c κs.
+    let read-type = c .before .before .before .before .before .before .before .read-type in
+    let after-mark = c .before .before .before .before .before .before .before .before .before .before in
+    let mark = after-mark .mark in
+    let type-term = after-mark .before .before .type-term in
+    let entry = after-mark .before .before .before .before .before in
+    (omega (arith, entry .pre, type-term .ensures .on _ _ (mark .given .1), read-type .ensures .on _ _ (c .before .before .before .second .given .1), read-type .ensures .kept .long, c .infix-kind .ensures .1), omega (arith, entry .pre, type-term .ensures .on _ _ (mark .given .1), read-type .ensures .on _ _ (c .before .before .before .second .given .1), read-type .ensures .kept .long, c .infix-kind .ensures .1)))
     -- same-length-2
     (λ c. search needs)
     -- returns-3
-    (λ c. right-got _ _ _ _ (c .before .before .before .before .before .before .before .before .before .before .before .before .before .before .before .before .before .before .pre .1 .0) _ (c .before .before .before .before .before .before .before .before .before .before .before .before .before .before .before .type-term .ensures) (width-pos (c .before .before .before .before .before .before .before .before .before .before .before .before .before .before .before .before .before .before .args .kind)) (c .before .before .before .before .before .before .before .before .before .before .before .before .before .mark .given .1) (c .before .before .before .before .before .before .before .before .before .before .read-type .ensures) (c .before .before .before .before .before .before .second .given .1) (rw (← c .before .before .before .infix-kind .ensures .0) (c .before .before .put-node .ensures)))
+    (λ c.
+    let after-second = c .before .before .before .before .before .before in
+    let after-mark = after-second .before .before .before .before .before .before .before in
+    let entry = after-mark .before .before .before .before .before in
+    right-got _ _ _ _ (entry .pre .1 .0) _ (after-mark .before .before .type-term .ensures) (width-pos (entry .args .kind)) (after-mark .mark .given .1) (after-second .before .before .before .before .read-type .ensures) (after-second .second .given .1) (rw (← c .before .before .before .infix-kind .ensures .0) (c .before .before .put-node .ensures)))

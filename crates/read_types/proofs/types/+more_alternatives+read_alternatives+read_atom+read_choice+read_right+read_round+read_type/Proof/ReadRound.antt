@@ -25,10 +25,16 @@ read-round-met t =
     -- returns
     (λ c. round-no _ _ _ _ (c .before .before .before .before .before .before .pre .1) (c .before .before .before .opening .ensures) (c .before .enum-told .given .1) (c .refusal .ensures))
     -- read-type-requires
-    (λ c κs. (omega (arith, c .before .before .before .before .before .before .before .pre, c .before .before .before .before .opening .ensures .on _ _ (c .before .before .opened .given .1)), omega (arith, c .before .before .before .before .before .before .before .pre, c .before .before .before .before .opening .ensures .on _ _ (c .before .before .opened .given .1))))
+    (λ c κs.
+    let opening = c .before .before .before .before .opening in
+    let entry = c .before .before .before .before .before .before .before in
+    (omega (arith, entry .pre, opening .ensures .on _ _ (c .before .before .opened .given .1)), omega (arith, entry .pre, opening .ensures .on _ _ (c .before .before .opened .given .1))))
     -- closing-requires
     (λ c κs. search needs)
     -- same-length
     (λ c. search needs)
     -- returns-2
-    (λ c. round-closed _ _ _ _ (c .before .before .before .before .before .before .before .before .before .before .before .pre .1) (c .before .before .before .before .before .before .before .before .opening .ensures) (c .before .before .before .before .before .before .opened .given .1) (c .before .before .before .read-type .ensures) (c .closing .ensures))
+    (λ c.
+    let after-opened = c .before .before .before .before .before .before in
+    let entry = after-opened .before .before .before .before .before in
+    round-closed _ _ _ _ (entry .pre .1) (after-opened .before .before .opening .ensures) (after-opened .opened .given .1) (c .before .before .before .read-type .ensures) (c .closing .ensures))

@@ -31,11 +31,21 @@ read-type-met t =
     -- is-infix-requires
     (λ c κs. search needs)
     -- read-right-requires
-    (λ c κs. (omega (arith, c .before .before .before .before .before .before .before .before .before .before .before .before .before .pre, c .before .before .before .before .before .before .before .before .before .read-atom .ensures .on _ _ (c .before .before .before .before .before .first .given .1), c .before .before .before .before .before .before .before .before .before .read-atom .ensures .kept .long, infix-most _ (sym (c .before .before .is-infix .ensures) ∙ c .before .if1 .taken)), omega (arith, c .before .before .before .before .before .before .before .before .before .before .before .before .before .pre, c .before .before .before .before .before .before .before .before .before .read-atom .ensures .on _ _ (c .before .before .before .before .before .first .given .1), c .before .before .before .before .before .before .before .before .before .read-atom .ensures .kept .long, infix-most _ (sym (c .before .before .is-infix .ensures) ∙ c .before .if1 .taken))))
+    (λ c κs.
+    let after-first = c .before .before .before .before .before in
+    let first = after-first .first in
+    let read-atom = after-first .before .before .before .before .read-atom in
+    let entry = after-first .before .before .before .before .before .before .before .before in
+    (omega (arith, entry .pre, read-atom .ensures .on _ _ (first .given .1), read-atom .ensures .kept .long, infix-most _ (sym (c .before .before .is-infix .ensures) ∙ c .before .if1 .taken)), omega (arith, entry .pre, read-atom .ensures .on _ _ (first .given .1), read-atom .ensures .kept .long, infix-most _ (sym (c .before .before .is-infix .ensures) ∙ c .before .if1 .taken))))
     -- same-length-2
     (λ c. search needs)
     -- returns-2
-    (λ c. type-right _ _ _ _ (c .before .before .before .before .before .before .before .before .before .before .before .before .before .before .before .before .pre .1) (c .before .before .before .before .before .before .before .before .before .before .before .before .read-atom .ensures) (c .before .before .before .before .before .before .before .before .first .given .1) (ap isInfix (sym (c .before .before .before .before .before .before .kind-at .ensures)) ∙ sym (c .before .before .before .before .before .is-infix .ensures) ∙ c .before .before .before .before .if1 .taken) (rw (← c .before .before .before .before .before .before .kind-at .ensures) (c .before .before .read-right .ensures)))
+    (λ c.
+    let after-if1 = c .before .before .before .before in
+    let kind-at = after-if1 .before .before .kind-at in
+    let after-first = after-if1 .before .before .before .before in
+    let entry = after-first .before .before .before .before .before .before .before .before in
+    type-right _ _ _ _ (entry .pre .1) (after-first .before .before .before .before .read-atom .ensures) (after-first .first .given .1) (ap isInfix (sym (kind-at .ensures)) ∙ sym (after-if1 .before .is-infix .ensures) ∙ after-if1 .if1 .taken) (rw (← kind-at .ensures) (c .before .before .read-right .ensures)))
     -- same-length-3
     (λ c. search needs)
     -- returns-3
