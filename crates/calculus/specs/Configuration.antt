@@ -7,6 +7,7 @@ use lib.ListN.{length, take, drop, set, getElem?}
 use lib.Dec.{ltb, eqb}
 use Rattle.notation.specs.Limits.{channelPlaces}
 use Rattle.notation.specs.Tree.{Name, Ty, Proc}
+use Rattle.calculus.specs.Named.{changed}
 use Rattle.calculus.specs.Types.{Side, provided, used, other, sameSide}
 
 -- an end of a channel that a process holds; a channel is the number of its place
@@ -17,6 +18,13 @@ pub record End : Type 0 where
 
 abbrev pub end : Side → ℕ → Ty Name → End
 end s k A = record { side = s; channel = k; type = A }
+
+-- the same end of another type; the same end of another channel
+abbrev pub ofType : Ty Name → End → End
+ofType A e = record { side = e .side; channel = e .channel; type = A }
+
+abbrev pub ofChannel : ℕ → End → End
+ofChannel k e = record { side = e .side; channel = k; type = e .type }
 
 -- what a process does: it runs a term; it folds up (document 01's term: "cancels one held channel a step, oldest first, then is empty"); it waits as a handler
 pub data Doing : Type 0 where
@@ -35,6 +43,12 @@ pub record Outside : Type 0 where
   pub number : ℕ
   pub channel : ℕ
   pub type : Ty Name
+
+abbrev pub outsideOfType : Ty Name → Outside → Outside
+outsideOfType A o = record { number = o .number; channel = o .channel; type = A }
+
+abbrev pub outsideOfChannel : ℕ → Outside → Outside
+outsideOfChannel k o = record { number = o .number; channel = k; type = o .type }
 
 -- the outside's channels stand in rising number; a place (document 01's term) is a position in the list of processes, from 0
 pub record Config : Type 0 where
@@ -131,6 +145,10 @@ farFrom (some h) f = atProcess h
 unfoldable pub farEnd : Config → End → Far
 farEnd C e = farFrom (holderFrom 0 (e .channel) (other (e .side)) (C .processes)) (orOutside (e .side) (outsideOf (e .channel) (C .outside)))
 
+-- ── one end changed, by the name under which it is held
+abbrev pub retypedEnd : Name → Ty Name → List (Name × End) → List (Name × End)
+retypedEnd c A l = changed c (ofType A) l
+
 -- ── channel places: "A channel place is free when neither end is held"
 abbrev pub heldChannels : List (Name × End) → List ℕ → List ℕ
 heldChannels [] r = r
@@ -183,7 +201,7 @@ changedOutside k f [] = []
 changedOutside k f (o ∷ l) = cond (eqb k (o .channel)) (f o ∷ l) (o ∷ changedOutside k f l)
 
 abbrev pub retypedOutside : ℕ → Ty Name → List Outside → List Outside
-retypedOutside k A = changedOutside k (λ o. record { number = o .number; channel = o .channel; type = A })
+retypedOutside k A = changedOutside k (outsideOfType A)
 
 abbrev pub movedOutside : ℕ → ℕ → List Outside → List Outside
-movedOutside k m = changedOutside k (λ o. record { number = o .number; channel = m; type = o .type })
+movedOutside k m = changedOutside k (outsideOfChannel m)

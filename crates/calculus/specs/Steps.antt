@@ -13,7 +13,7 @@ use Rattle.calculus.specs.Types.{Side, provided, used, other, sameSide, 
 use Rattle.calculus.specs.Program.{Slot, Context, Signature, Program, signatureContext}
 use Rattle.calculus.specs.Mentions.{spawnTakes, spawnLeaves, tryTakes}
 use Rattle.calculus.specs.Typing.{namesOf}
-use Rattle.calculus.specs.Configuration.{End, end, Doing, running, folding, waiting, Process, process, Outside, Config, withProcesses, withOutside, oneMoreGiven, replaced, goesOn, foldsUp, doingNow, holding, linkedBy, at, Holder, Far, atProcess, atOutside, givenUp, farEnd, freshChannel, movedUp, inserted, removed, letGo, retypedOutside, movedOutside}
+use Rattle.calculus.specs.Configuration.{End, end, Doing, running, folding, waiting, Process, process, Outside, Config, withProcesses, withOutside, oneMoreGiven, replaced, goesOn, foldsUp, doingNow, holding, linkedBy, at, Holder, Far, atProcess, atOutside, givenUp, farEnd, freshChannel, movedUp, inserted, removed, letGo, changedOutside, movedOutside, ofType, ofChannel, outsideOfType, outsideOf}
 use Rattle.calculus.specs.declared.answers.Seen.{Seen}
 use Rattle.calculus.specs.declared.answers.Seen.the-variants.{Nothing, Label, Close, Passed, Cancelled}
 
@@ -65,7 +65,8 @@ turnOf (running P) = turn P
 turnOf folding = alone
 turnOf (waiting P) = alone
 
--- "An end's type is what the typing rules make of its signature's or spawn's": the type of a channel once a message has gone over it
+-- "An end's type is what the typing rules make of its signature's or spawn's": each end moves on from its own type.
+-- The type of an end once a message has gone over its channel
 abbrev pub afterPassing : Ty Name → Option Passing → Ty Name
 afterPassing A none = A
 afterPassing A (some t) = t .after
@@ -79,43 +80,57 @@ afterMessage p closing A = A
 afterMessage p (passes a) A = afterPassing A (passing (standing (p .types) A))
 afterMessage p (chooses l) A = afterChoosing A (l .name) (choosing (standing (p .types) A))
 
-abbrev pub retypedEnd : Name → Ty Name → List (Name × End) → List (Name × End)
-retypedEnd c A l = changed c (λ e. end (e .side) (e .channel) A) l
+-- the channel of name c, once the message m has gone over it: in its place, of the type that is then left; for a process, and for the outside
+abbrev pub onward : Program → Message → Name → List (Name × End) → List (Name × End)
+onward p m c l = changed c (λ e. ofType (afterMessage p m (e .type)) e) l
+
+abbrev pub outsideOnward : Program → Message → ℕ → List Outside → List Outside
+outsideOnward p m k l = changedOutside k (λ o. outsideOfType (afterMessage p m (o .type)) o) l
+
+-- the end d has come over a channel: whoever takes it has that channel with the type A, which says the type of d
+abbrev pub passedType : Ty Name → Option Passing → Ty Name
+passedType B none = B
+passedType B (some t) = t .what
+
+abbrev pub comesOver : Program → Ty Name → End → End
+comesOver p A d = ofType (passedType (d .type) (passing (standing (p .types) A))) d
 
 -- the sender's channels afterwards: a closed channel is dropped, a passed one is gone
-unfoldable pub afterSend : Program → Name → End → Message → List (Name × End) → List (Name × End)
-afterSend p c e closing l = without c l
-afterSend p c e (passes a) l = retypedEnd c (afterMessage p (passes a) (e .type)) (without (a .name) l)
-afterSend p c e (chooses m) l = retypedEnd c (afterMessage p (chooses m) (e .type)) l
+unfoldable pub afterSend : Program → Name → Message → List (Name × End) → List (Name × End)
+afterSend p c closing l = without c l
+afterSend p c (passes a) l = onward p (passes a) c (without (a .name) l)
+afterSend p c (chooses m) l = onward p (chooses m) c l
 
 abbrev pub branchOf : Name → Branches → Option Proc
 branchOf l Branches.none = none
 branchOf l (branch m P B) = cond (same l (m .name)) (some P) (branchOf l B)
 
--- the receiver afterwards, where its term wants the message: d is the end that is passed
+-- the receiver afterwards, where its term wants the message: c is its own name for the channel, d the end that is passed
 abbrev pub takesClose : Wanted → Name → Process → Option Process
 takesClose (onClose P) c q = some (goesOn q P (without c (q .held)))
 takesClose (onChannel x P) c q = none
 takesClose (onLabel B) c q = none
 
-abbrev pub bound : Name → Option End → List (Name × End)
-bound x none = []
-bound x (some d) = (x, d) ∷ []
+-- x is the end d that came over the receiver's own end e
+abbrev pub bound : Program → Name → Option End → Option End → List (Name × End)
+bound p x none d = []
+bound p x (some e) none = []
+bound p x (some e) (some d) = (x, comesOver p (e .type) d) ∷ []
 
-abbrev pub takesChannel : Wanted → Name → Ty Name → Option End → Process → Option Process
-takesChannel (onClose P) c A d q = none
-takesChannel (onChannel x P) c A d q = some (goesOn q P (retypedEnd c A (q .held) ++ bound (x .name) d))
-takesChannel (onLabel B) c A d q = none
+abbrev pub takesChannel : Program → Located → Wanted → Name → Option End → Process → Option Process
+takesChannel p a (onClose P) c d q = none
+takesChannel p a (onChannel x P) c d q = some (goesOn q P (onward p (passes a) c (q .held) ++ bound p (x .name) (lookup c (q .held)) d))
+takesChannel p a (onLabel B) c d q = none
 
-abbrev pub takesLabel : Wanted → Name → Ty Name → Name → Process → Option Process
-takesLabel (onClose P) c A l q = none
-takesLabel (onChannel x P) c A l q = none
-takesLabel (onLabel B) c A l q = Option·map (λ P. goesOn q P (retypedEnd c A (q .held))) (branchOf l B)
+abbrev pub takesLabel : Program → Located → Wanted → Name → Process → Option Process
+takesLabel p l (onClose P) c q = none
+takesLabel p l (onChannel x P) c q = none
+takesLabel p l (onLabel B) c q = Option·map (λ P. goesOn q P (onward p (chooses l) c (q .held))) (branchOf (l .name) B)
 
-unfoldable pub afterReceive : Program → Message → Wanted → Name → End → Option End → Process → Option Process
-afterReceive p closing w c e d q = takesClose w c q
-afterReceive p (passes a) w c e d q = takesChannel w c (afterMessage p (passes a) (e .type)) d q
-afterReceive p (chooses l) w c e d q = takesLabel w c (afterMessage p (chooses l) (e .type)) (l .name) q
+unfoldable pub afterReceive : Program → Message → Wanted → Name → Option End → Process → Option Process
+afterReceive p closing w c d q = takesClose w c q
+afterReceive p (passes a) w c d q = takesChannel p a w c d q
+afterReceive p (chooses l) w c d q = takesLabel p l w c q
 
 abbrev pub passedEnd : Message → List (Name × End) → Option End
 passedEnd closing l = none
@@ -142,11 +157,11 @@ abbrev pub bothTo : Config → ℕ → Process → ℕ → Option Process → Ou
 bothTo C i p′ j none = notOpen
 bothTo C i p′ j (some q′) = carried Nothing (replaced j q′ (replaced i p′ C))
 
-abbrev pub meeting : Program → Config → ℕ → Process → Process → Message → End → Holder → Turn → Outcome
-meeting p C i q q′ m e h (sends c′ m′ P) = notOpen
-meeting p C i q q′ m e h (receives c′ w) =
-    cond (same (c′ .name) (h .name)) (bothTo C i q′ (h .place) (afterReceive p m w (h .name) e (passedEnd m (q .held)) (h .process))) notOpen
-meeting p C i q q′ m e h alone = notOpen
+abbrev pub meeting : Program → Config → ℕ → Process → Process → Message → Holder → Turn → Outcome
+meeting p C i q q′ m h (sends c′ m′ P) = notOpen
+meeting p C i q q′ m h (receives c′ w) =
+    cond (same (c′ .name) (h .name)) (bothTo C i q′ (h .place) (afterReceive p m w (h .name) (passedEnd m (q .held)) (h .process))) notOpen
+meeting p C i q q′ m h alone = notOpen
 
 -- ── "A send on an outside channel steps with the outside; a channel passed out takes the next outside number"
 -- One that was already given up takes its number too, and the outside lets go of it at once.
@@ -155,20 +170,25 @@ isGivenUp (atProcess h) = false
 isGivenUp (atOutside n) = false
 isGivenUp givenUp = true
 
-abbrev pub passedOut : Config → ℕ → Process → ℕ → ℕ → Ty Name → End → Bool → Outcome
-passedOut C i q′ n k A d gone =
+-- the end d, which came over the outside's own channel o, under the next number
+abbrev pub newOutside : Program → ℕ → Option Outside → End → List Outside
+newOutside p next none d = []
+newOutside p next (some o) d = record { number = next; channel = d .channel; type = comesOver p (o .type) d .type } ∷ []
+
+abbrev pub passedOut : Program → Config → ℕ → Process → Located → End → ℕ → End → Bool → Outcome
+passedOut p C i q′ a e n d gone =
     carried (Passed n (C .given) gone)
     (oneMoreGiven
-    (withOutside (retypedOutside k A (C .outside) ++ cond gone [] (record { number = C .given; channel = d .channel; type = d .type } ∷ []))
+    (withOutside
+    (outsideOnward p (passes a) (e .channel) (C .outside) ++ cond gone [] (newOutside p (C .given) (outsideOf (e .channel) (C .outside)) d))
     (replaced i q′ C)))
 
 abbrev pub toOutside : Program → Config → ℕ → Process → Process → Message → End → ℕ → Outcome
 toOutside p C i q q′ closing e n = carried (Close n) (withOutside (letGo (e .channel) (C .outside)) (replaced i q′ C))
 toOutside p C i q q′ (passes a) e n =
     onHeld (lookup (a .name) (q .held)) λ d.
-    cond (ltb (C .given) outsideNumbers) (passedOut C i q′ n (e .channel) (afterMessage p (passes a) (e .type)) d (isGivenUp (farEnd C d))) lacking
-toOutside p C i q q′ (chooses l) e n =
-    carried (Label n (l .at)) (withOutside (retypedOutside (e .channel) (afterMessage p (chooses l) (e .type)) (C .outside)) (replaced i q′ C))
+    cond (ltb (C .given) outsideNumbers) (passedOut p C i q′ a e n d (isGivenUp (farEnd C d))) lacking
+toOutside p C i q q′ (chooses l) e n = carried (Label n (l .at)) (withOutside (outsideOnward p (chooses l) (e .channel) (C .outside)) (replaced i q′ C))
 
 -- ── "When the far end was given up: a send goes on, and gives up a channel it would have passed"
 abbrev pub unheard : Config → ℕ → Process → Process → Message → Outcome
@@ -177,7 +197,7 @@ unheard C i q q′ (passes a) = onHeld (lookup (a .name) (q .held)) λ d. partin
 unheard C i q q′ (chooses l) = carried Nothing (replaced i q′ C)
 
 abbrev pub sending : Program → Config → ℕ → Process → Process → Message → End → Far → Outcome
-sending p C i q q′ m e (atProcess h) = meeting p C i q q′ m e h (turnOf (h .process .doing))
+sending p C i q q′ m e (atProcess h) = meeting p C i q q′ m h (turnOf (h .process .doing))
 sending p C i q q′ m e (atOutside n) = toOutside p C i q q′ m e n
 sending p C i q q′ m e givenUp = unheard C i q q′ m
 
@@ -185,7 +205,7 @@ sending p C i q q′ m e givenUp = unheard C i q q′ m
 unfoldable pub send : Program → Config → ℕ → Process → Located → Message → Proc → Outcome
 send p C i q c m P =
     onHeld (lookup (c .name) (q .held)) λ e.
-    sending p C i q (goesOn q P (afterSend p (c .name) e m (q .held))) m e (farEnd C e)
+    sending p C i q (goesOn q P (afterSend p (c .name) m (q .held))) m e (farEnd C e)
 
 -- "either one's place names the step": a recv steps as the send at its far end does
 abbrev pub answering : Program → Config → Holder → Turn → Outcome
@@ -282,7 +302,7 @@ emptied q = foldsUp q []
 -- the end of channel k on side s becomes one of channel m, under whatever name it is held
 unfoldable pub movedEnd : ℕ → Side → ℕ → List (Name × End) → List (Name × End)
 movedEnd k s m [] = []
-movedEnd k s m (e ∷ l) = cond (eqb k (e .1 .channel) && sameSide s (e .1 .side)) ((e .0, end (e .1 .side) m (e .1 .type)) ∷ l) (e ∷ movedEnd k s m l)
+movedEnd k s m (e ∷ l) = cond (eqb k (e .1 .channel) && sameSide s (e .1 .side)) ((e .0, ofChannel m (e .1)) ∷ l) (e ∷ movedEnd k s m l)
 
 -- the process r holds the far end of e, which takes the place of d: so the far ends of e and d are one channel
 abbrev pub farMoved : End → End → Process → Process

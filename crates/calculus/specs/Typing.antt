@@ -30,6 +30,10 @@ retyped c A G = changed c (λ s. slot (s .side) A) G
 abbrev pub bringing : Name → Slot → Context → Context
 bringing x s G = G ++ ((x, s) ∷ [])
 
+-- two types are one type in the program p: "a type is compared part by part, down to names"
+pub record OneType (p : Program) (A B : Ty Name) : Type 0 where
+  pub same : sameType A B ≡ true
+
 -- ── parts of rules, as tests
 abbrev pub labelNames : Branches → List Name
 labelNames Branches.none = []
@@ -86,7 +90,7 @@ mutual
         → passing T ≡ some t
         → acting p (c .name) G ≡ some (slot (t .sender) T)
         → lookup (a .name) G ≡ some (slot (t .side) A)
-        → sameType A (t .what) ≡ true
+        → OneType p A (t .what)
         → Typed p (retyped (c .name) (t .after) (without (a .name) G)) link P
         → Typed p G link (sendChannel at c a P)
     -- `recv c (x => P)` is the other end. For *, c is used and x is used; for @, both provided; for -o, c is provided and x used.
@@ -114,7 +118,7 @@ mutual
     forwards : {G : Context} {link : Bool} {at : ℕ} {x c : Located} (A B : Ty Name)
         → lookup (x .name) G ≡ some (slot provided A)
         → lookup (c .name) G ≡ some (slot used B)
-        → sameType A B ≡ true
+        → OneType p A B
         → withoutAll (x .name ∷ c .name ∷ []) G ≡ []
         → Typed p G link (fwd at x c)
     -- `call`: lists fit in number, side and type; no name twice; no other channel held; a link stays with the process.
@@ -168,3 +172,8 @@ mutual
 pub record TypedBody (p : Program) (s : Signature) : Type 0 where
   pub room : length (signatureContext s) ≤ heldLimit
   pub body : Typed p (signatureContext s) false (s .body)
+
+-- what an accepted script gives of the processes that it declares
+pub record Bodies (p : Program) : Type 0 where
+  pub typed : (n : Name) (s : Signature) → lookup n (p .processes) ≡ some s → TypedBody p s
+  pub names : (n : Name) (s : Signature) → lookup n (p .processes) ≡ some s → distinct (names (signatureContext s)) ≡ true

@@ -4,10 +4,17 @@ use mathlib.Core.List.{List, [], _∷_}
 use mathlib.Core.Bool.{Bool, true, false, cond}
 use mathlib.Core.Option.{Option, some, none}
 use lib.Dec.{ltb}
+use Rattle.calculus.specs.declared.verdict.Verdict as answered
+use Rattle.calculus.specs.declared.verdict.Verdict.the-variants.{Fine, Refused}
 
 pub data Verdict : Type 0 where
   fine : Verdict
   refused : ℕ → ℕ → Verdict
+
+-- the verdict that an answer of the code stands for
+abbrev pub verdictOf : answered.Verdict → Verdict
+verdictOf Fine = fine
+verdictOf (Refused n at) = refused n at
 
 -- the first refusal of two in order
 abbrev pub andThen : Verdict → Verdict → Verdict

@@ -8,10 +8,10 @@ use lib.ListN.{length}
 use Rattle.notation.specs.Limits.{heldLimit, processPlaces, channelPlaces, outsideNumbers}
 use Rattle.notation.specs.Tree.{Name, Ty}
 use Rattle.calculus.specs.Named.{names, distinct, isSome}
-use Rattle.calculus.specs.Types.{Side, provided, used, sameType}
+use Rattle.calculus.specs.Types.{Side, provided, used}
 use Rattle.calculus.specs.Program.{Slot, slot, Context, Program}
 use Rattle.calculus.specs.Declarations.{outward}
-use Rattle.calculus.specs.Typing.{Typed}
+use Rattle.calculus.specs.Typing.{OneType, Typed}
 use Rattle.calculus.specs.Configuration.{End, end, Doing, running, folding, waiting, Process, Outside, Config, at}
 use Rattle.calculus.specs.Forest.{Joint, Forest, joints}
 
@@ -75,7 +75,7 @@ pub record WellFormed (p : Program) (C : Config) : Type 0 where
   pub typed : (i : ℕ) (q : Process) → Stands C i q → TypedAs p (contextOf (q .held)) (isSome (q .link)) (q .doing)
   -- a channel has two ends, each held at most once, and "both ends of a channel have one type"
   pub once : NoneTwice (map key (ends C))
-  pub oneType : (e d : End) → In e (ends C) → In d (ends C) → e .channel ≡ d .channel → sameType (e .type) (d .type) ≡ true
+  pub agree : (e d : End) → In e (ends C) → In d (ends C) → e .channel ≡ d .channel → OneType p (e .type) (d .type)
   -- a link leads to a waiting handler, and "each waiting handler is linked by one process"
   pub links : (i : ℕ) (q : Process) → Stands C i q → (h : ℕ) → q .link ≡ some h → (r : Process) × Stands C h r × (isWaiting (r .doing) ≡ true)
   pub linked : (h : ℕ) (r : Process) → Stands C h r → isWaiting (r .doing) ≡ true → (i : ℕ) × (q : Process) × Stands C i q × (q .link ≡ some h)

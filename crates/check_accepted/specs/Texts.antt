@@ -11,7 +11,7 @@ use Rattle.calculus.specs.Program.{programOf}
 use Rattle.calculus.specs.Accepted.{accepted, checked}
 use Rattle.calculus.specs.Demands.{Derivable}
 use Rattle.theory_derivations.specs.Accepts.{accepts}
-use Rattle.theory_preservation.specs.Stepping.{Bodies}
+use Rattle.calculus.specs.Typing.{Bodies}
 use Rattle.theory_preservation.specs.Accepted.{accepted-bodies}
 use Rattle.read_text.specs.Reading.{Within, FitsTables}
 use Rattle.read_tables.specs.Program.{programIn, program-sorted}

@@ -15,9 +15,9 @@ use Rattle.calculus.specs.Accepted.{Checked, accepted, faulty, checked}
 use Rattle.calculus.specs.Machine.{textChecked}
 use Rattle.calculus.specs.Verdict.{fine}
 use Rattle.calculus.specs.Verdict as calculus
-use Rattle.check_declarations.specs.Verdicts.{verdictOf}
-use Rattle.check_declarations.specs.declared.verdict.Verdict.{Verdict}
-use Rattle.check_declarations.specs.declared.verdict.Verdict.the-variants as verdict
+use Rattle.calculus.specs.Verdict.{verdictOf}
+use Rattle.calculus.specs.declared.verdict.Verdict.{Verdict}
+use Rattle.calculus.specs.declared.verdict.Verdict.the-variants as verdict
 use Rattle.check_text.specs.Texts.{verdictIn, wordsIn, TextChecked}
 use Rattle.check_accepted.specs.Texts.{TextIn}
 

@@ -11,7 +11,7 @@ use Rattle.notation.specs.Tree.{Name, Ty}
 use Rattle.calculus.specs.Named.{lookup, without}
 use Rattle.calculus.specs.Types.{Side}
 use Rattle.calculus.specs.Configuration.{End, end}
-use Rattle.calculus.specs.Steps.{retypedEnd}
+use Rattle.calculus.specs.Configuration.{retypedEnd}
 use Rattle.read_tables.specs.Program.{plainIn}
 use Rattle.read_tables.specs.Roots.{TypeIn}
 use Rattle.run_words.specs.Lists.{All}

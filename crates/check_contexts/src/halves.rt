@@ -1,12 +1,12 @@
 // What each half of a process takes of what is held.
 use crate::mentions::mentions;
 use notation::token::names_equal;
+use notation::words::wide;
 use run_words::held::end_at;
 use run_words::held::no_ends;
 use run_words::held::with;
 use run_words::records::End;
 use run_words::records::Held;
-use run_words::words::wide;
 ghost use mathlib.Core.Path.{_≡_};
 ghost use Prim.Native.Nat.{ℕ, _+_, _≤_, _<_};
 ghost use mathlib.Core.List.{[], _∷_, _++_};

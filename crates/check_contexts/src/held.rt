@@ -1,13 +1,13 @@
 // What a process holds, by name.
 use notation::reading::Found;
 use notation::token::names_equal;
+use notation::words::wide;
 use run_words::held::end_at;
 use run_words::held::replaced;
 use run_words::held::with;
 use run_words::held::without;
 use run_words::records::End;
 use run_words::records::Held;
-use run_words::words::wide;
 ghost use mathlib.Core.Path.{_≡_};
 ghost use Prim.Native.Nat.{ℕ, _<_, _≤_};
 ghost use Rattle.check_contexts.specs.Held.{isNamed, Sees, Drops, Retypes, Brings};

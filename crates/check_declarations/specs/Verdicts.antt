@@ -2,17 +2,12 @@
 use Prim.Native.Nat.{ℕ}
 use mathlib.Core.Path.{_≡_, sym, _∙_, ap}
 use mathlib.Core.List.{List}
-use Rattle.calculus.specs.Verdict.{fine, refused, andThen, faults}
+use Rattle.calculus.specs.Verdict.{fine, refused, andThen, faults, verdictOf}
 use Rattle.calculus.specs.Verdict as calculus
 use Rattle.check_declarations.specs.declared.lowest.Lowest.{Lowest}
-use Rattle.check_declarations.specs.declared.verdict.Verdict.{Verdict}
-use Rattle.check_declarations.specs.declared.verdict.Verdict.the-variants.{Fine, Refused}
+use Rattle.calculus.specs.declared.verdict.Verdict.{Verdict}
+use Rattle.calculus.specs.declared.verdict.Verdict.the-variants.{Fine, Refused}
 use Rattle.check_declarations.specs.Lowest.{least, Lowered, refusedAt, faults-lowest}
-
--- what a verdict is in the calculus
-abbrev pub verdictOf : Verdict → calculus.Verdict
-verdictOf Fine = fine
-verdictOf (Refused n i) = refused n i
 
 -- r is what a pass says that finds the offsets xs
 pub record Pass (n : ℕ) (xs : List ℕ) (r : Verdict) : Type 0 where

@@ -12,7 +12,7 @@ ghost use mathlib.Core.List.{[]};
 ghost use Prim.Native.Nat.{_+_, _<_};
 ghost use Rattle.notation.specs.Bytes.{same};
 ghost use Rattle.calculus.specs.Declarations.{repeats};
-ghost use Rattle.read_types.specs.Filling.{Area};
+ghost use Rattle.notation.specs.Tables.{Area};
 ghost use Rattle.read_tables.specs.Decode.{numbered};
 ghost use Rattle.check_declarations.specs.Lowest.{Lowered};
 ghost use Rattle.check_declarations.specs.Names.{nameOf, Fits, StandsAt, seenBelow, repeatAt};

@@ -4,18 +4,13 @@ use crate::execs::wrong_execs;
 use crate::lowest::Lowest;
 use crate::passes::repeated_at;
 use crate::passes::undefined_at;
+use calculus::verdict::Verdict;
 ghost use mathlib.Core.Path.{_≡_};
 ghost use Rattle.calculus.specs.Declarations.{declared};
 ghost use Rattle.read_tables.specs.Decode.{scriptIn};
 ghost use Rattle.read_tables.specs.Whole.{Tables};
 ghost use Rattle.check_declarations.specs.Lowest.{refusedAt};
-ghost use Rattle.check_declarations.specs.Verdicts.{verdictOf};
-
-// What a check says: nothing is at fault, or the refusal's number and its offset.
-pub enum Verdict {
-    Fine,
-    Refused(u32, usize),
-}
+ghost use Rattle.calculus.specs.Verdict.{verdictOf};
 
 // Refusal n at the lowest offset, if there is one.
 fn refusal(n: u32, low: Lowest) -> Verdict

@@ -20,7 +20,7 @@ use Rattle.calculus.specs.Program.{Slot, slot, Context, Program}
 use Rattle.calculus.specs.Typing.{acting, retyped, bringing}
 use Rattle.calculus.specs.Checking.{mayBring, isUnitOn}
 use Rattle.calculus.specs.Configuration.{End, end}
-use Rattle.calculus.specs.Steps.{retypedEnd}
+use Rattle.calculus.specs.Configuration.{retypedEnd}
 use Rattle.calculus.specs.WellFormed.{contextOf}
 use Rattle.theory_ends.specs.Contexts.{context-lookup, context-without, context-retyped, context-append, context-length}
 use Rattle.run_words.specs.Raw.{sideOf}

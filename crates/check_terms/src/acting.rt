@@ -9,24 +9,18 @@ use check_types::equality::same_type;
 use check_types::messages::Choosing;
 use check_types::messages::Passing;
 use notation::reading::Found;
+use notation::words::narrow;
+use notation::words::wide;
 use read_tables::access::type_node;
 use run_words::records::End;
 use run_words::records::Held;
-use run_words::words::wide;
 ghost use mathlib.Core.Path.{_≡_};
 ghost use Prim.Native.Nat.{ℕ, _<_};
 ghost use Rattle.check_contexts.specs.Held.{EndIn, HeldIn};
-ghost use Rattle.read_types.specs.Filling.{Area};
+ghost use Rattle.notation.specs.Tables.{Area};
 ghost use Rattle.run_words.specs.Values.{endIn};
 ghost use Rattle.read_tables.specs.Whole.{Tables};
 ghost use Rattle.check_terms.specs.Acting.{Acts, UnitOf, PassesOver, ChoosesOver, TakesFrom};
-
-pub fn narrow(x: usize) -> u32
-    requires { ⌜ x < 65536 ⌝ }
-    ensures { λ r. ⌜ r ≡ x ⌝ }
-{
-    x as u32
-}
 
 // The channel whose name is the one at `at`, with what its type stands for.
 pub fn acting(text: &[u8], scratch: &[u32], h: Held, at: usize) -> Lookup

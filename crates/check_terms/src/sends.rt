@@ -2,7 +2,6 @@
 use crate::acting::acting;
 use crate::acting::chooses_over;
 use crate::acting::is_unit;
-use crate::acting::narrow;
 use crate::acting::passes_over;
 use crate::acting::takes_from;
 use crate::next::Next;
@@ -15,8 +14,9 @@ use check_types::messages::Passing;
 use notation::reading::Found;
 use notation::script::Script;
 use notation::token::names_equal;
+use notation::words::narrow;
+use notation::words::wide;
 use run_words::records::Held;
-use run_words::words::wide;
 ghost use mathlib.Core.Path.{_≡_};
 ghost use mathlib.Core.Bool.{not};
 ghost use Prim.Native.Nat.{ℕ, _+_, _<_, _≤_};

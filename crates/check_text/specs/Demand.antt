@@ -14,7 +14,7 @@ use Rattle.calculus.specs.Demands.{Derivation, Derivable}
 use Rattle.calculus.specs.Verdict.{fine}
 use Rattle.calculus.specs.Verdict as calculus
 use Rattle.theory_derivations.specs.Demand.{demand2}
-use Rattle.check_declarations.specs.declared.verdict.Verdict.the-variants as verdict
+use Rattle.calculus.specs.declared.verdict.Verdict.the-variants as verdict
 use Rattle.check_text.specs.Texts.{verdictIn, TextChecked}
 
 abbrev IsFine : calculus.Verdict → Type 0

@@ -22,9 +22,9 @@ use Rattle.calculus.specs.Checking.{check, checkBranches}
 use Rattle.calculus.specs.Verdict.{fine, refused, andThen, demand, having}
 use Rattle.calculus.specs.Verdict as calculus
 use Rattle.run_words.specs.declared.records.Held.{Held}
-use Rattle.check_declarations.specs.Verdicts.{verdictOf}
-use Rattle.check_declarations.specs.declared.verdict.Verdict.{Verdict}
-use Rattle.check_declarations.specs.declared.verdict.Verdict.the-variants as verdict
+use Rattle.calculus.specs.Verdict.{verdictOf}
+use Rattle.calculus.specs.declared.verdict.Verdict.{Verdict}
+use Rattle.calculus.specs.declared.verdict.Verdict.the-variants as verdict
 use Rattle.read_tables.specs.Access.{TermOf}
 use Rattle.read_tables.specs.Decode.{processIn}
 use Rattle.read_tables.specs.Program.{plainIn, programIn}

@@ -17,10 +17,10 @@ use Rattle.calculus.specs.Checking.{typed}
 use Rattle.calculus.specs.Declarations.{declared}
 use Rattle.calculus.specs.Verdict.{fine, andThen}
 use Rattle.calculus.specs.Verdict as calculus
-use Rattle.check_declarations.specs.Verdicts.{verdictOf}
+use Rattle.calculus.specs.Verdict.{verdictOf}
 use Rattle.check_declarations.specs.Sorted.{declared-sorted, typed-sorted}
-use Rattle.check_declarations.specs.declared.verdict.Verdict.{Verdict}
-use Rattle.check_declarations.specs.declared.verdict.Verdict.the-variants as verdict
+use Rattle.calculus.specs.declared.verdict.Verdict.{Verdict}
+use Rattle.calculus.specs.declared.verdict.Verdict.the-variants as verdict
 use Rattle.read_text.specs.Reading.{answerOf, FitsTables, TextRead}
 use Rattle.read_text.specs.declared.reading.Reading.{Reading}
 use Rattle.read_text.specs.declared.reading.Reading.the-variants as reading

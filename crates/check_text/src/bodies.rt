@@ -1,10 +1,10 @@
 // Refusals 10 to 15 of a script: its processes in text order, in each the signature's 17th name first, then the body.
 use crate::process::check_process;
+use calculus::verdict::Verdict;
 use check_contexts::held::bring_end;
-use check_declarations::verdict::Verdict;
 use check_declarations::verdict::declared_verdict;
-use check_terms::acting::narrow;
 use notation::script::Script;
+use notation::words::narrow;
 use read_tables::access::Declared;
 use read_tables::access::declared_process;
 use read_tables::access::entry;
@@ -17,7 +17,7 @@ ghost use Rattle.calculus.specs.Checking.{checkDeclaration, typed};
 ghost use Rattle.calculus.specs.Declarations.{declared};
 ghost use Rattle.calculus.specs.Verdict.{andThen};
 ghost use Rattle.check_contexts.specs.Held.{HeldIn};
-ghost use Rattle.check_declarations.specs.Verdicts.{verdictOf};
+ghost use Rattle.calculus.specs.Verdict.{verdictOf};
 ghost use lib.Dec.{ltb};
 ghost use Rattle.read_tables.specs.Access.{asEntry};
 ghost use Rattle.read_tables.specs.Decode.{tallyIn, procDeclaration, scriptIn};

@@ -1,6 +1,6 @@
 // The check of a whole text: refusals 1 to 15.
 use crate::bodies::script_verdict;
-use check_declarations::verdict::Verdict;
+use calculus::verdict::Verdict;
 use notation::script::Script;
 use read_text::reading::Reading;
 use read_text::reading::read;

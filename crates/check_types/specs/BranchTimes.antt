@@ -7,7 +7,7 @@ use native.Mathlib.Omega.{arith}
 use Rattle.notation.specs.Bytes.{same}
 use Rattle.notation.specs.Token.{nameAt}
 use Rattle.calculus.specs.Typing.{times, labelNames}
-use Rattle.read_types.specs.Filling.{Area}
+use Rattle.notation.specs.Tables.{Area}
 use Rattle.read_tables.specs.declared.access.Labelled.{Labelled}
 use Rattle.read_tables.specs.Access.{BranchOf, branch-there}
 use Rattle.read_tables.specs.Roots.{BranchesIn, branchesIn, FirstBranch}

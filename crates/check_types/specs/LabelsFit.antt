@@ -12,7 +12,7 @@ use Rattle.notation.specs.Tree.{Name, plains}
 use Rattle.calculus.specs.Named.{all}
 use Rattle.calculus.specs.Types.{labelsOf}
 use Rattle.calculus.specs.Typing.{times, labelNames, fitting}
-use Rattle.read_types.specs.Filling.{Area}
+use Rattle.notation.specs.Tables.{Area}
 use Rattle.read_tables.specs.declared.access.Labelled.{Labelled}
 use Rattle.read_tables.specs.Access.{AlternativeOf}
 use Rattle.read_tables.specs.Roots.{AlternativesIn, alternativesIn, branchesIn}

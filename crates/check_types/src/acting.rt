@@ -11,7 +11,7 @@ ghost use mathlib.Core.Path.{_≡_};
 ghost use Prim.Native.Nat.{ℕ, _+_, _<_};
 ghost use Rattle.notation.specs.Bytes.{same};
 ghost use Rattle.notation.specs.Token.{nameAt};
-ghost use Rattle.read_types.specs.Filling.{Area};
+ghost use Rattle.notation.specs.Tables.{Area};
 ghost use Rattle.read_tables.specs.Roots.{TypeIn, AlternativesIn};
 ghost use Rattle.read_tables.specs.Whole.{Tables};
 ghost use Rattle.check_types.specs.Acting.{StandsFor, PassingOf, ChoosingOf};

@@ -16,8 +16,8 @@ use Rattle.calculus.specs.Demands.{isRefused}
 use Rattle.calculus.specs.Machine.{Call, callStart, callStep, callRunOn, callReport, callExecName, Answer, started, named, Reply, reply, textChecked, onRun, refusal, respond, idle}
 use Rattle.calculus.specs.declared.answers.Started.{Started}
 use Rattle.calculus.specs.declared.answers.Started.the-variants as begins
-use Rattle.check_declarations.specs.declared.verdict.Verdict.{Verdict}
-use Rattle.check_declarations.specs.declared.verdict.Verdict.the-variants as verdict
+use Rattle.calculus.specs.declared.verdict.Verdict.{Verdict}
+use Rattle.calculus.specs.declared.verdict.Verdict.the-variants as verdict
 use Rattle.check_text.specs.Texts.{wordsIn, TextChecked}
 use Rattle.interpreter.specs.Entries.{scratchAfter, HoldsRun, configOf, Leaves, runAfter, RunAfter, gives, Reached, Answers, Starts, Names}
 use Rattle.check_accepted.specs.Verdicts.{text-refused, scratch-enough, script-of}

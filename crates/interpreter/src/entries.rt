@@ -10,7 +10,7 @@ use calculus::answers::RanOn;
 use calculus::answers::Report;
 use calculus::answers::Started;
 use calculus::answers::Stepped;
-use check_declarations::verdict::Verdict;
+use calculus::verdict::Verdict;
 use check_text::check::check;
 
 // Begins the run of an exec line anew.

@@ -1,6 +1,6 @@
 -- The words of the tables: a fold over the trees that were read, in the order of reading.
 -- A node is appended after its parts, so that parts have smaller numbers and nothing is patched.
-use Prim.Native.Nat.{ℕ, _+_, _*_}
+use Prim.Native.Nat.{ℕ, _+_, _*_, _≤_}
 use mathlib.Core.List.{List, [], _∷_}
 use lib.ListN.{length, set, replicate}
 use Rattle.notation.specs.Limits.{processTermLimit, scratchWords}
@@ -260,3 +260,7 @@ tablesRead (refused n i) = zeros
 -- the first 8,192 words of scratch for a text that is not refused
 unfoldable pub tables : List ℕ → List ℕ
 tables s = tablesRead (readText s)
+
+-- the words of the tables' area are there
+abbrev pub Area : List ℕ → Type 0
+Area w = 5640 ≤ length w

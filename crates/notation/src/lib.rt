@@ -2,3 +2,4 @@
 pub mod reading;
 pub mod script;
 pub mod token;
+pub mod words;

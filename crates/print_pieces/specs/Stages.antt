@@ -27,13 +27,13 @@ use Rattle.calculus.specs.Verdict as calculus
 use Rattle.calculus.specs.WellFormed.{WellFormed}
 use Rattle.calculus.specs.declared.answers.RanOn.{RanOn}
 use Rattle.calculus.specs.declared.answers.RanOn.the-variants.{Shown, Done, Full, Stopped, Refused}
-use Rattle.theory_preservation.specs.Stepping.{Bodies}
+use Rattle.calculus.specs.Typing.{Bodies}
 use Rattle.theory_preservation.specs.Accepted.{accepted-start}
 use Rattle.theory_safety.specs.Safety.{run-keeps}
 use Rattle.theory_progress.specs.RunOn.{given}
-use Rattle.check_declarations.specs.Verdicts.{verdictOf}
-use Rattle.check_declarations.specs.declared.verdict.Verdict.{Verdict}
-use Rattle.check_declarations.specs.declared.verdict.Verdict.the-variants as verdict
+use Rattle.calculus.specs.Verdict.{verdictOf}
+use Rattle.calculus.specs.declared.verdict.Verdict.{Verdict}
+use Rattle.calculus.specs.declared.verdict.Verdict.the-variants as verdict
 use Rattle.check_text.specs.Texts.{verdictIn, wordsIn, TextChecked}
 use Rattle.read_text.specs.Reading.{FitsTables}
 use Rattle.read_tables.specs.Access.{ExecOf, exec-of}

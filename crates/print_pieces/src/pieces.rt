@@ -4,7 +4,7 @@ use crate::lines::put_header;
 use crate::lines::put_refusal;
 use crate::lines::put_sighting;
 use calculus::answers::RanOn;
-use check_declarations::verdict::Verdict;
+use calculus::verdict::Verdict;
 use check_text::check::check;
 use read_tables::access::exec_at;
 use read_tables::access::exec_count;

@@ -10,7 +10,7 @@ use Rattle.notation.specs.Tables.{processEntry}
 use Rattle.notation.specs.declared.reading.TypeNode.{TypeNode}
 use Rattle.notation.specs.declared.reading.TermNode.{TermNode}
 use Rattle.notation.specs.declared.reading.ProcessEntry.{ProcessEntry}
-use Rattle.read_types.specs.Filling.{Area}
+use Rattle.notation.specs.Tables.{Area}
 use Rattle.read_tables.specs.declared.access.Labelled.{Labelled}
 use Rattle.read_tables.specs.declared.access.Declared.{Declared}
 use Rattle.read_tables.specs.Decode.{tallyIn, pairOf, nodeAt, termAt, alternativeAt, branchAt, entryAt, typeAt, processAt, execAt, typeIn, processIn}

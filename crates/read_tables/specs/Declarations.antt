@@ -9,7 +9,8 @@ use Rattle.notation.specs.Limits.{textLimit, typeTermLimit, processTermLimit}
 use Rattle.notation.specs.Tree.{Located, Ty, unit, named, tensor, par, lolli, plus, with, Alternatives, alternative, Proc, empty, sendUnit, sendChannel, sendLabel, cancel, spawn, recvUnit, recvChannel, recvLabel, fwd, call, raise, try, Branches, branch, Entry, Declaration, declareType, declareProc, declareExec}
 use Rattle.notation.specs.Tables.{putEntry, putType, putProcess, putExec, moreEntries, moreTypes, moreProcesses, moreExecs, afterType, afterAlternatives, writeType, afterProcess, afterBranches, writeProcess, afterEntries, writeEntries, afterDeclaration, writeDeclaration, afterScript, writeScript, processEntry}
 use Rattle.notation.specs.declared.reading.Tally.{Tally}
-use Rattle.read_types.specs.Filling.{Area, FineType}
+use Rattle.read_types.specs.Filling.{FineType}
+use Rattle.notation.specs.Tables.{Area}
 use Rattle.read_text.specs.Processes.{FineProcess}
 use Rattle.read_text.specs.Scripts.{FineEntries, FineDeclaration}
 use Rattle.read_tables.specs.Packing.{entry-put, type-put, process-put, exec-put}

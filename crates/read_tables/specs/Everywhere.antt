@@ -18,7 +18,8 @@ use Rattle.notation.specs.declared.reading.Cursor.{Cursor}
 use Rattle.notation.specs.declared.reading.Tally.{Tally}
 use Rattle.notation.specs.declared.reading.TypeNode.{TypeNode}
 use Rattle.notation.specs.declared.reading.TermNode.{TermNode}
-use Rattle.read_types.specs.Filling.{Area, FineType, FineAlternatives}
+use Rattle.read_types.specs.Filling.{FineType, FineAlternatives}
+use Rattle.notation.specs.Tables.{Area}
 use Rattle.read_text.specs.Processes.{FineProcess, FineBranches}
 use Rattle.read_text.specs.Scripts.{FineEntries, FineDeclaration}
 use Rattle.read_tables.specs.Decode.{tallyIn}

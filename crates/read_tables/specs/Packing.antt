@@ -7,7 +7,7 @@ use lib.ListN.{length, getD, set, length-set}
 use lib.Seq.{getD-set-same, getD-set-other}
 use Rattle.notation.specs.Tables.{typesAt, processesAt, execsAt, entriesAt, nodesAt, alternativesAt, termsAt, branchesAt, typeNode, termNode, typeWord, termWord, termWord′, pairWord, putNode, putAlternative, putTerm, putBranch, putEntry, putType, putProcess, putExec, processEntry}
 use Rattle.notation.specs.declared.reading.TypeNode.{TypeNode}
-use Rattle.read_types.specs.Filling.{Area}
+use Rattle.notation.specs.Tables.{Area}
 use Rattle.read_tables.specs.Decode.{typeNodeOf, termNodeOf, pairOf, nodeAt, alternativeAt, termAt, branchAt, entryAt, typeAt, execAt, processEntryOf, processAt}
 
 -- ── packings

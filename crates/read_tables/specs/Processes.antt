@@ -14,7 +14,8 @@ use Rattle.notation.specs.Reader.{nameIn, labelIn}
 use Rattle.notation.specs.Tables.{termNode, putTerm, putOver, emptyPointer, moreTerms, moreBranches, afterType, writeType, afterProcess, afterBranches, writeProcess, writeBranches}
 use Rattle.notation.specs.declared.reading.Tally.{Tally}
 use Rattle.notation.specs.declared.reading.TermNode.{TermNode}
-use Rattle.read_types.specs.Filling.{Area, FineType}
+use Rattle.read_types.specs.Filling.{FineType}
+use Rattle.notation.specs.Tables.{Area}
 use Rattle.read_text.specs.Processes.{FineProcess, FineBranches}
 use Rattle.read_tables.specs.Decode.{termAt, branchAt, argumentsAt, branchesBy, termBy, processOf, processIn, typeIn}
 use Rattle.read_tables.specs.Packing.{term-put, branch-put}

@@ -10,7 +10,7 @@ use Rattle.notation.specs.Tree.{Located, Ty, Proc, Entry, Declaration, declareT
 use Rattle.notation.specs.Reader.{nameIn}
 use Rattle.notation.specs.Tables.{lasting, afterType, afterEntries, afterProcess, afterDeclaration, afterScript, writeScript, writeCounts, nothing, zeros, tablesOf}
 use Rattle.notation.specs.declared.reading.Tally.{Tally}
-use Rattle.read_types.specs.Filling.{Area}
+use Rattle.notation.specs.Tables.{Area}
 use Rattle.read_tables.specs.Decode.{tallyIn, entryAt, typeAt, execAt, processAt, typeIn, processIn, entriesIn, typeDeclaration, procBy, procDeclaration, execDeclaration, numbered, scriptIn}
 use Rattle.read_tables.specs.Growth.{Grown, grown-counts}
 use Rattle.read_tables.specs.Stands.{EntriesAt, DeclarationAt, ScriptAt, EntriesFrom, DeclarationFrom, ScriptFrom}

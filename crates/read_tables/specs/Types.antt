@@ -11,7 +11,8 @@ use Rattle.notation.specs.Reader.{nameIn, labelIn}
 use Rattle.notation.specs.Tables.{typeNode, putNode, putInfix, putChoice, putAlternative, moreNodes, moreAlternatives, afterType, afterAlternatives, writeType, writeAlternatives}
 use Rattle.notation.specs.declared.reading.Tally.{Tally}
 use Rattle.notation.specs.declared.reading.TypeNode.{TypeNode}
-use Rattle.read_types.specs.Filling.{Area, FineType, FineAlternatives}
+use Rattle.read_types.specs.Filling.{FineType, FineAlternatives}
+use Rattle.notation.specs.Tables.{Area}
 use Rattle.read_tables.specs.Decode.{nodeAt, alternativeAt, alternativesBy, typeBy, typeOf, typeIn}
 use Rattle.read_tables.specs.Packing.{node-put, alternative-put}
 use Rattle.read_tables.specs.Growth.{Upto, Grown, grown-then, grown-lasting, grown-node, grown-alternative, node-kept, alternative-kept}

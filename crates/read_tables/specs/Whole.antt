@@ -16,7 +16,7 @@ use Rattle.notation.specs.Tables.{lasting, afterDeclaration, afterScript, write
 use Rattle.notation.specs.declared.reading.Cursor.{Cursor}
 use Rattle.notation.specs.declared.reading.Tally.{Tally}
 use Rattle.notation.specs.declared.reading.ProcessEntry.{ProcessEntry}
-use Rattle.read_types.specs.Filling.{Area}
+use Rattle.notation.specs.Tables.{Area}
 use Rattle.read_tables.specs.Decode.{tallyIn, entryAt, typeAt, processAt, entriesIn, typeIn, scriptIn}
 use Rattle.read_tables.specs.Growth.{Grown, grown-then, grown-lasting, grown-counts}
 use Rattle.read_tables.specs.Stands.{EntriesAt, DeclarationAt, ScriptAt, EntriesFrom, DeclarationFrom, ScriptFrom}

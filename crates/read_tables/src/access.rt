@@ -1,10 +1,11 @@
 // The entries of the tables, by value.
 use notation::reading::TermNode;
 use notation::reading::TypeNode;
+use notation::words::wide;
 ghost use mathlib.Core.Path.{_≡_};
 ghost use Prim.Native.Nat.{ℕ, _+_, _-_, _<_, _≤_};
 ghost use lib.ListN.{length, getD};
-ghost use Rattle.read_types.specs.Filling.{Area};
+ghost use Rattle.notation.specs.Tables.{Area};
 ghost use Rattle.read_tables.specs.Access.{Holds, NodeOf, TermOf, AlternativeOf, BranchOf, EntryOf, TypeOf, SignatureOf, ExecOf};
 ghost use Rattle.read_tables.specs.Decode.{tallyIn, pairOf};
 
@@ -14,13 +15,6 @@ fn word(scratch: &[u32], i: usize) -> usize
     ensures { λ r. ⌜ r < 4294967296 ⌝ }
 {
     wide(scratch[i])
-}
-
-fn wide(x: u32) -> usize
-    ensures { λ r. ⌜ r ≡ x ⌝ }
-    ensures { λ r. ⌜ r < 4294967296 ⌝ }
-{
-    x as usize
 }
 
 // Two words side by side.

@@ -10,7 +10,7 @@ use Rattle.notation.specs.Token.{tokenAt, width, kColon, kRoundClose, kBraceOpe
 use Rattle.notation.specs.Tree.{Located, Ty, unit, named, tensor, par, lolli, plus, with, Alternatives, alternative}
 use Rattle.notation.specs.Reader.{Result, got, refused, take, fault, expect, opening, typeTerm, closed, thenToken, nameIn}
 use Rattle.notation.specs.Types.{readType, readAtom, readAlternatives, labelTerm, rightBy, roundBy, choiceBy, moreBy}
-use Rattle.notation.specs.Tables.{afterType, afterAlternatives, writeType, writeAlternatives, moreNodes, putInfix}
+use Rattle.notation.specs.Tables.{afterType, afterAlternatives, writeType, writeAlternatives, moreNodes, putInfix, Area}
 use Rattle.notation.specs.declared.reading.Tally.{Tally}
 use Rattle.notation.specs.declared.reading.TypeNode.{TypeNode}
 use Rattle.notation.specs.declared.reading.TermNode.{TermNode}
@@ -104,10 +104,6 @@ FitsTerm n = (n .kind < 16) × (n .at < 8192) × (n .first < 32768) × (n .secon
 -- what fits a process's four words
 abbrev pub FitsEntry : ProcessEntry → Type 0
 FitsEntry p = (p .at < 8192) × (p .first ≤ 512) × (p .provided ≤ 512) × (p .used ≤ 512) × (p .body ≤ 9216)
-
--- the words of the tables' area are there
-abbrev pub Area : List ℕ → Type 0
-Area w = 5640 ≤ length w
 
 -- there is room for what the text can still bring
 abbrev pub Room : List ℕ → List ℕ → Cursor → Tally → Type 0

@@ -6,7 +6,8 @@ use notation::reading::TypeNode;
 ghost use mathlib.Core.Path.{_≡_};
 ghost use Prim.Native.Nat.{_<_};
 ghost use Rattle.notation.specs.Tables.{moreNodes, moreAlternatives, moreTerms, moreBranches, pairWord, putNode, putAlternative, putTerm, putBranch, putEntry, putType, putProcess, putExec, moreEntries, moreTypes, moreProcesses, moreExecs, lasting};
-ghost use Rattle.read_types.specs.Filling.{WordPut, Put, Fits, FitsTerm, FitsEntry, Area};
+ghost use Rattle.read_types.specs.Filling.{WordPut, Put, Fits, FitsTerm, FitsEntry};
+ghost use Rattle.notation.specs.Tables.{Area};
 
 // The word at i is n.
 pub fn put_word(scratch: &mut [u32], i: usize, n: usize)

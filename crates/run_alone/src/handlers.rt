@@ -10,11 +10,11 @@ ghost use Rattle.run_alone.specs.Run.{configIn, processAs, RunOf, Stands
 ghost use Rattle.run_alone.specs.Handlers.{handlerKind, withHandler};
 use crate::outcome::Outcome;
 use calculus::answers::Seen;
+use notation::words::wide;
 use run_words::places::remove;
 use run_words::processes::load;
 use run_words::processes::store;
 use run_words::records::Process;
-use run_words::words::wide;
 
 // What a handler does once its process raises, or leaves the list.
 fn handler_kind(kind: u32, raised: bool) -> u32

@@ -20,6 +20,7 @@ use check_contexts::halves::side_of;
 use check_contexts::held::bring_end;
 use notation::reading::Found;
 use notation::script::Script;
+use notation::words::wide;
 use run_words::channels::fresh_channel;
 use run_words::places::insert;
 use run_words::places::moved_link;
@@ -27,7 +28,6 @@ use run_words::processes::count;
 use run_words::processes::store;
 use run_words::records::Held;
 use run_words::records::Process;
-use run_words::words::wide;
 
 // A spawn: where the new name stands, the node of its type, the pointers of its halves.
 pub struct SpawnTerm {

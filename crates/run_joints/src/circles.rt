@@ -13,6 +13,7 @@ ghost use Rattle.run_words.specs.Values.{Moved, endIn, heldIn, processIn};
 ghost use Rattle.run_joints.specs.Answers.{Answers};
 ghost use Rattle.run_joints.specs.Circles.{endJoint, heldJoints, processJoints, jointsFrom, circleFree, Labelled, Joined};
 use notation::script::Script;
+use notation::words::wide;
 use run_words::far::far_end;
 use run_words::held::end_at;
 use run_words::processes::count;
@@ -21,7 +22,6 @@ use run_words::records::End;
 use run_words::records::Far;
 use run_words::records::Held;
 use run_words::records::Process;
-use run_words::words::wide;
 
 // Each place has its own label.
 fn own_labels() -> [u32; 128]

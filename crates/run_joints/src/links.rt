@@ -9,9 +9,9 @@ ghost use Rattle.run_words.specs.Raw.{RawProcess, rawIn, linkOf, Bounded};
 ghost use Rattle.run_joints.specs.Answers.{Answers};
 ghost use Rattle.run_joints.specs.Tests.{before};
 ghost use Rattle.run_joints.specs.Links.{leads, linksTo, linkedIfWaiting};
+use notation::words::wide;
 use run_words::processes::count;
 use run_words::processes::load;
-use run_words::words::wide;
 
 // Whether a link, if it is one, leads to a waiting handler.
 fn link_leads(run: &[u32], link: u32) -> bool

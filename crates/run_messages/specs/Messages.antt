@@ -16,7 +16,8 @@ use Rattle.notation.specs.declared.reading.Found.{Found}
 use Rattle.notation.specs.declared.reading.Found.the-variants.{At, Nothing}
 use Rattle.calculus.specs.Types.{standing, passing, choosing}
 use Rattle.calculus.specs.Configuration.{End, Doing, running}
-use Rattle.calculus.specs.Steps.{Message, closing, passes, chooses, onClose, onChannel, onLabel, Turn, sends, receives, alone, turn, turnOf, afterPassing, afterChoosing, afterMessage, afterSend, retypedEnd}
+use Rattle.calculus.specs.Steps.{Message, closing, passes, chooses, onClose, onChannel, onLabel, Turn, sends, receives, alone, turn, turnOf, afterPassing, afterChoosing, afterMessage, afterSend}
+use Rattle.calculus.specs.Configuration.{retypedEnd}
 use Rattle.read_tables.specs.Access.{TermOf}
 use Rattle.read_tables.specs.Decode.{tallyIn, termAt, termNodeOf, processIn}
 use Rattle.read_tables.specs.Program.{plainIn, programIn}

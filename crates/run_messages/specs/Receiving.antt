@@ -12,9 +12,10 @@ use Rattle.notation.specs.Reader.{nameIn}
 use Rattle.notation.specs.Tree.{Name, Proc}
 use Rattle.notation.specs.declared.reading.Found.{Found}
 use Rattle.notation.specs.declared.reading.Found.the-variants as found
-use Rattle.read_types.specs.Filling.{Area}
+use Rattle.notation.specs.Tables.{Area}
 use Rattle.calculus.specs.Configuration.{End, Process, process, running, Config, config, replaced}
-use Rattle.calculus.specs.Steps.{Outcome, onClose, onChannel, onLabel, bothTo, branchOf, bound, retypedEnd, takesClose, takesChannel, takesLabel}
+use Rattle.calculus.specs.Steps.{Outcome, onClose, onChannel, onLabel, bothTo, branchOf, bound, takesClose, takesChannel, takesLabel}
+use Rattle.calculus.specs.Configuration.{retypedEnd}
 use Rattle.read_tables.specs.Access.{BranchOf, node-there, branch-there}
 use Rattle.read_tables.specs.Decode.{processIn}
 use Rattle.read_tables.specs.Program.{plainIn}

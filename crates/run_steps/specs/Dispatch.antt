@@ -27,7 +27,7 @@ use Rattle.read_tables.specs.Roots.{TypeIn, ProcessIn, Handlers, each-kind, pro
 use Rattle.run_words.specs.Raw.{rawIn, linkOf}
 use Rattle.run_words.specs.declared.records.Process.{Process as ProcessWords}
 use Rattle.check_contexts.specs.Held.{channelsOf}
-use Rattle.theory_preservation.specs.Stepping.{Bodies}
+use Rattle.calculus.specs.Typing.{Bodies}
 use Rattle.run_alone.specs.declared.outcome.Outcome.{Outcome as OutcomeWords}
 use Rattle.run_alone.specs.declared.outcome.Outcome.the-variants.{NotOpen}
 use Rattle.run_alone.specs.Run.{pointerLimit, configIn, doingAs, processAs, RunOf, StandsAt, Carries}

@@ -16,7 +16,7 @@ use Rattle.calculus.specs.declared.answers.Seen.the-variants.{Nothing, Label, C
 use Rattle.calculus.specs.declared.answers.RanOn.{RanOn}
 use Rattle.calculus.specs.declared.answers.RanOn.the-variants.{Shown, Done, Full, Stopped}
 use Rattle.calculus.specs.WellFormed.{WellFormed}
-use Rattle.theory_preservation.specs.Stepping.{Bodies}
+use Rattle.calculus.specs.Typing.{Bodies}
 use Rattle.theory_preservation.specs.Preserved.{preserved}
 use Rattle.read_tables.specs.Program.{programIn}
 use Rattle.run_words.specs.Raw.{rawIn}

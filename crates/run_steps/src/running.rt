@@ -4,7 +4,7 @@ ghost use mathlib.Core.Path.{_≡_};
 ghost use Rattle.calculus.specs.Runs.{runFrom, runOn};
 ghost use Rattle.calculus.specs.WellFormed.{WellFormed};
 ghost use Rattle.calculus.specs.declared.answers.Seen.the-variants.{Nothing};
-ghost use Rattle.theory_preservation.specs.Stepping.{Bodies};
+ghost use Rattle.calculus.specs.Typing.{Bodies};
 ghost use Rattle.read_tables.specs.Program.{programIn};
 ghost use Rattle.run_alone.specs.Run.{configIn, RunOf};
 ghost use Rattle.run_steps.specs.Dispatch.{SmallSignatures};

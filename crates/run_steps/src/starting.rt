@@ -5,7 +5,7 @@ ghost use Prim.Native.Nat.{_+_, _≤_, _<_};
 ghost use lib.ListN.{length};
 ghost use Rattle.notation.specs.Limits.{heldLimit, outsideNumbers, runWords};
 ghost use Rattle.calculus.specs.Runs.{execOf};
-ghost use Rattle.read_types.specs.Filling.{Area};
+ghost use Rattle.notation.specs.Tables.{Area};
 ghost use Rattle.read_tables.specs.Program.{programIn};
 ghost use Rattle.read_tables.specs.Whole.{Tables};
 ghost use Rattle.run_words.specs.Lists.{tab};

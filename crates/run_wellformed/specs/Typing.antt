@@ -28,8 +28,8 @@ use Rattle.run_words.specs.declared.records.Held.{Held}
 use Rattle.check_contexts.specs.Held.{endIs, endsIn, channelsOf, endFound, Sees}
 use Rattle.check_contexts.specs.declared.held.Lookup.{Lookup}
 use Rattle.check_contexts.specs.declared.held.Lookup.the-variants as lookups
-use Rattle.check_declarations.specs.Verdicts.{verdictOf}
-use Rattle.check_declarations.specs.declared.verdict.Verdict.{Verdict}
+use Rattle.calculus.specs.Verdict.{verdictOf}
+use Rattle.calculus.specs.declared.verdict.Verdict.{Verdict}
 use Rattle.check_terms.specs.Next.{contextIn}
 
 -- the test of each process

@@ -14,6 +14,7 @@ ghost use Rattle.run_words.specs.Values.{endIn, heldIn};
 ghost use Rattle.run_wellformed.specs.OfText.{Node, EndOf, OfText};
 ghost use Rattle.run_wellformed.specs.Kept.{placeOf, Kept, farSame, Entered, outsideEnd, processEnds, rawEnds, besideIn};
 use check_types::equality::same_type;
+use notation::words::wide;
 use run_words::held::end_at;
 use run_words::outside::outside_at;
 use run_words::outside::outside_count;
@@ -21,7 +22,6 @@ use run_words::processes::count;
 use run_words::processes::load;
 use run_words::records::End;
 use run_words::records::Held;
-use run_words::words::wide;
 
 // The place of a key's word.
 fn place(channel: u32, side: u32) -> usize

@@ -2,12 +2,13 @@
 ghost use Prim.Native.Nat.{_≤_, _<_};
 ghost use lib.ListN.{length};
 ghost use Rattle.notation.specs.Limits.{runWords};
-ghost use Rattle.read_types.specs.Filling.{Area};
+ghost use Rattle.notation.specs.Tables.{Area};
 ghost use Rattle.run_words.specs.Lists.{All};
 ghost use Rattle.run_words.specs.Raw.{rawIn, Bounded};
 ghost use Rattle.run_words.specs.Values.{heldIn, processIn, Decided};
 ghost use Rattle.run_wellformed.specs.OfText.{Pointer, EndOf, TermOf, ProcessOf, OutsideOf, OfText};
 use notation::script::Script;
+use notation::words::wide;
 use read_tables::access::node_count;
 use read_tables::access::term_count;
 use run_words::held::end_at;
@@ -17,7 +18,6 @@ use run_words::processes::count;
 use run_words::processes::load;
 use run_words::records::Held;
 use run_words::records::Process;
-use run_words::words::wide;
 
 // A pointer: to a term, or to the end of a process that is empty.
 fn pointer_stands(scratch: &[u32], p: usize) -> bool

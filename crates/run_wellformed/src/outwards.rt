@@ -11,9 +11,9 @@ ghost use Rattle.run_wellformed.specs.OfText.{OfText};
 ghost use Rattle.run_wellformed.specs.Outward.{outwardIn};
 use check_declarations::reach::has_other;
 use check_declarations::reach::reach;
+use notation::words::wide;
 use run_words::outside::outside_at;
 use run_words::outside::outside_count;
-use run_words::words::wide;
 
 pub fn outside_outward(text: &[u8], scratch: &[u32], run: &[u32]) -> bool
     requires { ⌜ Tables (now text) (now scratch) × Everywhere (now text) (now scratch) ⌝ }

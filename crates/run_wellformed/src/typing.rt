@@ -13,21 +13,21 @@ ghost use Rattle.read_tables.specs.Whole.{Tables};
 ghost use Rattle.run_words.specs.Raw.{rawIn, linkOf, BoundedProcess, Bounded};
 ghost use Rattle.run_words.specs.Values as runs;
 ghost use Rattle.check_contexts.specs.Held.{HeldIn};
-ghost use Rattle.check_declarations.specs.Verdicts.{verdictOf};
+ghost use Rattle.calculus.specs.Verdict.{verdictOf};
 ghost use Rattle.check_terms.specs.Next.{contextIn};
 ghost use Rattle.run_wellformed.specs.OfText.{ProcessOf, OfText};
 ghost use Rattle.run_wellformed.specs.Typing.{Distinct, typedIn};
+use calculus::verdict::Verdict;
 use check_contexts::held::Lookup;
 use check_contexts::held::find_end;
-use check_declarations::verdict::Verdict;
 use check_text::process::check_process;
+use notation::words::wide;
 use run_words::held::end_at;
 use run_words::held::without;
 use run_words::processes::count;
 use run_words::processes::load;
 use run_words::records::Held;
 use run_words::records::Process;
-use run_words::words::wide;
 
 // Whether no name comes twice: the first is not among those after it, which are tried likewise.
 fn names_distinct(text: &[u8], h: Held) -> bool

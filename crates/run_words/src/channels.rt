@@ -10,9 +10,9 @@ ghost use Rattle.run_words.specs.Operations.{heldChannels, processChanne
 use crate::outside::outside_at;
 use crate::outside::outside_count;
 use crate::processes::count;
-use crate::words::wide;
 use notation::reading::Found;
 use notation::script::Script;
+use notation::words::wide;
 
 // Marks the channels of the outside.
 fn mark_outside(marks: &mut [u32; 512], run: &[u32])

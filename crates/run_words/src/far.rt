@@ -9,8 +9,8 @@ use crate::outside::find_outside;
 use crate::processes::count;
 use crate::records::Far;
 use crate::records::Holder;
-use crate::words::wide;
 use notation::reading::Found;
+use notation::words::wide;
 
 // The first position at which the process at a place holds an end, read off its words: to load the process would copy them all.
 fn place_holds(run: &[u32], i: usize, channel: u32, side: u32) -> Found

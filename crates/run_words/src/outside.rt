@@ -10,8 +10,8 @@ ghost use Rattle.run_words.specs.Values.{outsideIn, Changed, Written};
 ghost use Rattle.run_words.specs.Operations.{onOutside, withGiven, outsideAt, letGo, changedOutside, retyped, rerouted, changedBy};
 use crate::records::Change;
 use crate::records::Outside;
-use crate::words::wide;
 use notation::reading::Found;
+use notation::words::wide;
 
 // How many there are.
 pub fn outside_count(run: &[u32]) -> usize

@@ -13,7 +13,7 @@ use crate::processes::put;
 use crate::records::Process;
 use crate::words::move_down;
 use crate::words::move_up;
-use crate::words::wide;
+use notation::words::wide;
 
 // A link's word once the places after `i` have moved.
 pub fn moved_link(link: u32, i: usize, up: bool) -> u32

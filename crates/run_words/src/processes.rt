@@ -11,7 +11,7 @@ use crate::records::Held;
 use crate::records::Process;
 use crate::words::copy_out;
 use crate::words::copy_words;
-use crate::words::wide;
+use notation::words::wide;
 
 // How many there are.
 pub fn count(run: &[u32]) -> usize

@@ -4,13 +4,6 @@ ghost use Prim.Native.Nat.{ℕ, _+_, _-_, _≤_, _<_};
 ghost use lib.ListN.{length, getD};
 ghost use Rattle.run_words.specs.Values.{Moved};
 
-// A word as a place or a position.
-pub fn wide(x: u32) -> usize
-    ensures { λ r. ⌜ r ≡ x ⌝ }
-{
-    x as usize
-}
-
 // The n words of `from` at a place and after it, to a place of `to` and after it.
 pub fn copy_words(from: &[u32], at: usize, to: &mut [u32], into: usize, n: usize)
     requires { ⌜ (at + n ≤ length (now from)) × (into + n ≤ length (now to)) ⌝ }

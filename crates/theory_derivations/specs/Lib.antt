@@ -1,5 +1,6 @@
 pub mod Booleans
 pub mod Equality
+pub mod OneType
 pub mod Fine
 pub mod Parts
 pub mod Rules

@@ -38,8 +38,8 @@ module _ (p : Program) where
         (having-law _ _ (acting p (c .name) G) λ h. having-law _ _ (lookup (a .name) G) λ e.
         demand-law _ _ (not-iff (same (c .name) (a .name))) (having-law _ _ (passing (h .type)) λ t.
         demand-law _ _ (side-iff (t .sender) h and fitsSlot-iff (t .side) (t .what) e) (check-iff P _ link))) (
-          λ (h, eh, (e, ee, (n, (t, et, ((hs, (es, st)), d))))). sends-channel (h .type) (e .type) t n et (found eh hs) (found ee es) st d,
-          λ d. elim d [ sends-channel T A t n et eh ee st d ↦ (slot (t .sender) T, eh, (slot (t .side) A, ee, (n, (t, et, ((refl, (refl, st)), d))))) ],
+          λ (h, eh, (e, ee, (n, (t, et, ((hs, (es, st)), d))))). sends-channel (h .type) (e .type) t n et (found eh hs) (found ee es) (record { same = st }) d,
+          λ d. elim d [ sends-channel T A t n et eh ee st d ↦ (slot (t .sender) T, eh, (slot (t .side) A, ee, (n, (t, et, ((refl, (refl, st .same)), d))))) ],
         )
     check-iff (sendLabel at c l P) G link = Iff·trans
         (having-law _ _ (acting p (c .name) G) λ h. having-law _ _ (choosing (h .type)) λ t.
@@ -76,8 +76,8 @@ module _ (p : Program) where
         (having-law _ _ (lookup (x .name) G) λ h. having-law _ _ (lookup (c .name) G) λ e.
         demand-law _ _ (side-iff provided h and fitsSlot-iff used (h .type) e)
         (demand-law _ _ (isNil-iff (withoutAll (x .name ∷ c .name ∷ []) G)) fine-law)) (
-          λ (h, eh, (e, ee, ((hs, (es, st)), (n, _)))). forwards (h .type) (e .type) (found eh hs) (found ee es) (decides-sym sameType-decides (h .type) (e .type) ∙ st) n,
-          λ d. elim d [ forwards A B eh ee st n ↦ (slot provided A, eh, (slot used B, ee, ((refl, (refl, decides-sym sameType-decides B A ∙ st)), (n, tt)))) ],
+          λ (h, eh, (e, ee, ((hs, (es, st)), (n, _)))). forwards (h .type) (e .type) (found eh hs) (found ee es) (record { same = decides-sym sameType-decides (h .type) (e .type) ∙ st }) n,
+          λ d. elim d [ forwards A B eh ee st n ↦ (slot provided A, eh, (slot used B, ee, ((refl, (refl, decides-sym sameType-decides B A ∙ st .same)), (n, tt)))) ],
         )
     check-iff (call at q bracket xs ys) G link = Iff·trans
         (demand-law _ _ (itself (all (λ n. isSome (lookup n G)) (namesOf xs ++ namesOf ys))) (having-law _ _ (lookup (q .name) (p .processes)) λ s.

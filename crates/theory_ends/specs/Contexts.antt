@@ -10,7 +10,7 @@ use Rattle.calculus.specs.Types.{Side, standing}
 use Rattle.calculus.specs.Program.{Slot, slot, Program}
 use Rattle.calculus.specs.Typing.{defined, acting, retyped}
 use Rattle.calculus.specs.Configuration.{End, end}
-use Rattle.calculus.specs.Steps.{retypedEnd}
+use Rattle.calculus.specs.Configuration.{retypedEnd}
 use Rattle.calculus.specs.WellFormed.{contextOf}
 use Rattle.theory_ends.specs.Names.{seenAs, lookup-seen, without-seen, kept-seen, changed-seen, names-seen}
 

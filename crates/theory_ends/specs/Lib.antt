@@ -5,3 +5,4 @@ pub mod Ends
 pub mod FarEnds
 pub mod Fresh
 pub mod Outward
+pub mod Onward

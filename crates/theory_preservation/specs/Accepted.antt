@@ -22,7 +22,7 @@ use Rattle.theory_derivations.specs.Equality.{same-iff}
 use Rattle.theory_derivations.specs.Fine.{refuted}
 use Rattle.theory_derivations.specs.Accepts.{accepts}
 use Rattle.theory_ends.specs.Names.{lookup-in, distinct-iff, names-append}
-use Rattle.theory_preservation.specs.Stepping.{Bodies}
+use Rattle.calculus.specs.Typing.{Bodies}
 use Rattle.theory_preservation.specs.Start.{start-well-formed}
 
 -- ── no fault, no offsets

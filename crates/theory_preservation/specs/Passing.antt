@@ -15,7 +15,7 @@ use Rattle.calculus.specs.Types.{Side, provided, used, other}
 use Rattle.calculus.specs.Program.{Program}
 use Rattle.calculus.specs.Declarations.{outward}
 use Rattle.calculus.specs.Configuration.{End, end, Doing, Process, process, Outside, retypedOutside, becoming}
-use Rattle.calculus.specs.Steps.{retypedEnd}
+use Rattle.calculus.specs.Configuration.{retypedEnd}
 use Rattle.calculus.specs.WellFormed.{In, NoneTwice, Rising, contextOf, key}
 use Rattle.theory_ends.specs.Lists.{sub-in, sub-once, once-snoc, length-snoc, map-append}
 use Rattle.theory_ends.specs.Names.{by-test, lookup-in, absent, without-sub, without-cases, changed-cases, changed-names, changed-length, names-append}

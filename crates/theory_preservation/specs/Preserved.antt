@@ -7,7 +7,8 @@ use Rattle.calculus.specs.Steps.{carried, step}
 use Rattle.calculus.specs.WellFormed.{WellFormed}
 use Rattle.calculus.specs.declared.answers.Seen.{Seen}
 use Rattle.theory_preservation.specs.Invariant.{Keeps}
-use Rattle.theory_preservation.specs.Stepping.{Bodies, step-keeps}
+use Rattle.theory_preservation.specs.Stepping.{step-keeps}
+use Rattle.calculus.specs.Typing.{Bodies}
 use Rattle.theory_preservation.specs.WellFormed.{inv-iff}
 
 module _ (p : Program) (B : Bodies p) where

@@ -14,7 +14,7 @@ use Rattle.calculus.specs.Types.{Side, provided, used, other}
 use Rattle.calculus.specs.Program.{Program}
 use Rattle.calculus.specs.Declarations.{outward}
 use Rattle.calculus.specs.Configuration.{End, end, Doing, Process, process, Outside, changedOutside, retypedOutside, becoming}
-use Rattle.calculus.specs.Steps.{retypedEnd}
+use Rattle.calculus.specs.Configuration.{retypedEnd}
 use Rattle.calculus.specs.WellFormed.{In, NoneTwice, Rising, contextOf, key}
 use Rattle.theory_graphs.specs.Moves.{no-loop}
 use Rattle.theory_derivations.specs.Booleans.{bool-cases, cond-true, cond-false, eqb-iff}

@@ -16,7 +16,8 @@ use Rattle.calculus.specs.Program.{slot, Context, Program}
 use Rattle.calculus.specs.Declarations.{outward}
 use Rattle.calculus.specs.Typing.{acting, Typed, sends-unit, recvs-unit, sends-channel, recvs-channel, sends-label, recvs-label, TypedBranches, last-branch, one-branch, bringing, retyped}
 use Rattle.calculus.specs.Configuration.{End, end, Doing, running, folding, waiting, Process, process, relinked, Outside, Config, withProcesses, withOutside, Holder, Far, farEnd, goesOn}
-use Rattle.calculus.specs.Steps.{notOpen, lacking, Message, closing, passes, chooses, Wanted, onClose, onChannel, onLabel, Turn, sends, receives, alone, turnOf, afterPassing, afterChoosing, afterMessage, retypedEnd, afterSend, branchOf, takesClose, takesChannel, takesLabel, afterReceive, parting, bothTo, meeting, isGivenUp, passedOut, sending, send, answering, receiving, receive}
+use Rattle.calculus.specs.Steps.{notOpen, lacking, Message, closing, passes, chooses, Wanted, onClose, onChannel, onLabel, Turn, sends, receives, alone, turnOf, afterPassing, afterChoosing, afterMessage, afterSend, branchOf, takesClose, takesChannel, takesLabel, afterReceive, parting, bothTo, meeting, isGivenUp, passedOut, sending, send, answering, receiving, receive}
+use Rattle.calculus.specs.Configuration.{retypedEnd}
 use Rattle.calculus.specs.WellFormed.{In, contextOf, isWaiting}
 use Rattle.theory_derivations.specs.Booleans.{ltb-iff}
 use Rattle.theory_derivations.specs.Equality.{same-iff, sameType-iff}

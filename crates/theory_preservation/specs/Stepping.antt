@@ -16,11 +16,6 @@ use Rattle.theory_preservation.specs.Alone.{cancel-keeps, raise-keeps, l
 use Rattle.theory_preservation.specs.Calling.{call-keeps}
 use Rattle.theory_preservation.specs.Sending.{a-close, a-channel, a-label, send-keeps, receive-keeps}
 
--- what an accepted script gives of the processes that it declares
-pub record Bodies (p : Program) : Type 0 where
-  pub typed : (n : Name) (s : Signature) → lookup n (p .processes) ≡ some s → TypedBody p s
-  pub names : (n : Name) (s : Signature) → lookup n (p .processes) ≡ some s → distinct (names (signatureContext s)) ≡ true
-
 module _ {p : Program} (B : Bodies p) {C : Config} (I : Inv p C) (i : ℕ) (q : Process) (here : getElem? (C .processes) i ≡ some q) where
   term-keeps : (P : Proc) → q .doing ≡ running P → Typed p (contextOf (q .held)) (isSome (Option·map (I .id) (q .link))) P → Keeps p (stepTerm p C i q P)
   unfolding stepTerm

@@ -14,7 +14,7 @@ use Rattle.calculus.specs.Named.{lookup}
 use Rattle.calculus.specs.Typing.{namesOf}
 use Rattle.calculus.specs.Program.{Program, Signature}
 use Rattle.calculus.specs.Configuration.{End, Doing, running, folding, waiting, Process, Config, withOutside, at, Holder, Far, atProcess, atOutside, givenUp, farEnd, freshChannel, replaced, goesOn}
-use Rattle.calculus.specs.Steps.{Outcome, carried, notOpen, lacking, onHeld, Message, closing, passes, chooses, Wanted, onClose, onChannel, onLabel, Turn, sends, receives, alone, turn, turnOf, afterMessage, afterSend, afterReceive, branchOf, retypedEnd, passedEnd, seenAt, outsideAfter, parting, bothTo, meeting, isGivenUp, passedOut, toOutside, unheard, sending, send, answering, receiving, receive, cancelling, placeFor, spawned, spawning, trying, entering, calling, raising, emptied, joinedTo, joining, forwarding, leaving, foldingUp, stepTerm, stepDoing, stepOf, step}
+use Rattle.calculus.specs.Steps.{Outcome, carried, notOpen, lacking, onHeld, Message, closing, passes, chooses, Wanted, onClose, onChannel, onLabel, Turn, sends, receives, alone, turn, turnOf, onward, afterSend, afterReceive, branchOf, passedEnd, seenAt, outsideAfter, parting, bothTo, meeting, isGivenUp, passedOut, toOutside, unheard, sending, send, answering, receiving, receive, cancelling, placeFor, spawned, spawning, trying, entering, calling, raising, emptied, joinedTo, joining, forwarding, leaving, foldingUp, stepTerm, stepDoing, stepOf, step}
 use Rattle.calculus.specs.WellFormed.{Stands}
 use Rattle.calculus.specs.declared.answers.Seen.{Seen}
 use Rattle.theory_derivations.specs.Equality.{same-iff}
@@ -97,7 +97,7 @@ module _ {p : Program} {C : Config} {k : ℕ} where
   module _ {i : ℕ} (n : Naming C k i) {q : Process} where
     both-told : {Q : Proc} {c c′ : Located} {m : Message} {P : Proc} {w : Wanted} {e : End} {h : Holder} {d : Doing}
         → Sending Q c m P → Runs C i q Q → Holds C q c e (atProcess h) → h .process .doing ≡ d → Acts d (receives c′ w) → same (c′ .name) (h .name) ≡ true
-        → Told p C k (bothTo C i (goesOn q P (afterSend p (c .name) e m (q .held))) (h .place) (afterReceive p m w (h .name) e (passedEnd m (q .held)) (h .process)))
+        → Told p C k (bothTo C i (goesOn q P (afterSend p (c .name) m (q .held))) (h .place) (afterReceive p m w (h .name) (passedEnd m (q .held)) (h .process)))
     unfolding afterSend afterReceive
     both-told a-close r l z closes-on s = met n (close-meets r l (record { runs = z; name = same-iff _ _ .0 s }))
     both-told a-close r l z takes-on s = shut
@@ -110,13 +110,13 @@ module _ {p : Program} {C : Config} {k : ℕ} where
     both-told {P = P} {e = e} {h = h} (a-label {c = c} {l = b}) r l z (picks-on {B = B}) s = go (branchOf (b .name) B) refl
       where
         go : (y : Option Proc) → branchOf (b .name) B ≡ y
-            → Told p C k (bothTo C i (goesOn q P (afterSend p (c .name) e (chooses b) (q .held))) (h .place) (Option·map (λ Q. goesOn (h .process) Q (retypedEnd (h .name) (afterMessage p (chooses b) (e .type)) (h .process .held))) y))
+            → Told p C k (bothTo C i (goesOn q P (afterSend p (c .name) (chooses b) (q .held))) (h .place) (Option·map (λ Q. goesOn (h .process) Q (onward p (chooses b) (h .name) (h .process .held))) y))
         go none y = shut
         go (some R) y = met n (label-meets r l (record { runs = z; name = same-iff _ _ .0 s }) y)
 
     meeting-told : {Q : Proc} {c : Located} {m : Message} {P : Proc} {e : End} {h : Holder} {d : Doing} {t : Turn}
         → Sending Q c m P → Runs C i q Q → Holds C q c e (atProcess h) → h .process .doing ≡ d → Acts d t
-        → Told p C k (meeting p C i q (goesOn q P (afterSend p (c .name) e m (q .held))) m e h t)
+        → Told p C k (meeting p C i q (goesOn q P (afterSend p (c .name) m (q .held))) m h t)
     meeting-told {h = h} s r l z (closes-on {c = c′}) = if-told (same (c′ .name) (h .name)) (both-told s r l z closes-on) (λ _. shut)
     meeting-told {h = h} s r l z (takes-on {c = c′}) = if-told (same (c′ .name) (h .name)) (both-told s r l z takes-on) (λ _. shut)
     meeting-told {h = h} s r l z (picks-on {c = c′}) = if-told (same (c′ .name) (h .name)) (both-told s r l z picks-on) (λ _. shut)
@@ -124,7 +124,7 @@ module _ {p : Program} {C : Config} {k : ℕ} where
     meeting-told s r l z on-its-own = shut
 
     out-told : {Q : Proc} {c : Located} {m : Message} {P : Proc} {e : End} {x : ℕ} → Sending Q c m P → Runs C i q Q → Holds C q c e (atOutside x)
-        → Told p C k (toOutside p C i q (goesOn q P (afterSend p (c .name) e m (q .held))) m e x)
+        → Told p C k (toOutside p C i q (goesOn q P (afterSend p (c .name) m (q .held))) m e x)
     unfolding afterSend
     out-told a-close r l = met n (close-shows r l)
     out-told a-label r l = met n (label-shows r l)
@@ -134,13 +134,13 @@ module _ {p : Program} {C : Config} {k : ℕ} where
         (λ b. short (no-number n r l y (not-below _ _ .0 b)))
       where
         go : (d : End) → lookup (a .name) (q .held) ≡ some d → C .given < outsideNumbers → (f : Far) → farEnd C d ≡ f
-            → Told p C k (passedOut C i (goesOn q P (afterSend p (c .name) e (passes a) (q .held))) x (e .channel) (afterMessage p (passes a) (e .type)) d (isGivenUp f))
+            → Told p C k (passedOut p C i (goesOn q P (afterSend p (c .name) (passes a) (q .held))) a e x d (isGivenUp f))
         go d y b (atProcess h) z = met n (channel-shows r l (record { held = y; far = z }) (at-a-process h) b)
         go d y b (atOutside v) z = met n (channel-shows r l (record { held = y; far = z }) (at-the-outside v) b)
         go d y b givenUp z = rw append-nil (met n (gone-shows r l (record { held = y; far = z }) b))
 
     lost-told : {Q : Proc} {c : Located} {m : Message} {P : Proc} {e : End} → Sending Q c m P → Runs C i q Q → Holds C q c e givenUp
-        → Told p C k (unheard C i q (goesOn q P (afterSend p (c .name) e m (q .held))) m)
+        → Told p C k (unheard C i q (goesOn q P (afterSend p (c .name) m (q .held))) m)
     unfolding afterSend
     lost-told a-close r l = met n (close-lost r l)
     lost-told a-label r l = met n (label-lost r l)
@@ -151,7 +151,7 @@ module _ {p : Program} {C : Config} {k : ℕ} where
     send-told {c = c} {m = m} {P = P} s r = held-told (lookup (c .name) (q .held)) λ e y. go e y (farEnd C e) refl
       where
         go : (e : End) → lookup (c .name) (q .held) ≡ some e → (f : Far) → farEnd C e ≡ f
-            → Told p C k (sending p C i q (goesOn q P (afterSend p (c .name) e m (q .held))) m e f)
+            → Told p C k (sending p C i q (goesOn q P (afterSend p (c .name) m (q .held))) m e f)
         go e y (atProcess h) z = meeting-told s r (record { held = y; far = z }) refl (acts (h .process .doing))
         go e y (atOutside x) z = out-told s r (record { held = y; far = z })
         go e y givenUp z = lost-told s r (record { held = y; far = z })

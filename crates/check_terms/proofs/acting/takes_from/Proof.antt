@@ -12,7 +12,7 @@ wide-requires : tie.Need-wide-requires
 wide-requires c κs = search needs
 
 passing-requires : tie.Need-passing-requires
-passing-requires c κs = (c .before .before .pre .0, omega (arith, c .before .before .pre .1, c .wide .ensures))
+passing-requires c κs = (c .before .before .pre .0, omega (arith, c .before .before .pre .1, c .wide .ensures .0))
 
 enum-known-t : tie.Need-enum-known-t
 enum-known-t c = search needs
@@ -23,21 +23,21 @@ enum-told c = search needs
 returns : tie.Need-returns
 returns c =
     let entry = c .before .before .before .before .before in
-    takes-nothing (entry .args .scratch .now) (entry .args .c) _ (c .before .before .before .wide .ensures) _ (c .before .before .passing .ensures) (c .enum-told .given .1)
+    takes-nothing (entry .args .scratch .now) (entry .args .c) _ (c .before .before .before .wide .ensures .0) _ (c .before .before .passing .ensures) (c .enum-told .given .1)
 
 returns-2 : tie.Need-returns-2
 returns-2 c =
     let after-t = c .before .before .before in
     let t = after-t .t in
     let entry = after-t .before .before .before .before .before in
-    takes-own-end (entry .args .scratch .now) (entry .args .c) _ (after-t .before .before .before .wide .ensures) _ (after-t .before .before .passing .ensures) (t .given .0 .0) (t .given .0 .1 .0) (t .given .0 .1 .1 .0) (t .given .0 .1 .1 .1 .0) (t .given .1) (entry .pre .2) (c .if1 .taken)
+    takes-own-end (entry .args .scratch .now) (entry .args .c) _ (after-t .before .before .before .wide .ensures .0) _ (after-t .before .before .passing .ensures) (t .given .0 .0) (t .given .0 .1 .0) (t .given .0 .1 .1 .0) (t .given .0 .1 .1 .1 .0) (t .given .1) (entry .pre .2) (c .if1 .taken)
 
 returns-3 : tie.Need-returns-3
 returns-3 c =
     let after-t = c .before .before .before in
     let t = after-t .t in
     let entry = after-t .before .before .before .before .before in
-    subst (TakesFrom (entry .args .scratch .now) (entry .args .c)) (t .given .1) (takes-by (entry .args .scratch .now) (entry .args .c) _ (after-t .before .before .before .wide .ensures) _ (after-t .before .before .passing .ensures) (t .given .0 .0) (t .given .0 .1 .0) (t .given .0 .1 .1 .0) (t .given .0 .1 .1 .1 .0) (t .given .1) (entry .pre .2) (c .if1 .left))
+    subst (TakesFrom (entry .args .scratch .now) (entry .args .c)) (t .given .1) (takes-by (entry .args .scratch .now) (entry .args .c) _ (after-t .before .before .before .wide .ensures .0) _ (after-t .before .before .passing .ensures) (t .given .0 .0) (t .given .0 .1 .0) (t .given .0 .1 .1 .0) (t .given .0 .1 .1 .1 .0) (t .given .1) (entry .pre .2) (c .if1 .left))
 
 pub takes-from-spec : {M : Type 1} → statement M
 takes-from-spec =

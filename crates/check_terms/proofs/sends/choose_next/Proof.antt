@@ -12,7 +12,7 @@ use Rattle.check_terms.proofs.sends.choose_next.Lts as lts
 use Rattle.check_contexts.proofs.held.retype_end.Reads as retype-end-reads
 use Rattle.check_terms.proofs.acting.acting.Reads as acting-reads
 use Rattle.check_terms.proofs.acting.chooses_over.Reads as chooses-over-reads
-use Rattle.check_terms.proofs.acting.narrow.Reads as narrow-reads
+use Rattle.notation.proofs.words.narrow.Reads as narrow-reads
 
 acting-requires : tie.Need-acting-requires
 acting-requires c κs = search needs

@@ -14,7 +14,7 @@ use Rattle.check_contexts.proofs.held.find_end.Reads as find-end-reads
 use Rattle.check_contexts.proofs.held.retype_end.Reads as retype-end-reads
 use Rattle.notation.proofs.token.names_equal.Reads as names-equal-reads
 use Rattle.check_terms.proofs.acting.acting.Reads as acting-reads
-use Rattle.check_terms.proofs.acting.narrow.Reads as narrow-reads
+use Rattle.notation.proofs.words.narrow.Reads as narrow-reads
 use Rattle.check_terms.proofs.acting.passes_over.Reads as passes-over-reads
 
 acting-requires : tie.Need-acting-requires

@@ -14,7 +14,7 @@ use Rattle.check_terms.proofs.sends.receive_next.Lts as lts
 use Rattle.check_contexts.proofs.held.bring_end.Reads as bring-end-reads
 use Rattle.check_contexts.proofs.held.retype_end.Reads as retype-end-reads
 use Rattle.check_terms.proofs.acting.acting.Reads as acting-reads
-use Rattle.check_terms.proofs.acting.narrow.Reads as narrow-reads
+use Rattle.notation.proofs.words.narrow.Reads as narrow-reads
 use Rattle.check_terms.proofs.acting.takes_from.Reads as takes-from-reads
 use Rattle.check_terms.proofs.sends.is_new.Reads as is-new-reads
 

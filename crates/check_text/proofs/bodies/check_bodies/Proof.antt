@@ -2,7 +2,7 @@ use mathlib.Core.Path.{_≡_, refl, sym, _∙_, ap, subst}
 use native.Mathlib.Omega.{arith}
 use borrow.Author.Needs.{needs}
 use Prim.Native.Nat.{ℕ, _+_, _-_}
-use Rattle.check_declarations.specs.Verdicts.{verdictOf}
+use Rattle.calculus.specs.Verdict.{verdictOf}
 use Rattle.check_text.specs.Bodies.{Checking, checking-start, checking-on, checking-stops, checking-end}
 use Rattle.check_text.proofs.bodies.check_bodies.Statement.{statement}
 use Rattle.check_text.proofs.bodies.check_bodies.Tie as tie

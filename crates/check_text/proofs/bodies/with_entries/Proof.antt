@@ -11,7 +11,7 @@ use Rattle.check_text.proofs.bodies.with_entries.Reads as reads
 use Rattle.check_text.proofs.bodies.with_entries.Lts as lts
 use Rattle.check_contexts.proofs.held.bring_end.Reads as bring-end-reads
 use Rattle.read_tables.proofs.access.entry.Reads as entry-reads
-use Rattle.check_terms.proofs.acting.narrow.Reads as narrow-reads
+use Rattle.notation.proofs.words.narrow.Reads as narrow-reads
 
 abbrev Inv-loop : tie.InvT-loop
 Inv-loop text scratch first n side r₀ k₀ r k = Adding text scratch r₀ first n side r k

@@ -37,7 +37,7 @@ choosing-requires c κs =
     let entry = c .before .before .before .before .before .before .before in
     let text = entry .args .text .now in
     let scratch = entry .args .scratch .now in
-    (entry .pre .0 .area, node-there text scratch (entry .pre .0) _ (typed-as text scratch (f .given .0 .0) _ (c .wide .ensures) ((end-found text scratch _ (f .given .0 .0) (c .before .before .before .before .acting .ensures .fits) (f .given .1)) .0)))
+    (entry .pre .0 .area, node-there text scratch (entry .pre .0) _ (typed-as text scratch (f .given .0 .0) _ (c .wide .ensures .0) ((end-found text scratch _ (f .given .0 .0) (c .before .before .before .before .acting .ensures .fits) (f .given .1)) .0)))
 
 enum-known-t : tie.Need-enum-known-t
 enum-known-t c = search needs
@@ -54,7 +54,7 @@ returns-2 c =
     let entry = after-f .before .before .before .before .before in
     let text = entry .args .text .now in
     let scratch = entry .args .scratch .now in
-    offers-nothing text scratch (entry .args .h) (entry .args .n) (f .given .0 .0) (acts-so text scratch (entry .args .h) (entry .args .n .first) _ (f .given .0 .0) (acting .ensures) (f .given .1)) ((end-found text scratch _ (f .given .0 .0) (acting .ensures .fits) (f .given .1)) .1) _ (wide .ensures) _ (c .before .before .choosing .ensures .says text (entry .pre .0) (typed-as text scratch (f .given .0 .0) _ (wide .ensures) ((end-found text scratch _ (f .given .0 .0) (acting .ensures .fits) (f .given .1)) .0))) (c .enum-told2 .given .1)
+    offers-nothing text scratch (entry .args .h) (entry .args .n) (f .given .0 .0) (acts-so text scratch (entry .args .h) (entry .args .n .first) _ (f .given .0 .0) (acting .ensures) (f .given .1)) ((end-found text scratch _ (f .given .0 .0) (acting .ensures .fits) (f .given .1)) .1) _ (wide .ensures .0) _ (c .before .before .choosing .ensures .says text (entry .pre .0) (typed-as text scratch (f .given .0 .0) _ (wide .ensures .0) ((end-found text scratch _ (f .given .0 .0) (acting .ensures .fits) (f .given .1)) .0))) (c .enum-told2 .given .1)
 
 returns-3 : tie.Need-returns-3
 returns-3 c =
@@ -67,7 +67,7 @@ returns-3 c =
     let entry = after-f .before .before .before .before .before in
     let text = entry .args .text .now in
     let scratch = entry .args .scratch .now in
-    offers-own-end text scratch (entry .args .h) (entry .args .n) (f .given .0 .0) (acts-so text scratch (entry .args .h) (entry .args .n .first) _ (f .given .0 .0) (acting .ensures) (f .given .1)) ((end-found text scratch _ (f .given .0 .0) (acting .ensures .fits) (f .given .1)) .1) _ (wide .ensures) _ (after-t .before .before .choosing .ensures .says text (entry .pre .0) (typed-as text scratch (f .given .0 .0) _ (wide .ensures) ((end-found text scratch _ (f .given .0 .0) (acting .ensures .fits) (f .given .1)) .0))) (t .given .0 .0) (t .given .0 .1 .0) (t .given .0 .1 .1 .0) (t .given .1) (c .if1 .taken)
+    offers-own-end text scratch (entry .args .h) (entry .args .n) (f .given .0 .0) (acts-so text scratch (entry .args .h) (entry .args .n .first) _ (f .given .0 .0) (acting .ensures) (f .given .1)) ((end-found text scratch _ (f .given .0 .0) (acting .ensures .fits) (f .given .1)) .1) _ (wide .ensures .0) _ (after-t .before .before .choosing .ensures .says text (entry .pre .0) (typed-as text scratch (f .given .0 .0) _ (wide .ensures .0) ((end-found text scratch _ (f .given .0 .0) (acting .ensures .fits) (f .given .1)) .0))) (t .given .0 .0) (t .given .0 .1 .0) (t .given .0 .1 .1 .0) (t .given .1) (c .if1 .taken)
 
 labels-fit-requires : tie.Need-labels-fit-requires
 labels-fit-requires c κs =
@@ -80,7 +80,7 @@ labels-fit-requires c κs =
     let entry = after-f .before .before .before .before .before in
     let text = entry .args .text .now in
     let scratch = entry .args .scratch .now in
-    (entry .pre .0, labels-there text scratch (entry .args .h) (entry .args .n) (f .given .0 .0) (acts-so text scratch (entry .args .h) (entry .args .n .first) _ (f .given .0 .0) (acting .ensures) (f .given .1)) ((end-found text scratch _ (f .given .0 .0) (acting .ensures .fits) (f .given .1)) .1) _ (wide .ensures) _ (after-t .before .before .choosing .ensures .says text (entry .pre .0) (typed-as text scratch (f .given .0 .0) _ (wide .ensures) ((end-found text scratch _ (f .given .0 .0) (acting .ensures .fits) (f .given .1)) .0))) (t .given .0 .0) (t .given .0 .1 .0) (t .given .0 .1 .1 .0) (t .given .1), entry .pre .2)
+    (entry .pre .0, labels-there text scratch (entry .args .h) (entry .args .n) (f .given .0 .0) (acts-so text scratch (entry .args .h) (entry .args .n .first) _ (f .given .0 .0) (acting .ensures) (f .given .1)) ((end-found text scratch _ (f .given .0 .0) (acting .ensures .fits) (f .given .1)) .1) _ (wide .ensures .0) _ (after-t .before .before .choosing .ensures .says text (entry .pre .0) (typed-as text scratch (f .given .0 .0) _ (wide .ensures .0) ((end-found text scratch _ (f .given .0 .0) (acting .ensures .fits) (f .given .1)) .0))) (t .given .0 .0) (t .given .0 .1 .0) (t .given .0 .1 .1 .0) (t .given .1), entry .pre .2)
 
 returns-4 : tie.Need-returns-4
 returns-4 c =
@@ -93,7 +93,7 @@ returns-4 c =
     let entry = after-f .before .before .before .before .before in
     let text = entry .args .text .now in
     let scratch = entry .args .scratch .now in
-    offers-so text scratch (entry .args .h) (entry .args .n) (f .given .0 .0) (acts-so text scratch (entry .args .h) (entry .args .n .first) _ (f .given .0 .0) (acting .ensures) (f .given .1)) ((end-found text scratch _ (f .given .0 .0) (acting .ensures .fits) (f .given .1)) .1) _ (wide .ensures) _ (after-t .before .before .choosing .ensures .says text (entry .pre .0) (typed-as text scratch (f .given .0 .0) _ (wide .ensures) ((end-found text scratch _ (f .given .0 .0) (acting .ensures .fits) (f .given .1)) .0))) (t .given .0 .0) (t .given .0 .1 .0) (t .given .0 .1 .1 .0) (t .given .1) (c .before .before .if1 .left) (sym (c .before .labels-fit .ensures) ∙ c .if2 .taken)
+    offers-so text scratch (entry .args .h) (entry .args .n) (f .given .0 .0) (acts-so text scratch (entry .args .h) (entry .args .n .first) _ (f .given .0 .0) (acting .ensures) (f .given .1)) ((end-found text scratch _ (f .given .0 .0) (acting .ensures .fits) (f .given .1)) .1) _ (wide .ensures .0) _ (after-t .before .before .choosing .ensures .says text (entry .pre .0) (typed-as text scratch (f .given .0 .0) _ (wide .ensures .0) ((end-found text scratch _ (f .given .0 .0) (acting .ensures .fits) (f .given .1)) .0))) (t .given .0 .0) (t .given .0 .1 .0) (t .given .0 .1 .1 .0) (t .given .1) (c .before .before .if1 .left) (sym (c .before .labels-fit .ensures) ∙ c .if2 .taken)
 
 returns-5 : tie.Need-returns-5
 returns-5 c =
@@ -106,7 +106,7 @@ returns-5 c =
     let entry = after-f .before .before .before .before .before in
     let text = entry .args .text .now in
     let scratch = entry .args .scratch .now in
-    offers-not text scratch (entry .args .h) (entry .args .n) (f .given .0 .0) (acts-so text scratch (entry .args .h) (entry .args .n .first) _ (f .given .0 .0) (acting .ensures) (f .given .1)) ((end-found text scratch _ (f .given .0 .0) (acting .ensures .fits) (f .given .1)) .1) _ (wide .ensures) _ (after-t .before .before .choosing .ensures .says text (entry .pre .0) (typed-as text scratch (f .given .0 .0) _ (wide .ensures) ((end-found text scratch _ (f .given .0 .0) (acting .ensures .fits) (f .given .1)) .0))) (t .given .0 .0) (t .given .0 .1 .0) (t .given .0 .1 .1 .0) (t .given .1) (c .before .before .if1 .left) (sym (c .before .labels-fit .ensures) ∙ c .if2 .left)
+    offers-not text scratch (entry .args .h) (entry .args .n) (f .given .0 .0) (acts-so text scratch (entry .args .h) (entry .args .n .first) _ (f .given .0 .0) (acting .ensures) (f .given .1)) ((end-found text scratch _ (f .given .0 .0) (acting .ensures .fits) (f .given .1)) .1) _ (wide .ensures .0) _ (after-t .before .before .choosing .ensures .says text (entry .pre .0) (typed-as text scratch (f .given .0 .0) _ (wide .ensures .0) ((end-found text scratch _ (f .given .0 .0) (acting .ensures .fits) (f .given .1)) .0))) (t .given .0 .0) (t .given .0 .1 .0) (t .given .0 .1 .1 .0) (t .given .1) (c .before .before .if1 .left) (sym (c .before .labels-fit .ensures) ∙ c .if2 .left)
 
 pub labels-offered-spec : {M : Type 1} → statement M
 labels-offered-spec =

@@ -11,10 +11,10 @@ wide-requires c κs = search needs
 keep-requires : tie.Need-keep-requires
 keep-requires c κs =
     let s = c .before .before .before in
-    (s .pre .0, (subst (ProcessIn (s .args .text .now) (s .args .scratch .now)) (sym (c .wide .ensures)) (s .pre .1 .0), s .pre .1 .1))
+    (s .pre .0, (subst (ProcessIn (s .args .text .now) (s .args .scratch .now)) (sym (c .wide .ensures .0)) (s .pre .1 .0), s .pre .1 .1))
 
 returns : tie.Need-returns
-returns c = half-tried _ _ (c .before .wide .ensures) (c .keep .ensures)
+returns c = half-tried _ _ (c .before .wide .ensures .0) (c .keep .ensures)
 
 pub try-half-spec : {M : Type 1} → statement M
 try-half-spec = tie.close (tie.spec wide-requires keep-requires returns)

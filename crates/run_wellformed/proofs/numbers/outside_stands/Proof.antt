@@ -36,7 +36,7 @@ returns : tie.Need-returns Inv-loop μ-loop
 returns c =
     let after-loop = c .before .before .before .before in
     let entry = after-loop .before .before .before .before .before in
-    refused-at (OutsideOf (entry .args .scratch .now)) ((rawIn (entry .args .run .now)) .outside) (after-loop .loop .k) (c .before .before .outside-at .ensures .0) (λ b. omega (arith, b, c .if1 .taken, c .before .wide .ensures, after-loop .before .before .node-count .ensures))
+    refused-at (OutsideOf (entry .args .scratch .now)) ((rawIn (entry .args .run .now)) .outside) (after-loop .loop .k) (c .before .before .outside-at .ensures .0) (λ b. omega (arith, b, c .if1 .taken, c .before .wide .ensures .0, after-loop .before .before .node-count .ensures))
 
 add-k : tie.Need-add-k Inv-loop μ-loop
 add-k c = search needs
@@ -49,7 +49,7 @@ loop-again c =
     let after-loop = c .before .before .before .before in
     let loop = after-loop .loop in
     let entry = after-loop .before .before .before .before .before in
-    so-far (OutsideOf (entry .args .scratch .now)) ((rawIn (entry .args .run .now)) .outside) (loop .k) (loop .inv) (c .before .before .outside-at .ensures .0) (omega (arith, c .if1 .left, c .before .wide .ensures, after-loop .before .before .node-count .ensures))
+    so-far (OutsideOf (entry .args .scratch .now)) ((rawIn (entry .args .run .now)) .outside) (loop .k) (loop .inv) (c .before .before .outside-at .ensures .0) (omega (arith, c .if1 .left, c .before .wide .ensures .0, after-loop .before .before .node-count .ensures))
 
 returns-2 : tie.Need-returns-2 Inv-loop μ-loop
 returns-2 c =

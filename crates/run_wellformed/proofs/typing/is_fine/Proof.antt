@@ -1,7 +1,7 @@
 use borrow.Author.Needs.{needs}
 use mathlib.Core.Path.{sym, ap}
 use Rattle.theory_decision.specs.Decide.{isFine}
-use Rattle.check_declarations.specs.Verdicts.{verdictOf}
+use Rattle.calculus.specs.Verdict.{verdictOf}
 use Rattle.run_wellformed.proofs.typing.is_fine.Statement.{statement}
 use Rattle.run_wellformed.proofs.typing.is_fine.Tie as tie
 

@@ -36,7 +36,7 @@ wide-requires c κs = search needs
 add-n : tie.Need-add-n Inv-loop μ-loop
 add-n c =
     let b = c .before .before .loop in
-    omega (arith, mark-small (c .before .before .before .marked .result) _ (b .inv .3) (b .k - 1) (omega arith), c .wide .ensures)
+    omega (arith, mark-small (c .before .before .before .marked .result) _ (b .inv .3) (b .k - 1) (omega arith), c .wide .ensures .0)
 
 loop-less : tie.Need-loop-less Inv-loop μ-loop
 loop-less c = search needs
@@ -46,8 +46,8 @@ loop-again c =
     let b = c .before .before .loop in
     let m = c .before .before .before .marked .result in (
       omega arith,
-      omega (arith, mark-small m _ (b .inv .3) (b .k - 1) (omega arith), c .wide .ensures),
-      ap (λ (x : ℕ). b .n + x) (c .wide .ensures) ∙ busy-turn m _ (b .inv .3) (b .k - 1) (omega arith) (b .k) (b .n) (omega arith) (b .inv .2),
+      omega (arith, mark-small m _ (b .inv .3) (b .k - 1) (omega arith), c .wide .ensures .0),
+      ap (λ (x : ℕ). b .n + x) (c .wide .ensures .0) ∙ busy-turn m _ (b .inv .3) (b .k - 1) (omega arith) (b .k) (b .n) (omega arith) (b .inv .2),
       b .inv .3,
     )
 

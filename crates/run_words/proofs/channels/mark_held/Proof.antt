@@ -41,7 +41,7 @@ loop-holds : tie.Need-loop-holds Inv-loop μ-loop
 loop-holds c =
     let a = c .before .before .before .args in
     let n = c .wide in
-    (omega (arith, n .ensures), λ l m. marked-as _ (ap (λ (d : List RawEnd). heldChannels d l) (sym (drop-none (heldThere (a .run .now) (a .i)) (n .result) (n .ensures ∙ sym (length-there (a .run .now) (a .i)))))) m)
+    (omega (arith, n .ensures .0), λ l m. marked-as _ (ap (λ (d : List RawEnd). heldChannels d l) (sym (drop-none (heldThere (a .run .now) (a .i)) (n .result) (n .ensures .0 ∙ sym (length-there (a .run .now) (a .i)))))) m)
 
 sub-k : tie.Need-sub-k Inv-loop μ-loop
 sub-k c = search needs
@@ -84,7 +84,7 @@ loop-again c =
     let a = c .before .before .before .before .before .before .before .args in
     let b = c .before .before .before .loop in
     let n = c .wide2 in
-    (omega arith, λ l m. marked-as _ (held-turn (heldThere (a .run .now) (a .i)) (b .k - 1) (b .k) (n .result) l (end-there (a .run .now) (a .i) (b .k - 1) _ (omega arith) refl) (omega arith) (n .ensures)) (mark (b .marks) _ (n .result) (omega (arith, n .ensures)) (b .inv .1 l m)))
+    (omega arith, λ l m. marked-as _ (held-turn (heldThere (a .run .now) (a .i)) (b .k - 1) (b .k) (n .result) l (end-there (a .run .now) (a .i) (b .k - 1) _ (omega arith) refl) (omega arith) (n .ensures .0)) (mark (b .marks) _ (n .result) (omega (arith, n .ensures .0)) (b .inv .1 l m)))
 
 returns : tie.Need-returns Inv-loop μ-loop
 returns c =

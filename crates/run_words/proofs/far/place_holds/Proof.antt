@@ -36,7 +36,7 @@ wide-requires c κs = search needs
 
 loop-holds : tie.Need-loop-holds Inv-loop μ-loop
 unfolding heldAt
-loop-holds c = (c .wide .ensures, refl)
+loop-holds c = (c .wide .ensures .0, refl)
 
 mul-at : tie.Need-mul-at Inv-loop μ-loop
 mul-at c = search needs

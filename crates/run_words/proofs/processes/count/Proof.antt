@@ -11,7 +11,7 @@ wide-requires : tie.Need-wide-requires
 wide-requires c κs = search needs
 
 returns : tie.Need-returns
-returns c = c .wide .ensures ∙ sym (counted (c .before .before .before .args .run .now))
+returns c = c .wide .ensures .0 ∙ sym (counted (c .before .before .before .args .run .now))
 
 pub count-spec : {M : Type 1} → statement M
 count-spec = tie.close (tie.spec shared-slice-read-wide wide-requires returns)

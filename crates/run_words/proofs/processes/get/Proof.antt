@@ -54,11 +54,11 @@ returns c =
     let ws = s .args .run .now in
     let b = 80 + 40 * s .args .i in
     let n = c .before .wide in
-    let few : n .result ≤ 16 = omega (arith, n .ensures, s .pre .1) in
+    let few : n .result ≤ 16 = omega (arith, n .ensures .0, s .pre .1) in
     let first : b + 0 ≡ b = omega arith in
     let held : (k : ℕ) → k < 32 → getD ws (b + (3 + k)) 0 ≡ getD (c .copy-out .result) k 0 =
     λ k l. let e : b + (3 + k) ≡ b + 3 + k = omega arith in ap (λ m. getD ws m 0) e ∙ sym (c .copy-out .ensures k l) in
-    (process-of (λ t. getD ws (b + t) 0) (getD ws b 0) (getD ws (b + 1) 0) (n .result) (c .copy-out .result) (ap (λ m. getD ws m 0) first) refl (sym (n .ensures)) few held, few)
+    (process-of (λ t. getD ws (b + t) 0) (getD ws b 0) (getD ws (b + 1) 0) (n .result) (c .copy-out .result) (ap (λ m. getD ws m 0) first) refl (sym (n .ensures .0)) few held, few)
 
 pub get-spec : {M : Type 1} → statement M
 get-spec =

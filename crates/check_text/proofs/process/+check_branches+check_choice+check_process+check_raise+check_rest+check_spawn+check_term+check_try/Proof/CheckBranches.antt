@@ -17,7 +17,7 @@ use Rattle.check_terms.specs.Sends.{bounded-ends}
 use Rattle.check_text.specs.Process.{no-branch, some-branch, branch-unlabelled, branch-labelled, then-refused, then-fine}
 use Rattle.read_tables.proofs.access.branch.Reads as branch-reads
 use Rattle.check_types.proofs.acting.labelled.Reads as labelled-reads
-use Rattle.check_terms.proofs.acting.narrow.Reads as narrow-reads
+use Rattle.notation.proofs.words.narrow.Reads as narrow-reads
 use Rattle.check_contexts.proofs.held.retype_end.Reads as retype-end-reads
 use Rattle.check_text.proofs.process.check_branches.Reads as check-branches
 use Rattle.check_text.proofs.process.check_process.Reads as check-process
