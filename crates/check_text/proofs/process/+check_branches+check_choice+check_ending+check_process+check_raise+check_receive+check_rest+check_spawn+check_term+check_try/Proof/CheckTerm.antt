@@ -20,8 +20,8 @@ use Rattle.check_text.proofs.process.check_rest.Reads as check-rest
 use Rattle.check_text.proofs.process.check_spawn.Reads as check-spawn
 use Rattle.check_text.proofs.process.check_term.Reads as check-term
 use Rattle.check_text.proofs.process.check_try.Reads as check-try
-use Rattle.check_text.proofs.process.+check_branches+check_choice+check_process+check_raise+check_rest+check_spawn+check_term+check_try.Lts-check_term as check-term-lts
-use Rattle.check_text.proofs.process.+check_branches+check_choice+check_process+check_raise+check_rest+check_spawn+check_term+check_try.Proof.Measures.{check-choice-below, check-raise-below, check-rest-below, check-spawn-below, check-term-at, check-try-below}
+use Rattle.check_text.proofs.process.+check_branches+check_choice+check_ending+check_process+check_raise+check_receive+check_rest+check_spawn+check_term+check_try.Lts-check_term as check-term-lts
+use Rattle.check_text.proofs.process.+check_branches+check_choice+check_ending+check_process+check_raise+check_receive+check_rest+check_spawn+check_term+check_try.Proof.Measures.{check-choice-below, check-raise-below, check-rest-below, check-spawn-below, check-term-at, check-try-below}
 
 pub check-term-met : {M : Type 1} (t : ℕ) → check-term-lts.Closed (check-spawn-below t, check-spawn.Post, check-choice-below t, check-choice.Post, check-raise-below t, check-raise.Post, send-next-reads.Asked, send-next-reads.Learnt, check-rest-below t, check-rest.Post, receive-one-reads.Asked, receive-one-reads.Learnt, ending-refusal-reads.Asked, ending-refusal-reads.Learnt, ended-reads.Asked, ended-reads.Learnt, check-try-below t, check-try.Post) (check-term-at t) check-term.Post M
 check-term-met t =
