@@ -6,6 +6,7 @@ use mathlib.Core.Option.{some}
 use native.Mathlib.Omega.{arith}
 use lib.ListN.{set, getElem?}
 use Rattle.notation.specs.declared.reading.Found.the-variants as found
+use Rattle.notation.specs.Limits.{typeTermLimit}
 use Rattle.calculus.specs.Configuration.{End, end}
 use Rattle.read_tables.specs.Program.{plainIn}
 use Rattle.read_tables.specs.Roots.{TypeIn}
@@ -39,7 +40,7 @@ module _ (s : List ℕ) (h : Held) (at k : ℕ) (f : first (isNamed s at) (heldI
 
   pub retypes-there : (e : EndWords) (node : ℕ) (r : Held) → getElem? (heldIn h) k ≡ some (endIn e)
       → heldIn r ≡ set (heldIn h) k (record { name = e .name; side = sideOf (e .side); node = node; channel = e .channel })
-      → r .count ≡ h .count → node < 512 → Retypes s h at node r
+      → r .count ≡ h .count → node < typeTermLimit → Retypes s h at node r
   unfolding channelsOf
   retypes-there e node r g q n b = record {
     is = λ w. ap (map (endIs s w)) q ∙ there-changed s w at (λ d. end (d .side) (d .channel) (plainIn s w node)) _ (first-here (isNamed s at) (heldIn h) k f g) refl;

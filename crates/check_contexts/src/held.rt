@@ -10,6 +10,7 @@ use run_words::records::End;
 use run_words::records::Held;
 ghost use mathlib.Core.Path.{_≡_};
 ghost use Prim.Native.Nat.{ℕ, _<_, _≤_};
+ghost use Rattle.notation.specs.Limits.{channelPlaces, heldLimit, textLimit, typeTermLimit};
 ghost use Rattle.check_contexts.specs.Held.{isNamed, Sees, Drops, Retypes, Brings};
 ghost use Rattle.run_words.specs.Operations.{first};
 ghost use Rattle.run_words.specs.Raw.{BoundedEnd};
@@ -67,7 +68,7 @@ pub fn drop_end(text: &[u8], h: Held, at: usize) -> Held
 
 // With another type for that channel.
 pub fn retype_end(text: &[u8], h: Held, at: usize, node: u32) -> Held
-    requires { ⌜ (h .count ≤ 16) × (node < 512) ⌝ }
+    requires { ⌜ (h .count ≤ 16) × (node < typeTermLimit) ⌝ }
     requires { ⌜ All BoundedEnd (heldIn h) ⌝ }
     ensures { λ r. ⌜ Retypes (now (text .entry)) h at node r ⌝ }
 {
@@ -90,7 +91,7 @@ pub fn retype_end(text: &[u8], h: Held, at: usize, node: u32) -> Held
 
 // With one channel more: its name is the one at `at`.
 pub fn bring_end(h: Held, at: u32, side: u32, node: u32, channel: u32) -> Held
-    requires { ⌜ (h .count < 16) × (at < 8192) × (side < 2) × (node < 512) × (channel < 512) ⌝ }
+    requires { ⌜ (h .count < heldLimit) × (at < textLimit) × (side < 2) × (node < typeTermLimit) × (channel < channelPlaces) ⌝ }
     ensures { λ r. ⌜ Brings h at side node channel r ⌝ }
 {
     with(

@@ -103,7 +103,7 @@ fn has_no_part(kind: usize) -> bool
 }
 
 // The process at the pointer p mentions the name at `at`.
-pub fn mentions(text: &[u8], scratch: &[u32], p: usize, at: usize) -> bool
+pub(crate) fn mentions(text: &[u8], scratch: &[u32], p: usize, at: usize) -> bool
     requires { ⌜ Tables (now text) (now scratch) ⌝ }
     requires { ⌜ ProcessIn (now text) (now scratch) p ⌝ }
     ensures { λ r. ⌜ r ≡ mentions (processIn (now (text .entry)) (now (scratch .entry)) p) (nameAt (now (text .entry)) at) ⌝ }

@@ -48,7 +48,7 @@ pub fn list_end(text: &[u8], from: usize) -> usize
 }
 
 // The name at `at` is in one of the two lists of the call whose round bracket stands at `bracket`.
-pub fn in_call(text: &[u8], bracket: usize, at: usize) -> bool
+pub(crate) fn in_call(text: &[u8], bracket: usize, at: usize) -> bool
     ensures { λ r. ⌜ AmongBoth (now (text .entry)) bracket (nameAt (now (text .entry)) at) r ⌝ }
 {
     let provided = list_start(text, bracket);

@@ -12,6 +12,7 @@ use Rattle.read_tables.specs.declared.access.Labelled.{Labelled}
 use Rattle.read_tables.specs.declared.access.Declared.{Declared}
 use Rattle.read_tables.specs.Access.{asEntry, TypeOf, SignatureOf, ExecOf, EntryOf}
 use Rattle.notation.specs.declared.reading.ProcessEntry.{ProcessEntry}
+use Rattle.notation.specs.Limits.{typeTermLimit}
 use Rattle.read_tables.specs.Decode.{tallyIn, numbered, entryAt, entriesIn, typeAt, procBy, typeDeclaration, procDeclaration, execDeclaration, scriptIn}
 use Rattle.read_tables.specs.Program.{programIn, execIn}
 use Rattle.read_tables.specs.Whole.{Tables, SignatureIn}
@@ -109,23 +110,23 @@ module _ (s w : List ℕ) where
 
   -- ── room for a signature's names
   module _ (t : Tables s w) {e : ProcessEntry} (g : SignatureIn s w e) where
-    pub signature-fits : 0 < e .provided + e .used → e .first + (e .provided + e .used) ≤ 512
+    pub signature-fits : 0 < e .provided + e .used → e .first + (e .provided + e .used) ≤ typeTermLimit
     signature-fits h = go (e .used) (entries-fit s w t (e .first + e .provided) (e .used) (g .uses)) h
       where
-        go : (m : ℕ) → (0 < m → e .first + e .provided + m ≤ 512) → 0 < e .provided + m → e .first + (e .provided + m) ≤ 512
+        go : (m : ℕ) → (0 < m → e .first + e .provided + m ≤ typeTermLimit) → 0 < e .provided + m → e .first + (e .provided + m) ≤ typeTermLimit
         go zero u v = let a = entries-fit s w t (e .first) (e .provided) (g .provides) (omega arith) in omega arith
         go (suc m) u v = let a = u (omega arith) in omega arith
 
-    pub names-room : e .provided + e .used ≤ 512
+    pub names-room : e .provided + e .used ≤ typeTermLimit
     names-room = go (e .provided + e .used) signature-fits
       where
-        go : (m : ℕ) → (0 < m → e .first + m ≤ 512) → m ≤ 512
+        go : (m : ℕ) → (0 < m → e .first + m ≤ typeTermLimit) → m ≤ typeTermLimit
         go zero u = omega arith
         go (suc m) u = let a = u (omega arith) in omega arith
 
-    pub provided-room : (e .provided ≡ 0) ⊎ (e .first + e .provided ≤ 512)
+    pub provided-room : (e .provided ≡ 0) ⊎ (e .first + e .provided ≤ typeTermLimit)
     provided-room = go (e .provided) (entries-fit s w t (e .first) (e .provided) (g .provides))
       where
-        go : (m : ℕ) → (0 < m → e .first + m ≤ 512) → (m ≡ 0) ⊎ (e .first + m ≤ 512)
+        go : (m : ℕ) → (0 < m → e .first + m ≤ typeTermLimit) → (m ≡ 0) ⊎ (e .first + m ≤ typeTermLimit)
         go zero u = inl refl
         go (suc m) u = inr (u (omega arith))

@@ -12,6 +12,7 @@ use Rattle.read_tables.specs.Roots.{AlternativesIn, alternativesIn, FirstAltern
 use Rattle.read_tables.specs.Whole.{EntriesIn, FirstEntry, first-entry, Tables}
 use Rattle.notation.specs.Reader.{nameIn, labelIn}
 use Rattle.notation.specs.Tables.{branchRoom}
+use Rattle.notation.specs.Limits.{typeTermLimit}
 
 -- what f says of n numbers from i on, joined
 abbrev pub fold : {A B : Type 0} → (A → B → B) → B → (ℕ → A) → ℕ → ℕ → B
@@ -103,7 +104,7 @@ module _ (s w : List ℕ) where
 
   module _ (t : Tables s w) where
     module _ (i e n : ℕ) (a : AlternativesIn s w i e n) where
-      pub alternatives-fit : (n ≤ e) × (e ≤ 512)
+      pub alternatives-fit : (n ≤ e) × (e ≤ typeTermLimit)
       alternatives-fit = let b = t .within in let c = a .within in (alternatives-past i n e a, omega arith)
 
       pub alternative-first : (k : ℕ) → k < n → {r : Labelled} → AlternativeOf w (e - k) r → FirstAlternative s w i (e - k) (n - (k + 1)) (r .at) (r .number)

@@ -11,6 +11,7 @@ use Rattle.notation.specs.Token.{nameAt}
 use Rattle.notation.specs.Tree.{Name, Located}
 use Rattle.notation.specs.Reader.{nameIn, labelIn}
 use Rattle.notation.specs.Tables.{branchRoom}
+use Rattle.notation.specs.Limits.{processLimit, typeLimit, typeTermLimit}
 use Rattle.calculus.specs.Declarations.{repeats}
 use Rattle.calculus.specs.Named.{any}
 use Rattle.theory_derivations.specs.Equality.{same-cases}
@@ -34,10 +35,10 @@ nameOf s w (Branches e) k = labelIn s (branchAt w (e - k - 1) .0)
 
 -- the tables have n names in a list
 abbrev pub Fits : Names → ℕ → Type 0
-Fits Types n = n ≤ 64
-Fits Processes n = n ≤ 64
+Fits Types n = n ≤ typeLimit
+Fits Processes n = n ≤ processLimit
 Fits (Entries i) n = 0 < n → i + n ≤ 512
-Fits (Alternatives e) n = (n ≤ e) × (e ≤ 512)
+Fits (Alternatives e) n = (n ≤ e) × (e ≤ typeTermLimit)
 Fits (Branches e) n = (n ≤ e) × (e ≤ branchRoom)
 
 -- the name k of a list stands at r
@@ -136,16 +137,16 @@ module _ (k : ℕ) {names : Names} (f : Fits names (k + 1)) where
   abbrev fits-as : (m : Names) → names ≡ m → Fits m (k + 1)
   fits-as m e = subst (λ (l : Names). Fits l (k + 1)) e f
 
-  pub fits-types : names ≡ Types → k < 64
+  pub fits-types : names ≡ Types → k < typeLimit
   fits-types e = let g = fits-as Types e in omega arith
 
-  pub fits-processes : names ≡ Processes → k < 64
+  pub fits-processes : names ≡ Processes → k < processLimit
   fits-processes e = let g = fits-as Processes e in omega arith
 
   pub fits-entries : {i : ℕ} → names ≡ Entries i → i + k < 512
   fits-entries {i} e = let g = fits-as (Entries i) e (omega arith) in omega arith
 
-  pub fits-alternatives : {e : ℕ} → names ≡ Alternatives e → (k ≤ e) × (1 ≤ e - k) × (e - k ≤ 512)
+  pub fits-alternatives : {e : ℕ} → names ≡ Alternatives e → (k ≤ e) × (1 ≤ e - k) × (e - k ≤ typeTermLimit)
   fits-alternatives {e} q = let (a, b) = fits-as (Alternatives e) q in (omega arith, omega arith, omega arith)
 
   pub fits-branches : {e : ℕ} → names ≡ Branches e → (k ≤ e) × (1 ≤ e - k) × (e - k ≤ branchRoom)

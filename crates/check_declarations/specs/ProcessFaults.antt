@@ -9,6 +9,7 @@ use borrow.Author.Tests.{ltb-true, ltb-false, ne-eqb}
 use Rattle.notation.specs.Tree.{Located, Proc, empty, call, Branches}
 use Rattle.notation.specs.Reader.{nameIn}
 use Rattle.notation.specs.declared.reading.TermNode.{TermNode}
+use Rattle.notation.specs.Limits.{processTermLimit}
 use Rattle.calculus.specs.Program.{Program}
 use Rattle.calculus.specs.Declarations.{unless, branchLabels, processRepeats, branchesRepeats, processUndefined, branchesUndefined}
 use Rattle.read_tables.specs.declared.access.Labelled.{Labelled}
@@ -84,7 +85,7 @@ module _ (s w : List ℕ) (pass : Pass) where
   adds : (p : ℕ) (f : Pass → List ℕ) (A : Proc) → processIn s w p ≡ A → f Repeated ≡ processRepeats A → f Undefined ≡ processUndefined (programIn s w) A → f pass ≡ processFaultsIn p
   adds p f A e r u = by-pass f (λ q. processFaults q (programIn s w) A) r u pass ∙ ap (processFaults pass (programIn s w)) (sym e)
 
-  pub no-process : Tables s w → (p : ℕ) → 1024 ≤ p → ProcessIn s w p → {l : Lowest} → Lowered l (processFaultsIn p) l
+  pub no-process : Tables s w → (p : ℕ) → processTermLimit ≤ p → ProcessIn s w p → {l : Lowest} → Lowered l (processFaultsIn p) l
   unfolding processRepeats processUndefined
   no-process t p b a = lowered-as (adds p (λ q. []) _ (process-root s w (t .within) p a .none b) refl refl) lowered-none
 
@@ -130,7 +131,7 @@ module _ (s w : List ℕ) (pass : Pass) where
     meaning (suc (suc (suc (suc (suc (suc (suc (suc (suc (suc (suc (suc (suc k))))))))))))) c = absurd c
 
     -- ── each way through the walk
-    module _ (t : Tables s w) (b : p < 1024) (a : ProcessIn s w p) (o : TermOf w p n) where
+    module _ (t : Tables s w) (b : p < processTermLimit) (a : ProcessIn s w p) (o : TermOf w p n) where
       here : Says (n .kind)
       here = o .says s t a .node b .1
 
@@ -176,9 +177,9 @@ module _ (p : Program) (n : Located) {pass : Pass} {low : Lowest} where
 abbrev pub rank : ℕ → ℕ
 rank p = p + 1 - p / 1024 * 2048
 
-pub rank-falls : (p x : ℕ) → p < 1024 → Smaller p x → rank x < rank p
-rank-falls p x b h = go (ltb x 1024) refl
+pub rank-falls : (p x : ℕ) → p < processTermLimit → Smaller p x → rank x < rank p
+rank-falls p x b h = go (ltb x processTermLimit) refl
   where
-    go : (t : Bool) → ltb x 1024 ≡ t → rank x < rank p
-    go true e = let c = h (ltb-true x 1024 e) in omega arith
-    go false e = let c = ltb-false x 1024 e in omega arith
+    go : (t : Bool) → ltb x processTermLimit ≡ t → rank x < rank p
+    go true e = let c = h (ltb-true x processTermLimit e) in omega arith
+    go false e = let c = ltb-false x processTermLimit e in omega arith

@@ -12,6 +12,7 @@ use native.Mathlib.Nat.{eq-or-lt-of-le}
 use Rattle.notation.specs.Bytes.{same}
 use Rattle.notation.specs.Token.{nameAt}
 use Rattle.notation.specs.Tree.{Name, Ty}
+use Rattle.notation.specs.Limits.{typeLimit}
 use Rattle.calculus.specs.Declarations.{hasOther, namesWithOther, reachOther}
 use Rattle.calculus.specs.Named.{any}
 use Rattle.read_tables.specs.Decode.{tallyIn, numbered}
@@ -99,7 +100,7 @@ marked-named s w m x i e o q = rw e (q ∙ ap (λ (d : Name × Ty Name). same x 
 -- the marks r are those of the types with @, -o or &, or a name of bad, up to the number i
 pub record Marking (s w : List ℕ) (bad : List Name) (r : List Bool) (i : ℕ) : Type 0 where
   pub upto : i ≤ tallyIn w .types
-  pub long : length r ≡ 64
+  pub long : length r ≡ typeLimit
   pub are : (k : ℕ) → k < i → getD r k false ≡ hasOther bad (namedType s w k .1)
 
 module _ (f : ℕ → Name × Ty Name) (bad : List Name) (r : List Bool) where
@@ -122,7 +123,7 @@ numbered-length f zero i = refl
 numbered-length f (suc n) i = ap suc (numbered-length f n (i + 1))
 
 module _ {s w : List ℕ} where
-  pub mark-start : {bad : List Name} {r : List Bool} → length r ≡ 64 → Marking s w bad r 0
+  pub mark-start : {bad : List Name} {r : List Bool} → length r ≡ typeLimit → Marking s w bad r 0
   mark-start l = record { upto = omega arith; long = l; are = λ k b. absurd (omega arith) }
 
   pub mark-on : {bad : List Name} {r : List Bool} {x : Bool} {t : Labelled} (i : ℕ) {j : ℕ} → j ≡ i + 1 → Marking s w bad r i → i < tallyIn w .types → i < 64 → TypeOf w i t → x ≡ hasOther bad (plainIn s w (t .number)) → Marking s w bad (set r i x) j
@@ -147,13 +148,13 @@ module _ {s w : List ℕ} where
       let b = t .upto in
       record { is = marks-name (namedType s w) (marked s w m) r (tallyIn w .types) 0 (λ k c. t .are k (omega arith)) ∙ ap (namesWithOther (marked s w m)) (sym (types-in s w)) }
 
-  pub rounds-start : Rounds s w (replicate 64 false) 0
+  pub rounds-start : Rounds s w (replicate typeLimit false) 0
   unfolding reachOther marked
   rounds-start = record { upto = omega arith; is = none (tallyIn w .types) 0 }
     where
-      none : (n i : ℕ) → markedFrom (namedType s w) (replicate 64 false) i n ≡ []
+      none : (n i : ℕ) → markedFrom (namedType s w) (replicate typeLimit false) i n ≡ []
       none zero i = refl
-      none (suc n) i = rw (unmarked 64 i) (none n (i + 1))
+      none (suc n) i = rw (unmarked typeLimit i) (none n (i + 1))
 
   pub rounds-on : {m r : List Bool} {k j : ℕ} → j ≡ k + 1 → Rounds s w m k → k < tallyIn w .types → Next s w m r → Rounds s w r j
   unfolding reachOther

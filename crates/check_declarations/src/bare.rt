@@ -24,7 +24,7 @@ fn bare_name(text: &[u8], scratch: &[u32], i: usize, low: Lowest) -> Lowest
     low
 }
 
-pub fn bare_names(text: &[u8], scratch: &[u32]) -> Lowest
+pub(crate) fn bare_names(text: &[u8], scratch: &[u32]) -> Lowest
     requires { ⌜ Tables (now text) (now scratch) ⌝ }
     ensures { λ r. ⌜ Lowered least (bareNames (scriptIn (now (text .entry)) (now (scratch .entry)))) r ⌝ }
 {

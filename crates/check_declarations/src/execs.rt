@@ -80,7 +80,7 @@ fn wrong_exec(
 }
 
 // Refusal 9: where an exec breaks the rule.
-pub fn wrong_execs(text: &[u8], scratch: &[u32]) -> Lowest
+pub(crate) fn wrong_execs(text: &[u8], scratch: &[u32]) -> Lowest
     requires { ⌜ Tables (now text) (now scratch) ⌝ }
     ensures { λ r. ⌜ Lowered least (wrongExecs (scriptIn (now (text .entry)) (now (scratch .entry)))) r ⌝ }
 {

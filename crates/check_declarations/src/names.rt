@@ -13,6 +13,7 @@ ghost use Prim.Native.Nat.{_+_, _<_};
 ghost use Rattle.notation.specs.Bytes.{same};
 ghost use Rattle.calculus.specs.Declarations.{repeats};
 ghost use Rattle.notation.specs.Tables.{Area};
+ghost use Rattle.notation.specs.Limits.{textLimit};
 ghost use Rattle.read_tables.specs.Decode.{numbered};
 ghost use Rattle.check_declarations.specs.Lowest.{Lowered};
 ghost use Rattle.check_declarations.specs.Names.{nameOf, Fits, StandsAt, seenBelow, repeatAt};
@@ -39,7 +40,7 @@ fn name(at: usize) -> Place
 }
 
 fn label(at: usize) -> Place
-    requires { ⌜ at < 8192 ⌝ }
+    requires { ⌜ at < textLimit ⌝ }
     ensures { λ r. ⌜ (r .at ≡ at) × (r .letter ≡ at + 1) ⌝ }
 {
     Place { at, letter: at + 1 }

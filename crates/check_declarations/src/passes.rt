@@ -106,7 +106,7 @@ fn undefined_execs(text: &[u8], scratch: &[u32], low: Lowest) -> Lowest
 }
 
 // Refusal 6: where a name comes a second time.
-pub fn repeated_at(text: &[u8], scratch: &[u32]) -> Lowest
+pub(crate) fn repeated_at(text: &[u8], scratch: &[u32]) -> Lowest
     requires { ⌜ Tables (now text) (now scratch) ⌝ }
     ensures { λ r. ⌜ Lowered least (repeated (scriptIn (now (text .entry)) (now (scratch .entry)))) r ⌝ }
 {
@@ -119,7 +119,7 @@ pub fn repeated_at(text: &[u8], scratch: &[u32]) -> Lowest
 }
 
 // Refusal 7: where a type or a process is not defined.
-pub fn undefined_at(text: &[u8], scratch: &[u32]) -> Lowest
+pub(crate) fn undefined_at(text: &[u8], scratch: &[u32]) -> Lowest
     requires { ⌜ Tables (now text) (now scratch) ⌝ }
     ensures { λ r. ⌜ Lowered least (undefined (scriptIn (now (text .entry)) (now (scratch .entry)))) r ⌝ }
 {

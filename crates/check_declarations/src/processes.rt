@@ -13,6 +13,7 @@ use read_tables::access::term_node;
 ghost use mathlib.Core.Path.{_≡_};
 ghost use Prim.Native.Nat.{ℕ, _<_};
 ghost use Rattle.notation.specs.Reader.{nameIn};
+ghost use Rattle.notation.specs.Limits.{processTermLimit};
 ghost use Rattle.read_tables.specs.Access.{TermOf};
 ghost use Rattle.read_tables.specs.Program.{programIn};
 ghost use Rattle.read_tables.specs.Roots.{ProcessIn};
@@ -62,7 +63,7 @@ fn call_faults(text: &[u8], scratch: &[u32], pass: Pass, at: usize, low: Lowest)
 
 // What a node has itself: a spawn its type, a branch list its labels, a call its name.
 fn node_faults(text: &[u8], scratch: &[u32], pass: Pass, n: TermNode, low: Lowest) -> Lowest
-    requires { ⌜ Tables (now text) (now scratch) × ((p : ℕ) × (p < 1024) × ProcessIn (now text) (now scratch) p × TermOf (now scratch) p n) ⌝ }
+    requires { ⌜ Tables (now text) (now scratch) × ((p : ℕ) × (p < processTermLimit) × ProcessIn (now text) (now scratch) p × TermOf (now scratch) p n) ⌝ }
     ensures { λ r. ⌜ Lowered low (nodeFaults (now (text .entry)) (now (scratch .entry)) pass n) r ⌝ }
 {
     if n.kind == kinds::SPAWN {

@@ -44,7 +44,7 @@ pub fn acting(text: &[u8], scratch: &[u32], h: Held, at: usize) -> Lookup
 }
 
 // The type is 1.
-pub fn is_unit(scratch: &[u32], i: usize) -> bool
+pub(crate) fn is_unit(scratch: &[u32], i: usize) -> bool
     requires { ⌜ Area (now scratch) × (i < 512) ⌝ }
     ensures { λ r. ⌜ UnitOf (now (scratch .entry)) i r ⌝ }
 {
@@ -53,7 +53,7 @@ pub fn is_unit(scratch: &[u32], i: usize) -> bool
 }
 
 // The type of the channel c after the channel a has gone over it, if it may.
-pub fn passes_over(text: &[u8], scratch: &[u32], c: End, a: End) -> Found
+pub(crate) fn passes_over(text: &[u8], scratch: &[u32], c: End, a: End) -> Found
     requires { ⌜ Tables (now text) (now scratch) × EndIn (now text) (now scratch) (endIn c) × EndIn (now text) (now scratch) (endIn a) × (c .side < 2) × (a .side < 2) ⌝ }
     ensures { λ r. ⌜ PassesOver (now (text .entry)) (now (scratch .entry)) c a r ⌝ }
 {
@@ -76,7 +76,7 @@ pub fn passes_over(text: &[u8], scratch: &[u32], c: End, a: End) -> Found
 }
 
 // The type of the channel c after the label at `at` was sent on it, if it may be.
-pub fn chooses_over(text: &[u8], scratch: &[u32], c: End, at: usize) -> Found
+pub(crate) fn chooses_over(text: &[u8], scratch: &[u32], c: End, at: usize) -> Found
     requires { ⌜ Tables (now text) (now scratch) × EndIn (now text) (now scratch) (endIn c) × (c .side < 2) ⌝ }
     ensures { λ r. ⌜ ChoosesOver (now (text .entry)) (now (scratch .entry)) c at r ⌝ }
 {
@@ -92,7 +92,7 @@ pub fn chooses_over(text: &[u8], scratch: &[u32], c: End, at: usize) -> Found
 }
 
 // What comes over the channel c, if one comes to this side.
-pub fn takes_from(scratch: &[u32], c: End) -> Passing
+pub(crate) fn takes_from(scratch: &[u32], c: End) -> Passing
     requires { ⌜ Area (now scratch) × (c .node < 512) × (c .side < 2) ⌝ }
     ensures { λ r. ⌜ TakesFrom (now (scratch .entry)) c r ⌝ }
 {

@@ -27,6 +27,7 @@ ghost use Rattle.run_words.specs.Raw.{sideOf};
 ghost use Rattle.read_tables.specs.Program.{programIn};
 ghost use Rattle.read_tables.specs.Whole.{Tables};
 ghost use mathlib.Core.List.{List};
+ghost use Rattle.notation.specs.Limits.{textLimit};
 ghost use Rattle.check_terms.specs.Next.{contextIn, Goes};
 ghost use Rattle.check_terms.specs.Rules.{closes, passes, chooses, givesUp, receives};
 
@@ -163,7 +164,7 @@ pub fn is_new(text: &[u8], h: Held, x: usize) -> bool
 
 // `recv c (x => P)`.
 pub fn receive_next(text: &[u8], scratch: &[u32], h: Held, c: usize, x: usize) -> Next
-    requires { ⌜ Tables (now text) (now scratch) × HeldIn (now text) (now scratch) h × (x < 8192) ⌝ }
+    requires { ⌜ Tables (now text) (now scratch) × HeldIn (now text) (now scratch) h × (x < textLimit) ⌝ }
     ensures { λ r. ⌜ Goes (now (text .entry)) (now (scratch .entry)) r (receives (programIn (now (text .entry)) (now (scratch .entry))) (nameAt (now (text .entry)) c) (nameAt (now (text .entry)) x) (contextIn (now (text .entry)) (now (scratch .entry)) h)) ⌝ }
 {
     let f = acting(text, scratch, h, c);

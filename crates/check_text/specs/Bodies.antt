@@ -8,7 +8,7 @@ use native.Mathlib.Omega.{arith}
 use lib.Dec.{ltb}
 use borrow.Author.Tests.{ltb-true, ltb-false, lt-ltb, le-ltb}
 use lib.ListN.{length, getElem?, length-append}
-use Rattle.notation.specs.Limits.{heldLimit}
+use Rattle.notation.specs.Limits.{heldLimit, typeTermLimit}
 use Rattle.notation.specs.Reader.{nameIn}
 use Rattle.notation.specs.Token.{nameAt}
 use Rattle.notation.specs.Tree.{Name, Located, Entry, Declaration, declareType, declareProc, declareExec, plain}
@@ -62,7 +62,7 @@ entries-past s w i (suc n) (suc k) h l =
 pub entry-next : (s w : List ℕ) (i n k : ℕ) → EntriesIn s w i n → k < n → EntriesIn s w (i + k) (suc (n - (k + 1)))
 entry-next s w i n k h l = let y : n - k ≡ suc (n - (k + 1)) = omega arith in subst (EntriesIn s w (i + k)) y (entries-past s w i n k h (omega arith))
 
-pub entry-below : (s w : List ℕ) → Tables s w → (i n k : ℕ) → EntriesIn s w i n → k < n → i + k < 512
+pub entry-below : (s w : List ℕ) → Tables s w → (i n k : ℕ) → EntriesIn s w i n → k < n → i + k < typeTermLimit
 entry-below s w t i n k h l = omega (arith, t .within, first-entry s w (i + k) (n - (k + 1)) (entry-next s w i n k h l) .within)
 
 append-nil : {A : Type 0} (l : List A) → l ++ [] ≡ l
@@ -185,7 +185,7 @@ module _ (s w : List ℕ) (i : ℕ) (d : Declared) (g : SignatureOf w i d) where
   unfolding procDeclaration
   body-by = ap (λ e. checkDeclaration P (procBy s w e)) (sym (g .holds))
 
-  pub body-named : (t : Labelled) → EntryOf w (d .first + 16) t → heldLimit < d .provided + d .used → refused 15 (t .at) ≡ checkDeclaration P (procDeclaration s w i)
+  pub body-named : (t : Labelled) → EntryOf w (d .first + heldLimit) t → heldLimit < d .provided + d .used → refused 15 (t .at) ≡ checkDeclaration P (procDeclaration s w i)
   body-named t o l = sym (body-by ∙ ap (λ ns. bodyVerdict (getElem? ns heldLimit)) (names-in s w (asEntry d)) ∙ ap bodyVerdict (channel-at s w (d .first) (d .provided + d .used) heldLimit l t o))
 
   pub body-checked : (r : Held) → d .provided + d .used ≤ heldLimit → SignatureHeld s w (asEntry d) r → {v : calculus.Verdict} → v ≡ check P (contextIn s w r) false (processIn s w (d .body)) → v ≡ checkDeclaration P (procDeclaration s w i)
@@ -251,19 +251,19 @@ module _ (s w : List ℕ) where
   checking-end n i t l = let y : n - i ≡ 0 = omega (arith, t .upto) in sym (t .rest ∙ ap (from i) y)
 
 -- ── a count
-pub seventeenth : (p u : ℕ) → p ≤ 16 → ltb (16 - p) u ≡ ltb 16 (p + u)
-seventeenth p u l = go (ltb (16 - p) u) refl
+pub seventeenth : (p u : ℕ) → p ≤ heldLimit → ltb (heldLimit - p) u ≡ ltb heldLimit (p + u)
+seventeenth p u l = go (ltb (heldLimit - p) u) refl
   where
-    go : (b : Bool) → ltb (16 - p) u ≡ b → b ≡ ltb 16 (p + u)
-    go true e = sym (lt-ltb 16 (p + u) (omega (arith, ltb-true (16 - p) u e)))
-    go false e = sym (le-ltb 16 (p + u) (omega (arith, ltb-false (16 - p) u e)))
+    go : (b : Bool) → ltb (heldLimit - p) u ≡ b → b ≡ ltb heldLimit (p + u)
+    go true e = sym (lt-ltb heldLimit (p + u) (omega (arith, ltb-true (heldLimit - p) u e)))
+    go false e = sym (le-ltb heldLimit (p + u) (omega (arith, ltb-false (heldLimit - p) u e)))
 
 -- the 17th entry stands, among those provided or those used
-pub seventeenth-entry : (s w : List ℕ) (e : ProcessEntry) → SignatureIn s w e → Tables s w → heldLimit < e .provided + e .used → e .first + 16 < 512
-seventeenth-entry s w e g t l = go (ltb 16 (e .provided)) refl
+pub seventeenth-entry : (s w : List ℕ) (e : ProcessEntry) → SignatureIn s w e → Tables s w → heldLimit < e .provided + e .used → e .first + heldLimit < typeTermLimit
+seventeenth-entry s w e g t l = go (ltb heldLimit (e .provided)) refl
   where
-    go : (b : Bool) → ltb 16 (e .provided) ≡ b → e .first + 16 < 512
-    go true q = entry-below s w t (e .first) (e .provided) 16 (g .provides) (ltb-true 16 (e .provided) q)
+    go : (b : Bool) → ltb heldLimit (e .provided) ≡ b → e .first + heldLimit < typeTermLimit
+    go true q = entry-below s w t (e .first) (e .provided) heldLimit (g .provides) (ltb-true heldLimit (e .provided) q)
     go false q =
-        let h : e .provided ≤ 16 = ltb-false 16 (e .provided) q in
-        omega (arith, entry-below s w t (e .first + e .provided) (e .used) (16 - e .provided) (g .uses) (omega arith))
+        let h : e .provided ≤ heldLimit = ltb-false heldLimit (e .provided) q in
+        omega (arith, entry-below s w t (e .first + e .provided) (e .used) (heldLimit - e .provided) (g .uses) (omega arith))

@@ -50,7 +50,7 @@ pub record TextChecked (s w : List ℕ) (r : Verdict) (v : List ℕ) : Type 0 wh
 pub checked-short : (s w : List ℕ) → length w < scratchWords → TextChecked s w (verdict.Refused 1 0) w
 checked-short s w l = record { short = λ _. (refl, refl); enough = λ h. absurd (omega arith) }
 
-pub checked-enough : (s w : List ℕ) (r : Verdict) (v : List ℕ) → scratchWords ≤ length w → PartChecked s r v → TextChecked s w r (v ++ drop 8192 w)
+pub checked-enough : (s w : List ℕ) (r : Verdict) (v : List ℕ) → scratchWords ≤ length w → PartChecked s r v → TextChecked s w r (v ++ drop scratchWords w)
 checked-enough s w r v l p = record { short = λ h. absurd (omega arith); enough = λ _. (p .is, ap (λ x. x ++ drop scratchWords w) (p .words), p .fits) }
 
 -- ── what `read` left
@@ -106,13 +106,13 @@ module _ (s v : List ℕ) (t : TablesOf s v) where
   decoded : (scriptIn s (tables s) ≡ sorted (t .script)) × Tables s (tables s)
   decoded = text-decoded s (t .script) (t .end) (t .read) (t .fits (t .script) (t .end) (t .read))
 
-  whole : take 8192 v ≡ tables s
-  whole = take-all 8192 v (omega (arith, t .long)) ∙ t .words
+  whole : take scratchWords v ≡ tables s
+  whole = take-all scratchWords v (omega (arith, t .long)) ∙ t .words
 
-  pub tables-there : Tables s (take 8192 v)
+  pub tables-there : Tables s (take scratchWords v)
   tables-there = subst (Tables s) (sym whole) (decoded .1)
 
-  both : andThen (declared (scriptIn s (take 8192 v))) (typed (scriptIn s (take 8192 v))) ≡ andThen (declared (t .script)) (typed (t .script))
+  both : andThen (declared (scriptIn s (take scratchWords v))) (typed (scriptIn s (take scratchWords v))) ≡ andThen (declared (t .script)) (typed (t .script))
   both =
       ap (λ x. andThen (declared (scriptIn s x)) (typed (scriptIn s x))) whole
       ∙ ap (λ ds. andThen (declared ds) (typed ds)) (decoded .0)
@@ -122,7 +122,7 @@ module _ (s v : List ℕ) (t : TablesOf s v) where
   unfolding checked
   checked-by = ap checkedRead (t .read)
 
-  module _ (u : Verdict) (e : verdictOf u ≡ andThen (declared (scriptIn s (take 8192 v))) (typed (scriptIn s (take 8192 v)))) where
+  module _ (u : Verdict) (e : verdictOf u ≡ andThen (declared (scriptIn s (take scratchWords v))) (typed (scriptIn s (take scratchWords v)))) where
     judged-by : (x : Verdict) → u ≡ x → checked s ≡ judged (t .script) (verdictOf x)
     judged-by x q = checked-by ∙ ap (judged (t .script)) (sym both ∙ sym e ∙ ap verdictOf q)
 

@@ -94,7 +94,7 @@ fn check_bodies(text: &[u8], scratch: &[u32]) -> Verdict
 }
 
 // Refusals 6 to 15 of the script in the tables.
-pub fn script_verdict(text: &[u8], scratch: &[u32]) -> Verdict
+pub(crate) fn script_verdict(text: &[u8], scratch: &[u32]) -> Verdict
     requires { ⌜ Tables (now text) (now scratch) ⌝ }
     ensures { λ r. ⌜ verdictOf r ≡ andThen (declared (scriptIn (now (text .entry)) (now (scratch .entry)))) (typed (scriptIn (now (text .entry)) (now (scratch .entry)))) ⌝ }
 {

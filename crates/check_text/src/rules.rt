@@ -19,6 +19,7 @@ use notation::words::narrow;
 use run_words::records::Held;
 ghost use mathlib.Core.Path.{_≡_};
 ghost use Prim.Native.Nat.{ℕ, _<_, _≤_};
+ghost use Rattle.notation.specs.Limits.{textLimit};
 ghost use Rattle.check_contexts.specs.Held.{HeldIn};
 ghost use Rattle.read_tables.specs.Program.{programIn};
 ghost use Rattle.read_tables.specs.Decode.{argumentsAt};
@@ -45,7 +46,7 @@ pub(crate) fn send_next(text: &[u8], scratch: &[u32], h: Held, n: TermNode) -> N
 
 // A receive of a close or of a channel.
 pub(crate) fn receive_one(text: &[u8], scratch: &[u32], h: Held, n: TermNode) -> Next
-    requires { ⌜ Tables (now text) (now scratch) × HeldIn (now text) (now scratch) h × (n .kind ≡ 7 → n .second < 8192) × (6 ≤ n .kind) × (n .kind ≤ 7) ⌝ }
+    requires { ⌜ Tables (now text) (now scratch) × HeldIn (now text) (now scratch) h × (n .kind ≡ 7 → n .second < textLimit) × (6 ≤ n .kind) × (n .kind ≤ 7) ⌝ }
     ensures { λ r. ⌜ Goes (now (text .entry)) (now (scratch .entry)) r (receiveStep (now (text .entry)) (now (scratch .entry)) n (contextIn (now (text .entry)) (now (scratch .entry)) h)) ⌝ }
 {
     if n.kind == kinds::RECV_UNIT {
@@ -92,7 +93,7 @@ pub(crate) fn spawn_refusal(text: &[u8], scratch: &[u32], h: Held, n: TermNode) 
 
 // What a half of a spawn holds: what it takes, or what the first half leaves, and the new channel.
 pub(crate) fn spawn_half(text: &[u8], scratch: &[u32], h: Held, n: TermNode, first: bool) -> Held
-    requires { ⌜ Tables (now text) (now scratch) × HeldIn (now text) (now scratch) h × ProcessIn (now text) (now scratch) (n .second) × TypeIn (now text) (now scratch) (n .first) × (n .at < 8192) ⌝ }
+    requires { ⌜ Tables (now text) (now scratch) × HeldIn (now text) (now scratch) h × ProcessIn (now text) (now scratch) (n .second) × TypeIn (now text) (now scratch) (n .first) × (n .at < textLimit) ⌝ }
     requires { ⌜ numberOf (spawnStep (now text) (now scratch) n (contextIn (now text) (now scratch) h)) ≡ 0 ⌝ }
     ensures { λ r. ⌜ SpawnHalf (now (text .entry)) (now (scratch .entry)) h n first r ⌝ }
 {

@@ -6,6 +6,7 @@ use native.Mathlib.Omega.{arith}
 use Rattle.notation.specs.Token.{nameAt}
 use Rattle.notation.specs.Tree.{alternative, plains}
 use Rattle.notation.specs.Tables.{Area}
+use Rattle.notation.specs.Limits.{typeTermLimit}
 use Rattle.read_tables.specs.declared.access.Labelled.{Labelled}
 use Rattle.read_tables.specs.Access.{AlternativeOf, alternative-there}
 use Rattle.read_tables.specs.Program.{plainIn}
@@ -26,7 +27,7 @@ module _ (s w : List ℕ) (i e n : ℕ) (a : AlternativesIn s w i e n) (h : n �
   there = subst (AlternativesIn s w i e) more a
 
   -- its entry can be taken
-  pub first-there : Tables s w → Area w × (1 ≤ e) × (e ≤ 512)
+  pub first-there : Tables s w → Area w × (1 ≤ e) × (e ≤ typeTermLimit)
   first-there t = let (l, k) = alternative-there s w t i e (n - 1) there in (t .area, l, k)
 
   pub first-in : (r : Labelled) → AlternativeOf w e r → Begins s w i e n r

@@ -14,6 +14,7 @@ use Rattle.notation.specs.declared.reading.Found.{Found}
 use Rattle.notation.specs.declared.reading.Found.the-variants.{At, Nothing}
 use Rattle.calculus.specs.Types.{labelled}
 use Rattle.notation.specs.Tables.{Area}
+use Rattle.notation.specs.Limits.{typeTermLimit}
 use Rattle.read_tables.specs.declared.access.Labelled.{Labelled}
 use Rattle.read_tables.specs.Access.{AlternativeOf}
 use Rattle.read_tables.specs.Program.{plainIn}
@@ -60,7 +61,7 @@ module _ (s w : List ℕ) (at e₀ n₀ : ℕ) where
   look-start i a = record { owner = i; there = a; rest = refl }
 
   module _ (e n : ℕ) (l : Looking e n) (h : n ≡ 0 → ⊥) where
-    pub look-there : Tables s w → Area w × (1 ≤ e) × (e ≤ 512)
+    pub look-there : Tables s w → Area w × (1 ≤ e) × (e ≤ typeTermLimit)
     look-there = first-there s w (l .owner) e n (l .there) h
 
     -- a test of the first label that is left

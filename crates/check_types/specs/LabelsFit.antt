@@ -13,6 +13,7 @@ use Rattle.calculus.specs.Named.{all}
 use Rattle.calculus.specs.Types.{labelsOf}
 use Rattle.calculus.specs.Typing.{times, labelNames, fitting}
 use Rattle.notation.specs.Tables.{Area}
+use Rattle.notation.specs.Limits.{typeTermLimit}
 use Rattle.read_tables.specs.declared.access.Labelled.{Labelled}
 use Rattle.read_tables.specs.Access.{AlternativeOf}
 use Rattle.read_tables.specs.Roots.{AlternativesIn, alternativesIn, branchesIn}
@@ -65,7 +66,7 @@ module _ (s w : List ℕ) (e₀ n₀ d m : ℕ) where
       record { owner = i; there = a; rest = many ∙ ap (λ b. allOnce e₀ n₀ && b) (eq-eqb m n₀ (sym h)) ∙ and-true (allOnce e₀ n₀) }
 
   module _ (e n : ℕ) (f : Fitting e n) (h : n ≡ 0 → ⊥) where
-    pub fit-there : Tables s w → Area w × (1 ≤ e) × (e ≤ 512)
+    pub fit-there : Tables s w → Area w × (1 ≤ e) × (e ≤ typeTermLimit)
     fit-there = first-there s w (f .owner) e n (f .there) h
 
     -- the first label that is left comes r times

@@ -67,7 +67,7 @@ fn put_passed(out: &mut [u8], n: u32, m: u32, gone: bool) -> usize
     a
 }
 
-pub fn put_sighting(text: &[u8], out: &mut [u8], seen: Seen) -> usize
+pub(crate) fn put_sighting(text: &[u8], out: &mut [u8], seen: Seen) -> usize
     requires { ⌜ length (now text) + 52 ≤ length (now out) ⌝ }
     ensures { λ r. ⌜ Appended (now (out .entry)) (now (out .exit)) 0 r (sighting (now (text .entry)) seen) ⌝ }
 {
@@ -81,7 +81,7 @@ pub fn put_sighting(text: &[u8], out: &mut [u8], seen: Seen) -> usize
 }
 
 // The header of an exec whose process's name stands at `name`.
-pub fn put_header(text: &[u8], out: &mut [u8], name: usize) -> usize
+pub(crate) fn put_header(text: &[u8], out: &mut [u8], name: usize) -> usize
     requires { ⌜ length (now text) + 20 ≤ length (now out) ⌝ }
     ensures { λ r. ⌜ Appended (now (out .entry)) (now (out .exit)) 0 r (line (bytes "Executing process " ++ (nameAt (now (text .entry)) name ++ bytes ":"))) ⌝ }
 {
@@ -90,7 +90,7 @@ pub fn put_header(text: &[u8], out: &mut [u8], name: usize) -> usize
     put(out, b, b":\n")
 }
 
-pub fn put_ending(out: &mut [u8], word: &[u8], steps: u32) -> usize
+pub(crate) fn put_ending(out: &mut [u8], word: &[u8], steps: u32) -> usize
     requires { ⌜ length (now word) + 24 ≤ length (now out) ⌝ }
     ensures { λ r. ⌜ Appended (now (out .entry)) (now (out .exit)) 0 r (ending (now (word .entry)) steps) ⌝ }
 {
@@ -101,7 +101,7 @@ pub fn put_ending(out: &mut [u8], word: &[u8], steps: u32) -> usize
 }
 
 // The refusal n of the byte at `offset`.
-pub fn put_refusal(out: &mut [u8], n: u32, offset: usize) -> usize
+pub(crate) fn put_refusal(out: &mut [u8], n: u32, offset: usize) -> usize
     requires { ⌜ 33 ≤ length (now out) ⌝ }
     ensures { λ r. ⌜ Appended (now (out .entry)) (now (out .exit)) 0 r (line (bytes "refused " ++ (decimal n ++ (bytes " at " ++ decimal offset)))) ⌝ }
 {

@@ -124,7 +124,7 @@ module _ (s w : List ℕ) (t : Tables s w) where
   pub node-there : (i : ℕ) → TypeIn s w i → i < typeTermLimit
   node-there i a = let b = t .within in let c = a .small in omega arith
 
-  pub alternative-there : (i e n : ℕ) → AlternativesIn s w i e (suc n) → (1 ≤ e) × (e ≤ 512)
+  pub alternative-there : (i e n : ℕ) → AlternativesIn s w i e (suc n) → (1 ≤ e) × (e ≤ typeTermLimit)
   alternative-there i e n a =
       let b = t .within in
       let c = first-alternative s w i e n a .past in

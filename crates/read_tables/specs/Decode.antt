@@ -10,7 +10,7 @@ use Rattle.notation.specs.Tree.{Located, Ty, unit, named, tensor, par, lolli, p
 use Rattle.notation.specs.Reader.{Result, got, refused, part, nameIn, labelIn}
 use Rattle.notation.specs.Processes.{nameList}
 use Rattle.notation.specs.Scripts.{fuel}
-use Rattle.notation.specs.Tables.{typesAt, processesAt, execsAt, entriesAt, nodesAt, alternativesAt, termsAt, branchesAt, typeNode, termNode, processEntry}
+use Rattle.notation.specs.Tables.{typesAt, processesAt, execsAt, entriesAt, nodesAt, alternativesAt, termsAt, branchesAt, typeNode, termNode, processEntry, offsetRadix, pointerRadix, providedRadix, termFirstUnit, termKindRadix, typeFirstRadix, typeKindRadix, typeSecondUnit}
 use Rattle.notation.specs.declared.reading.Cursor.{Cursor}
 use Rattle.notation.specs.declared.reading.Tally.{Tally}
 use Rattle.notation.specs.declared.reading.TypeNode.{TypeNode}
@@ -35,15 +35,15 @@ tallyIn w =
 -- ── one entry of each table
 -- the node that `typeWord` packs
 unfoldable pub typeNodeOf : ℕ → TypeNode
-typeNodeOf x = typeNode (x % 8) (x / 8 % 1024) (x / 8192)
+typeNodeOf x = typeNode (x % typeKindRadix) (x / typeKindRadix % typeFirstRadix) (x / typeSecondUnit)
 
 -- the node that `termWord` and `termWord′` pack
 unfoldable pub termNodeOf : ℕ → ℕ → TermNode
-termNodeOf x y = termNode (x % 16) (x / 16 % 8192) (x / 131072) (y % 16384) (y / 16384)
+termNodeOf x y = termNode (x % termKindRadix) (x / termKindRadix % offsetRadix) (x / termFirstUnit) (y % pointerRadix) (y / pointerRadix)
 
 -- the two numbers that `pairWord` packs
 unfoldable pub pairOf : ℕ → ℕ × ℕ
-pairOf x = (x % 8192, x / 8192)
+pairOf x = (x % offsetRadix, x / offsetRadix)
 
 unfoldable pub nodeAt : List ℕ → ℕ → TypeNode
 nodeAt w i = typeNodeOf (getD w (nodesAt + i) 0)
@@ -65,7 +65,7 @@ typeAt w i = (getD w (typesAt + 2 * i) 0, getD w (typesAt + 2 * i + 1) 0)
 
 -- what `putProcess` packs
 unfoldable pub processEntryOf : ℕ → ℕ → ℕ → ℕ → ProcessEntry
-processEntryOf at first counts body = processEntry at first (counts % 1024) (counts / 1024) body
+processEntryOf at first counts body = processEntry at first (counts % providedRadix) (counts / providedRadix) body
 
 unfoldable pub processAt : List ℕ → ℕ → ProcessEntry
 processAt w i =

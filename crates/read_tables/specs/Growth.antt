@@ -4,9 +4,10 @@ use Prim.Native.Nat.{ℕ, _+_, _*_, _<_, _≤_}
 use mathlib.Core.Path.{_≡_, refl, _∙_, ap}
 use mathlib.Core.List.{List}
 use native.Mathlib.Omega.{arith}
+use borrow.Author.Needs.{needs}
 use lib.ListN.{length, getD, set, length-set}
 use lib.Seq.{getD-set-same, getD-set-other}
-use Rattle.notation.specs.Tables.{typesAt, processesAt, execsAt, entriesAt, nodesAt, alternativesAt, termsAt, branchesAt, lasting, moreNodes, moreAlternatives, moreTerms, moreBranches, moreEntries, moreTypes, moreProcesses, moreExecs, putNode, putAlternative, putTerm, putBranch, putEntry, putType, putProcess, putExec, termWord, termWord′, writeCounts}
+use Rattle.notation.specs.Tables.{typesAt, processesAt, execsAt, entriesAt, nodesAt, alternativesAt, termsAt, branchesAt, lasting, moreNodes, moreAlternatives, moreTerms, moreBranches, moreEntries, moreTypes, moreProcesses, moreExecs, putNode, putAlternative, putTerm, putBranch, putEntry, putType, putProcess, putExec, termWord, termWord′, writeCounts, providedRadix}
 use Rattle.notation.specs.declared.reading.Tally.{Tally}
 use Rattle.notation.specs.declared.reading.TypeNode.{TypeNode}
 use Rattle.notation.specs.declared.reading.TermNode.{TermNode}
@@ -175,9 +176,9 @@ grown-process k w p =
     let z : i + 0 ≡ i = omega arith in
     let w₀ = set w i (p .at) in
     let w₁ = set w₀ (i + 1) (p .first) in
-    let w₂ = set w₁ (i + 2) (p .provided + 1024 * p .used) in
+    let w₂ = set w₁ (i + 2) (p .provided + providedRadix * p .used) in
     let g₀ : Grown k (moreProcesses k) w w₀ = rw z at (grown-at k w 0 (p .at) (omega arith)) in
-    grown-same g₀ (grown-same (grown-at k w₀ 1 (p .first) (omega arith)) (grown-same (grown-at k w₁ 2 (p .provided + 1024 * p .used) (omega arith)) (grown-at k w₂ 3 (p .body) (omega arith))))
+    grown-same g₀ (grown-same (grown-at k w₀ 1 (p .first) (omega arith)) (grown-same (grown-at k w₁ 2 (p .provided + providedRadix * p .used) (omega arith)) (grown-at k w₂ 3 (p .body) (omega arith))))
 
 -- the counts, which no entry depends on
 count-set : (k : Tally) (w : List ℕ) (i x : ℕ) → i < 16 → Grown k k w (set w i x)
@@ -201,45 +202,15 @@ grown-counts k w =
 module _ {k l : Tally} {w v : List ℕ} (g : Grown k l w v) (h : Within l) (i : ℕ) where
   pub node-kept : i < k .nodes → nodeAt v i ≡ nodeAt w i
   unfolding nodeAt
-  node-kept b = let p = g .more in ap typeNodeOf (g .kept (nodesAt + i) (record {
-    counts = omega arith;
-    types = λ x y. omega arith;
-    processes = λ x y. omega arith;
-    execs = λ x y. omega arith;
-    entries = λ x y. omega arith;
-    nodes = λ x y. omega arith;
-    alternatives = λ x y. omega arith;
-    terms = λ x y. omega arith;
-    branches = λ x y. omega arith;
-  }))
+  node-kept b = let p = g .more in ap typeNodeOf (g .kept (nodesAt + i) (search needs))
 
   pub alternative-kept : i < k .alternatives → alternativeAt v i ≡ alternativeAt w i
   unfolding alternativeAt
-  alternative-kept b = let p = g .more in ap pairOf (g .kept (alternativesAt + i) (record {
-    counts = omega arith;
-    types = λ x y. omega arith;
-    processes = λ x y. omega arith;
-    execs = λ x y. omega arith;
-    entries = λ x y. omega arith;
-    nodes = λ x y. omega arith;
-    alternatives = λ x y. omega arith;
-    terms = λ x y. omega arith;
-    branches = λ x y. omega arith;
-  }))
+  alternative-kept b = let p = g .more in ap pairOf (g .kept (alternativesAt + i) (search needs))
 
   -- either word of a process node
   word-kept : (t : ℕ) → t < 2 → i < k .terms → getD v (termsAt + 2 * i + t) 0 ≡ getD w (termsAt + 2 * i + t) 0
-  word-kept t c b = let p = g .more in g .kept (termsAt + 2 * i + t) (record {
-    counts = omega arith;
-    types = λ x y. omega arith;
-    processes = λ x y. omega arith;
-    execs = λ x y. omega arith;
-    entries = λ x y. omega arith;
-    nodes = λ x y. omega arith;
-    alternatives = λ x y. omega arith;
-    terms = λ x y. omega arith;
-    branches = λ x y. omega arith;
-  })
+  word-kept t c b = let p = g .more in g .kept (termsAt + 2 * i + t) (search needs)
 
   pub term-kept : i < k .terms → termAt v i ≡ termAt w i
   unfolding termAt
@@ -250,28 +221,18 @@ module _ {k l : Tally} {w v : List ℕ} (g : Grown k l w v) (h : Within l) (i : 
 
   pub branch-kept : i < k .branches → branchAt v i ≡ branchAt w i
   unfolding branchAt
-  branch-kept b = let p = g .more in ap pairOf (g .kept (branchesAt + i) (record {
-    counts = omega arith;
-    types = λ x y. omega arith;
-    processes = λ x y. omega arith;
-    execs = λ x y. omega arith;
-    entries = λ x y. omega arith;
-    nodes = λ x y. omega arith;
-    alternatives = λ x y. omega arith;
-    terms = λ x y. omega arith;
-    branches = λ x y. omega arith;
-  }))
+  branch-kept b = let p = g .more in ap pairOf (g .kept (branchesAt + i) (search needs))
 
   pub entry-kept : i < k .entries → entryAt v i ≡ entryAt w i
   unfolding entryAt
-  entry-kept b = let p = g .more in ap pairOf (g .kept (entriesAt + i) (record { counts = omega arith; types = λ x y. omega arith; processes = λ x y. omega arith; execs = λ x y. omega arith; entries = λ x y. omega arith; nodes = λ x y. omega arith; alternatives = λ x y. omega arith; terms = λ x y. omega arith; branches = λ x y. omega arith }))
+  entry-kept b = let p = g .more in ap pairOf (g .kept (entriesAt + i) (search needs))
 
   pub exec-kept : i < k .execs → execAt v i ≡ execAt w i
   unfolding execAt
-  exec-kept b = let p = g .more in g .kept (execsAt + i) (record { counts = omega arith; types = λ x y. omega arith; processes = λ x y. omega arith; execs = λ x y. omega arith; entries = λ x y. omega arith; nodes = λ x y. omega arith; alternatives = λ x y. omega arith; terms = λ x y. omega arith; branches = λ x y. omega arith })
+  exec-kept b = let p = g .more in g .kept (execsAt + i) (search needs)
 
   type-word-kept : (t : ℕ) → t < 2 → i < k .types → getD v (typesAt + 2 * i + t) 0 ≡ getD w (typesAt + 2 * i + t) 0
-  type-word-kept t c b = let p = g .more in g .kept (typesAt + 2 * i + t) (record { counts = omega arith; types = λ x y. omega arith; processes = λ x y. omega arith; execs = λ x y. omega arith; entries = λ x y. omega arith; nodes = λ x y. omega arith; alternatives = λ x y. omega arith; terms = λ x y. omega arith; branches = λ x y. omega arith })
+  type-word-kept t c b = let p = g .more in g .kept (typesAt + 2 * i + t) (search needs)
 
   pub type-entry-kept : i < k .types → typeAt v i ≡ typeAt w i
   unfolding typeAt
@@ -282,7 +243,7 @@ module _ {k l : Tally} {w v : List ℕ} (g : Grown k l w v) (h : Within l) (i : 
       λ j. (q j, r j)
 
   process-word-kept : (t : ℕ) → t < 4 → i < k .processes → getD v (processesAt + 4 * i + t) 0 ≡ getD w (processesAt + 4 * i + t) 0
-  process-word-kept t c b = let p = g .more in g .kept (processesAt + 4 * i + t) (record { counts = omega arith; types = λ x y. omega arith; processes = λ x y. omega arith; execs = λ x y. omega arith; entries = λ x y. omega arith; nodes = λ x y. omega arith; alternatives = λ x y. omega arith; terms = λ x y. omega arith; branches = λ x y. omega arith })
+  process-word-kept t c b = let p = g .more in g .kept (processesAt + 4 * i + t) (search needs)
 
   pub process-entry-kept : i < k .processes → processAt v i ≡ processAt w i
   unfolding processAt

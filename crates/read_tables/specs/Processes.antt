@@ -11,7 +11,7 @@ use lib.Dec.{ltb}
 use Rattle.notation.specs.Limits.{typeTermLimit, processTermLimit}
 use Rattle.notation.specs.Tree.{Located, Ty, Proc, empty, sendUnit, sendChannel, sendLabel, cancel, spawn, recvUnit, recvChannel, recvLabel, fwd, call, raise, try, Branches, branch}
 use Rattle.notation.specs.Reader.{nameIn, labelIn}
-use Rattle.notation.specs.Tables.{termNode, putTerm, putOver, emptyPointer, moreTerms, moreBranches, afterType, writeType, afterProcess, afterBranches, writeProcess, writeBranches}
+use Rattle.notation.specs.Tables.{termNode, putTerm, putOver, emptyPointer, moreTerms, moreBranches, afterType, writeType, afterProcess, afterBranches, writeProcess, writeBranches, offsetRadix, pointerRadix}
 use Rattle.notation.specs.declared.reading.Tally.{Tally}
 use Rattle.notation.specs.declared.reading.TermNode.{TermNode}
 use Rattle.read_types.specs.Filling.{FineType}
@@ -125,7 +125,7 @@ abbrev overWords : ℕ → ℕ → ℕ → ℕ → Proc → Tally → List ℕ �
 overWords kind at first second P k w = putOver kind at first second (afterProcess P k) (writeProcess P k w)
 
 module _ (P : Proc) (k : Tally) (w : List ℕ) (fine : FineProcess P) (area : Area w) (h : Within (moreTerms (afterProcess P k))) (written : Within (afterProcess P k) → ProcessWritten P k w) where
-  over-written : (kind at first second : ℕ) → kind < 16 → at < 8192 → second < 16384
+  over-written : (kind at first second : ℕ) → kind < 16 → at < offsetRadix → second < pointerRadix
       → OverAt (overWords kind at first second P k w) (moreTerms (afterProcess P k)) (afterProcess P k .terms) kind at first second
       (λ x. ProcessAt (overWords kind at first second P k w) (moreTerms (afterProcess P k)) x P)
   over-written kind at first second a b c =
@@ -139,7 +139,7 @@ module _ (P : Proc) (k : Tally) (w : List ℕ) (fine : FineProcess P) (area : Ar
         process-kept (grown-term d w₁ (termNode kind at first second (d .last))) h P (d .last) (written (omega arith)),
       )
 
-leaf-written : (k : Tally) (w : List ℕ) (kind at first second : ℕ) → Area w → Within (moreTerms k) → kind < 16 → at < 8192 → second < 16384
+leaf-written : (k : Tally) (w : List ℕ) (kind at first second : ℕ) → Area w → Within (moreTerms k) → kind < 16 → at < offsetRadix → second < pointerRadix
     → LeafAt (putTerm w (k .terms) (termNode kind at first second 0)) (moreTerms k) (k .terms) kind at first second 0
 leaf-written k w kind at first second area h a b c = (omega arith, term-put w (k .terms) kind at first second 0 area (omega arith) a b c)
 

@@ -22,11 +22,11 @@ use Rattle.read_text.specs.Scripts.{ScriptRead}
 use Rattle.read_text.specs.Reading.{Within, Filled, TextRead}
 use Rattle.read_types.proofs.Filled.{gone-on, stopped}
 
-pub all-zero : (p : List ℕ) → length p ≡ 8192 → ((j : ℕ) → j < 8192 → getD p j 0 ≡ 0) → p ≡ zeros
-all-zero p l h = ext-getD 0 p (replicate 8192 0) (l ∙ sym (length-replicate {A = ℕ} 8192 0)) (λ i m. h i (omega arith) ∙ sym (getD-replicate {A = ℕ} 8192 i 0 0 (omega arith)))
+pub all-zero : (p : List ℕ) → length p ≡ scratchWords → ((j : ℕ) → j < scratchWords → getD p j 0 ≡ 0) → p ≡ zeros
+all-zero p l h = ext-getD 0 p (replicate scratchWords 0) (l ∙ sym (length-replicate {A = ℕ} scratchWords 0)) (λ i m. h i (omega arith) ∙ sym (getD-replicate {A = ℕ} scratchWords i 0 0 (omega arith)))
 
-pub zeros-long : (v : List ℕ) → v ≡ zeros → length v ≡ 8192
-zeros-long v e = ap length e ∙ length-replicate {A = ℕ} 8192 0
+pub zeros-long : (v : List ℕ) → v ≡ zeros → length v ≡ scratchWords
+zeros-long v e = ap length e ∙ length-replicate {A = ℕ} scratchWords 0
 
 pub zero-more : (p : List ℕ) (k : ℕ) → k < length p → ((j : ℕ) → j < k → getD p j 0 ≡ 0) → (j : ℕ) → j < k + 1 → getD (set p k 0) j 0 ≡ 0
 zero-more p k l h j m = at (ℕ-discrete j k)
@@ -76,5 +76,5 @@ module _ (s w v : List ℕ) {r : Out} (h : length s ≤ textLimit) (t : ScriptRe
 pub text-short : (s w : List ℕ) → length w < scratchWords → TextRead s w (Refused 1 0) w
 text-short s w h = record { short = λ _. (refl, refl); enough = λ l. absurd (omega arith) }
 
-pub text-full : (s w ys : List ℕ) (r : Reading) → scratchWords ≤ length w → Filled s r ys → TextRead s w r (ys ++ drop 8192 w)
-text-full s w ys r h f = record { short = λ m. absurd (omega arith); enough = λ _. (f .is, ap (λ x. x ++ drop 8192 w) (f .words), f .fits) }
+pub text-full : (s w ys : List ℕ) (r : Reading) → scratchWords ≤ length w → Filled s r ys → TextRead s w r (ys ++ drop scratchWords w)
+text-full s w ys r h f = record { short = λ m. absurd (omega arith); enough = λ _. (f .is, ap (λ x. x ++ drop scratchWords w) (f .words), f .fits) }

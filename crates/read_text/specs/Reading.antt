@@ -3,7 +3,7 @@ use mathlib.Core.Path.{_≡_}
 use Prim.Native.Nat.{ℕ, _<_, _≤_}
 use mathlib.Core.List.{List, _++_}
 use lib.ListN.{length, drop}
-use Rattle.notation.specs.Limits.{scratchWords}
+use Rattle.notation.specs.Limits.{scratchWords, processLimit, typeLimit}
 use Rattle.notation.specs.Tree.{Declaration}
 use Rattle.notation.specs.Reader.{Result, got, refused}
 use Rattle.notation.specs.Scripts.{readText}
@@ -17,8 +17,8 @@ use Rattle.read_text.specs.declared.reading.Reading.the-variants.{Read, 
 -- each table is within its own words
 abbrev pub Within : Tally → Type 0
 Within k =
-    (k .types ≤ 64)
-    × (k .processes ≤ 64)
+    (k .types ≤ typeLimit)
+    × (k .processes ≤ processLimit)
     × (k .execs ≤ 16)
     × (k .entries ≤ 512)
     × (k .nodes ≤ 512)

@@ -27,10 +27,11 @@ use read_types::store::put_branch;
 use read_types::store::put_term;
 use read_types::types::read_type;
 ghost use mathlib.Core.Path.{_≡_};
-ghost use Prim.Native.Nat.{_<_, _≤_};
+ghost use Prim.Native.Nat.{_<_, _≤_, _+_};
 ghost use Rattle.notation.specs.Token.{tokenAt};
 ghost use Rattle.notation.specs.Processes.{unitTaken, readNames, nameList};
 ghost use Rattle.notation.specs.declared.token.TermHead.the-variants.{Send, Recv, Fwd, Call, Cancel, Raise, Try, Spawn};
+ghost use Rattle.notation.specs.Limits.{processTermLimit, textLimit, typeTermLimit};
 ghost use Rattle.read_types.specs.Filling.{Stepped, Room, FitsTerm};
 ghost use Rattle.read_text.specs.Processes.{NamesTaken, listEnd, namesOrNone, payloadTaken, payloadThen, labelThen, nameColon, sentNode, recvdNode, TermRead, SentRead, HandlerRead, OneRead, LabelsRead, BracketedRead, PartsRead, ProcessRead, RestRead, BranchesRead, MoreBranchesRead};
 
@@ -92,7 +93,7 @@ fn name_colon(text: &[u8], c: Cursor) -> Taken
 
 // The node of a send over its rest.
 fn sent_node(k: Tally, at: usize, i: usize, j: usize, head: Payload) -> TermNode
-    requires { ⌜ (k .last ≤ 9216) × (at < 8192) × (i < 8192) × (j < 8192) ⌝ }
+    requires { ⌜ (k .last ≤ processTermLimit + textLimit) × (at < textLimit) × (i < textLimit) × (j < textLimit) ⌝ }
     ensures { λ r. ⌜ r ≡ sentNode head at i j k ⌝ }
     ensures { λ r. ⌜ FitsTerm r ⌝ }
 {
@@ -131,7 +132,7 @@ fn sent_node(k: Tally, at: usize, i: usize, j: usize, head: Payload) -> TermNode
 
 // The node of a recv of () or of a channel over what follows.
 fn received_node(k: Tally, at: usize, i: usize, j: usize, head: Payload) -> TermNode
-    requires { ⌜ (k .last ≤ 9216) × (at < 8192) × (i < 8192) × (j < 8192) ⌝ }
+    requires { ⌜ (k .last ≤ processTermLimit + textLimit) × (at < textLimit) × (i < textLimit) × (j < textLimit) ⌝ }
     ensures { λ r. ⌜ r ≡ recvdNode head at i j k ⌝ }
     ensures { λ r. ⌜ FitsTerm r ⌝ }
 {
@@ -369,7 +370,7 @@ fn read_sent(
     head: Payload,
 ) -> Out
     requires { ⌜ Room (now text) (now scratch) c k × (k .terms < c .terms) ⌝ }
-    requires { ⌜ (at < 8192) × (i < 8192) ⌝ }
+    requires { ⌜ (at < textLimit) × (i < textLimit) ⌝ }
     ensures { λ r. ⌜ SentRead at i head (now (text .entry)) (now (scratch .entry)) c k r (now (scratch .exit)) ⌝ }
 {
     let sent = payload_token(text, c, head);
@@ -484,7 +485,7 @@ fn read_recv(text: &[u8], scratch: &mut [u32], c: Cursor, k: Tally) -> Out
 // What stands in a recv's bracket, by what it takes.
 fn read_handler(text: &[u8], scratch: &mut [u32], c: Cursor, k: Tally, at: usize, i: usize) -> Out
     requires { ⌜ Room (now text) (now scratch) c k × (k .terms < c .terms) ⌝ }
-    requires { ⌜ (at < 8192) × (i < 8192) ⌝ }
+    requires { ⌜ (at < textLimit) × (i < textLimit) ⌝ }
     ensures { λ r. ⌜ HandlerRead at i (now (text .entry)) (now (scratch .entry)) c k r (now (scratch .exit)) ⌝ }
 {
     let next = c.at;
@@ -509,7 +510,7 @@ fn receive_one(
     head: Payload,
 ) -> Out
     requires { ⌜ Room (now text) (now scratch) c k × (k .terms < c .terms) ⌝ }
-    requires { ⌜ (at < 8192) × (i < 8192) ⌝ }
+    requires { ⌜ (at < textLimit) × (i < textLimit) ⌝ }
     ensures { λ r. ⌜ OneRead at i head (now (text .entry)) (now (scratch .entry)) c k r (now (scratch .exit)) ⌝ }
 {
     let taken = payload_then(text, c, head);
@@ -528,7 +529,7 @@ fn receive_one(
 // A branch for each label.
 fn receive_label(text: &[u8], scratch: &mut [u32], c: Cursor, k: Tally, at: usize, i: usize) -> Out
     requires { ⌜ Room (now text) (now scratch) c k × (k .terms < c .terms) ⌝ }
-    requires { ⌜ (at < 8192) × (i < 8192) ⌝ }
+    requires { ⌜ (at < textLimit) × (i < textLimit) ⌝ }
     ensures { λ r. ⌜ LabelsRead at i (now (text .entry)) (now (scratch .entry)) c k r (now (scratch .exit)) ⌝ }
 {
     let inner = read_branches(text, scratch, c, k, 0);
@@ -661,7 +662,7 @@ fn read_spawn(text: &[u8], scratch: &mut [u32], c: Cursor, k: Tally) -> Out
 // The two halves of a spawn whose name stands at i and whose type's node was read last.
 fn read_parts(text: &[u8], scratch: &mut [u32], c: Cursor, k: Tally, i: usize) -> Out
     requires { ⌜ Room (now text) (now scratch) c k × (k .terms < c .terms) ⌝ }
-    requires { ⌜ (k .last < 512) × (i < 8192) ⌝ }
+    requires { ⌜ (k .last < typeTermLimit) × (i < textLimit) ⌝ }
     ensures { λ r. ⌜ PartsRead i (now (text .entry)) (now (scratch .entry)) c k r (now (scratch .exit)) ⌝ }
 {
     let new = read_bracketed(text, scratch, c, k);

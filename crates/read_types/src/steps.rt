@@ -109,7 +109,7 @@ pub fn opening(text: &[u8], c: Cursor, kind: usize) -> Taken
 }
 
 // A token that is a type term.
-pub fn type_term(text: &[u8], c: Cursor, kind: usize) -> Taken
+pub(crate) fn type_term(text: &[u8], c: Cursor, kind: usize) -> Taken
     requires { ⌜ kind ≤ 31 ⌝ }
     ensures { λ r. ⌜ Stepped (now (text .entry)) c (width kind) 1 0 (typeTerm (now (text .entry)) kind c) r ⌝ }
 {
@@ -208,7 +208,7 @@ pub fn misfit(text: &[u8], c: Cursor) -> Out
 }
 
 // What a token of this kind begins in a type.
-pub fn type_head(kind: usize) -> TypeHead
+pub(crate) fn type_head(kind: usize) -> TypeHead
     ensures { λ r. ⌜ r ≡ typeHead kind ⌝ }
 {
     if kind == Token::ONE {
@@ -229,7 +229,7 @@ pub fn type_head(kind: usize) -> TypeHead
     TypeHead::Other
 }
 
-pub fn is_infix(kind: usize) -> bool
+pub(crate) fn is_infix(kind: usize) -> bool
     ensures { λ r. ⌜ r ≡ isInfix kind ⌝ }
 {
     if kind == Token::STAR {

@@ -42,7 +42,7 @@ fn put_pair(scratch: &mut [u32], i: usize, at: usize, n: usize)
 }
 
 // Appends a type node.
-pub fn put_node(scratch: &mut [u32], k: Tally, n: TypeNode) -> Tally
+pub(crate) fn put_node(scratch: &mut [u32], k: Tally, n: TypeNode) -> Tally
     requires { ⌜ Area (now scratch) × (k .nodes < typeTermLimit) ⌝ }
     requires { ⌜ Fits n ⌝ }
     ensures { λ r. ⌜ Put (now (scratch .entry)) (putNode (now (scratch .entry)) (k .nodes) n) (moreNodes k) r (now (scratch .exit)) ⌝ }
@@ -59,7 +59,7 @@ pub fn put_node(scratch: &mut [u32], k: Tally, n: TypeNode) -> Tally
 }
 
 // Appends an alternative: the label at `at` with a type's node.
-pub fn put_alternative(scratch: &mut [u32], k: Tally, at: usize, node: usize) -> Tally
+pub(crate) fn put_alternative(scratch: &mut [u32], k: Tally, at: usize, node: usize) -> Tally
     requires { ⌜ Area (now scratch) × (k .alternatives < typeTermLimit) × (k .last < labelLimit) × (at < offsetRadix) × (node < typeTermLimit) ⌝ }
     ensures { λ r. ⌜ Put (now (scratch .entry)) (putAlternative (now (scratch .entry)) (k .alternatives) at node) (moreAlternatives k) r (now (scratch .exit)) ⌝ }
 {

@@ -2,6 +2,7 @@ use mathlib.Core.Path.{_≡_}
 use lib.ListN.{length}
 use Rattle.check_text.specs.Texts.{part-refused, part-read}
 use borrow.Author.Needs.{needs}
+use Rattle.notation.specs.Limits.{scratchWords}
 use Rattle.check_text.proofs.check.check_part.Statement.{statement}
 use Rattle.check_text.proofs.check.check_part.Tie as tie
 use Rattle.check_text.proofs.check.check_part.Reads as reads
@@ -22,7 +23,7 @@ check-tables-requires : tie.Need-check-tables-requires
 check-tables-requires c κs =
     let read = c .before .before .before .before .before .read in
     let entry = c .before .before .before .before .before .before .before .before .before in
-    let l : length (read .last .1 .0) ≡ 8192 = search needs in
+    let l : length (read .last .1 .0) ≡ scratchWords = search needs in
     part-read (entry .args .text .now) _ (read .last .1 .0) _ (entry .pre) l (read .ensures) _ (c .before .enum-told .given .1)
 
 same-length : tie.Need-same-length
@@ -39,7 +40,7 @@ returns-2 c =
     let r = c .before .r in
     let read = c .before .before .before .before .before .read in
     let entry = c .before .before .before .before .before .before .before .before .before in
-    let l : length (read .last .1 .0) ≡ 8192 = search needs in
+    let l : length (read .last .1 .0) ≡ scratchWords = search needs in
     part-refused (entry .args .text .now) _ (read .last .1 .0) _ (entry .pre) l (read .ensures) (r .given .0 .0) (r .given .0 .1 .0) (r .given .1)
 
 pub check-part-spec : {M : Type 1} → statement M

@@ -2,6 +2,7 @@ use mathlib.Core.Path.{ap}
 use Prim.Native.Nat.{ℕ, _/_, _%_}
 use Rattle.read_tables.specs.Decode.{pairOf}
 use borrow.Author.Needs.{needs}
+use Rattle.notation.specs.Tables.{offsetRadix}
 use Rattle.read_tables.proofs.access.pair.Statement.{statement}
 use Rattle.read_tables.proofs.access.pair.Tie as tie
 use Rattle.read_tables.proofs.access.pair.Reads as reads
@@ -13,7 +14,7 @@ word-requires c κs = search needs
 
 returns : tie.Need-returns
 unfolding pairOf
-returns c = record { at = ap (λ (x : ℕ). x % 8192) (c .word .ensures .0); number = ap (λ (x : ℕ). x / 8192) (c .word .ensures .0) }
+returns c = record { at = ap (λ (x : ℕ). x % offsetRadix) (c .word .ensures .0); number = ap (λ (x : ℕ). x / offsetRadix) (c .word .ensures .0) }
 
 pub pair-spec : {M : Type 1} → statement M
 pair-spec = tie.close (tie.spec word-requires returns)

@@ -4,16 +4,17 @@ use mathlib.Core.Path.{_≡_, _∙_}
 use lib.ListN.{length, getD, length-set}
 use Rattle.read_text.proofs.Whole.{all-zero, zero-more}
 use borrow.Author.Needs.{needs}
+use Rattle.notation.specs.Limits.{scratchWords}
 use Rattle.read_text.proofs.reading.zero.Statement.{statement}
 use Rattle.read_text.proofs.reading.zero.Tie as tie
 use Rattle.read_text.proofs.reading.zero.Reads as reads
 use Rattle.read_text.proofs.reading.zero.Lts as lts
 
 abbrev Inv-loop : tie.InvT-loop
-Inv-loop part₀ k₀ part k = (k ≤ 8192) × (length part ≡ 8192) × ((j : ℕ) → j < k → getD part j 0 ≡ 0)
+Inv-loop part₀ k₀ part k = (k ≤ scratchWords) × (length part ≡ scratchWords) × ((j : ℕ) → j < k → getD part j 0 ≡ 0)
 
 abbrev μ-loop : tie.MeasureT-loop
-μ-loop part₀ k₀ part k = 8192 - k
+μ-loop part₀ k₀ part k = scratchWords - k
 
 loop-holds : tie.Need-loop-holds Inv-loop μ-loop
 loop-holds c = (omega arith, c .pre, λ j l. absurd (omega arith))
