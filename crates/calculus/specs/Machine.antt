@@ -113,11 +113,11 @@ abbrev pub idle : Config
 idle = config [] [] 0
 
 -- a call of a list with the configuration that it meets and the reply to it
-pub record Moment : Type 0 where
+pub record Exchange : Type 0 where
   pub before : Config
   pub call : Call
   pub after : Reply
 
-abbrev pub history : List ℕ → Config → List Call → List Moment
+abbrev pub history : List ℕ → Config → List Call → List Exchange
 history s C [] = []
 history s C (c ∷ cs) = record { before = C; call = c; after = respond s C c } ∷ history s (respond s C c .config) cs

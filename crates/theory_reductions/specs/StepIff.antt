@@ -1,11 +1,12 @@
 -- The step at a place carries out exactly what the reduction rules say, and lacks exactly where they do.
 use Prim.Native.Nat.{ℕ}
-use mathlib.Core.Path.{_≡_, sym, _∙_, ap, subst}
+use mathlib.Core.Path.{_≡_, refl, sym, _∙_, ap, subst}
 use mathlib.Core.Logic.{_↔_, inl, inr}
+use mathlib.Core.Option.{Option, some, none}
 use mathlib.Core.Bool.{true, true≢false, false≢true}
 use Rattle.calculus.specs.Program.{Program}
-use Rattle.calculus.specs.Configuration.{Config}
-use Rattle.calculus.specs.Steps.{Outcome, carried, notOpen, lacking, step, isOpenBy, lacksBy, isOpen}
+use Rattle.calculus.specs.Configuration.{Process, Config, at}
+use Rattle.calculus.specs.Steps.{Outcome, carried, notOpen, lacking, stepOf, step, isOpenBy, lacksBy, isOpen}
 use Rattle.calculus.specs.declared.answers.Seen.{Seen}
 use Rattle.calculus.specs.Reduces.{Reduces, Lacks, Open}
 use Rattle.theory_reductions.specs.CarriedOut.{carried-out, lacks-out}
@@ -37,6 +38,15 @@ module _ (p : Program) (C : Config) (i : ℕ) where
   pub open-iff : (isOpen p C i ≡ true) ↔ Open p C i
   unfolding isOpen
   open-iff = (opened (told p C i), opens)
+
+  -- where a step is open, a process is
+  pub open-place : Open p C i → (q : Process) × (at C i ≡ some q)
+  unfolding step
+  open-place o = go (at C i) (opens o)
+    where
+      go : (y : Option Process) → isOpenBy (stepOf p C i y) ≡ true → (q : Process) × (y ≡ some q)
+      go none e = absurd (false≢true e)
+      go (some q) e = (q, refl)
 
   -- ── the rules leave no choice at a place
   abbrev seen-by : Seen → Outcome → Seen
