@@ -1,73 +1,33 @@
 -- Each outcome of a step is told by the rules: what it carries out, that it is not open, or what it lacks.
 use Prim.Native.Nat.{ℕ, _≤_, _<_}
-use mathlib.Core.Path.{_≡_, refl, ap}
+use mathlib.Core.Path.{_≡_, refl}
 use mathlib.Core.Logic.{_≢_}
 use mathlib.Core.List.{List, [], _∷_, _++_, append-nil}
-use mathlib.Core.Bool.{Bool, true, false, cond, false≢true}
+use mathlib.Core.Bool.{Bool, true, false, cond}
 use mathlib.Core.Option.{Option, some, none, Option·map}
 use lib.ListN.{length}
 use lib.Dec.{ltb}
 use Rattle.notation.specs.Limits.{processPlaces, outsideNumbers}
 use Rattle.notation.specs.Bytes.{same}
-use Rattle.notation.specs.Tree.{Name, Located, Proc, empty, sendUnit, sendChannel, sendLabel, cancel, spawn, recvUnit, recvChannel, recvLabel, fwd, call, raise, try, Branches, plain}
+use Rattle.notation.specs.Tree.{Name, Located, Proc, empty, sendUnit, sendChannel, sendLabel, cancel, spawn, recvUnit, recvChannel, recvLabel, fwd, call, raise, try, plain}
 use Rattle.calculus.specs.Named.{lookup}
 use Rattle.calculus.specs.Typing.{namesOf}
 use Rattle.calculus.specs.Program.{Program, Signature}
 use Rattle.calculus.specs.Configuration.{End, Doing, running, folding, waiting, Process, Config, withOutside, at, Holder, Far, atProcess, atOutside, givenUp, farEnd, freshChannel, replaced, goesOn}
-use Rattle.calculus.specs.Steps.{Outcome, carried, notOpen, lacking, onHeld, Message, closing, passes, chooses, Wanted, onClose, onChannel, onLabel, Turn, sends, receives, alone, turn, turnOf, onward, afterSend, afterReceive, branchOf, passedEnd, seenAt, outsideAfter, parting, bothTo, meeting, isGivenUp, passedOut, toOutside, unheard, sending, send, answering, receiving, receive, cancelling, placeFor, spawned, spawning, trying, entering, calling, raising, emptied, joinedTo, joining, forwarding, leaving, foldingUp, stepTerm, stepDoing, stepOf, step}
+use Rattle.calculus.specs.Steps.{Outcome, carried, notOpen, lacking, onHeld, Message, passes, chooses, Wanted, Turn, receives, turn, onward, afterSend, afterReceive, branchOf, passedEnd, seenAt, outsideAfter, parting, bothTo, meeting, isGivenUp, passedOut, toOutside, unheard, sending, send, answering, receiving, receive, cancelling, placeFor, spawned, spawning, trying, entering, calling, raising, emptied, joinedTo, joining, forwarding, leaving, foldingUp, stepTerm, stepDoing, stepOf, step}
 use Rattle.calculus.specs.WellFormed.{Stands}
 use Rattle.calculus.specs.declared.answers.Seen.{Seen}
 use Rattle.theory_derivations.specs.Equality.{same-iff}
 use Rattle.theory_derivations.specs.Booleans.{ltb-iff}
 use Rattle.theory_ends.specs.Lists.{not-below}
 use Rattle.calculus.specs.Reduces.{Runs, Holds, GivesUp, by-process, by-outside, by-nobody, no-term, no-channel, Sends, close-meets, channel-meets, label-meets, close-shows, label-shows, channel-shows, gone-shows, close-lost, label-lost, channel-lost, Naming, its-own, its-recv, Reduces, communicates, spawns, tries, calls, cancels, raises, joins, joins-outside, joins-nobody, nobody-joins, unanswered, folds, leaves, Lacks, no-number, spawn-no-place, spawn-no-channel, try-no-place}
+use Rattle.theory_reductions.specs.Kinds.{SendTerm, a-close, a-channel, a-label, ActsBy, closes-on, takes-on, picks-on, sends-on, on-its-own, acts, at-a-process, at-the-outside}
 use Rattle.theory_reductions.specs.CarriedOut.{holder-stands}
 
 pub data Told (p : Program) (C : Config) (i : ℕ) : Outcome → Type 0 where
   reduces : {seen : Seen} {D : Config} → Reduces p C i seen D → Told p C i (carried seen D)
   shut : Told p C i notOpen
   short : Lacks C i → Told p C i lacking
-
--- the term Q sends the message m over c, and goes on with P
-data Sending : Proc → Located → Message → Proc → Type 0 where
-  a-close : {o : ℕ} {c : Located} {P : Proc} → Sending (sendUnit o c P) c closing P
-  a-channel : {o : ℕ} {c a : Located} {P : Proc} → Sending (sendChannel o c a P) c (passes a) P
-  a-label : {o : ℕ} {c l : Located} {P : Proc} → Sending (sendLabel o c l P) c (chooses l) P
-
--- what a process does, by its turn
-data Acts : Doing → Turn → Type 0 where
-  closes-on : {o : ℕ} {c : Located} {P : Proc} → Acts (running (recvUnit o c P)) (receives c (onClose P))
-  takes-on : {o : ℕ} {c x : Located} {P : Proc} → Acts (running (recvChannel o c x P)) (receives c (onChannel x P))
-  picks-on : {o : ℕ} {c : Located} {B : Branches} → Acts (running (recvLabel o c B)) (receives c (onLabel B))
-  sends-on : {Q : Proc} {c : Located} {m : Message} {P : Proc} → turn Q ≡ sends c m P → Sending Q c m P → Acts (running Q) (sends c m P)
-  on-its-own : {d : Doing} → Acts d alone
-
-acts-term : (P : Proc) → Acts (running P) (turn P)
-acts-term (empty o) = on-its-own
-acts-term (sendUnit o c P) = sends-on refl a-close
-acts-term (sendChannel o c a P) = sends-on refl a-channel
-acts-term (sendLabel o c l P) = sends-on refl a-label
-acts-term (cancel o c P) = on-its-own
-acts-term (spawn x A P Q) = on-its-own
-acts-term (recvUnit o c P) = closes-on
-acts-term (recvChannel o c x P) = takes-on
-acts-term (recvLabel o c B) = picks-on
-acts-term (fwd o x c) = on-its-own
-acts-term (call o f bracket xs ys) = on-its-own
-acts-term (raise o P) = on-its-own
-acts-term (try o P Q) = on-its-own
-
-acts : (d : Doing) → Acts d (turnOf d)
-acts (running P) = acts-term P
-acts folding = on-its-own
-acts (waiting P) = on-its-own
-
--- a far end that is held was not given up
-at-a-process : (h : Holder) → atProcess h ≢ givenUp
-at-a-process h e = false≢true (ap isGivenUp e)
-
-at-the-outside : (n : ℕ) → _≢_ {A = Far} (atOutside n) givenUp
-at-the-outside n e = false≢true (ap isGivenUp e)
 
 module _ {p : Program} {C : Config} {k : ℕ} where
   if-told : (b : Bool) {r t : Outcome} → (b ≡ true → Told p C k r) → (b ≡ false → Told p C k t) → Told p C k (cond b r t)
@@ -96,7 +56,7 @@ module _ {p : Program} {C : Config} {k : ℕ} where
 
   module _ {i : ℕ} (n : Naming C k i) {q : Process} where
     both-told : {Q : Proc} {c c′ : Located} {m : Message} {P : Proc} {w : Wanted} {e : End} {h : Holder} {d : Doing}
-        → Sending Q c m P → Runs C i q Q → Holds C q c e (atProcess h) → h .process .doing ≡ d → Acts d (receives c′ w) → same (c′ .name) (h .name) ≡ true
+        → SendTerm Q c m P → Runs C i q Q → Holds C q c e (atProcess h) → h .process .doing ≡ d → ActsBy d (receives c′ w) → same (c′ .name) (h .name) ≡ true
         → Told p C k (bothTo C i (goesOn q P (afterSend p (c .name) m (q .held))) (h .place) (afterReceive p m w (h .name) (passedEnd m (q .held)) (h .process)))
     unfolding afterSend afterReceive
     both-told a-close r l z closes-on s = met n (close-meets r l (record { runs = z; name = same-iff _ _ .0 s }))
@@ -115,7 +75,7 @@ module _ {p : Program} {C : Config} {k : ℕ} where
         go (some R) y = met n (label-meets r l (record { runs = z; name = same-iff _ _ .0 s }) y)
 
     meeting-told : {Q : Proc} {c : Located} {m : Message} {P : Proc} {e : End} {h : Holder} {d : Doing} {t : Turn}
-        → Sending Q c m P → Runs C i q Q → Holds C q c e (atProcess h) → h .process .doing ≡ d → Acts d t
+        → SendTerm Q c m P → Runs C i q Q → Holds C q c e (atProcess h) → h .process .doing ≡ d → ActsBy d t
         → Told p C k (meeting p C i q (goesOn q P (afterSend p (c .name) m (q .held))) m h t)
     meeting-told {h = h} s r l z (closes-on {c = c′}) = if-told (same (c′ .name) (h .name)) (both-told s r l z closes-on) (λ _. shut)
     meeting-told {h = h} s r l z (takes-on {c = c′}) = if-told (same (c′ .name) (h .name)) (both-told s r l z takes-on) (λ _. shut)
@@ -123,7 +83,7 @@ module _ {p : Program} {C : Config} {k : ℕ} where
     meeting-told s r l z (sends-on u v) = shut
     meeting-told s r l z on-its-own = shut
 
-    out-told : {Q : Proc} {c : Located} {m : Message} {P : Proc} {e : End} {x : ℕ} → Sending Q c m P → Runs C i q Q → Holds C q c e (atOutside x)
+    out-told : {Q : Proc} {c : Located} {m : Message} {P : Proc} {e : End} {x : ℕ} → SendTerm Q c m P → Runs C i q Q → Holds C q c e (atOutside x)
         → Told p C k (toOutside p C i q (goesOn q P (afterSend p (c .name) m (q .held))) m e x)
     unfolding afterSend
     out-told a-close r l = met n (close-shows r l)
@@ -139,14 +99,14 @@ module _ {p : Program} {C : Config} {k : ℕ} where
         go d y b (atOutside v) z = met n (channel-shows r l (record { held = y; far = z }) (at-the-outside v) b)
         go d y b givenUp z = rw append-nil (met n (gone-shows r l (record { held = y; far = z }) b))
 
-    lost-told : {Q : Proc} {c : Located} {m : Message} {P : Proc} {e : End} → Sending Q c m P → Runs C i q Q → Holds C q c e givenUp
+    lost-told : {Q : Proc} {c : Located} {m : Message} {P : Proc} {e : End} → SendTerm Q c m P → Runs C i q Q → Holds C q c e givenUp
         → Told p C k (unheard C i q (goesOn q P (afterSend p (c .name) m (q .held))) m)
     unfolding afterSend
     lost-told a-close r l = met n (close-lost r l)
     lost-told a-label r l = met n (label-lost r l)
     lost-told (a-channel {a = a}) r l = held-told (lookup (a .name) (q .held)) λ d y. parting-told i _ d λ _ _ g. communicates n (channel-lost r l y g)
 
-    send-told : {Q : Proc} {c : Located} {m : Message} {P : Proc} → Sending Q c m P → Runs C i q Q → Told p C k (send p C i q c m P)
+    send-told : {Q : Proc} {c : Located} {m : Message} {P : Proc} → SendTerm Q c m P → Runs C i q Q → Told p C k (send p C i q c m P)
     unfolding send
     send-told {c = c} {m = m} {P = P} s r = held-told (lookup (c .name) (q .held)) λ e y. go e y (farEnd C e) refl
       where
@@ -162,7 +122,7 @@ module _ {p : Program} {C : Config} {i : ℕ} {q : Process} where
   unfolding receive
   receive-told {c = c} r t = held-told (lookup (c .name) (q .held)) λ e y. go e y (farEnd C e) refl
     where
-      answer : {e : End} {h : Holder} {d : Doing} {u : Turn} → Holds C q c e (atProcess h) → h .process .doing ≡ d → Acts d u → Told p C i (answering p C h u)
+      answer : {e : End} {h : Holder} {d : Doing} {u : Turn} → Holds C q c e (atProcess h) → h .process .doing ≡ d → ActsBy d u → Told p C i (answering p C h u)
       answer {h = h} l z (sends-on {c = c′} u s) = if-told (same (c′ .name) (h .name))
           (λ b. send-told (its-recv r t l (record { runs = z; name = same-iff _ _ .0 b }) u) s (record { stands = holder-stands l; runs = z })) (λ _. shut)
       answer l z closes-on = shut
