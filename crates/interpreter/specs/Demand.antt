@@ -20,7 +20,7 @@ use Rattle.calculus.specs.Program.{Program, programOf}
 use Rattle.calculus.specs.WellFormed.{WellFormed}
 use Rattle.calculus.specs.declared.answers.Started.the-variants.{Begun}
 use Rattle.theory_safety.specs.Replies.{unchanged-by, replied}
-use Rattle.theory_safety.specs.Safety.{has-begun, reply-keeps, begun-well-formed, moment-kept, start-kept}
+use Rattle.theory_safety.specs.Safety.{has-begun, reply-keeps, begun-well-formed, exchange-safe, start-safe}
 use Rattle.read_tables.specs.Decode.{processIn}
 use Rattle.read_tables.specs.Program.{plainIn}
 use Rattle.run_words.specs.Raw.{RawConfig, rawIn}
@@ -146,13 +146,13 @@ module _ (s : List ℕ) (ds : List Declaration) (ok : checked s ≡ accepted ds)
   at-each C run f h [] l = at-none C run
   at-each C run f h (x ∷ ms) (k, d, l) =
       let y = at-moment C run h x k d in
-      at-all C run x ms (agrees-with C run x (y .0) (y .1) (moment-kept s ds ok C f (callOf x)))
+      at-all C run x ms (agrees-with C run x (y .0) (y .1) (exchange-safe s ds ok C f (callOf x)))
       (at-each (respond s C (callOf x) .config) (leftBy run x) (reply-keeps s ds ok f (replied s ds ok C (callOf x))) (y .1) ms l)
 
   -- a list that begins with a start carried out
   from-start : (run : List ℕ) (first : Moment) (rest : List Moment) → answerOf first ≡ started Begun → Linked s run (first ∷ rest) → AtEach idle run (first ∷ rest)
   from-start run (start w ws line r v vs) rest b (k, d, l) =
-      at-all idle run (start w ws line r v vs) rest (agrees-with idle run (start w ws line r v vs) (y .0) (y .1) (start-kept s ds ok idle (length w) (length ws) line formed))
+      at-all idle run (start w ws line r v vs) rest (agrees-with idle run (start w ws line r v vs) (y .0) (y .1) (start-safe s ds ok idle (length w) (length ws) line formed))
       (at-each (respond s idle c′ .config) (left run ws vs) formed (y .1) rest l)
     where
       c′ : Call

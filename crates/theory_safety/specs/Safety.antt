@@ -19,7 +19,7 @@ use Rattle.theory_progress.specs.Progress.{some-open}
 use Rattle.theory_progress.specs.RunOn.{stepsTo, given, run-on-steps}
 use Rattle.theory_preservation.specs.Preserved.{preserved}
 use Rattle.theory_preservation.specs.Accepted.{accepted-bodies, accepted-start}
-use Rattle.theory_safety.specs.Replies.{Replied, refuses, begins, carries-out, runs, reports, names, refusal-config, unchanged-by, replied, refused-start, refused-where}
+use Rattle.theory_safety.specs.Replies.{Replied, refuses, begins, carries-out, runs, reports, names, refusal-config, unchanged-by, replied, refused-where}
 
 pub safe : {p : Program} {C : Config} → WellFormed p C → Safe p C
 safe {p} {C} v = record { wellFormed = v; fewer = joints-fewer p C v; someOpen = some-open p C v }
@@ -75,7 +75,7 @@ module _ (text : List ℕ) (ds : List Declaration) (ok : checked text ≡ accept
   pub exchange-safe : (C : Config) → WellFormed p C → (c : Call) → SafeExchange p (exchanged C c)
   exchange-safe C v c =
       let r = replied text ds ok C c in
-      record { safe = safe (reply-keeps v r); between = safe-between C v c; refusals = refused-where text ds ok C v c; unchanged = unchanged-by r }
+      record { safe = safe (reply-keeps v r); between = safe-between C v c; refusals = refused-where text ds ok C c; unchanged = unchanged-by r }
 
   -- a start that is carried out, whatever it meets
   pub start-safe : (C : Config) (scratch run line : ℕ) → WellFormed p (respond text C (callStart scratch run line) .config)
@@ -84,7 +84,7 @@ module _ (text : List ℕ) (ds : List Declaration) (ok : checked text ≡ accept
       record {
         safe = safe v;
         between = tt;
-        refusals = refused-start text ds ok C scratch run line;
+        refusals = refused-where text ds ok C (callStart scratch run line);
         unchanged = unchanged-by (replied text ds ok C (callStart scratch run line));
       }
 
