@@ -1,6 +1,6 @@
 -- Demand 3: nothing waits forever for a partner that can't come, at each call of every list of calls.
 use Prim.Native.Nat.{ℕ, zero, suc}
-use mathlib.Core.Path.{_≡_, sym, ap, subst}
+use mathlib.Core.Path.{_≡_, refl, sym, _∙_, ap, subst}
 use mathlib.Core.List.{List, [], _∷_, List·Memᴰ·head, List·Memᴰ·tail, List·Memᴰ·not-nil}
 use mathlib.Core.Bool.{Bool, true, false, false≢true}
 use Rattle.notation.specs.Tree.{Declaration}
@@ -10,7 +10,7 @@ use Rattle.calculus.specs.Configuration.{Config}
 use Rattle.calculus.specs.Steps.{carried, step}
 use Rattle.calculus.specs.Runs.{runOn}
 use Rattle.calculus.specs.WellFormed.{In, WellFormed}
-use Rattle.calculus.specs.Machine.{Call, callStart, callStep, callRunOn, callReport, callExecName, Answer, started, stepped, ranOn, reported, named, Reply, respond, idle, Exchange, history}
+use Rattle.calculus.specs.Machine.{Call, callStart, callStep, callRunOn, callReport, callExecName, Answer, started, stepped, ranOn, reported, named, Reply, refusal, respond, idle, Exchange, history}
 use Rattle.calculus.specs.Demands.{Safe, SafeBetween, SafeExchange, PlainDemand3}
 use Rattle.calculus.specs.declared.answers.Seen.{Seen}
 use Rattle.calculus.specs.declared.answers.Started.the-variants as Starts
@@ -31,6 +31,29 @@ has-begun (stepped a) = false
 has-begun (ranOn a) = false
 has-begun (reported a l) = false
 has-begun (named l n i) = false
+
+-- only a start begins a run
+abbrev pub is-start : Call → Bool
+is-start (callStart scratch run line) = true
+is-start (callStep scratch run place) = false
+is-start (callRunOn scratch run budget) = false
+is-start (callReport scratch run) = false
+is-start (callExecName scratch line) = false
+
+pub refusal-begins-none : (C : Config) (c : Call) (n i : ℕ) → has-begun (refusal C c n i .answer) ≡ false
+refusal-begins-none C (callStart scratch run line) n i = refl
+refusal-begins-none C (callStep scratch run place) n i = refl
+refusal-begins-none C (callRunOn scratch run budget) n i = refl
+refusal-begins-none C (callReport scratch run) n i = refl
+refusal-begins-none C (callExecName scratch line) n i = refl
+
+pub begun-start : {p : Program} {C : Config} {c : Call} {r : Reply} → Replied p C c r → has-begun (r .answer) ≡ true → is-start c ≡ true
+begun-start {C = C} (refuses {c} n i) e = absurd (false≢true (sym (refusal-begins-none C c n i) ∙ e))
+begun-start (begins g h) e = refl
+begun-start (carries-out seen D h) e = absurd (false≢true e)
+begun-start runs e = absurd (false≢true e)
+begun-start reports e = absurd (false≢true e)
+begun-start (names n) e = absurd (false≢true e)
 
 module _ (text : List ℕ) (ds : List Declaration) (ok : checked text ≡ accepted ds) where
   abbrev p : Program
