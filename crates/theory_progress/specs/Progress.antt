@@ -37,11 +37,11 @@ is-channel (handler h) = false
 -- ── a place without an open step: no process stands there, or it waits on a joint
 data Shut (p : Program) (C : Config) (i : ℕ) : Type 0 where
   nobody : at C i ≡ none → Shut p C i
-  waits : {q : Process} (k : JointKey) → Stands C i q → Waits p C i q k → Shut p C i
+  waits-on : {q : Process} (k : JointKey) → Stands C i q → Waits p C i q k → Shut p C i
 
 abbrev key-of : {p : Program} {C : Config} {i : ℕ} → Shut p C i → JointKey
 key-of (nobody e) = handler 0
-key-of (waits k s w) = k
+key-of (waits-on k s w) = k
 
 module _ {p : Program} {C : Config} (v : WellFormed p C) where
   open-or-shut : (i : ℕ) → Open p C i ⊎ Shut p C i
@@ -49,7 +49,7 @@ module _ {p : Program} {C : Config} (v : WellFormed p C) where
     where
       stands : {q : Process} → Stands C i q → Open p C i ⊎ ((k : JointKey) × Waits p C i q k) → Open p C i ⊎ Shut p C i
       stands s (inl o) = inl o
-      stands s (inr (k, w)) = inr (waits k s w)
+      stands s (inr (k, w)) = inr (waits-on k s w)
 
       go : (o : Option Process) → at C i ≡ o → Open p C i ⊎ Shut p C i
       go none e = inr (nobody e)
@@ -66,7 +66,7 @@ module _ {p : Program} {C : Config} (v : WellFormed p C) where
 
   key-in : {i : ℕ} → i < length (C .processes) → (x : Shut p C i) → In (key-of x) (jointKeys C)
   key-in {i} b (nobody e) = let q = below-found (C .processes) i b in absurd (Option·none-ne-some (q .0) (sym e ∙ q .1))
-  key-in b (waits k s w) = joint-in s w
+  key-in b (waits-on k s w) = joint-in s w
 
   -- ── two that wait on one joint are its two ends, and these match
   -- the ends that two processes wait on, of one channel
@@ -111,8 +111,8 @@ module _ {p : Program} {C : Config} (v : WellFormed p C) where
   both-shut : {i j : ℕ} → i ≢ j → i < length (C .processes) → j < length (C .processes) → (x : Shut p C i) (y : Shut p C j) → key-of x ≡ key-of y
       → (n : ℕ) × Open p C n
   both-shut {i} n a b (nobody e) y z = let q = below-found (C .processes) i a in absurd (Option·none-ne-some (q .0) (sym e ∙ q .1))
-  both-shut {j = j} n a b (waits k s w) (nobody e) z = let q = below-found (C .processes) j b in absurd (Option·none-ne-some (q .0) (sym e ∙ q .1))
-  both-shut n a b (waits k s w) (waits l t u) z = both-wait n s t w u z
+  both-shut {j = j} n a b (waits-on k s w) (nobody e) z = let q = below-found (C .processes) j b in absurd (Option·none-ne-some (q .0) (sym e ∙ q .1))
+  both-shut n a b (waits-on k s w) (waits-on l t u) z = both-wait n s t w u z
 
   -- joints are fewer than places, so where every place is shut two wait on one joint
   all-shut : C .processes ≢ [] → ((i : ℕ) → Shut p C i) → (n : ℕ) × Open p C n

@@ -41,11 +41,11 @@ pub data Waits (p : Program) (C : Config) (i : ℕ) (q : Process) : JointKey →
 
 -- ── a rule that applies opens the step
 module _ {p : Program} {C : Config} {i : ℕ} where
-  reduces : {seen : Seen} {D : Config} → Reduces p C i seen D → Open p C i
-  reduces r = inl (_, _, r)
+  by-rule : {seen : Seen} {D : Config} → Reduces p C i seen D → Open p C i
+  by-rule r = inl (_, _, r)
 
   sent : {seen : Seen} {D : Config} → Sends p C i seen D → Open p C i
-  sent s = reduces (communicates its-own s)
+  sent s = by-rule (communicates its-own s)
 
   -- an end can always be given up
   parts : (e : End) → ((seen : Seen) (D : Config) → GivesUp C e seen D → Open p C i) → Open p C i
@@ -68,7 +68,7 @@ module _ {p : Program} {C : Config} {i : ℕ} where
     where
       go : length (C .processes) < processPlaces → (o : Option ℕ) → freshChannel C ≡ o → Open p C i
       go b none e = inr (spawn-no-channel r e)
-      go b (some k) e = reduces (rule.spawns r b e)
+      go b (some k) e = by-rule (rule.spawns r b e)
 
   pass-open : {q : Process} {o n : ℕ} {c a : Located} {P : Proc} {e d : End} → Runs C i q (sendChannel o c a P) → lookup (a .name) (q .held) ≡ some d
       → Holds C q c e (atOutside n) → Open p C i
@@ -84,14 +84,14 @@ module _ {p : Program} {C : Config} {i : ℕ} where
   forward-open {e = e} {d = d} r y w = go (given-up? (farEnd C d)) (farEnd C e) refl
     where
       go : Dec (farEnd C d ≡ givenUp) → (g : Far) → farEnd C e ≡ g → Open p C i
-      go (yes b) g z = parts e λ _ _ u. reduces (nobody-joins r y (record { held = w; far = b }) u)
-      go (no b) (atProcess h) z = reduces (joins r (record { held = y; far = z }) (record { held = w; far = refl }) b)
-      go (no b) (atOutside n) z = reduces (joins-outside r (record { held = y; far = z }) (record { held = w; far = refl }) b)
-      go (no b) givenUp z = reduces (joins-nobody r (record { held = y; far = z }) (record { held = w; far = refl }) b)
+      go (yes b) g z = parts e λ _ _ u. by-rule (nobody-joins r y (record { held = w; far = b }) u)
+      go (no b) (atProcess h) z = by-rule (joins r (record { held = y; far = z }) (record { held = w; far = refl }) b)
+      go (no b) (atOutside n) z = by-rule (joins-outside r (record { held = y; far = z }) (record { held = w; far = refl }) b)
+      go (no b) givenUp z = by-rule (joins-nobody r (record { held = y; far = z }) (record { held = w; far = refl }) b)
 
   fold-open : {q : Process} → Stands C i q → q .doing ≡ folding → (l : List (Name × End)) → q .held ≡ l → Open p C i
-  fold-open s d [] e = reduces (leaves s (no-channel d e))
-  fold-open s d (x ∷ l) e = parts (x .1) λ _ _ g. reduces (folds s d e g)
+  fold-open s d [] e = by-rule (leaves s (no-channel d e))
+  fold-open s d (x ∷ l) e = parts (x .1) λ _ _ g. by-rule (folds s d e g)
 
 -- ── what is typed is open or waits
 module _ {p : Program} {C : Config} (v : WellFormed p C) {i : ℕ} {q : Process} (s : Stands C i q) where
@@ -124,7 +124,7 @@ module _ {p : Program} {C : Config} (v : WellFormed p C) {i : ℕ} {q : Process}
       go : {f : Far} → FarIs C e f → farEnd C e ≡ f → Moves
       go (at-process _ _) z = inr (channel (e .channel), waits-receive e r g (record { held = h; far = z }))
       go (at-outside _ o k y u) z = absurd (no-recv-outside (lookup-in (c .name) (q .held) h) g o k y u)
-      go (at-nobody _ _) z = inl (reduces (unanswered r t (record { held = h; far = z })))
+      go (at-nobody _ _) z = inl (by-rule (unanswered r t (record { held = h; far = z })))
 
   term-moves : {link : Bool} {P : Proc} → Runs C i q P → Typed p (contextOf (q .held)) link P → Moves
   term-moves r (sends-unit {c = c} e d) =
@@ -149,15 +149,15 @@ module _ {p : Program} {C : Config} (v : WellFormed p C) {i : ℕ} {q : Process}
       receive-moves (a .end) r refl (a .found) (receives-choice t (ap choosing (a .type) ∙ e) (a .side) (branch-for (t .labels) B f))
   term-moves r (forwards {x = x} {c = c} A B e f g h) =
       inl (forward-open r (held-plain (x .name) (q .held) _ _ e .found) (held-plain (c .name) (q .held) _ _ f .found))
-  term-moves r (calls s e f g h k) = inl (reduces (rule.calls r e))
+  term-moves r (calls s e f g h k) = inl (by-rule (rule.calls r e))
   term-moves r (spawns n b b′ d d′) = inl (spawn-open r)
-  term-moves r (tries e d d′) = inl (place-or-lack (λ b. reduces (rule.tries r b)) (try-no-place r))
-  term-moves r (raises e d) = inl (reduces (rule.raises r))
+  term-moves r (tries e d d′) = inl (place-or-lack (λ b. by-rule (rule.tries r b)) (try-no-place r))
+  term-moves r (raises e d) = inl (by-rule (rule.raises r))
   term-moves r (cancels {c = c} e d) =
       let t = isSome-iff (lookup (c .name) (contextOf (q .held))) .0 e in
       let a = held-plain (c .name) (q .held) (t .0 .side) (t .0 .type) (t .1) in
-      inl (parts (a .end) λ _ _ g. reduces (rule.cancels r (a .found) g))
-  term-moves r (empties e) = inl (reduces (leaves (r .stands) (no-term (r .runs))))
+      inl (parts (a .end) λ _ _ g. by-rule (rule.cancels r (a .found) g))
+  term-moves r (empties e) = inl (by-rule (leaves (r .stands) (no-term (r .runs))))
 
   pub open-or-waits : Open p C i ⊎ ((k : JointKey) × Waits p C i q k)
   open-or-waits = go (q .doing) refl (v .typed i q s)

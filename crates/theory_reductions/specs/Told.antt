@@ -25,9 +25,9 @@ use Rattle.theory_reductions.specs.Kinds.{SendTerm, a-close, a-channel, 
 use Rattle.theory_reductions.specs.CarriedOut.{holder-stands}
 
 pub data Told (p : Program) (C : Config) (i : ℕ) : Outcome → Type 0 where
-  reduces : {seen : Seen} {D : Config} → Reduces p C i seen D → Told p C i (carried seen D)
-  shut : Told p C i notOpen
-  short : Lacks C i → Told p C i lacking
+  told-reduces : {seen : Seen} {D : Config} → Reduces p C i seen D → Told p C i (carried seen D)
+  told-shut : Told p C i notOpen
+  told-short : Lacks C i → Told p C i lacking
 
 module _ {p : Program} {C : Config} {k : ℕ} where
   if-told : (b : Bool) {r t : Outcome} → (b ≡ true → Told p C k r) → (b ≡ false → Told p C k t) → Told p C k (cond b r t)
@@ -35,24 +35,24 @@ module _ {p : Program} {C : Config} {k : ℕ} where
   if-told false f g = g refl
 
   held-told : (o : Option End) {f : End → Outcome} → ((e : End) → o ≡ some e → Told p C k (f e)) → Told p C k (onHeld o f)
-  held-told none f = shut
+  held-told none f = told-shut
   held-told (some e) f = f e refl
 
   place-told : {r : Outcome} → (length (C .processes) < processPlaces → Told p C k r) → (processPlaces ≤ length (C .processes) → Lacks C k) → Told p C k (placeFor C r)
-  place-told f g = if-told (ltb (length (C .processes)) processPlaces) (λ b. f (ltb-iff _ _ .0 b)) (λ b. short (g (not-below _ _ .0 b)))
+  place-told f g = if-told (ltb (length (C .processes)) processPlaces) (λ b. f (ltb-iff _ _ .0 b)) (λ b. told-short (g (not-below _ _ .0 b)))
 
   parting-told : (i : ℕ) (q : Process) (e : End) → ((seen : Seen) (D : Config) → GivesUp C e seen D → Reduces p C k seen (replaced i q D)) → Told p C k (parting C i q e)
   unfolding parting
   parting-told i q e f = go (farEnd C e) refl
     where
       go : (g : Far) → farEnd C e ≡ g → Told p C k (carried (seenAt g) (withOutside (outsideAfter g (e .channel) (C .outside)) (replaced i q C)))
-      go (atProcess h) z = reduces (f _ _ (by-process z))
-      go (atOutside n) z = reduces (f _ _ (by-outside z))
-      go givenUp z = reduces (f _ _ (by-nobody z))
+      go (atProcess h) z = told-reduces (f _ _ (by-process z))
+      go (atOutside n) z = told-reduces (f _ _ (by-outside z))
+      go givenUp z = told-reduces (f _ _ (by-nobody z))
 
   -- ── a send at place i, whose step place k names
   met : {i : ℕ} {seen : Seen} {D : Config} → Naming C k i → Sends p C i seen D → Told p C k (carried seen D)
-  met n s = reduces (communicates n s)
+  met n s = told-reduces (communicates n s)
 
   module _ {i : ℕ} (n : Naming C k i) {q : Process} where
     both-told : {Q : Proc} {c c′ : Located} {m : Message} {P : Proc} {w : Wanted} {e : End} {h : Holder} {d : Doing}
@@ -60,28 +60,28 @@ module _ {p : Program} {C : Config} {k : ℕ} where
         → Told p C k (bothTo C i (goesOn q P (afterSend p (c .name) m (q .held))) (h .place) (afterReceive p m w (h .name) (passedEnd m (q .held)) (h .process)))
     unfolding afterSend afterReceive
     both-told a-close r l z closes-on s = met n (close-meets r l (record { runs = z; name = same-iff _ _ .0 s }))
-    both-told a-close r l z takes-on s = shut
-    both-told a-close r l z picks-on s = shut
-    both-told a-channel r l z closes-on s = shut
+    both-told a-close r l z takes-on s = told-shut
+    both-told a-close r l z picks-on s = told-shut
+    both-told a-channel r l z closes-on s = told-shut
     both-told a-channel r l z takes-on s = met n (channel-meets r l (record { runs = z; name = same-iff _ _ .0 s }))
-    both-told a-channel r l z picks-on s = shut
-    both-told a-label r l z closes-on s = shut
-    both-told a-label r l z takes-on s = shut
+    both-told a-channel r l z picks-on s = told-shut
+    both-told a-label r l z closes-on s = told-shut
+    both-told a-label r l z takes-on s = told-shut
     both-told {P = P} {e = e} {h = h} (a-label {c = c} {l = b}) r l z (picks-on {B = B}) s = go (branchOf (b .name) B) refl
       where
         go : (y : Option Proc) → branchOf (b .name) B ≡ y
             → Told p C k (bothTo C i (goesOn q P (afterSend p (c .name) (chooses b) (q .held))) (h .place) (Option·map (λ Q. goesOn (h .process) Q (onward p (chooses b) (h .name) (h .process .held))) y))
-        go none y = shut
+        go none y = told-shut
         go (some R) y = met n (label-meets r l (record { runs = z; name = same-iff _ _ .0 s }) y)
 
     meeting-told : {Q : Proc} {c : Located} {m : Message} {P : Proc} {e : End} {h : Holder} {d : Doing} {t : Turn}
         → SendTerm Q c m P → Runs C i q Q → Holds C q c e (atProcess h) → h .process .doing ≡ d → ActsBy d t
         → Told p C k (meeting p C i q (goesOn q P (afterSend p (c .name) m (q .held))) m h t)
-    meeting-told {h = h} s r l z (closes-on {c = c′}) = if-told (same (c′ .name) (h .name)) (both-told s r l z closes-on) (λ _. shut)
-    meeting-told {h = h} s r l z (takes-on {c = c′}) = if-told (same (c′ .name) (h .name)) (both-told s r l z takes-on) (λ _. shut)
-    meeting-told {h = h} s r l z (picks-on {c = c′}) = if-told (same (c′ .name) (h .name)) (both-told s r l z picks-on) (λ _. shut)
-    meeting-told s r l z (sends-on u v) = shut
-    meeting-told s r l z on-its-own = shut
+    meeting-told {h = h} s r l z (closes-on {c = c′}) = if-told (same (c′ .name) (h .name)) (both-told s r l z closes-on) (λ _. told-shut)
+    meeting-told {h = h} s r l z (takes-on {c = c′}) = if-told (same (c′ .name) (h .name)) (both-told s r l z takes-on) (λ _. told-shut)
+    meeting-told {h = h} s r l z (picks-on {c = c′}) = if-told (same (c′ .name) (h .name)) (both-told s r l z picks-on) (λ _. told-shut)
+    meeting-told s r l z (sends-on u v) = told-shut
+    meeting-told s r l z on-its-own = told-shut
 
     out-told : {Q : Proc} {c : Located} {m : Message} {P : Proc} {e : End} {x : ℕ} → SendTerm Q c m P → Runs C i q Q → Holds C q c e (atOutside x)
         → Told p C k (toOutside p C i q (goesOn q P (afterSend p (c .name) m (q .held))) m e x)
@@ -91,7 +91,7 @@ module _ {p : Program} {C : Config} {k : ℕ} where
     out-told {P = P} {e = e} {x = x} (a-channel {c = c} {a = a}) r l =
         held-told (lookup (a .name) (q .held)) λ d y. if-told (ltb (C .given) outsideNumbers)
         (λ b. go d y (ltb-iff _ _ .0 b) (farEnd C d) refl)
-        (λ b. short (no-number n r l y (not-below _ _ .0 b)))
+        (λ b. told-short (no-number n r l y (not-below _ _ .0 b)))
       where
         go : (d : End) → lookup (a .name) (q .held) ≡ some d → C .given < outsideNumbers → (f : Far) → farEnd C d ≡ f
             → Told p C k (passedOut p C i (goesOn q P (afterSend p (c .name) (passes a) (q .held))) a e x d (isGivenUp f))
@@ -124,16 +124,16 @@ module _ {p : Program} {C : Config} {i : ℕ} {q : Process} where
     where
       answer : {e : End} {h : Holder} {d : Doing} {u : Turn} → Holds C q c e (atProcess h) → h .process .doing ≡ d → ActsBy d u → Told p C i (answering p C h u)
       answer {h = h} l z (sends-on {c = c′} u s) = if-told (same (c′ .name) (h .name))
-          (λ b. send-told (its-recv r t l (record { runs = z; name = same-iff _ _ .0 b }) u) s (record { stands = holder-stands l; runs = z })) (λ _. shut)
-      answer l z closes-on = shut
-      answer l z takes-on = shut
-      answer l z picks-on = shut
-      answer l z on-its-own = shut
+          (λ b. send-told (its-recv r t l (record { runs = z; name = same-iff _ _ .0 b }) u) s (record { stands = holder-stands l; runs = z })) (λ _. told-shut)
+      answer l z closes-on = told-shut
+      answer l z takes-on = told-shut
+      answer l z picks-on = told-shut
+      answer l z on-its-own = told-shut
 
       go : (e : End) → lookup (c .name) (q .held) ≡ some e → (f : Far) → farEnd C e ≡ f → Told p C i (receiving p C i q (c .name) f)
       go e y (atProcess h) z = answer (record { held = y; far = z }) refl (acts (h .process .doing))
-      go e y (atOutside n) z = shut
-      go e y givenUp z = reduces (unanswered r t (record { held = y; far = z }))
+      go e y (atOutside n) z = told-shut
+      go e y givenUp z = told-reduces (unanswered r t (record { held = y; far = z }))
 
   forward-told : {o : ℕ} {x c : Located} → Runs C i q (fwd o x c) → Told p C i (forwarding C i q x c)
   unfolding forwarding
@@ -141,9 +141,9 @@ module _ {p : Program} {C : Config} {i : ℕ} {q : Process} where
     where
       joined : (e d : End) → lookup (x .name) (q .held) ≡ some e → (f : Far) → Holds C q c d f → f ≢ givenUp → (g : Far) → farEnd C e ≡ g
           → Told p C i (joinedTo C i q e d g)
-      joined e d y f l b (atProcess h) z = reduces (joins r (record { held = y; far = z }) l b)
-      joined e d y f l b (atOutside n) z = reduces (joins-outside r (record { held = y; far = z }) l b)
-      joined e d y f l b givenUp z = reduces (joins-nobody r (record { held = y; far = z }) l b)
+      joined e d y f l b (atProcess h) z = told-reduces (joins r (record { held = y; far = z }) l b)
+      joined e d y f l b (atOutside n) z = told-reduces (joins-outside r (record { held = y; far = z }) l b)
+      joined e d y f l b givenUp z = told-reduces (joins-nobody r (record { held = y; far = z }) l b)
 
       go : (e d : End) → lookup (x .name) (q .held) ≡ some e → lookup (c .name) (q .held) ≡ some d → (f : Far) → farEnd C d ≡ f → Told p C i (joining C i q e d f)
       go e d y w (atProcess h) z = joined e d y (atProcess h) (record { held = w; far = z }) (at-a-process h) (farEnd C e) refl
@@ -152,7 +152,7 @@ module _ {p : Program} {C : Config} {i : ℕ} {q : Process} where
 
   term-told : (P : Proc) → Runs C i q P → Told p C i (stepTerm p C i q P)
   unfolding stepTerm cancelling spawning trying calling raising leaving
-  term-told (empty o) r = reduces (leaves (r .stands) (no-term (r .runs)))
+  term-told (empty o) r = told-reduces (leaves (r .stands) (no-term (r .runs)))
   term-told (sendUnit o c P) r = send-told its-own a-close r
   term-told (sendChannel o c a P) r = send-told its-own a-channel r
   term-told (sendLabel o c l P) r = send-told its-own a-label r
@@ -160,8 +160,8 @@ module _ {p : Program} {C : Config} {i : ℕ} {q : Process} where
   term-told (spawn x A P Q) r = place-told (λ b. go b (freshChannel C) refl) (spawn-no-place r)
     where
       go : length (C .processes) < processPlaces → (y : Option ℕ) → freshChannel C ≡ y → Told p C i (spawned C i q (x .name) (plain A) P Q y)
-      go b none y = short (spawn-no-channel r y)
-      go b (some n) y = reduces (spawns r b y)
+      go b none y = told-short (spawn-no-channel r y)
+      go b (some n) y = told-reduces (spawns r b y)
   term-told (recvUnit o c P) r = receive-told r refl
   term-told (recvChannel o c x P) r = receive-told r refl
   term-told (recvLabel o c B) r = receive-told r refl
@@ -169,25 +169,25 @@ module _ {p : Program} {C : Config} {i : ℕ} {q : Process} where
   term-told (call o f bracket xs ys) r = go (lookup (f .name) (p .processes)) refl
     where
       go : (y : Option Signature) → lookup (f .name) (p .processes) ≡ y → Told p C i (entering C i q (namesOf xs ++ namesOf ys) y)
-      go none y = shut
-      go (some s) y = reduces (calls r y)
-  term-told (raise o P) r = reduces (raises r)
-  term-told (try o P Q) r = place-told (λ b. reduces (tries r b)) (try-no-place r)
+      go none y = told-shut
+      go (some s) y = told-reduces (calls r y)
+  term-told (raise o P) r = told-reduces (raises r)
+  term-told (try o P Q) r = place-told (λ b. told-reduces (tries r b)) (try-no-place r)
 
   folding-told : Stands C i q → q .doing ≡ folding → (l : List (Name × End)) → q .held ≡ l → Told p C i (foldingUp C i q l)
   unfolding foldingUp leaving
-  folding-told s d [] e = reduces (leaves s (no-channel d e))
+  folding-told s d [] e = told-reduces (leaves s (no-channel d e))
   folding-told s d (x ∷ l) e = parting-told i _ (x .1) λ _ _ g. folds s d e g
 
   doing-told : Stands C i q → (d : Doing) → q .doing ≡ d → Told p C i (stepDoing p C i q d)
   doing-told s (running P) e = term-told P (record { stands = s; runs = e })
   doing-told s folding e = folding-told s e (q .held) refl
-  doing-told s (waiting Q) e = shut
+  doing-told s (waiting Q) e = told-shut
 
-pub told : (p : Program) (C : Config) (i : ℕ) → Told p C i (step p C i)
+pub step-told : (p : Program) (C : Config) (i : ℕ) → Told p C i (step p C i)
 unfolding step
-told p C i = go (at C i) refl
+step-told p C i = go (at C i) refl
   where
     go : (o : Option Process) → at C i ≡ o → Told p C i (stepOf p C i o)
-    go none e = shut
+    go none e = told-shut
     go (some q) e = doing-told (record { there = e }) (q .doing) refl
