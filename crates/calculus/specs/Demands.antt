@@ -1,28 +1,26 @@
 -- Demands 2 and 3 as statements about the definitions: the types that the theorems have.
 use Prim.Native.Nat.{ℕ, _≤_, _<_}
 use mathlib.Core.Path.{_≡_}
-use mathlib.Core.Logic.{_↔_, _≢_, _⊎_}
+use mathlib.Core.Logic.{_↔_, _≢_}
 use mathlib.Core.List.{List, [], _∷_}
 use mathlib.Core.Bool.{Bool, true, false}
-use mathlib.Core.Option.{some}
 use lib.ListN.{length}
-use Rattle.notation.specs.Limits.{processPlaces, channelPlaces, outsideNumbers, scratchWords, runWords}
-use Rattle.notation.specs.Tree.{Name, Located, Ty, Proc, sendChannel, spawn, try, Declaration}
+use Rattle.notation.specs.Limits.{scratchWords, runWords}
+use Rattle.notation.specs.Tree.{Name, Declaration}
 use Rattle.notation.specs.Reader.{got}
 use Rattle.notation.specs.Scripts.{readText}
 use Rattle.notation.specs.declared.reading.Cursor.{Cursor}
-use Rattle.calculus.specs.Named.{lookup}
 use Rattle.calculus.specs.Program.{Signature, Program, programOf}
 use Rattle.calculus.specs.Verdict.{fine}
 use Rattle.calculus.specs.Declarations.{declared}
 use Rattle.calculus.specs.Typing.{TypedBody}
 use Rattle.calculus.specs.Accepted.{accepted, checked}
-use Rattle.calculus.specs.Configuration.{End, running, Process, Config, atOutside, farEnd, channelsHeld}
-use Rattle.calculus.specs.Steps.{carried, step, isOpen, lacks}
+use Rattle.calculus.specs.Configuration.{Config}
 use Rattle.calculus.specs.Runs.{runOn}
 use Rattle.calculus.specs.Forest.{joints}
-use Rattle.calculus.specs.WellFormed.{WellFormed, In, Stands}
-use Rattle.calculus.specs.Machine.{Call, callStart, callStep, callRunOn, callReport, callExecName, Answer, started, stepped, ranOn, reported, named, reply, Moment, respond, idle, history}
+use Rattle.calculus.specs.WellFormed.{WellFormed, In}
+use Rattle.calculus.specs.Reduces.{Reduces, Lacks, Open}
+use Rattle.calculus.specs.Machine.{Call, callStart, callStep, callRunOn, callReport, callExecName, Answer, started, stepped, ranOn, reported, named, reply, Exchange, respond, idle, history}
 use Rattle.calculus.specs.declared.answers.Seen.{Seen}
 use Rattle.calculus.specs.declared.answers.Started.the-variants as Starts
 use Rattle.calculus.specs.declared.answers.Stepped.the-variants as Steps
@@ -46,61 +44,29 @@ pub record Enough (scratch run : ℕ) : Type 0 where
   pub scratchEnough : scratchWords ≤ scratch
   pub runEnough : runWords ≤ run
 
+-- a call of step at place i, which meets C, answers that it was carried out and showed `seen`, and leaves D
+abbrev pub Answered : List ℕ → Config → ℕ → ℕ → ℕ → Seen → Config → Type 0
+Answered text C scratch run i seen D = respond text C (callStep scratch run i) ≡ reply (stepped (Steps.Carried seen)) D
+
 pub record Demand2 : Type 0 where
   pub accepts : (text : List ℕ) (ds : List Declaration) → (checked text ≡ accepted ds) ↔ Derivable text ds
-  -- "a step is carried out exactly as the reduction rules say, and each step that they open can be chosen"
+  -- "a step is carried out exactly as the reduction rules say"
+  pub carriedOut : (text : List ℕ) (ds : List Declaration) → checked text ≡ accepted ds
+      → (C : Config) (scratch run i : ℕ) → Enough scratch run
+      → (seen : Seen) (D : Config) → Answered text C scratch run i seen D ↔ Reduces (programOf ds) C i seen D
+  -- "and each step that they open can be chosen": but for a lack of places and numbers, a call of its place carries it out
   pub chosen : (text : List ℕ) (ds : List Declaration) → checked text ≡ accepted ds
       → (C : Config) (scratch run i : ℕ) → Enough scratch run
-      → isOpen (programOf ds) C i ≡ true
-      → lacks (programOf ds) C i ≡ false
-      → (seen : Seen) × (D : Config) × (step (programOf ds) C i ≡ carried seen D) × (respond text C (callStep scratch run i) ≡ reply (stepped (Steps.Carried seen)) D)
+      → Open (programOf ds) C i
+      → ¬ Lacks C i
+      → (seen : Seen) × (D : Config) × Reduces (programOf ds) C i seen D × Answered text C scratch run i seen D
 
 -- ── demand 3: "Nothing waits forever for a partner that can't come"
 -- Well formed, so the joints are a forest and both ends of a channel have one type; while a process is left, joints are fewer than processes and some step is open.
 pub record Safe (p : Program) (C : Config) : Type 0 where
   pub wellFormed : WellFormed p C
   pub fewer : C .processes ≢ [] → length (joints C) < length (C .processes)
-  pub someOpen : C .processes ≢ [] → (i : ℕ) × (isOpen p C i ≡ true)
-
--- ── what an open step can lack
--- the process at place i spawns; it tries
-pub record Spawns (C : Config) (i : ℕ) : Type 0 where
-  pub process : Process
-  pub name : Located
-  pub type : Ty Located
-  pub new : Proc
-  pub rest : Proc
-  pub stands : Stands C i process
-  pub runs : process .doing ≡ running (spawn name type new rest)
-
-pub record Tries (C : Config) (i : ℕ) : Type 0 where
-  pub process : Process
-  pub offset : ℕ
-  pub main : Proc
-  pub handler : Proc
-  pub stands : Stands C i process
-  pub runs : process .doing ≡ running (try offset main handler)
-
--- a process at place i sends a channel over an outside channel
-pub record PassesOut (C : Config) (i : ℕ) : Type 0 where
-  pub process : Process
-  pub offset : ℕ
-  pub over : Located
-  pub passed : Located
-  pub rest : Proc
-  pub held : End
-  pub number : ℕ
-  pub stands : Stands C i process
-  pub sends : process .doing ≡ running (sendChannel offset over passed rest)
-  pub holds : lookup (over .name) (process .held) ≡ some held
-  pub far : farEnd C held ≡ atOutside number
-
--- it needs a process place and 128 are there, a channel place and 512 have an end held, or an outside number and all 32 were given
-abbrev pub Short : Config → ℕ → Type 0
-Short C i =
-    ((Spawns C i ⊎ Tries C i) × (processPlaces ≤ length (C .processes)))
-    ⊎ ((Spawns C i × ((k : ℕ) → k < channelPlaces → In k (channelsHeld C)))
-    ⊎ (PassesOut C i × (outsideNumbers ≤ C .given)))
+  pub someOpen : C .processes ≢ [] → (i : ℕ) × Open p C i
 
 -- ── which calls are refused
 abbrev pub isRefused : Answer → Bool
@@ -128,7 +94,7 @@ lengths (callExecName scratch line) = Enough scratch runWords
 -- with slices of enough words: a start and an exec's name exactly where the line is missing, a run-on and a report never, an open step exactly where it lacks
 abbrev pub RefusedWhere : Program → Config → Call → Answer → Type 0
 RefusedWhere p C (callStart scratch run line) a = (isRefused a ≡ true) ↔ (length (p .execs) ≤ line)
-RefusedWhere p C (callStep scratch run i) a = isOpen p C i ≡ true → (isRefused a ≡ true) ↔ Short C i
+RefusedWhere p C (callStep scratch run i) a = Open p C i → (isRefused a ≡ true) ↔ Lacks C i
 RefusedWhere p C (callRunOn scratch run budget) a = isRefused a ≡ false
 RefusedWhere p C (callReport scratch run) a = isRefused a ≡ false
 RefusedWhere p C (callExecName scratch line) a = (isRefused a ≡ true) ↔ (length (p .execs) ≤ line)
@@ -141,15 +107,16 @@ SafeBetween p C (callRunOn scratch run budget) = (b : ℕ) → b ≤ budget → 
 SafeBetween p C (callReport scratch run) = Unit {0}
 SafeBetween p C (callExecName scratch line) = Unit {0}
 
-pub record Kept (p : Program) (m : Moment) : Type 0 where
+-- what demand 3 asks of a call of the plain machine
+pub record SafeExchange (p : Program) (m : Exchange) : Type 0 where
   pub safe : Safe p (m .after .config)
   pub between : SafeBetween p (m .before) (m .call)
   pub refusals : lengths (m .call) → RefusedWhere p (m .before) (m .call) (m .after .answer)
   pub unchanged : isRefused (m .after .answer) ≡ true → m .after .config ≡ m .before
 
--- one claim about every list of calls that begins with a start carried out
-pub record Demand3 : Type 0 where
-  pub kept : (text : List ℕ) (ds : List Declaration) (scratch run line : ℕ) (calls : List Call)
+-- one claim about every list of calls of the plain machine that begins with a start carried out
+pub record PlainDemand3 : Type 0 where
+  pub atEachCall : (text : List ℕ) (ds : List Declaration) (scratch run line : ℕ) (calls : List Call)
       → checked text ≡ accepted ds
       → respond text idle (callStart scratch run line) .answer ≡ started Starts.Begun
-      → (m : Moment) → In m (history text idle (callStart scratch run line ∷ calls)) → Kept (programOf ds) m
+      → (m : Exchange) → In m (history text idle (callStart scratch run line ∷ calls)) → SafeExchange (programOf ds) m

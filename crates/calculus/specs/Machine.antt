@@ -6,12 +6,11 @@ use mathlib.Core.Option.{Option, some, none}
 use lib.ListN.{length, getElem?}
 use lib.Dec.{leb}
 use Rattle.notation.specs.Limits.{scratchWords, runWords}
-use Rattle.notation.specs.Tree.{Located}
-use Rattle.calculus.specs.Program.{Signature, Program, programOf}
+use Rattle.calculus.specs.Program.{Program, programOf}
 use Rattle.calculus.specs.Accepted.{Checked, accepted, faulty, checked}
 use Rattle.calculus.specs.Configuration.{Process, Config, config, at}
 use Rattle.calculus.specs.Steps.{Outcome, carried, notOpen, lacking, step}
-use Rattle.calculus.specs.Runs.{Ran, startConfig, execOf, runOn, report}
+use Rattle.calculus.specs.Runs.{startConfig, execOf, runOn, report}
 use Rattle.calculus.specs.declared.answers.Seen.{Seen}
 use Rattle.calculus.specs.declared.answers.Started.{Started}
 use Rattle.calculus.specs.declared.answers.Started.the-variants as Starts
@@ -113,11 +112,11 @@ abbrev pub idle : Config
 idle = config [] [] 0
 
 -- a call of a list with the configuration that it meets and the reply to it
-pub record Moment : Type 0 where
+pub record Exchange : Type 0 where
   pub before : Config
   pub call : Call
   pub after : Reply
 
-abbrev pub history : List ℕ → Config → List Call → List Moment
+abbrev pub history : List ℕ → Config → List Call → List Exchange
 history s C [] = []
 history s C (c ∷ cs) = record { before = C; call = c; after = respond s C c } ∷ history s (respond s C c .config) cs

@@ -1,5 +1,4 @@
--- What each entry promises: its answer and every word that it was lent, for all texts, slices and numbers.
--- s is the text; w and ws are the scratch and run words lent, v and vs what they are afterwards.
+-- What each entry promises: its answer and every word that it was lent, for all texts, slices and numbers. s is the text.
 use Prim.Native.Nat.{ℕ, zero, suc, _≤_}
 use mathlib.Core.Path.{_≡_, ap}
 use mathlib.Core.Logic.{_⊎_}
@@ -26,6 +25,59 @@ use Rattle.run_alone.specs.Run.{configIn}
 use Rattle.check_text.specs.Texts.{wordsIn}
 use Rattle.run_wellformed.specs.Formed.{Formed}
 
+-- ── a call of an entry
+-- what is asked, with its number
+pub data Request : Type 0 where
+  toStart : (line : ℕ) → Request
+  toStep : (place : ℕ) → Request
+  toRunOn : (budget : ℕ) → Request
+  toReport : Request
+  toName : (line : ℕ) → Request
+
+-- the words of the slices; an entry that is lent no run has none of its words
+pub record Slices : Type 0 where
+  pub scratch : List ℕ
+  pub run : List ℕ
+
+-- what is asked, the words lent, the answer, and those words afterwards
+pub record EntryCall : Type 0 where
+  pub request : Request
+  pub lent : Slices
+  pub answer : Answer
+  pub left : Slices
+
+abbrev pub called : Request → List ℕ → List ℕ → Answer → List ℕ → List ℕ → EntryCall
+called q w ws a v vs = record { request = q; lent = record { scratch = w; run = ws }; answer = a; left = record { scratch = v; run = vs } }
+
+-- what the plain machine is asked, by the lengths of the slices
+abbrev pub callAs : Request → ℕ → ℕ → Call
+callAs (toStart line) scratch run = callStart scratch run line
+callAs (toStep place) scratch run = callStep scratch run place
+callAs (toRunOn budget) scratch run = callRunOn scratch run budget
+callAs toReport scratch run = callReport scratch run
+callAs (toName line) scratch run = callExecName scratch line
+
+abbrev pub callOf : EntryCall → Call
+callOf m = callAs (m .request) (length (m .lent .scratch)) (length (m .lent .run))
+
+-- what becomes of the run: it is begun anew, what it holds is read, or none is lent
+pub data RunUse : Type 0 where
+  begun : RunUse
+  read : RunUse
+  unlent : RunUse
+
+abbrev pub useOf : Request → RunUse
+useOf (toStart line) = begun
+useOf (toStep place) = read
+useOf (toRunOn budget) = read
+useOf toReport = read
+useOf (toName line) = unlent
+
+abbrev pub isRead : RunUse → Bool
+isRead begun = false
+isRead read = true
+isRead unlent = false
+
 -- ── the slices
 -- "After 1 no lent slice is touched; after 2 to 15 the first 8,192 scratch words are zero; otherwise they hold the checked tables"
 abbrev pub scratchAfter : List ℕ → List ℕ → List ℕ
@@ -47,12 +99,17 @@ pub record Leaves (s ws vs : List ℕ) (D : Config) : Type 0 where
   pub long : length vs ≡ length ws
 
 -- "Every refusal leaves the run slice."
-abbrev pub runAfter : List ℕ → List ℕ → List ℕ → Config → Bool → Type 0
-runAfter s ws vs D true = vs ≡ ws
-runAfter s ws vs D false = Leaves s ws vs D
+abbrev pub keepsRun : RunUse → Answer → Bool
+keepsRun begun a = isRefused a
+keepsRun read a = isRefused a
+keepsRun unlent a = true
 
-pub record RunAfter (s ws vs : List ℕ) (y : Reply) : Type 0 where
-  pub is : runAfter s ws vs (y .config) (isRefused (y .answer))
+abbrev pub leftAs : List ℕ → List ℕ → List ℕ → Config → Bool → Type 0
+leftAs s ws vs D true = vs ≡ ws
+leftAs s ws vs D false = Leaves s ws vs D
+
+pub record RunAfter (s : List ℕ) (q : Request) (ws vs : List ℕ) (y : Reply) : Type 0 where
+  pub is : leftAs s ws vs (y .config) (keepsRun (useOf q) (y .answer))
 
 -- ── answers in document 01's numbers and values
 abbrev namedAs : List ℕ → ℕ → ℕ → Told
@@ -75,48 +132,52 @@ pub record Gives (a : Answer) (y : Reply) : Type 0 where
   pub is : a ≡ y .answer
   pub told : answerAs a ≡ answerAs (y .answer)
 
-pub gives : {a : Answer} {y : Reply} → a ≡ y .answer → Gives a y
-gives e = record { is = e; told = ap answerAs e }
+pub by-answer : {a : Answer} {y : Reply} → a ≡ y .answer → Gives a y
+by-answer e = record { is = e; told = ap answerAs e }
 
--- ── refusal 18
--- no refusal before it applies: the text is accepted, and both slices have their words
-pub record Reached (s w ws : List ℕ) : Type 0 where
+-- ── what holds of every call of an entry
+-- where refusal 18 is tested: the run is read, and no refusal before it applies, since the text is accepted and both slices have their words
+pub record Reached (s : List ℕ) (m : EntryCall) : Type 0 where
+  pub reads : isRead (useOf (m .request)) ≡ true
   pub script : List Declaration
   pub accepts : checked s ≡ accepted script
-  pub scratch : scratchWords ≤ length w
-  pub run : runWords ≤ length ws
+  pub scratch : scratchWords ≤ length (m .lent .scratch)
+  pub run : runWords ≤ length (m .lent .run)
 
--- an entry that is lent a run: 18 where it is reached and the words are no such configuration; otherwise the plain machine's reply to the call for the configuration there
-pub record Answers (s w ws : List ℕ) (c : Call) (a : Answer) (v vs : List ℕ) : Type 0 where
-  pub scratch : v ≡ scratchAfter s w
-  pub either : (Reached s w ws × (¬ HoldsRun s ws)) ⊎ (Reached s w ws → HoldsRun s ws)
-  pub stranger : Reached s w ws → ¬ HoldsRun s ws → Gives a (refusal idle c 18 0) × (vs ≡ ws)
-  pub known : (Reached s w ws → HoldsRun s ws) → Gives a (respond s (configOf s ws) c) × RunAfter s ws vs (respond s (configOf s ws) c)
+-- the plain machine's reply to the call, for the configuration that the run's words decode to. That of a start and of an exec's name is the same for all.
+abbrev pub plainReply : List ℕ → EntryCall → Reply
+plainReply s m = respond s (configOf s (m .lent .run)) (callOf m)
 
--- ── the entries
--- start, which asks nothing of the run's words
-pub record Starts (s w ws : List ℕ) (line : ℕ) (r : Started) (v vs : List ℕ) : Type 0 where
-  pub scratch : v ≡ scratchAfter s w
-  pub answer : Gives (started r) (respond s idle (callStart (length w) (length ws) line))
-  pub run : RunAfter s ws vs (respond s idle (callStart (length w) (length ws) line))
+-- 18 where it is reached and the words are no such configuration; otherwise the plain machine's reply
+pub record Answers (s : List ℕ) (m : EntryCall) : Type 0 where
+  pub scratch : m .left .scratch ≡ scratchAfter s (m .lent .scratch)
+  pub either : (Reached s m × (¬ HoldsRun s (m .lent .run))) ⊎ (Reached s m → HoldsRun s (m .lent .run))
+  pub stranger : Reached s m → ¬ HoldsRun s (m .lent .run) → Gives (m .answer) (refusal idle (callOf m) 18 0) × (m .left .run ≡ m .lent .run)
+  pub known : (Reached s m → HoldsRun s (m .lent .run)) → Gives (m .answer) (plainReply s m) × RunAfter s (m .request) (m .lent .run) (m .left .run) (plainReply s m)
+
+-- ── the entries: w and ws are the scratch and run words lent, v and vs what they are afterwards
+abbrev pub Starts : List ℕ → List ℕ → List ℕ → ℕ → Started → List ℕ → List ℕ → Type 0
+Starts s w ws line r v vs = Answers s (called (toStart line) w ws (started r) v vs)
 
 abbrev pub Steps : List ℕ → List ℕ → List ℕ → ℕ → Stepped → List ℕ → List ℕ → Type 0
-Steps s w ws place r v vs = Answers s w ws (callStep (length w) (length ws) place) (stepped r) v vs
+Steps s w ws place r v vs = Answers s (called (toStep place) w ws (stepped r) v vs)
 
 abbrev pub RunsOn : List ℕ → List ℕ → List ℕ → ℕ → RanOn → List ℕ → List ℕ → Type 0
-RunsOn s w ws budget r v vs = Answers s w ws (callRunOn (length w) (length ws) budget) (ranOn r) v vs
+RunsOn s w ws budget r v vs = Answers s (called (toRunOn budget) w ws (ranOn r) v vs)
 
 -- how many numbers a report lists
 abbrev pub counted : Reported → ℕ
 counted (Open n) = n
 counted (Refused n i) = 0
 
+abbrev pub reportAnswer : Report → Answer
+reportAnswer r = reported (r .answer) (take (counted (r .answer)) (r .numbers))
+
 -- a report: its numbers stand first, then zeros; the run is only read
 pub record Reports (s w ws : List ℕ) (r : Report) (v : List ℕ) : Type 0 where
-  pub answers : Answers s w ws (callReport (length w) (length ws)) (reported (r .answer) (take (counted (r .answer)) (r .numbers))) v ws
+  pub answers : Answers s (called toReport w ws (reportAnswer r) v ws)
   pub rest : (k : ℕ) → counted (r .answer) ≤ k → getD (r .numbers) k 0 ≡ 0
 
 -- the name of an exec line, "handed back as the part of the lent text that holds it"; the refusal's number and offset "stand in two lent numbers, both 0 otherwise"
-pub record Names (s w : List ℕ) (line : ℕ) (part : List ℕ) (number at : ℕ) (v : List ℕ) : Type 0 where
-  pub scratch : v ≡ scratchAfter s w
-  pub answer : Gives (named part number at) (respond s idle (callExecName (length w) line))
+abbrev pub Names : List ℕ → List ℕ → ℕ → List ℕ → ℕ → ℕ → List ℕ → Type 0
+Names s w line part number at v = Answers s (called (toName line) w [] (named part number at) v [])

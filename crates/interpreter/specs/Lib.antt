@@ -1,4 +1,5 @@
 pub mod Entries
+pub mod Past
 pub mod Inside
 pub mod Runs
 pub mod Stepping

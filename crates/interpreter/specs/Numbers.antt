@@ -8,10 +8,10 @@ use native.Mathlib.Omega.{arith}
 use Rattle.calculus.specs.Answers.{startedAs, steppedAs, ranOnAs, reportedAs}
 use Rattle.calculus.specs.Configuration.{Config}
 use Rattle.calculus.specs.Demands.{isRefused}
-use Rattle.calculus.specs.Machine.{Call, callStart, callStep, callRunOn, callReport, callExecName, Answer, Reply, refusal, respond, idle}
+use Rattle.calculus.specs.Machine.{Call, callStart, callStep, callRunOn, callReport, callExecName, Answer, refusal, respond, idle}
 use Rattle.theory_refusals.specs.Refusals.{refusalOf, offsetOf, ByArguments, Refuses, refuses-as, respond-numbered, respond-unrefused}
-use Rattle.interpreter.specs.Entries.{configOf, HoldsRun, runAfter, RunAfter, Reached, Answers}
-use Rattle.interpreter.specs.Calls.{Moment, start, step, runOn, report, execName, Kept, answerOf, RunKept, Demand1}
+use Rattle.interpreter.specs.Entries.{EntryCall, callOf, RunUse, begun, read, unlent, useOf, configOf, HoldsRun, keepsRun, leftAs, Reached, plainReply, Answers}
+use Rattle.interpreter.specs.Calls.{Demand1}
 
 -- ── 18
 not-by-arguments : (c : Call) (n : ℕ) → ByArguments c n → n ≢ 18
@@ -51,38 +51,28 @@ eighteen (callRunOn scratch run budget) = (omega arith, omega arith)
 eighteen (callReport scratch run) = (omega arith, omega arith)
 eighteen (callExecName scratch line) = (omega arith, omega arith)
 
--- what a refused reply left
-refused-run : {s ws vs : List ℕ} (y : Reply) → RunAfter s ws vs y → isRefused (y .answer) ≡ true → vs ≡ ws
-refused-run {s} {ws} {vs} y f e = subst (runAfter s ws vs (y .config)) e (f .is)
+-- a refusal leaves the run
+refused-keeps : (u : RunUse) (a : Answer) → isRefused a ≡ true → keepsRun u a ≡ true
+refused-keeps begun a e = e
+refused-keeps read a e = e
+refused-keeps unlent a e = refl
 
-module _ (s w ws : List ℕ) (c : Call) {a : Answer} {v vs : List ℕ} (A : Answers s w ws c a v vs) (r : isRefused a ≡ true) where
-  answers-numbered : InList a
-  answers-numbered = go (A .either)
+module _ (s : List ℕ) (m : EntryCall) (A : Answers s m) (r : isRefused (m .answer) ≡ true) where
+  numbered : InList (m .answer)
+  numbered = go (A .either)
     where
-      go : (Reached s w ws × (¬ HoldsRun s ws)) ⊎ (Reached s w ws → HoldsRun s ws) → InList a
-      go (inl (h, d)) = subst InList (sym (A .stranger h d .0 .is)) (eighteen c)
-      go (inr k) = by-reply s (configOf s ws) c (A .known k .0 .is) r
+      go : (Reached s m × (¬ HoldsRun s (m .lent .run))) ⊎ (Reached s m → HoldsRun s (m .lent .run)) → InList (m .answer)
+      go (inl (h, d)) = subst InList (sym (A .stranger h d .0 .is)) (eighteen (callOf m))
+      go (inr k) = by-reply s (configOf s (m .lent .run)) (callOf m) (A .known k .0 .is) r
 
-  answers-kept : vs ≡ ws
-  answers-kept = go (A .either)
+  unchanged : m .left .run ≡ m .lent .run
+  unchanged = go (A .either)
     where
-      go : (Reached s w ws × (¬ HoldsRun s ws)) ⊎ (Reached s w ws → HoldsRun s ws) → vs ≡ ws
+      go : (Reached s m × (¬ HoldsRun s (m .lent .run))) ⊎ (Reached s m → HoldsRun s (m .lent .run)) → m .left .run ≡ m .lent .run
       go (inl (h, d)) = A .stranger h d .1
-      go (inr k) = refused-run (respond s (configOf s ws) c) (A .known k .1) (ap isRefused (sym (A .known k .0 .is)) ∙ r)
-
-numbered : (s : List ℕ) (m : Moment) → Kept s m → isRefused (answerOf m) ≡ true → InList (answerOf m)
-numbered s (start w ws line r v vs) k e = by-reply s idle _ (k .answer .is) e
-numbered s (step w ws place r v vs) k e = answers-numbered s w ws _ k e
-numbered s (runOn w ws budget r v vs) k e = answers-numbered s w ws _ k e
-numbered s (report w ws r v) k e = answers-numbered s w ws _ (k .answers) e
-numbered s (execName w line part number at v) k e = by-reply s idle _ (k .answer .is) e
-
-unchanged : (s : List ℕ) (m : Moment) → Kept s m → isRefused (answerOf m) ≡ true → RunKept m
-unchanged s (start w ws line r v vs) k e = refused-run _ (k .run) (ap isRefused (sym (k .answer .is)) ∙ e)
-unchanged s (step w ws place r v vs) k e = answers-kept s w ws _ k e
-unchanged s (runOn w ws budget r v vs) k e = answers-kept s w ws _ k e
-unchanged s (report w ws r v) k e = tt
-unchanged s (execName w line part number at v) k e = tt
+      go (inr k) =
+          let y = A .known k in
+          subst (leftAs s (m .lent .run) (m .left .run) (plainReply s m .config)) (refused-keeps (useOf (m .request)) _ (ap isRefused (sym (y .0 .is)) ∙ r)) (y .1 .is)
 
 pub demand1 : Demand1
 demand1 = record { numbered = numbered; unchanged = unchanged }

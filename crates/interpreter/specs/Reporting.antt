@@ -13,7 +13,7 @@ use Rattle.notation.specs.Token.{nameAt}
 use Rattle.notation.specs.Tree.{Declaration}
 use Rattle.calculus.specs.Accepted.{accepted, checked}
 use Rattle.calculus.specs.Configuration.{Outside}
-use Rattle.calculus.specs.Machine.{callReport, reported}
+use Rattle.calculus.specs.Machine.{reported}
 use Rattle.calculus.specs.Runs.{report}
 use Rattle.calculus.specs.declared.answers.Reported.the-variants.{Open, Refused}
 use Rattle.calculus.specs.declared.answers.Report.{Report}
@@ -22,9 +22,10 @@ use Rattle.read_tables.specs.Decode.{processIn}
 use Rattle.read_tables.specs.Program.{plainIn}
 use Rattle.run_words.specs.Raw.{RawOutside, RawConfig, rawIn}
 use Rattle.run_words.specs.Decode.{decodedOutside}
-use Rattle.interpreter.specs.Entries.{HoldsRun, configOf, counted, Answers, Reports}
-use Rattle.interpreter.specs.Inside.{AnswersIn, answers-short, answers-stranger}
-use Rattle.interpreter.specs.RunningOn.{report-kind, report-told}
+use Rattle.interpreter.specs.Entries.{toReport, called, HoldsRun, configOf, counted, reportAnswer, Answers, Reports}
+use Rattle.interpreter.specs.Past.{refusalTo}
+use Rattle.interpreter.specs.Inside.{AnswersIn}
+use Rattle.interpreter.specs.RunningOn.{report-told}
 
 abbrev pub numbersOf : RawConfig → List ℕ
 numbersOf C = map (λ (o : RawOutside). o .number) (C .outside)
@@ -41,18 +42,18 @@ pub record Refuses (n at : ℕ) (r : Report) : Type 0 where
 
 -- a report of an accepted text
 pub record ReportsIn (s ws : List ℕ) (r : Report) : Type 0 where
-  pub answers : AnswersIn s ws (λ n. callReport n (length ws)) (reported (r .answer) (take (counted (r .answer)) (r .numbers))) ws
+  pub answers : AnswersIn s toReport ws (reportAnswer r) ws
   pub rest : (k : ℕ) → counted (r .answer) ≤ k → getD (r .numbers) k 0 ≡ 0
 
 -- ── refused
-refused-as : (n at : ℕ) (r : Report) → Refuses n at r → reported (Refused n at) [] ≡ reported (r .answer) (take (counted (r .answer)) (r .numbers))
+refused-as : (n at : ℕ) (r : Report) → Refuses n at r → refusalTo toReport n at ≡ reportAnswer r
 refused-as n at r f = λ j. reported (sym (f .answer) j) (take (counted (sym (f .answer) j)) (r .numbers))
 
-pub report-refused : {s ws : List ℕ} (n at : ℕ) (r : Report) → Refuses n at r → AnswersIn s ws (λ n. callReport n (length ws)) (reported (Refused n at) []) ws → ReportsIn s ws r
-report-refused {s} {ws} n at r f A = record { answers = subst (λ a. AnswersIn s ws (λ n. callReport n (length ws)) a ws) (refused-as n at r f) A; rest = λ k h. f .rest k }
+pub report-refused : {s ws : List ℕ} (n at : ℕ) (r : Report) → Refuses n at r → AnswersIn s toReport ws (refusalTo toReport n at) ws → ReportsIn s ws r
+report-refused {s} {ws} n at r f A = record { answers = subst (λ a. AnswersIn s toReport ws a ws) (refused-as n at r f) A; rest = λ k h. f .rest k }
 
-pub text-refused-report : (s w ws x : List ℕ) (n at : ℕ) (r : Report) → Refuses n at r → Answers s w ws (callReport (length w) (length ws)) (reported (Refused n at) []) x ws → Reports s w ws r x
-text-refused-report s w ws x n at r f A = record { answers = subst (λ a. Answers s w ws (callReport (length w) (length ws)) a x ws) (refused-as n at r f) A; rest = λ k h. f .rest k }
+pub text-refused-report : (s w ws x : List ℕ) (n at : ℕ) (r : Report) → Refuses n at r → Answers s (called toReport w ws (refusalTo toReport n at) x ws) → Reports s w ws r x
+text-refused-report s w ws x n at r f A = record { answers = subst (λ a. Answers s (called toReport w ws a x ws)) (refused-as n at r f) A; rest = λ k h. f .rest k }
 
 -- ── carried out
 module _ (s : List ℕ) (ds : List Declaration) (ok : checked s ≡ accepted ds) (fits : FitsTables s) (ws : List ℕ) where

@@ -1,16 +1,12 @@
 -- A run that holds a configuration of this text, as the test of 18 finds it and as the machine takes it.
 use Prim.Native.Nat.{ℕ, _≤_}
-use mathlib.Core.Path.{_≡_, refl, sym, _∙_, ap, subst}
+use mathlib.Core.Path.{sym, subst}
 use mathlib.Core.List.{List, [], _∷_}
 use lib.ListN.{length}
 use Rattle.notation.specs.Limits.{runWords}
 use Rattle.notation.specs.Tables.{tables}
-use Rattle.notation.specs.Tree.{Declaration}
-use Rattle.calculus.specs.Accepted.{accepted, checked}
 use Rattle.calculus.specs.Configuration.{Config}
-use Rattle.calculus.specs.Program.{Program, programOf}
 use Rattle.calculus.specs.WellFormed.{WellFormed}
-use Rattle.read_text.specs.Reading.{FitsTables}
 use Rattle.read_tables.specs.Program.{programIn}
 use Rattle.read_tables.specs.Roots.{TypeIn}
 use Rattle.read_tables.specs.Whole.{Tables}
@@ -21,8 +17,7 @@ use Rattle.run_words.specs.Raw.{RawProcess, RawOutside, rawIn, BoundedProcess}
 use Rattle.run_alone.specs.Run.{configIn, Fits, RunOf, Becomes}
 use Rattle.run_wellformed.specs.OfText.{ProcessOf, OutsideOf, pointer-in, ends-in, process-of, of-text}
 use Rattle.run_wellformed.specs.Formed.{Formed}
-use Rattle.check_accepted.specs.Texts.{tables-stand, tables-everywhere, program-is}
-use Rattle.interpreter.specs.Entries.{HoldsRun, configOf, Leaves}
+use Rattle.interpreter.specs.Entries.{Leaves}
 
 -- ── what the numbers of a run stand for
 module _ (s w : List ℕ) (t : Everywhere s w) where
@@ -51,8 +46,8 @@ module _ (s w : List ℕ) where
   }
 
 -- what the machine leaves of an accepted text is such a run
-pub leaves : (s : List ℕ) (ws vs : List ℕ) (D : Config) → Becomes s (tables s) ws vs D → WellFormed (programIn s (tables s)) D → Leaves s ws vs D
-leaves s ws vs D b f = record {
+pub leaves-run : (s : List ℕ) (ws vs : List ℕ) (D : Config) → Becomes s (tables s) ws vs D → WellFormed (programIn s (tables s)) D → Leaves s ws vs D
+leaves-run s ws vs D b f = record {
   holds = formed-of s (tables s) vs (b .run) (subst (WellFormed (programIn s (tables s))) (sym (b .is)) f);
   is = b .is;
   past = b .past;

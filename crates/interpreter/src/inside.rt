@@ -1,11 +1,12 @@
 // What the entries come to for an accepted text, whose tables are lent: refusals 16 to 21.
 ghost use Prim.Native.Nat.{_≤_};
+ghost use mathlib.Core.List.{[]};
 ghost use lib.ListN.{length};
 ghost use Rattle.notation.specs.Limits.{runWords};
-ghost use Rattle.calculus.specs.Machine.{callStep, callRunOn, stepped, ranOn};
-ghost use Rattle.interpreter.specs.Entries.{HoldsRun};
+ghost use Rattle.calculus.specs.Machine.{started, stepped, ranOn, named};
+ghost use Rattle.interpreter.specs.Entries.{toStart, toStep, toRunOn, toName, HoldsRun};
 ghost use Rattle.check_accepted.specs.Texts.{TextIn};
-ghost use Rattle.interpreter.specs.Inside.{AnswersIn, StartsIn, NamesIn};
+ghost use Rattle.interpreter.specs.Inside.{AnswersIn};
 use calculus::answers::RanOn;
 use calculus::answers::Started;
 use calculus::answers::Stepped;
@@ -17,12 +18,12 @@ use run_alone::outcome::Outcome;
 use run_steps::dispatch::step_at;
 use run_steps::running::steps_until;
 use run_steps::starting::begin_line;
+use run_wellformed::well_formed;
 use run_words::processes::count;
-use wellformed::well_formed;
 
 pub(crate) fn start_in(text: &[u8], tables: &[u32], run: &mut [u32], line: u32) -> Started
     requires { ⌜ TextIn (now text) (now tables) ⌝ }
-    ensures { λ r. ⌜ StartsIn (now (text .entry)) (now (run .entry)) line r (now (run .exit)) ⌝ }
+    ensures { λ r. ⌜ AnswersIn (now (text .entry)) (toStart line) (now (run .entry)) (started r) (now (run .exit)) ⌝ }
 {
     if run.len() < Script::RUN_WORDS {
         return Started::Refused(16, 0);
@@ -35,7 +36,7 @@ pub(crate) fn start_in(text: &[u8], tables: &[u32], run: &mut [u32], line: u32) 
 
 pub(crate) fn step_in(text: &[u8], tables: &[u32], run: &mut [u32], place: u32) -> Stepped
     requires { ⌜ TextIn (now text) (now tables) ⌝ }
-    ensures { λ r. ⌜ AnswersIn (now (text .entry)) (now (run .entry)) (λ n. callStep n (length (now (run .entry))) place) (stepped r) (now (run .exit)) ⌝ }
+    ensures { λ r. ⌜ AnswersIn (now (text .entry)) (toStep place) (now (run .entry)) (stepped r) (now (run .exit)) ⌝ }
 {
     if run.len() < Script::RUN_WORDS {
         return Stepped::Refused(16, 0);
@@ -50,7 +51,7 @@ pub(crate) fn step_in(text: &[u8], tables: &[u32], run: &mut [u32], place: u32) 
 fn step_placed(text: &[u8], tables: &[u32], run: &mut [u32], place: usize) -> Stepped
     requires { ⌜ TextIn (now text) (now tables) ⌝ }
     requires { ⌜ (runWords ≤ length (now run)) × HoldsRun (now text) (now run) ⌝ }
-    ensures { λ r. ⌜ AnswersIn (now (text .entry)) (now (run .entry)) (λ n. callStep n (length (now (run .entry))) place) (stepped r) (now (run .exit)) ⌝ }
+    ensures { λ r. ⌜ AnswersIn (now (text .entry)) (toStep place) (now (run .entry)) (stepped r) (now (run .exit)) ⌝ }
 {
     if count(run) <= place {
         return Stepped::Refused(19, 0);
@@ -65,7 +66,7 @@ fn step_placed(text: &[u8], tables: &[u32], run: &mut [u32], place: usize) -> St
 
 pub(crate) fn run_on_in(text: &[u8], tables: &[u32], run: &mut [u32], budget: u32) -> RanOn
     requires { ⌜ TextIn (now text) (now tables) ⌝ }
-    ensures { λ r. ⌜ AnswersIn (now (text .entry)) (now (run .entry)) (λ n. callRunOn n (length (now (run .entry))) budget) (ranOn r) (now (run .exit)) ⌝ }
+    ensures { λ r. ⌜ AnswersIn (now (text .entry)) (toRunOn budget) (now (run .entry)) (ranOn r) (now (run .exit)) ⌝ }
 {
     if run.len() < Script::RUN_WORDS {
         return RanOn::Refused(16, 0);
@@ -84,7 +85,7 @@ pub(crate) fn name_in<'a>(
     at: &mut usize,
 ) -> &'a [u8]
     requires { ⌜ TextIn (now text) (now tables) ⌝ }
-    ensures { λ r. ⌜ NamesIn (now (text .entry)) line (now r) (now (number .exit)) (now (at .exit)) ⌝ }
+    ensures { λ r. ⌜ AnswersIn (now (text .entry)) (toName line) [] (named (now r) (now (number .exit)) (now (at .exit))) [] ⌝ }
 {
     *at = 0;
     let i = line as usize;

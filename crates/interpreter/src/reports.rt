@@ -9,9 +9,9 @@ ghost use Rattle.interpreter.specs.Reporting.{numbersOf, Listed, Reports
 use calculus::answers::Report;
 use calculus::answers::Reported;
 use notation::script::Script;
+use run_wellformed::well_formed;
 use run_words::outside::outside_at;
 use run_words::outside::outside_count;
-use wellformed::well_formed;
 
 // The numbers, in the order of the run; zeros after them.
 fn list_numbers(run: &[u32]) -> [u32; 32]

@@ -5,4 +5,3 @@ pub mod Fine
 pub mod Parts
 pub mod Rules
 pub mod Accepts
-pub mod Demand

@@ -2,9 +2,11 @@
 -- Whoever reasons about the types of two ends cites these laws alone, and never that the types are equal.
 use Prim.Native.Nat.{ℕ}
 use mathlib.Core.Path.{_≡_, refl, sym, _∙_, ap}
+use mathlib.Core.Logic.{_↔_}
+use mathlib.Core.Bool.{Bool, true, false, So}
 use mathlib.Core.Option.{Option, some, none}
 use Rattle.notation.specs.Tree.{Name, Ty, unit}
-use Rattle.calculus.specs.Types.{standing, Passing, passing, Choosing, choosing, labelled}
+use Rattle.calculus.specs.Types.{sameType, standing, Passing, passing, Choosing, choosing, labelled}
 use Rattle.calculus.specs.Program.{Program}
 use Rattle.calculus.specs.Typing.{OneType}
 use Rattle.theory_derivations.specs.Equality.{sameType-iff}
@@ -17,6 +19,10 @@ module _ (p : Program) where
   type-same : {A B : Ty Name} → A ≡ B → OneType p A B
   type-same {A} {B} e = record { same = sameType-iff A B .1 e }
 
+  -- the test of two types
+  pub one-iff : (A B : Ty Name) → So (sameType A B) ↔ OneType p A B
+  one-iff A B = (λ s. record { same = s }, λ h. h .same)
+
   -- ── an equivalence
   pub one-refl : (A : Ty Name) → OneType p A A
   one-refl A = type-same refl
@@ -26,6 +32,15 @@ module _ (p : Program) where
 
   pub one-trans : {A B D : Ty Name} → OneType p A B → OneType p B D → OneType p A D
   one-trans h k = type-same (same-type h ∙ same-type k)
+
+  -- the test does not mind the order
+  pub one-test-sym : (A B : Ty Name) → sameType A B ≡ sameType B A
+  one-test-sym A B = go (sameType A B) (sameType B A) (λ s. one-iff B A .1 (one-sym (one-iff A B .0 s))) (λ s. one-iff A B .1 (one-sym (one-iff B A .0 s)))
+    where
+      go : (a b : Bool) → (So a → So b) → (So b → So a) → a ≡ b
+      go true b f g = sym (f refl)
+      go false true f g = g refl
+      go false false f g = refl
 
   -- ── where one is closed, so is the other
   pub one-unit : {A B : Ty Name} → OneType p A B → standing (p .types) A ≡ unit → standing (p .types) B ≡ unit

@@ -3,16 +3,19 @@ use Prim.Native.Nat.{ℕ, suc, _+_, _≤_, _<_}
 use native.Mathlib.Omega.{arith}
 use native.Mathlib.Decide.{ℕ-discrete, decLt}
 use mathlib.Core.Path.{_≡_, refl, sym, _∙_, ap}
+use mathlib.Core.Logic.{inl, inr}
 use mathlib.Core.List.{List, [], _∷_}
 use mathlib.Core.Option.{Option, some, none, Option·some-injective, Option·none-ne-some, Option·some-ne-none}
 use mathlib.Core.Bool.{Bool, true, false, cond, true≢false, false≢true}
 use lib.ListN.{length}
 use Rattle.calculus.specs.Program.{Program}
 use Rattle.calculus.specs.Configuration.{Process, Config}
-use Rattle.calculus.specs.Steps.{Outcome, carried, notOpen, lacking, stepOf, step, isOpenBy, lacksBy, isOpen, lacks}
+use Rattle.calculus.specs.Steps.{Outcome, carried, notOpen, lacking, stepOf, step}
 use Rattle.calculus.specs.Runs.{isCarried, firstFrom, choosePlace}
+use Rattle.calculus.specs.Reduces.{Lacks, Open}
 use Rattle.calculus.specs.declared.answers.Seen.{Seen}
 use Rattle.theory_ends.specs.Lists.{past-the-end}
+use Rattle.theory_reductions.specs.CarriedOut.{carried-out}
 
 -- ── "Run-on takes the first open place that can be carried out"
 -- the step at a place is carried out
@@ -88,17 +91,12 @@ module _ (p : Program) (C : Config) where
       go (no n) = ap (λ o. isCarried (stepOf p C i o)) (past-the-end (C .processes) i (omega arith))
 
   -- an open step that does not lack is carried out
-  pub open-carries : (i : ℕ) → isOpen p C i ≡ true → lacks p C i ≡ false → Carries p C i
-  unfolding isOpen lacks
-  open-carries i o n = carries p C i (go (step p C i) o n)
-    where
-      go : (r : Outcome) → isOpenBy r ≡ true → lacksBy r ≡ false → isCarried r ≡ true
-      go (carried s D) o n = refl
-      go notOpen o n = absurd (false≢true o)
-      go lacking o n = absurd (true≢false n)
+  pub open-carries : (i : ℕ) → Open p C i → ¬ Lacks C i → Carries p C i
+  open-carries i (inl (s, D, r)) n = record { seen = s; after = D; steps = carried-out p r }
+  open-carries i (inr l) n = absurd (n l)
 
   -- run-on finds a place where there is one
-  pub run-on-finds : (i : ℕ) → isOpen p C i ≡ true → lacks p C i ≡ false → (j : ℕ) × (choosePlace p C ≡ some j) × First p C j
+  pub run-on-finds : (i : ℕ) → Open p C i → ¬ Lacks C i → (j : ℕ) × (choosePlace p C ≡ some j) × First p C j
   run-on-finds i o n = go (choosePlace p C) refl
     where
       go : (c : Option ℕ) → choosePlace p C ≡ c → (j : ℕ) × (choosePlace p C ≡ some j) × First p C j

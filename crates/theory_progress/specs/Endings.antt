@@ -2,54 +2,46 @@
 use Prim.Native.Nat.{ℕ, zero, suc}
 use native.Mathlib.Omega.{arith}
 use mathlib.Core.Path.{_≡_, refl, sym, _∙_, ap, subst}
-use mathlib.Core.Logic.{_↔_, _≢_}
+use mathlib.Core.Logic.{_↔_, _≢_, inl, inr}
 use mathlib.Core.List.{[]}
 use mathlib.Core.Option.{none}
 use mathlib.Core.Bool.{Bool, true, false, true≢false, false≢true}
 use lib.ListN.{length}
 use Rattle.calculus.specs.Program.{Program}
 use Rattle.calculus.specs.Configuration.{Config}
-use Rattle.calculus.specs.Steps.{Outcome, carried, notOpen, lacking, step, isOpenBy, isOpen, lacksBy, lacks}
 use Rattle.calculus.specs.Runs.{isCarried, choosePlace, runOn}
 use Rattle.calculus.specs.WellFormed.{WellFormed}
-use Rattle.calculus.specs.Demands.{Short}
+use Rattle.calculus.specs.Reduces.{Lacks, Open}
 use Rattle.calculus.specs.declared.answers.Seen.{Seen}
 use Rattle.calculus.specs.declared.answers.RanOn.{RanOn}
 use Rattle.calculus.specs.declared.answers.RanOn.the-variants.{Shown, Done, Full, Stopped, Refused}
+use Rattle.theory_reductions.specs.CarriedOut.{carried-out}
 use Rattle.theory_progress.specs.Progress.{some-open}
-use Rattle.theory_progress.specs.Lacks.{lacks-exactly}
 use Rattle.theory_progress.specs.Chosen.{First, chosen-first, none-chosen}
 use Rattle.theory_progress.specs.RunOn.{showingTo, Ended, given, run-on-ends}
 use Rattle.theory_progress.specs.Shown.{shown-stays}
 
--- ── full: every open step is short of a place or number, and one is open
-pub record AllShort (p : Program) (C : Config) : Type 0 where
+-- ── full: every open step lacks a place or number, and one is open
+pub record AllLack (p : Program) (C : Config) : Type 0 where
   pub place : ℕ
-  pub opened : isOpen p C place ≡ true
-  pub short : (i : ℕ) → isOpen p C i ≡ true → Short C i
+  pub opened : Open p C place
+  pub lack : (i : ℕ) → Open p C i → Lacks C i
 
-open-lacks : (p : Program) (C : Config) (i : ℕ) → isOpen p C i ≡ true → isCarried (step p C i) ≡ false → lacks p C i ≡ true
-unfolding isOpen lacks
-open-lacks p C i o n = go (step p C i) o n
-  where
-    go : (r : Outcome) → isOpenBy r ≡ true → isCarried r ≡ false → lacksBy r ≡ true
-    go (carried s D) o n = absurd (true≢false n)
-    go notOpen o n = absurd (false≢true o)
-    go lacking o n = refl
+open-lacks : (p : Program) (C : Config) → choosePlace p C ≡ none → (i : ℕ) → Open p C i → Lacks C i
+open-lacks p C e i (inl (s, D, r)) = absurd (false≢true (sym (none-chosen p C e i) ∙ ap isCarried (carried-out p r)))
+open-lacks p C e i (inr l) = l
 
-pub none-chosen-short : (p : Program) (C : Config) → WellFormed p C → C .processes ≢ [] → choosePlace p C ≡ none → AllShort p C
-none-chosen-short p C v n e =
-    let o = some-open p C v n in
-    record { place = o .0; opened = o .1; short = λ i h. lacks-exactly p C v i h .0 (open-lacks p C i h (none-chosen p C e i)) }
+pub none-chosen-lack : (p : Program) (C : Config) → WellFormed p C → C .processes ≢ [] → choosePlace p C ≡ none → AllLack p C
+none-chosen-lack p C v n e = let o = some-open p C v n in record { place = o .0; opened = o .1; lack = open-lacks p C e }
 
 full-where : (p : Program) (budget t : ℕ) (C : Config) (a : RanOn) (D : Config) → Ended p budget (given a) C a D → a ≡ Full t → WellFormed p D
-    → AllShort p D
+    → AllLack p D
 full-where p budget t C a D h e v =
     let g : Ended p budget t C (Full t) D = subst (λ a. Ended p budget (given a) C a D) e h in
-    none-chosen-short p D v (g .2) (g .3)
+    none-chosen-lack p D v (g .2) (g .3)
 
 pub run-on-full : (p : Program) (C : Config) (budget t : ℕ) → runOn p C budget .answer ≡ Full t → WellFormed p (runOn p C budget .config)
-    → AllShort p (runOn p C budget .config)
+    → AllLack p (runOn p C budget .config)
 run-on-full p C budget t e v = full-where p budget t C _ _ (run-on-ends p C budget) e v
 
 -- ── done: exactly where no process is left

@@ -12,14 +12,14 @@ use lib.Dec.{ltb}
 use Rattle.notation.specs.Bytes.{same}
 use Rattle.notation.specs.Tree.{Name}
 use Rattle.calculus.specs.Program.{Program}
-use Rattle.calculus.specs.Configuration.{End, folding, Process, process, Config, movedUp, movedDown, relinked, inserted, removed}
+use Rattle.calculus.specs.Configuration.{End, folding, Process, Config, foldsUp, movedUp, movedDown, relinked, inserted, removed}
 use Rattle.calculus.specs.Steps.{carried, turnOf, parting, startedDoing, startedHandler, foldedHandler, putAt, changedAt, leaving, foldingUp, stepDoing, step}
 use Rattle.calculus.specs.WellFormed.{Stands}
 use Rattle.calculus.specs.declared.answers.Seen.{Seen}
 use Rattle.theory_derivations.specs.Booleans.{ltb-iff}
 use Rattle.theory_ends.specs.Lists.{not-below, found-below, set-at, set-off, in-low, in-high, out-low, out-high, found-map, length-inserted, length-removed}
+use Rattle.theory_reductions.specs.CarriedOut.{step-at}
 use Rattle.theory_progress.specs.Shapes.{talks, Touched, itself, partner, Shape, one, two, joined, handled, spawned-one, tried-one, left, config-by, step-shape}
-use Rattle.theory_progress.specs.Waiting.{step-at}
 
 -- ── a process that folds up at a place
 pub record FoldsAt (l : List Process) (i : ℕ) : Type 0 where
@@ -196,7 +196,7 @@ own-folds C D i q seen s [] e h =
     absurd (omega arith)
 own-folds C D i q seen s (x ∷ l) e h =
     subst (λ r. FoldsAt (config-by C r .processes) i) e
-    (record { process = process folding l (q .link); there = set-at (C .processes) i _ (found-below (C .processes) i (s .there)); folds = refl })
+    (record { process = foldsUp q l; there = set-at (C .processes) i _ (found-below (C .processes) i (s .there)); folds = refl })
 
 -- ── a process followed through steps: that at place i of C is, after them, that at place j of D
 pub data Follows (p : Program) : Config → ℕ → Config → ℕ → Type 0 where

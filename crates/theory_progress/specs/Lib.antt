@@ -3,7 +3,6 @@ pub mod Endings
 pub mod Folding
 pub mod GivenUp
 pub mod Joints
-pub mod Lacks
 pub mod Places
 pub mod Outward
 pub mod Progress

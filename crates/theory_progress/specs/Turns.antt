@@ -1,42 +1,68 @@
 -- Typed sends and recvs by what goes over their channel: at the two ends of one type they match.
-use Prim.Native.Nat.{suc}
+use Prim.Native.Nat.{ℕ, suc}
 use native.Mathlib.Omega.{arith}
 use mathlib.Core.Path.{_≡_, refl, sym, _∙_, ap}
 use mathlib.Core.Logic.{Iff·rfl}
 use mathlib.Core.List.{List, _∷_, List·Memᴰ·head, List·Memᴰ·tail}
-use mathlib.Core.Option.{Option, some, none, Option·map, Option·some-injective, Option·none-ne-some}
+use mathlib.Core.Option.{some, Option·some-injective, Option·none-ne-some}
 use mathlib.Core.Bool.{Bool, true, false, cond}
 use lib.ListN.{length}
 use lib.Dec.{eqb}
 use Rattle.notation.specs.Bytes.{same}
-use Rattle.notation.specs.Tree.{Name, Located, Ty, unit, named, tensor, par, lolli, plus, with, Alternatives, alternative, Proc, Branches, branch}
+use Rattle.notation.specs.Tree.{Name, Located, Ty, unit, named, tensor, par, lolli, plus, with, Alternatives, alternative, Proc, sendUnit, sendChannel, sendLabel, recvUnit, recvChannel, recvLabel, Branches, branch}
 use Rattle.calculus.specs.Named.{lookup, all}
-use Rattle.calculus.specs.Types.{Side, provided, used, other, Passing, passing, Choosing, choosing, labelled, labelsOf}
+use Rattle.calculus.specs.Types.{Side, provided, used, other, standing, Passing, passing, Choosing, choosing, labelled, labelsOf}
 use Rattle.calculus.specs.Program.{Program}
-use Rattle.calculus.specs.Typing.{labelNames, times, fitting}
-use Rattle.calculus.specs.Configuration.{End, Process}
-use Rattle.calculus.specs.Steps.{Message, closing, passes, chooses, Wanted, onClose, onChannel, onLabel, branchOf, afterReceive}
+use Rattle.calculus.specs.Typing.{OneType, labelNames, times, fitting}
+use Rattle.calculus.specs.Configuration.{End, Process, Config, Holder, atProcess}
+use Rattle.calculus.specs.Steps.{branchOf}
 use Rattle.calculus.specs.WellFormed.{In}
+use Rattle.calculus.specs.Reduces.{Runs, Holds, Answers, close-meets, channel-meets, label-meets, its-own, Reduces, communicates}
+use Rattle.calculus.specs.declared.answers.Seen.{Seen}
 use Rattle.theory_derivations.specs.Booleans.{and-iff, all-iff, eqb-iff}
 use Rattle.theory_derivations.specs.Equality.{same-iff}
+use Rattle.theory_derivations.specs.OneType.{one-sym, one-unit, one-passing, one-choosing}
 use Rattle.theory_ends.specs.Ends.{side-clash}
 use Rattle.theory_progress.specs.Outward.{other-mark}
 
--- the message that a typed send has for a channel of type T whose side s it holds
-pub data Sending (l : List (Name × End)) : Message → Side → Ty Name → Type 0 where
-  sends-close : {s : Side} {T : Ty Name} → s ≡ provided → T ≡ unit → Sending l closing s T
-  sends-passing : {a : Located} {s : Side} {T : Ty Name} (t : Passing) (d : End) → passing T ≡ some t → s ≡ t .sender → lookup (a .name) l ≡ some d
-      → Sending l (passes a) s T
-  sends-choice : {n : Located} {s : Side} {T : Ty Name} (t : Choosing) (A : Ty Name) → choosing T ≡ some t → s ≡ t .sender
-      → labelled (n .name) (t .labels) ≡ some A → Sending l (chooses n) s T
+-- a typed send over c, an end of side s whose type stands for T, by a process that holds l
+pub data Sending (l : List (Name × End)) : Proc → Located → Side → Ty Name → Type 0 where
+  sends-close : {o : ℕ} {c : Located} {P : Proc} {s : Side} {T : Ty Name} → s ≡ provided → T ≡ unit → Sending l (sendUnit o c P) c s T
+  sends-passing : {o : ℕ} {c a : Located} {P : Proc} {s : Side} {T : Ty Name} (t : Passing) (d : End) → passing T ≡ some t → s ≡ t .sender
+      → lookup (a .name) l ≡ some d → Sending l (sendChannel o c a P) c s T
+  sends-choice : {o : ℕ} {c n : Located} {P : Proc} {s : Side} {T : Ty Name} (t : Choosing) (A : Ty Name) → choosing T ≡ some t → s ≡ t .sender
+      → labelled (n .name) (t .labels) ≡ some A → Sending l (sendLabel o c n P) c s T
 
--- what a typed recv wants of it
-pub data Receiving : Wanted → Side → Ty Name → Type 0 where
-  receives-close : {P : Proc} {s : Side} {T : Ty Name} → s ≡ used → T ≡ unit → Receiving (onClose P) s T
-  receives-passing : {x : Located} {P : Proc} {s : Side} {T : Ty Name} (t : Passing) → passing T ≡ some t → s ≡ other (t .sender)
-      → Receiving (onChannel x P) s T
-  receives-choice : {B : Branches} {s : Side} {T : Ty Name} (t : Choosing) → choosing T ≡ some t → s ≡ other (t .sender)
-      → ((l : Name) (A : Ty Name) → labelled l (t .labels) ≡ some A → (P : Proc) × (branchOf l B ≡ some P)) → Receiving (onLabel B) s T
+-- a typed recv over it
+pub data Receiving : Proc → Located → Side → Ty Name → Type 0 where
+  receives-close : {o : ℕ} {c : Located} {P : Proc} {s : Side} {T : Ty Name} → s ≡ used → T ≡ unit → Receiving (recvUnit o c P) c s T
+  receives-passing : {o : ℕ} {c x : Located} {P : Proc} {s : Side} {T : Ty Name} (t : Passing) → passing T ≡ some t → s ≡ other (t .sender)
+      → Receiving (recvChannel o c x P) c s T
+  receives-choice : {o : ℕ} {c : Located} {B : Branches} {s : Side} {T : Ty Name} (t : Choosing) → choosing T ≡ some t → s ≡ other (t .sender)
+      → ((l : Name) (A : Ty Name) → labelled l (t .labels) ≡ some A → (P : Proc) × (branchOf l B ≡ some P)) → Receiving (recvLabel o c B) c s T
+
+-- ── what is typed over an end is typed over every end of one type with it
+module _ (p : Program) {A B : Ty Name} (h : OneType p A B) where
+  pub one-sending : {l : List (Name × End)} {P : Proc} {c : Located} {s : Side} → Sending l P c s (standing (p .types) A)
+      → Sending l P c s (standing (p .types) B)
+  one-sending (sends-close e z) = sends-close e (one-unit p h z)
+  one-sending (sends-passing t d e z k) =
+      let u = one-passing p h e in
+      sends-passing (u .0) d (u .1) (z ∙ u .2 .sender) k
+  one-sending (sends-choice {n = n} t D e z k) =
+      let u = one-choosing p h e in
+      let w = u .2 .leads (n .name) k in
+      sends-choice (u .0) (w .0) (u .1) (z ∙ u .2 .sender) (w .1)
+
+  pub one-receiving : {P : Proc} {c : Located} {s : Side} → Receiving P c s (standing (p .types) A) → Receiving P c s (standing (p .types) B)
+  one-receiving (receives-close e z) = receives-close e (one-unit p h z)
+  one-receiving (receives-passing t e z) = let u = one-passing p h e in receives-passing (u .0) (u .1) (z ∙ ap other (u .2 .sender))
+  one-receiving (receives-choice t e z b) =
+      let u = one-choosing p h e in
+      let w = one-choosing p (one-sym p h) (u .1) in
+      let back : w .0 ≡ t = Option·some-injective _ _ (sym (w .1) ∙ e) in
+      receives-choice (u .0) (u .1) (z ∙ ap other (u .2 .sender))
+      (λ l D k. let x = w .2 .leads l k in b l (x .0) (ap (λ (t : Choosing). labelled l (t .labels)) (sym back) ∙ x .1))
 
 -- ── the side that sends is the type's
 abbrev pub sender-of : Ty Name → Side
@@ -68,18 +94,18 @@ choosing-sender (lolli A B) e = absurd (Option·none-ne-some _ e)
 choosing-sender (plus r) e = ap (λ (t : Choosing). t .sender) (sym (Option·some-injective _ _ e))
 choosing-sender (with r) e = ap (λ (t : Choosing). t .sender) (sym (Option·some-injective _ _ e))
 
-pub sending-side : {l : List (Name × End)} {m : Message} {s : Side} {T : Ty Name} → Sending l m s T → s ≡ sender-of T
+pub sending-side : {l : List (Name × End)} {P : Proc} {c : Located} {s : Side} {T : Ty Name} → Sending l P c s T → s ≡ sender-of T
 sending-side (sends-close e z) = e ∙ ap sender-of (sym z)
 sending-side (sends-passing {T = T} t d e z h) = z ∙ passing-sender T e
 sending-side (sends-choice {T = T} t A e z h) = z ∙ choosing-sender T e
 
-pub receiving-side : {w : Wanted} {s : Side} {T : Ty Name} → Receiving w s T → s ≡ other (sender-of T)
+pub receiving-side : {P : Proc} {c : Located} {s : Side} {T : Ty Name} → Receiving P c s T → s ≡ other (sender-of T)
 receiving-side (receives-close e z) = e ∙ ap (λ T. other (sender-of T)) (sym z)
 receiving-side (receives-passing {T = T} t e z) = z ∙ ap other (passing-sender T e)
 receiving-side (receives-choice {T = T} t e z h) = z ∙ ap other (choosing-sender T e)
 
 -- a send and a recv of one type are its two sides
-pub faces : {l : List (Name × End)} {m : Message} {w : Wanted} {s t : Side} {T : Ty Name} → Sending l m s T → Receiving w t T → t ≡ other s
+pub faces : {l : List (Name × End)} {P Q : Proc} {c d : Located} {s t : Side} {T : Ty Name} → Sending l P c s T → Receiving Q d t T → t ≡ other s
 faces m w = receiving-side w ∙ ap other (sym (sending-side m))
 
 -- what is received where it is provided is @, -o or &
@@ -92,7 +118,7 @@ sender-mark (lolli A B) e = refl
 sender-mark (plus r) e = absurd (side-clash e)
 sender-mark (with r) e = refl
 
-pub received-provided : {w : Wanted} {T : Ty Name} → Receiving w provided T → other-mark T ≡ true
+pub received-provided : {P : Proc} {c : Located} {T : Ty Name} → Receiving P c provided T → other-mark T ≡ true
 received-provided {T = T} r = sender-mark T (receiving-side r)
 
 -- ── a branch for each label of the type
@@ -121,7 +147,7 @@ branch-for r B f l A e =
     let t = and-iff (all (λ l. eqb (times l (labelNames B)) 1) (labelsOf r)) (eqb (length (labelNames B)) (length (labelsOf r))) Iff·rfl Iff·rfl .0 f .0 in
     named-once l B (eqb-iff (times l (labelNames B)) 1 .0 (all-iff (λ l. eqb (times l (labelNames B)) 1) (labelsOf r) .0 t l (label-listed l r e)))
 
--- ── the two ends of one type match: the receiver takes the message
+-- ── the two ends of one type match: a send meets a recv
 one-kind : (T : Ty Name) {t : Passing} {u : Choosing} → passing T ≡ some t → choosing T ≡ some u → ⊥
 unfolding passing choosing
 one-kind unit e f = Option·none-ne-some _ e
@@ -132,20 +158,18 @@ one-kind (lolli A B) e f = Option·none-ne-some _ f
 one-kind (plus r) e f = Option·none-ne-some _ e
 one-kind (with r) e f = Option·none-ne-some _ e
 
-abbrev Takes : Program → Message → Wanted → Type 0
-Takes p m w = (c : Name) (e : End) (d : Option End) (q : Process) → (r : Process) × (afterReceive p m w c e d q ≡ some r)
-
-pub takes : (p : Program) {l : List (Name × End)} {m : Message} {w : Wanted} {s t : Side} {T : Ty Name} → Sending l m s T → Receiving w t T
-    → Takes p m w
-unfolding afterReceive passing choosing
-takes p (sends-close e z) (receives-close f y) c x d q = (_, refl)
-takes p (sends-close e z) (receives-passing t f y) c x d q = absurd (Option·none-ne-some _ (ap passing (sym z) ∙ f))
-takes p (sends-close e z) (receives-choice t f y b) c x d q = absurd (Option·none-ne-some _ (ap choosing (sym z) ∙ f))
-takes p (sends-passing t u e z h) (receives-close f y) c x d q = absurd (Option·none-ne-some _ (ap passing (sym y) ∙ e))
-takes p (sends-passing t u e z h) (receives-passing v f y) c x d q = (_, refl)
-takes p (sends-passing {T = T} t u e z h) (receives-choice v f y b) c x d q = absurd (one-kind T e f)
-takes p (sends-choice t A e z h) (receives-close f y) c x d q = absurd (Option·none-ne-some _ (ap choosing (sym y) ∙ e))
-takes p (sends-choice {T = T} t A e z h) (receives-passing v f y) c x d q = absurd (one-kind T f e)
-takes p (sends-choice {n = n} t A e z h) (receives-choice v f y b) c x d q =
-    let k = b (n .name) A (ap (λ (t : Choosing). labelled (n .name) (t .labels)) (Option·some-injective _ _ (sym f ∙ e)) ∙ h) in
-    (_, ap (Option·map _) (k .1))
+pub meet : {p : Program} {C : Config} {i : ℕ} {q : Process} {P Q : Proc} {c d : Located} {e : End} {h : Holder} {s t : Side} {T : Ty Name}
+    → Runs C i q P → Holds C q c e (atProcess h) → Answers h d Q → Sending (q .held) P c s T → Receiving Q d t T
+    → (seen : Seen) × (D : Config) × Reduces p C i seen D
+unfolding passing choosing
+meet r k a (sends-close e z) (receives-close f y) = (_, _, communicates its-own (close-meets r k a))
+meet r k a (sends-close e z) (receives-passing t f y) = absurd (Option·none-ne-some _ (ap passing (sym z) ∙ f))
+meet r k a (sends-close e z) (receives-choice t f y b) = absurd (Option·none-ne-some _ (ap choosing (sym z) ∙ f))
+meet r k a (sends-passing t u e z h) (receives-close f y) = absurd (Option·none-ne-some _ (ap passing (sym y) ∙ e))
+meet r k a (sends-passing t u e z h) (receives-passing v f y) = (_, _, communicates its-own (channel-meets r k a))
+meet r k a (sends-passing {T = T} t u e z h) (receives-choice v f y b) = absurd (one-kind T e f)
+meet r k a (sends-choice t A e z h) (receives-close f y) = absurd (Option·none-ne-some _ (ap choosing (sym y) ∙ e))
+meet r k a (sends-choice {T = T} t A e z h) (receives-passing v f y) = absurd (one-kind T f e)
+meet r k a (sends-choice {n = n} t A e z h) (receives-choice v f y b) =
+    let x = b (n .name) A (ap (λ (t : Choosing). labelled (n .name) (t .labels)) (Option·some-injective _ _ (sym f ∙ e)) ∙ h) in
+    (_, _, communicates its-own (label-meets r k a (x .1)))

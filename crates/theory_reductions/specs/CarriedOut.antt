@@ -8,17 +8,18 @@ use lib.ListN.{length}
 use lib.Dec.{ltb}
 use Rattle.notation.specs.Limits.{processPlaces}
 use Rattle.notation.specs.Bytes.{same}
-use Rattle.notation.specs.Tree.{Name, Located, Proc, empty, sendUnit, sendChannel, sendLabel, cancel, spawn, recvUnit, recvChannel, recvLabel, fwd, call, raise, try}
+use Rattle.notation.specs.Tree.{Name, Located, Proc}
 use Rattle.calculus.specs.Program.{Program}
-use Rattle.calculus.specs.Configuration.{End, Process, Config, Holder, Far, atProcess, atOutside, givenUp, farEnd, replaced}
+use Rattle.calculus.specs.Configuration.{End, running, Process, Config, Holder, Far, atProcess, atOutside, givenUp, farEnd, replaced}
 use Rattle.calculus.specs.Steps.{Outcome, carried, lacking, Turn, sends, receives, alone, turn, turnOf, afterSend, afterReceive, isGivenUp, parting, joinedTo, joining, send, answering, receive, cancelling, spawning, trying, calling, raising, forwarding, leaving, foldingUp, stepTerm, stepDoing, stepOf, step}
 use Rattle.calculus.specs.WellFormed.{Stands}
 use Rattle.calculus.specs.declared.answers.Seen.{Seen}
 use Rattle.theory_derivations.specs.Equality.{same-iff}
 use Rattle.theory_derivations.specs.Booleans.{ltb-iff, cond-true}
 use Rattle.theory_ends.specs.Lists.{not-below}
-use Rattle.theory_ends.specs.FarEnds.{stands-at, FarIs, at-process, far-is}
+use Rattle.theory_ends.specs.FarEnds.{stands-at, HeldFar, FarIs, at-process, far-is}
 use Rattle.calculus.specs.Reduces.{Runs, Holds, GivesUp, by-process, by-outside, by-nobody, no-term, no-channel, Sends, close-meets, channel-meets, label-meets, close-shows, label-shows, channel-shows, gone-shows, close-lost, label-lost, channel-lost, Naming, its-own, its-recv, Reduces, communicates, spawns, tries, calls, cancels, raises, joins, joins-outside, joins-nobody, nobody-joins, unanswered, folds, leaves, Lacks, no-number, spawn-no-place, spawn-no-channel, try-no-place}
+use Rattle.theory_reductions.specs.Kinds.{a-close, a-channel, a-label, ActsBy, closes-on, takes-on, picks-on, sends-on, on-its-own, term-acts}
 
 -- ── the step at the place of a process
 pub step-at : (p : Program) {C : Config} {i : ℕ} {q : Process} → Stands C i q → step p C i ≡ stepDoing p C i q (q .doing)
@@ -34,32 +35,29 @@ by-turn p C i q (sends c m P) r = send p C i q c m P
 by-turn p C i q (receives c w) r = receive p C i q c
 by-turn p C i q alone r = r
 
-step-turn : (p : Program) (C : Config) (i : ℕ) (q : Process) (P : Proc) → stepTerm p C i q P ≡ by-turn p C i q (turn P) (stepTerm p C i q P)
+step-turn : (p : Program) (C : Config) (i : ℕ) (q : Process) (P : Proc) {t : Turn} → ActsBy (running P) t → stepTerm p C i q P ≡ by-turn p C i q t (stepTerm p C i q P)
 unfolding stepTerm
-step-turn p C i q (empty o) = refl
-step-turn p C i q (sendUnit o c P) = refl
-step-turn p C i q (sendChannel o c a P) = refl
-step-turn p C i q (sendLabel o c l P) = refl
-step-turn p C i q (cancel o c P) = refl
-step-turn p C i q (spawn x A P Q) = refl
-step-turn p C i q (recvUnit o c P) = refl
-step-turn p C i q (recvChannel o c x P) = refl
-step-turn p C i q (recvLabel o c B) = refl
-step-turn p C i q (fwd o x c) = refl
-step-turn p C i q (call o f bracket xs ys) = refl
-step-turn p C i q (raise o P) = refl
-step-turn p C i q (try o P Q) = refl
+step-turn p C i q P closes-on = refl
+step-turn p C i q P takes-on = refl
+step-turn p C i q P picks-on = refl
+step-turn p C i q P (sends-on u a-close) = refl
+step-turn p C i q P (sends-on u a-channel) = refl
+step-turn p C i q P (sends-on u a-label) = refl
+step-turn p C i q P on-its-own = refl
 
 pub step-by : (p : Program) {C : Config} {i : ℕ} {q : Process} {P : Proc} {t : Turn} → Runs C i q P → turn P ≡ t
     → step p C i ≡ by-turn p C i q t (stepTerm p C i q P)
-step-by p {C} {i} {q} {P} r e = step-runs p r ∙ step-turn p C i q P ∙ ap (λ t. by-turn p C i q t (stepTerm p C i q P)) e
+step-by p {C} {i} {q} {P} r e = step-runs p r ∙ step-turn p C i q P (term-acts P) ∙ ap (λ t. by-turn p C i q t (stepTerm p C i q P)) e
 
--- who holds a far end stands at the place that is said
-pub holder-stands : {C : Config} {q : Process} {c : Located} {e : End} {h : Holder} → Holds C q c e (atProcess h) → Stands C (h .place) (h .process)
-holder-stands {C} {e = e} {h = h} k = go (rw (k .far) at (far-is C e))
+-- who holds a far end, and that it stands at the place that is said
+pub holder-found : {C : Config} {q : Process} {c : Located} {e : End} {h : Holder} → Holds C q c e (atProcess h) → HeldFar C e h
+holder-found {C} {e = e} {h = h} k = go (rw (k .far) at (far-is C e))
   where
-    go : FarIs C e (atProcess h) → Stands C (h .place) (h .process)
-    go (at-process _ f) = stands-at C f
+    go : FarIs C e (atProcess h) → HeldFar C e h
+    go (at-process _ f) = f
+
+pub holder-stands : {C : Config} {q : Process} {c : Located} {e : End} {h : Holder} → Holds C q c e (atProcess h) → Stands C (h .place) (h .process)
+holder-stands {C} k = stands-at C (holder-found k)
 
 named : {m n : Name} → m ≡ n → same m n ≡ true
 named {m} {n} = same-iff m n .1

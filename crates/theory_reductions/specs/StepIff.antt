@@ -1,34 +1,35 @@
 -- The step at a place carries out exactly what the reduction rules say, and lacks exactly where they do.
 use Prim.Native.Nat.{ℕ}
-use mathlib.Core.Path.{_≡_, sym, _∙_, ap, subst}
+use mathlib.Core.Path.{_≡_, refl, sym, _∙_, ap, subst}
 use mathlib.Core.Logic.{_↔_, inl, inr}
+use mathlib.Core.Option.{Option, some, none}
 use mathlib.Core.Bool.{true, true≢false, false≢true}
 use Rattle.calculus.specs.Program.{Program}
-use Rattle.calculus.specs.Configuration.{Config}
-use Rattle.calculus.specs.Steps.{Outcome, carried, notOpen, lacking, step, isOpenBy, lacksBy, isOpen}
+use Rattle.calculus.specs.Configuration.{Process, Config, at}
+use Rattle.calculus.specs.Steps.{Outcome, carried, notOpen, lacking, stepOf, step, isOpenBy, lacksBy, isOpen}
 use Rattle.calculus.specs.declared.answers.Seen.{Seen}
 use Rattle.calculus.specs.Reduces.{Reduces, Lacks, Open}
 use Rattle.theory_reductions.specs.CarriedOut.{carried-out, lacks-out}
-use Rattle.theory_reductions.specs.Told.{Told, reduces, shut, short, told}
+use Rattle.theory_reductions.specs.Told.{Told, told-reduces, told-shut, told-short, step-told}
 
 module _ (p : Program) (C : Config) (i : ℕ) where
   reduced : {seen : Seen} {D : Config} → Told p C i (carried seen D) → Reduces p C i seen D
-  reduced (reduces r) = r
+  reduced (told-reduces r) = r
 
   lacked : Told p C i lacking → Lacks C i
-  lacked (short l) = l
+  lacked (told-short l) = l
 
   pub step-iff : {seen : Seen} {D : Config} → (step p C i ≡ carried seen D) ↔ Reduces p C i seen D
-  step-iff = (λ e. reduced (subst (Told p C i) e (told p C i)), carried-out p)
+  step-iff = (λ e. reduced (subst (Told p C i) e (step-told p C i)), carried-out p)
 
   pub lacks-iff : (step p C i ≡ lacking) ↔ Lacks C i
-  lacks-iff = (λ e. lacked (subst (Told p C i) e (told p C i)), lacks-out p)
+  lacks-iff = (λ e. lacked (subst (Told p C i) e (step-told p C i)), lacks-out p)
 
   -- a step is open exactly where a rule applies
   opened : {r : Outcome} → Told p C i r → isOpenBy r ≡ true → Open p C i
-  opened (reduces {seen = s} {D = D} r) e = inl (s, D, r)
-  opened shut e = absurd (false≢true e)
-  opened (short l) e = inr l
+  opened (told-reduces {seen = s} {D = D} r) e = inl (s, D, r)
+  opened told-shut e = absurd (false≢true e)
+  opened (told-short l) e = inr l
 
   opens : Open p C i → isOpenBy (step p C i) ≡ true
   opens (inl (s, D, r)) = ap isOpenBy (carried-out p r)
@@ -36,7 +37,16 @@ module _ (p : Program) (C : Config) (i : ℕ) where
 
   pub open-iff : (isOpen p C i ≡ true) ↔ Open p C i
   unfolding isOpen
-  open-iff = (opened (told p C i), opens)
+  open-iff = (opened (step-told p C i), opens)
+
+  -- where a step is open, a process is
+  pub open-place : Open p C i → (q : Process) × (at C i ≡ some q)
+  unfolding step
+  open-place o = go (at C i) (opens o)
+    where
+      go : (y : Option Process) → isOpenBy (stepOf p C i y) ≡ true → (q : Process) × (y ≡ some q)
+      go none e = absurd (false≢true e)
+      go (some q) e = (q, refl)
 
   -- ── the rules leave no choice at a place
   abbrev seen-by : Seen → Outcome → Seen

@@ -1,73 +1,33 @@
 -- Each outcome of a step is told by the rules: what it carries out, that it is not open, or what it lacks.
 use Prim.Native.Nat.{ℕ, _≤_, _<_}
-use mathlib.Core.Path.{_≡_, refl, ap}
+use mathlib.Core.Path.{_≡_, refl}
 use mathlib.Core.Logic.{_≢_}
 use mathlib.Core.List.{List, [], _∷_, _++_, append-nil}
-use mathlib.Core.Bool.{Bool, true, false, cond, false≢true}
+use mathlib.Core.Bool.{Bool, true, false, cond}
 use mathlib.Core.Option.{Option, some, none, Option·map}
 use lib.ListN.{length}
 use lib.Dec.{ltb}
 use Rattle.notation.specs.Limits.{processPlaces, outsideNumbers}
 use Rattle.notation.specs.Bytes.{same}
-use Rattle.notation.specs.Tree.{Name, Located, Proc, empty, sendUnit, sendChannel, sendLabel, cancel, spawn, recvUnit, recvChannel, recvLabel, fwd, call, raise, try, Branches, plain}
+use Rattle.notation.specs.Tree.{Name, Located, Proc, empty, sendUnit, sendChannel, sendLabel, cancel, spawn, recvUnit, recvChannel, recvLabel, fwd, call, raise, try, plain}
 use Rattle.calculus.specs.Named.{lookup}
 use Rattle.calculus.specs.Typing.{namesOf}
 use Rattle.calculus.specs.Program.{Program, Signature}
 use Rattle.calculus.specs.Configuration.{End, Doing, running, folding, waiting, Process, Config, withOutside, at, Holder, Far, atProcess, atOutside, givenUp, farEnd, freshChannel, replaced, goesOn}
-use Rattle.calculus.specs.Steps.{Outcome, carried, notOpen, lacking, onHeld, Message, closing, passes, chooses, Wanted, onClose, onChannel, onLabel, Turn, sends, receives, alone, turn, turnOf, onward, afterSend, afterReceive, branchOf, passedEnd, seenAt, outsideAfter, parting, bothTo, meeting, isGivenUp, passedOut, toOutside, unheard, sending, send, answering, receiving, receive, cancelling, placeFor, spawned, spawning, trying, entering, calling, raising, emptied, joinedTo, joining, forwarding, leaving, foldingUp, stepTerm, stepDoing, stepOf, step}
+use Rattle.calculus.specs.Steps.{Outcome, carried, notOpen, lacking, onHeld, Message, passes, chooses, Wanted, Turn, receives, turn, onward, afterSend, afterReceive, branchOf, passedEnd, seenAt, outsideAfter, parting, bothTo, meeting, isGivenUp, passedOut, toOutside, unheard, sending, send, answering, receiving, receive, cancelling, placeFor, spawned, spawning, trying, entering, calling, raising, emptied, joinedTo, joining, forwarding, leaving, foldingUp, stepTerm, stepDoing, stepOf, step}
 use Rattle.calculus.specs.WellFormed.{Stands}
 use Rattle.calculus.specs.declared.answers.Seen.{Seen}
 use Rattle.theory_derivations.specs.Equality.{same-iff}
 use Rattle.theory_derivations.specs.Booleans.{ltb-iff}
 use Rattle.theory_ends.specs.Lists.{not-below}
 use Rattle.calculus.specs.Reduces.{Runs, Holds, GivesUp, by-process, by-outside, by-nobody, no-term, no-channel, Sends, close-meets, channel-meets, label-meets, close-shows, label-shows, channel-shows, gone-shows, close-lost, label-lost, channel-lost, Naming, its-own, its-recv, Reduces, communicates, spawns, tries, calls, cancels, raises, joins, joins-outside, joins-nobody, nobody-joins, unanswered, folds, leaves, Lacks, no-number, spawn-no-place, spawn-no-channel, try-no-place}
+use Rattle.theory_reductions.specs.Kinds.{SendTerm, a-close, a-channel, a-label, ActsBy, closes-on, takes-on, picks-on, sends-on, on-its-own, acts, at-a-process, at-the-outside}
 use Rattle.theory_reductions.specs.CarriedOut.{holder-stands}
 
 pub data Told (p : Program) (C : Config) (i : ℕ) : Outcome → Type 0 where
-  reduces : {seen : Seen} {D : Config} → Reduces p C i seen D → Told p C i (carried seen D)
-  shut : Told p C i notOpen
-  short : Lacks C i → Told p C i lacking
-
--- the term Q sends the message m over c, and goes on with P
-data Sending : Proc → Located → Message → Proc → Type 0 where
-  a-close : {o : ℕ} {c : Located} {P : Proc} → Sending (sendUnit o c P) c closing P
-  a-channel : {o : ℕ} {c a : Located} {P : Proc} → Sending (sendChannel o c a P) c (passes a) P
-  a-label : {o : ℕ} {c l : Located} {P : Proc} → Sending (sendLabel o c l P) c (chooses l) P
-
--- what a process does, by its turn
-data Acts : Doing → Turn → Type 0 where
-  closes-on : {o : ℕ} {c : Located} {P : Proc} → Acts (running (recvUnit o c P)) (receives c (onClose P))
-  takes-on : {o : ℕ} {c x : Located} {P : Proc} → Acts (running (recvChannel o c x P)) (receives c (onChannel x P))
-  picks-on : {o : ℕ} {c : Located} {B : Branches} → Acts (running (recvLabel o c B)) (receives c (onLabel B))
-  sends-on : {Q : Proc} {c : Located} {m : Message} {P : Proc} → turn Q ≡ sends c m P → Sending Q c m P → Acts (running Q) (sends c m P)
-  on-its-own : {d : Doing} → Acts d alone
-
-acts-term : (P : Proc) → Acts (running P) (turn P)
-acts-term (empty o) = on-its-own
-acts-term (sendUnit o c P) = sends-on refl a-close
-acts-term (sendChannel o c a P) = sends-on refl a-channel
-acts-term (sendLabel o c l P) = sends-on refl a-label
-acts-term (cancel o c P) = on-its-own
-acts-term (spawn x A P Q) = on-its-own
-acts-term (recvUnit o c P) = closes-on
-acts-term (recvChannel o c x P) = takes-on
-acts-term (recvLabel o c B) = picks-on
-acts-term (fwd o x c) = on-its-own
-acts-term (call o f bracket xs ys) = on-its-own
-acts-term (raise o P) = on-its-own
-acts-term (try o P Q) = on-its-own
-
-acts : (d : Doing) → Acts d (turnOf d)
-acts (running P) = acts-term P
-acts folding = on-its-own
-acts (waiting P) = on-its-own
-
--- a far end that is held was not given up
-at-a-process : (h : Holder) → atProcess h ≢ givenUp
-at-a-process h e = false≢true (ap isGivenUp e)
-
-at-the-outside : (n : ℕ) → _≢_ {A = Far} (atOutside n) givenUp
-at-the-outside n e = false≢true (ap isGivenUp e)
+  told-reduces : {seen : Seen} {D : Config} → Reduces p C i seen D → Told p C i (carried seen D)
+  told-shut : Told p C i notOpen
+  told-short : Lacks C i → Told p C i lacking
 
 module _ {p : Program} {C : Config} {k : ℕ} where
   if-told : (b : Bool) {r t : Outcome} → (b ≡ true → Told p C k r) → (b ≡ false → Told p C k t) → Told p C k (cond b r t)
@@ -75,55 +35,55 @@ module _ {p : Program} {C : Config} {k : ℕ} where
   if-told false f g = g refl
 
   held-told : (o : Option End) {f : End → Outcome} → ((e : End) → o ≡ some e → Told p C k (f e)) → Told p C k (onHeld o f)
-  held-told none f = shut
+  held-told none f = told-shut
   held-told (some e) f = f e refl
 
   place-told : {r : Outcome} → (length (C .processes) < processPlaces → Told p C k r) → (processPlaces ≤ length (C .processes) → Lacks C k) → Told p C k (placeFor C r)
-  place-told f g = if-told (ltb (length (C .processes)) processPlaces) (λ b. f (ltb-iff _ _ .0 b)) (λ b. short (g (not-below _ _ .0 b)))
+  place-told f g = if-told (ltb (length (C .processes)) processPlaces) (λ b. f (ltb-iff _ _ .0 b)) (λ b. told-short (g (not-below _ _ .0 b)))
 
   parting-told : (i : ℕ) (q : Process) (e : End) → ((seen : Seen) (D : Config) → GivesUp C e seen D → Reduces p C k seen (replaced i q D)) → Told p C k (parting C i q e)
   unfolding parting
   parting-told i q e f = go (farEnd C e) refl
     where
       go : (g : Far) → farEnd C e ≡ g → Told p C k (carried (seenAt g) (withOutside (outsideAfter g (e .channel) (C .outside)) (replaced i q C)))
-      go (atProcess h) z = reduces (f _ _ (by-process z))
-      go (atOutside n) z = reduces (f _ _ (by-outside z))
-      go givenUp z = reduces (f _ _ (by-nobody z))
+      go (atProcess h) z = told-reduces (f _ _ (by-process z))
+      go (atOutside n) z = told-reduces (f _ _ (by-outside z))
+      go givenUp z = told-reduces (f _ _ (by-nobody z))
 
   -- ── a send at place i, whose step place k names
   met : {i : ℕ} {seen : Seen} {D : Config} → Naming C k i → Sends p C i seen D → Told p C k (carried seen D)
-  met n s = reduces (communicates n s)
+  met n s = told-reduces (communicates n s)
 
   module _ {i : ℕ} (n : Naming C k i) {q : Process} where
     both-told : {Q : Proc} {c c′ : Located} {m : Message} {P : Proc} {w : Wanted} {e : End} {h : Holder} {d : Doing}
-        → Sending Q c m P → Runs C i q Q → Holds C q c e (atProcess h) → h .process .doing ≡ d → Acts d (receives c′ w) → same (c′ .name) (h .name) ≡ true
+        → SendTerm Q c m P → Runs C i q Q → Holds C q c e (atProcess h) → h .process .doing ≡ d → ActsBy d (receives c′ w) → same (c′ .name) (h .name) ≡ true
         → Told p C k (bothTo C i (goesOn q P (afterSend p (c .name) m (q .held))) (h .place) (afterReceive p m w (h .name) (passedEnd m (q .held)) (h .process)))
     unfolding afterSend afterReceive
     both-told a-close r l z closes-on s = met n (close-meets r l (record { runs = z; name = same-iff _ _ .0 s }))
-    both-told a-close r l z takes-on s = shut
-    both-told a-close r l z picks-on s = shut
-    both-told a-channel r l z closes-on s = shut
+    both-told a-close r l z takes-on s = told-shut
+    both-told a-close r l z picks-on s = told-shut
+    both-told a-channel r l z closes-on s = told-shut
     both-told a-channel r l z takes-on s = met n (channel-meets r l (record { runs = z; name = same-iff _ _ .0 s }))
-    both-told a-channel r l z picks-on s = shut
-    both-told a-label r l z closes-on s = shut
-    both-told a-label r l z takes-on s = shut
+    both-told a-channel r l z picks-on s = told-shut
+    both-told a-label r l z closes-on s = told-shut
+    both-told a-label r l z takes-on s = told-shut
     both-told {P = P} {e = e} {h = h} (a-label {c = c} {l = b}) r l z (picks-on {B = B}) s = go (branchOf (b .name) B) refl
       where
         go : (y : Option Proc) → branchOf (b .name) B ≡ y
             → Told p C k (bothTo C i (goesOn q P (afterSend p (c .name) (chooses b) (q .held))) (h .place) (Option·map (λ Q. goesOn (h .process) Q (onward p (chooses b) (h .name) (h .process .held))) y))
-        go none y = shut
+        go none y = told-shut
         go (some R) y = met n (label-meets r l (record { runs = z; name = same-iff _ _ .0 s }) y)
 
     meeting-told : {Q : Proc} {c : Located} {m : Message} {P : Proc} {e : End} {h : Holder} {d : Doing} {t : Turn}
-        → Sending Q c m P → Runs C i q Q → Holds C q c e (atProcess h) → h .process .doing ≡ d → Acts d t
+        → SendTerm Q c m P → Runs C i q Q → Holds C q c e (atProcess h) → h .process .doing ≡ d → ActsBy d t
         → Told p C k (meeting p C i q (goesOn q P (afterSend p (c .name) m (q .held))) m h t)
-    meeting-told {h = h} s r l z (closes-on {c = c′}) = if-told (same (c′ .name) (h .name)) (both-told s r l z closes-on) (λ _. shut)
-    meeting-told {h = h} s r l z (takes-on {c = c′}) = if-told (same (c′ .name) (h .name)) (both-told s r l z takes-on) (λ _. shut)
-    meeting-told {h = h} s r l z (picks-on {c = c′}) = if-told (same (c′ .name) (h .name)) (both-told s r l z picks-on) (λ _. shut)
-    meeting-told s r l z (sends-on u v) = shut
-    meeting-told s r l z on-its-own = shut
+    meeting-told {h = h} s r l z (closes-on {c = c′}) = if-told (same (c′ .name) (h .name)) (both-told s r l z closes-on) (λ _. told-shut)
+    meeting-told {h = h} s r l z (takes-on {c = c′}) = if-told (same (c′ .name) (h .name)) (both-told s r l z takes-on) (λ _. told-shut)
+    meeting-told {h = h} s r l z (picks-on {c = c′}) = if-told (same (c′ .name) (h .name)) (both-told s r l z picks-on) (λ _. told-shut)
+    meeting-told s r l z (sends-on u v) = told-shut
+    meeting-told s r l z on-its-own = told-shut
 
-    out-told : {Q : Proc} {c : Located} {m : Message} {P : Proc} {e : End} {x : ℕ} → Sending Q c m P → Runs C i q Q → Holds C q c e (atOutside x)
+    out-told : {Q : Proc} {c : Located} {m : Message} {P : Proc} {e : End} {x : ℕ} → SendTerm Q c m P → Runs C i q Q → Holds C q c e (atOutside x)
         → Told p C k (toOutside p C i q (goesOn q P (afterSend p (c .name) m (q .held))) m e x)
     unfolding afterSend
     out-told a-close r l = met n (close-shows r l)
@@ -131,7 +91,7 @@ module _ {p : Program} {C : Config} {k : ℕ} where
     out-told {P = P} {e = e} {x = x} (a-channel {c = c} {a = a}) r l =
         held-told (lookup (a .name) (q .held)) λ d y. if-told (ltb (C .given) outsideNumbers)
         (λ b. go d y (ltb-iff _ _ .0 b) (farEnd C d) refl)
-        (λ b. short (no-number n r l y (not-below _ _ .0 b)))
+        (λ b. told-short (no-number n r l y (not-below _ _ .0 b)))
       where
         go : (d : End) → lookup (a .name) (q .held) ≡ some d → C .given < outsideNumbers → (f : Far) → farEnd C d ≡ f
             → Told p C k (passedOut p C i (goesOn q P (afterSend p (c .name) (passes a) (q .held))) a e x d (isGivenUp f))
@@ -139,14 +99,14 @@ module _ {p : Program} {C : Config} {k : ℕ} where
         go d y b (atOutside v) z = met n (channel-shows r l (record { held = y; far = z }) (at-the-outside v) b)
         go d y b givenUp z = rw append-nil (met n (gone-shows r l (record { held = y; far = z }) b))
 
-    lost-told : {Q : Proc} {c : Located} {m : Message} {P : Proc} {e : End} → Sending Q c m P → Runs C i q Q → Holds C q c e givenUp
+    lost-told : {Q : Proc} {c : Located} {m : Message} {P : Proc} {e : End} → SendTerm Q c m P → Runs C i q Q → Holds C q c e givenUp
         → Told p C k (unheard C i q (goesOn q P (afterSend p (c .name) m (q .held))) m)
     unfolding afterSend
     lost-told a-close r l = met n (close-lost r l)
     lost-told a-label r l = met n (label-lost r l)
     lost-told (a-channel {a = a}) r l = held-told (lookup (a .name) (q .held)) λ d y. parting-told i _ d λ _ _ g. communicates n (channel-lost r l y g)
 
-    send-told : {Q : Proc} {c : Located} {m : Message} {P : Proc} → Sending Q c m P → Runs C i q Q → Told p C k (send p C i q c m P)
+    send-told : {Q : Proc} {c : Located} {m : Message} {P : Proc} → SendTerm Q c m P → Runs C i q Q → Told p C k (send p C i q c m P)
     unfolding send
     send-told {c = c} {m = m} {P = P} s r = held-told (lookup (c .name) (q .held)) λ e y. go e y (farEnd C e) refl
       where
@@ -162,18 +122,18 @@ module _ {p : Program} {C : Config} {i : ℕ} {q : Process} where
   unfolding receive
   receive-told {c = c} r t = held-told (lookup (c .name) (q .held)) λ e y. go e y (farEnd C e) refl
     where
-      answer : {e : End} {h : Holder} {d : Doing} {u : Turn} → Holds C q c e (atProcess h) → h .process .doing ≡ d → Acts d u → Told p C i (answering p C h u)
+      answer : {e : End} {h : Holder} {d : Doing} {u : Turn} → Holds C q c e (atProcess h) → h .process .doing ≡ d → ActsBy d u → Told p C i (answering p C h u)
       answer {h = h} l z (sends-on {c = c′} u s) = if-told (same (c′ .name) (h .name))
-          (λ b. send-told (its-recv r t l (record { runs = z; name = same-iff _ _ .0 b }) u) s (record { stands = holder-stands l; runs = z })) (λ _. shut)
-      answer l z closes-on = shut
-      answer l z takes-on = shut
-      answer l z picks-on = shut
-      answer l z on-its-own = shut
+          (λ b. send-told (its-recv r t l (record { runs = z; name = same-iff _ _ .0 b }) u) s (record { stands = holder-stands l; runs = z })) (λ _. told-shut)
+      answer l z closes-on = told-shut
+      answer l z takes-on = told-shut
+      answer l z picks-on = told-shut
+      answer l z on-its-own = told-shut
 
       go : (e : End) → lookup (c .name) (q .held) ≡ some e → (f : Far) → farEnd C e ≡ f → Told p C i (receiving p C i q (c .name) f)
       go e y (atProcess h) z = answer (record { held = y; far = z }) refl (acts (h .process .doing))
-      go e y (atOutside n) z = shut
-      go e y givenUp z = reduces (unanswered r t (record { held = y; far = z }))
+      go e y (atOutside n) z = told-shut
+      go e y givenUp z = told-reduces (unanswered r t (record { held = y; far = z }))
 
   forward-told : {o : ℕ} {x c : Located} → Runs C i q (fwd o x c) → Told p C i (forwarding C i q x c)
   unfolding forwarding
@@ -181,9 +141,9 @@ module _ {p : Program} {C : Config} {i : ℕ} {q : Process} where
     where
       joined : (e d : End) → lookup (x .name) (q .held) ≡ some e → (f : Far) → Holds C q c d f → f ≢ givenUp → (g : Far) → farEnd C e ≡ g
           → Told p C i (joinedTo C i q e d g)
-      joined e d y f l b (atProcess h) z = reduces (joins r (record { held = y; far = z }) l b)
-      joined e d y f l b (atOutside n) z = reduces (joins-outside r (record { held = y; far = z }) l b)
-      joined e d y f l b givenUp z = reduces (joins-nobody r (record { held = y; far = z }) l b)
+      joined e d y f l b (atProcess h) z = told-reduces (joins r (record { held = y; far = z }) l b)
+      joined e d y f l b (atOutside n) z = told-reduces (joins-outside r (record { held = y; far = z }) l b)
+      joined e d y f l b givenUp z = told-reduces (joins-nobody r (record { held = y; far = z }) l b)
 
       go : (e d : End) → lookup (x .name) (q .held) ≡ some e → lookup (c .name) (q .held) ≡ some d → (f : Far) → farEnd C d ≡ f → Told p C i (joining C i q e d f)
       go e d y w (atProcess h) z = joined e d y (atProcess h) (record { held = w; far = z }) (at-a-process h) (farEnd C e) refl
@@ -192,7 +152,7 @@ module _ {p : Program} {C : Config} {i : ℕ} {q : Process} where
 
   term-told : (P : Proc) → Runs C i q P → Told p C i (stepTerm p C i q P)
   unfolding stepTerm cancelling spawning trying calling raising leaving
-  term-told (empty o) r = reduces (leaves (r .stands) (no-term (r .runs)))
+  term-told (empty o) r = told-reduces (leaves (r .stands) (no-term (r .runs)))
   term-told (sendUnit o c P) r = send-told its-own a-close r
   term-told (sendChannel o c a P) r = send-told its-own a-channel r
   term-told (sendLabel o c l P) r = send-told its-own a-label r
@@ -200,8 +160,8 @@ module _ {p : Program} {C : Config} {i : ℕ} {q : Process} where
   term-told (spawn x A P Q) r = place-told (λ b. go b (freshChannel C) refl) (spawn-no-place r)
     where
       go : length (C .processes) < processPlaces → (y : Option ℕ) → freshChannel C ≡ y → Told p C i (spawned C i q (x .name) (plain A) P Q y)
-      go b none y = short (spawn-no-channel r y)
-      go b (some n) y = reduces (spawns r b y)
+      go b none y = told-short (spawn-no-channel r y)
+      go b (some n) y = told-reduces (spawns r b y)
   term-told (recvUnit o c P) r = receive-told r refl
   term-told (recvChannel o c x P) r = receive-told r refl
   term-told (recvLabel o c B) r = receive-told r refl
@@ -209,25 +169,25 @@ module _ {p : Program} {C : Config} {i : ℕ} {q : Process} where
   term-told (call o f bracket xs ys) r = go (lookup (f .name) (p .processes)) refl
     where
       go : (y : Option Signature) → lookup (f .name) (p .processes) ≡ y → Told p C i (entering C i q (namesOf xs ++ namesOf ys) y)
-      go none y = shut
-      go (some s) y = reduces (calls r y)
-  term-told (raise o P) r = reduces (raises r)
-  term-told (try o P Q) r = place-told (λ b. reduces (tries r b)) (try-no-place r)
+      go none y = told-shut
+      go (some s) y = told-reduces (calls r y)
+  term-told (raise o P) r = told-reduces (raises r)
+  term-told (try o P Q) r = place-told (λ b. told-reduces (tries r b)) (try-no-place r)
 
   folding-told : Stands C i q → q .doing ≡ folding → (l : List (Name × End)) → q .held ≡ l → Told p C i (foldingUp C i q l)
   unfolding foldingUp leaving
-  folding-told s d [] e = reduces (leaves s (no-channel d e))
+  folding-told s d [] e = told-reduces (leaves s (no-channel d e))
   folding-told s d (x ∷ l) e = parting-told i _ (x .1) λ _ _ g. folds s d e g
 
   doing-told : Stands C i q → (d : Doing) → q .doing ≡ d → Told p C i (stepDoing p C i q d)
   doing-told s (running P) e = term-told P (record { stands = s; runs = e })
   doing-told s folding e = folding-told s e (q .held) refl
-  doing-told s (waiting Q) e = shut
+  doing-told s (waiting Q) e = told-shut
 
-pub told : (p : Program) (C : Config) (i : ℕ) → Told p C i (step p C i)
+pub step-told : (p : Program) (C : Config) (i : ℕ) → Told p C i (step p C i)
 unfolding step
-told p C i = go (at C i) refl
+step-told p C i = go (at C i) refl
   where
     go : (o : Option Process) → at C i ≡ o → Told p C i (stepOf p C i o)
-    go none e = shut
+    go none e = told-shut
     go (some q) e = doing-told (record { there = e }) (q .doing) refl

@@ -1,1 +1,1 @@
-// Numbered: no code; specs/ has what holds of the numbers of refusals and of the outside's channels.
+// Refusals: no code; specs/ proves which numbers a refused text and a refused call can bear, and that the reader never runs out of fuel.

@@ -10,7 +10,7 @@ use Rattle.calculus.specs.Accepted.{accepted, checked}
 use Rattle.calculus.specs.Configuration.{Config}
 use Rattle.calculus.specs.Runs.{report, runOn}
 use Rattle.calculus.specs.WellFormed.{In, NoneTwice}
-use Rattle.calculus.specs.Machine.{Call, callStart, callStep, callRunOn, callReport, callExecName, Answer, started, stepped, ranOn, reported, named, Reply, refusal, respond, Moment, history}
+use Rattle.calculus.specs.Machine.{Call, callStart, callStep, callRunOn, callReport, callExecName, Answer, started, stepped, ranOn, reported, named, Reply, refusal, respond, Exchange, history}
 use Rattle.calculus.specs.declared.answers.Seen.the-variants.{Nothing}
 use Rattle.calculus.specs.declared.answers.RanOn.{RanOn}
 use Rattle.calculus.specs.declared.answers.Stepped.the-variants as steps
@@ -34,12 +34,12 @@ shownIn (ranOn (runs.Refused n i)) r = r
 shownIn (reported a l) r = r
 shownIn (named l n i) r = r
 
-abbrev pub numbersShown : List Moment → List ℕ
+abbrev pub numbersShown : List Exchange → List ℕ
 numbersShown [] = []
 numbersShown (m ∷ ms) = shownIn (m .after .answer) (numbersShown ms)
 
 -- "A start carried out begins the run anew": calls within one run
-abbrev pub OneRun : List Moment → Type 0
+abbrev pub OneRun : List Exchange → Type 0
 OneRun [] = Unit {0}
 OneRun (m ∷ ms) = (has-begun (m .after .answer) ≡ false) × OneRun ms
 

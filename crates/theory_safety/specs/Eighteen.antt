@@ -11,13 +11,13 @@ use Rattle.calculus.specs.Configuration.{Config}
 use Rattle.calculus.specs.Steps.{carried, step}
 use Rattle.calculus.specs.Runs.{startConfig, execOf, runOn}
 use Rattle.calculus.specs.WellFormed.{In}
-use Rattle.calculus.specs.Machine.{Call, callStart, started, respond, idle, Moment, history}
+use Rattle.calculus.specs.Machine.{Call, callStart, started, respond, idle, Exchange, history}
 use Rattle.calculus.specs.declared.answers.Seen.{Seen}
 use Rattle.calculus.specs.declared.answers.Started.the-variants as Starts
 use Rattle.theory_decision.specs.Decide.{wellFormed?, wellFormed?-iff}
 use Rattle.theory_preservation.specs.Preserved.{preserved}
 use Rattle.theory_preservation.specs.Accepted.{accepted-bodies, accepted-start}
-use Rattle.theory_safety.specs.Safety.{run-keeps, demand3}
+use Rattle.theory_safety.specs.Safety.{run-keeps, plain-demand3}
 
 module _ (text : List ℕ) (ds : List Declaration) (ok : checked text ≡ accepted ds) where
   abbrev p : Program
@@ -34,5 +34,5 @@ module _ (text : List ℕ) (ds : List Declaration) (ok : checked text ≡ accept
 
   -- whatever calls follow a start that is carried out, the next one meets what the test accepts
   pub calls-never-18 : (scratch run line : ℕ) (calls : List Call) → respond text idle (callStart scratch run line) .answer ≡ started Starts.Begun
-      → (m : Moment) → In m (history text idle (callStart scratch run line ∷ calls)) → wellFormed? p (m .after .config) ≡ true
-  calls-never-18 scratch run line calls e m k = wellFormed?-iff p _ .1 (demand3 .kept text ds scratch run line calls ok e m k .safe .wellFormed)
+      → (m : Exchange) → In m (history text idle (callStart scratch run line ∷ calls)) → wellFormed? p (m .after .config) ≡ true
+  calls-never-18 scratch run line calls e m k = wellFormed?-iff p _ .1 (plain-demand3 .atEachCall text ds scratch run line calls ok e m k .safe .wellFormed)

@@ -2,7 +2,7 @@
 use Prim.Native.Nat.{ℕ, _≤_}
 use native.Mathlib.Omega.{arith}
 use mathlib.Core.Path.{_≡_, refl, sym, _∙_}
-use mathlib.Core.Logic.{_↔_, Iff·rfl, Iff·trans}
+use mathlib.Core.Logic.{_↔_, inl, inr}
 use mathlib.Core.List.{List}
 use mathlib.Core.Option.{Option, some, none}
 use mathlib.Core.Bool.{Bool, true, false, cond, true≢false, false≢true}
@@ -13,9 +13,9 @@ use Rattle.notation.specs.Tree.{Located, Declaration}
 use Rattle.calculus.specs.Program.{Signature, Program, programOf}
 use Rattle.calculus.specs.Accepted.{accepted, faulty, checked}
 use Rattle.calculus.specs.Configuration.{Process, Config, at}
-use Rattle.calculus.specs.Steps.{Outcome, carried, notOpen, lacking, step, isOpenBy, isOpen, lacksBy, lacks}
+use Rattle.calculus.specs.Steps.{Outcome, carried, notOpen, lacking, step}
 use Rattle.calculus.specs.Runs.{startConfig, lineSignature, execOf, runOn, report}
-use Rattle.calculus.specs.WellFormed.{WellFormed}
+use Rattle.calculus.specs.Reduces.{Lacks, Open}
 use Rattle.calculus.specs.Machine.{Call, callStart, callStep, callRunOn, callReport, callExecName, started, stepped, ranOn, reported, named, Reply, reply, textChecked, onProgram, onRun, onLine, onPlace, onStep, refusal, respond}
 use Rattle.calculus.specs.Demands.{Enough, isRefused, lengths, RefusedWhere}
 use Rattle.calculus.specs.declared.answers.Seen.{Seen}
@@ -25,10 +25,10 @@ use Rattle.calculus.specs.declared.answers.Stepped.the-variants as Steps
 use Rattle.calculus.specs.declared.answers.RanOn.the-variants as Runs
 use Rattle.calculus.specs.declared.answers.Reported.the-variants as Reports
 use Rattle.theory_derivations.specs.Booleans.{leb-iff}
-use Rattle.theory_derivations.specs.Demand.{placed}
 use Rattle.theory_ends.specs.Lists.{found-in, none-past, found-below}
+use Rattle.theory_reductions.specs.CarriedOut.{carried-out, lacks-out}
+use Rattle.theory_reductions.specs.StepIff.{open-place, reduces-or-lacks}
 use Rattle.theory_progress.specs.RunOn.{Ended, run-on-ends}
-use Rattle.theory_progress.specs.Lacks.{lacks-exactly}
 use Rattle.theory_preservation.specs.Accepted.{exec-defined}
 
 -- a test that passes where the claim holds, and one that fails where it does not
@@ -100,11 +100,6 @@ unchanged-by {p} {C} (runs {budget = budget}) e = absurd (false≢true (sym (run
 unchanged-by reports e = refl
 unchanged-by (names n) e = refl
 
--- where a step is open, a process is
-open-place : (p : Program) (C : Config) (i : ℕ) → isOpen p C i ≡ true → (q : Process) × (at C i ≡ some q)
-unfolding isOpen step
-open-place p C i o = placed p C i (at C i) o
-
 module _ (text : List ℕ) (ds : List Declaration) (ok : checked text ≡ accepted ds) where
   abbrev pub P : Program
   P = programOf ds
@@ -132,7 +127,7 @@ module _ (text : List ℕ) (ds : List Declaration) (ok : checked text ≡ accept
   unfolding textChecked
   enough-text scratch h = rw (leb-iff scratchWords scratch .1 h) ok
 
-  pub refused-start : (C : Config) (scratch run line : ℕ) → Enough scratch run
+  refused-start : (C : Config) (scratch run line : ℕ) → Enough scratch run
       → RefusedWhere P C (callStart scratch run line) (respond text C (callStart scratch run line) .answer)
   unfolding respond execOf
   refused-start C scratch run line h =
@@ -153,18 +148,16 @@ module _ (text : List ℕ) (ds : List Declaration) (ok : checked text ≡ accept
       go none e = holds-iff refl (none-past (P .execs) line e)
       go (some n) e = fails-iff refl (not-past (P .execs) line e)
 
-  refused-step : (C : Config) → WellFormed P C → (scratch run i : ℕ) → Enough scratch run
+  refused-step : (C : Config) (scratch run i : ℕ) → Enough scratch run
       → RefusedWhere P C (callStep scratch run i) (respond text C (callStep scratch run i) .answer)
-  unfolding respond isOpen lacks
-  refused-step C v scratch run i h o =
-      Iff·trans (rw (enough-text scratch (h .scratchEnough), leb-iff runWords run .1 (h .runEnough), open-place P C i o .1) (outcome (step P C i) o))
-      (lacks-exactly P C v i o)
+  unfolding respond
+  refused-step C scratch run i h o =
+      rw (enough-text scratch (h .scratchEnough), leb-iff runWords run .1 (h .runEnough), open-place P C i o .1) (go o)
     where
-      outcome : (r : Outcome) → isOpenBy r ≡ true
-          → (isRefused (onStep r (refusal C (callStep scratch run i)) (λ seen D. reply (stepped (Steps.Carried seen)) D) .answer) ≡ true) ↔ (lacksBy r ≡ true)
-      outcome (carried s D) o = Iff·rfl
-      outcome notOpen o = absurd (false≢true o)
-      outcome lacking o = Iff·rfl
+      go : Open P C i
+          → (isRefused (onStep (step P C i) (refusal C (callStep scratch run i)) (λ seen D. reply (stepped (Steps.Carried seen)) D) .answer) ≡ true) ↔ Lacks C i
+      go (inl (s, D, r)) = rw (carried-out P r) (fails-iff refl (reduces-or-lacks P C i r))
+      go (inr l) = rw (lacks-out P l) (holds-iff refl l)
 
   refused-run : (C : Config) (scratch run budget : ℕ) → Enough scratch run
       → RefusedWhere P C (callRunOn scratch run budget) (respond text C (callRunOn scratch run budget) .answer)
@@ -177,9 +170,9 @@ module _ (text : List ℕ) (ds : List Declaration) (ok : checked text ≡ accept
   unfolding respond
   refused-report C scratch run h = rw (enough-text scratch (h .scratchEnough), leb-iff runWords run .1 (h .runEnough)) refl
 
-  pub refused-where : (C : Config) → WellFormed P C → (c : Call) → lengths c → RefusedWhere P C c (respond text C c .answer)
-  refused-where C v (callStart scratch run line) h = refused-start C scratch run line h
-  refused-where C v (callStep scratch run i) h = refused-step C v scratch run i h
-  refused-where C v (callRunOn scratch run budget) h = refused-run C scratch run budget h
-  refused-where C v (callReport scratch run) h = refused-report C scratch run h
-  refused-where C v (callExecName scratch line) h = refused-name C scratch line h
+  pub refused-where : (C : Config) (c : Call) → lengths c → RefusedWhere P C c (respond text C c .answer)
+  refused-where C (callStart scratch run line) h = refused-start C scratch run line h
+  refused-where C (callStep scratch run i) h = refused-step C scratch run i h
+  refused-where C (callRunOn scratch run budget) h = refused-run C scratch run budget h
+  refused-where C (callReport scratch run) h = refused-report C scratch run h
+  refused-where C (callExecName scratch line) h = refused-name C scratch line h

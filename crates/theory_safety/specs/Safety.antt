@@ -1,6 +1,6 @@
 -- Demand 3: nothing waits forever for a partner that can't come, at each call of every list of calls.
 use Prim.Native.Nat.{ℕ, zero, suc}
-use mathlib.Core.Path.{_≡_, sym, ap, subst}
+use mathlib.Core.Path.{_≡_, refl, sym, _∙_, ap, subst}
 use mathlib.Core.List.{List, [], _∷_, List·Memᴰ·head, List·Memᴰ·tail, List·Memᴰ·not-nil}
 use mathlib.Core.Bool.{Bool, true, false, false≢true}
 use Rattle.notation.specs.Tree.{Declaration}
@@ -10,8 +10,8 @@ use Rattle.calculus.specs.Configuration.{Config}
 use Rattle.calculus.specs.Steps.{carried, step}
 use Rattle.calculus.specs.Runs.{runOn}
 use Rattle.calculus.specs.WellFormed.{In, WellFormed}
-use Rattle.calculus.specs.Machine.{Call, callStart, callStep, callRunOn, callReport, callExecName, Answer, started, stepped, ranOn, reported, named, Reply, respond, idle, Moment, history}
-use Rattle.calculus.specs.Demands.{Safe, SafeBetween, Kept, Demand3}
+use Rattle.calculus.specs.Machine.{Call, callStart, callStep, callRunOn, callReport, callExecName, Answer, started, stepped, ranOn, reported, named, Reply, refusal, respond, idle, Exchange, history}
+use Rattle.calculus.specs.Demands.{Safe, SafeBetween, SafeExchange, PlainDemand3}
 use Rattle.calculus.specs.declared.answers.Seen.{Seen}
 use Rattle.calculus.specs.declared.answers.Started.the-variants as Starts
 use Rattle.theory_progress.specs.Joints.{joints-fewer}
@@ -19,7 +19,7 @@ use Rattle.theory_progress.specs.Progress.{some-open}
 use Rattle.theory_progress.specs.RunOn.{stepsTo, given, run-on-steps}
 use Rattle.theory_preservation.specs.Preserved.{preserved}
 use Rattle.theory_preservation.specs.Accepted.{accepted-bodies, accepted-start}
-use Rattle.theory_safety.specs.Replies.{Replied, refuses, begins, carries-out, runs, reports, names, refusal-config, unchanged-by, replied, refused-start, refused-where}
+use Rattle.theory_safety.specs.Replies.{Replied, refuses, begins, carries-out, runs, reports, names, refusal-config, unchanged-by, replied, refused-where}
 
 pub safe : {p : Program} {C : Config} → WellFormed p C → Safe p C
 safe {p} {C} v = record { wellFormed = v; fewer = joints-fewer p C v; someOpen = some-open p C v }
@@ -31,6 +31,29 @@ has-begun (stepped a) = false
 has-begun (ranOn a) = false
 has-begun (reported a l) = false
 has-begun (named l n i) = false
+
+-- only a start begins a run
+abbrev pub is-start : Call → Bool
+is-start (callStart scratch run line) = true
+is-start (callStep scratch run place) = false
+is-start (callRunOn scratch run budget) = false
+is-start (callReport scratch run) = false
+is-start (callExecName scratch line) = false
+
+pub refusal-begins-none : (C : Config) (c : Call) (n i : ℕ) → has-begun (refusal C c n i .answer) ≡ false
+refusal-begins-none C (callStart scratch run line) n i = refl
+refusal-begins-none C (callStep scratch run place) n i = refl
+refusal-begins-none C (callRunOn scratch run budget) n i = refl
+refusal-begins-none C (callReport scratch run) n i = refl
+refusal-begins-none C (callExecName scratch line) n i = refl
+
+pub begun-start : {p : Program} {C : Config} {c : Call} {r : Reply} → Replied p C c r → has-begun (r .answer) ≡ true → is-start c ≡ true
+begun-start {C = C} (refuses {c} n i) e = absurd (false≢true (sym (refusal-begins-none C c n i) ∙ e))
+begun-start (begins g h) e = refl
+begun-start (carries-out seen D h) e = absurd (false≢true e)
+begun-start runs e = absurd (false≢true e)
+begun-start reports e = absurd (false≢true e)
+begun-start (names n) e = absurd (false≢true e)
 
 module _ (text : List ℕ) (ds : List Declaration) (ok : checked text ≡ accepted ds) where
   abbrev p : Program
@@ -67,43 +90,43 @@ module _ (text : List ℕ) (ds : List Declaration) (ok : checked text ≡ accept
   safe-between C v (callReport scratch run) = tt
   safe-between C v (callExecName scratch line) = tt
 
-  -- ── every moment is kept
-  abbrev moment : Config → Call → Moment
-  moment C c = record { before = C; call = c; after = respond text C c }
+  -- ── every exchange is safe
+  abbrev exchanged : Config → Call → Exchange
+  exchanged C c = record { before = C; call = c; after = respond text C c }
 
   -- a call that meets a well-formed configuration
-  pub moment-kept : (C : Config) → WellFormed p C → (c : Call) → Kept p (moment C c)
-  moment-kept C v c =
+  pub exchange-safe : (C : Config) → WellFormed p C → (c : Call) → SafeExchange p (exchanged C c)
+  exchange-safe C v c =
       let r = replied text ds ok C c in
-      record { safe = safe (reply-keeps v r); between = safe-between C v c; refusals = refused-where text ds ok C v c; unchanged = unchanged-by r }
+      record { safe = safe (reply-keeps v r); between = safe-between C v c; refusals = refused-where text ds ok C c; unchanged = unchanged-by r }
 
   -- a start that is carried out, whatever it meets
-  pub start-kept : (C : Config) (scratch run line : ℕ) → WellFormed p (respond text C (callStart scratch run line) .config)
-      → Kept p (moment C (callStart scratch run line))
-  start-kept C scratch run line v =
+  pub start-safe : (C : Config) (scratch run line : ℕ) → WellFormed p (respond text C (callStart scratch run line) .config)
+      → SafeExchange p (exchanged C (callStart scratch run line))
+  start-safe C scratch run line v =
       record {
         safe = safe v;
         between = tt;
-        refusals = refused-start text ds ok C scratch run line;
+        refusals = refused-where text ds ok C (callStart scratch run line);
         unchanged = unchanged-by (replied text ds ok C (callStart scratch run line));
       }
 
-  history-kept : (C : Config) → WellFormed p C → (calls : List Call) (m : Moment) → In m (history text C calls) → Kept p m
-  history-kept C v [] m k = absurd (List·Memᴰ·not-nil k)
-  history-kept C v (c ∷ cs) m (List·Memᴰ·head e) = subst (Kept p) (sym e) (moment-kept C v c)
-  history-kept C v (c ∷ cs) m (List·Memᴰ·tail k) = history-kept (respond text C c .config) (reply-keeps v (replied text ds ok C c)) cs m k
+  history-safe : (C : Config) → WellFormed p C → (calls : List Call) (m : Exchange) → In m (history text C calls) → SafeExchange p m
+  history-safe C v [] m k = absurd (List·Memᴰ·not-nil k)
+  history-safe C v (c ∷ cs) m (List·Memᴰ·head e) = subst (SafeExchange p) (sym e) (exchange-safe C v c)
+  history-safe C v (c ∷ cs) m (List·Memᴰ·tail k) = history-safe (respond text C c .config) (reply-keeps v (replied text ds ok C c)) cs m k
 
   -- a list of calls that begins with a start carried out
-  run-kept : (C : Config) (scratch run line : ℕ) (calls : List Call) → respond text C (callStart scratch run line) .answer ≡ started Starts.Begun
-      → (m : Moment) → In m (history text C (callStart scratch run line ∷ calls)) → Kept p m
-  run-kept C scratch run line calls e m k = go k
+  run-safe : (C : Config) (scratch run line : ℕ) (calls : List Call) → respond text C (callStart scratch run line) .answer ≡ started Starts.Begun
+      → (m : Exchange) → In m (history text C (callStart scratch run line ∷ calls)) → SafeExchange p m
+  run-safe C scratch run line calls e m k = go k
     where
       v : WellFormed p (respond text C (callStart scratch run line) .config)
       v = begun-well-formed (replied text ds ok C (callStart scratch run line)) (ap has-begun e)
 
-      go : In m (history text C (callStart scratch run line ∷ calls)) → Kept p m
-      go (List·Memᴰ·head z) = subst (Kept p) (sym z) (start-kept C scratch run line v)
-      go (List·Memᴰ·tail k) = history-kept (respond text C (callStart scratch run line) .config) v calls m k
+      go : In m (history text C (callStart scratch run line ∷ calls)) → SafeExchange p m
+      go (List·Memᴰ·head z) = subst (SafeExchange p) (sym z) (start-safe C scratch run line v)
+      go (List·Memᴰ·tail k) = history-safe (respond text C (callStart scratch run line) .config) v calls m k
 
-pub demand3 : Demand3
-demand3 = record { kept = λ text ds scratch run line calls ok. run-kept text ds ok idle scratch run line calls }
+pub plain-demand3 : PlainDemand3
+plain-demand3 = record { atEachCall = λ text ds scratch run line calls ok. run-safe text ds ok idle scratch run line calls }

@@ -3,7 +3,9 @@ use Prim.Native.Nat.{_≤_}
 use native.Mathlib.Omega.{arith}
 use lib.ListN.{length}
 use Rattle.check_accepted.specs.Verdicts.{scratch-enough, text-accepted}
-use Rattle.interpreter.specs.Inside.{names-accepted, names-refused}
+use Rattle.interpreter.specs.Inside.{answers-accepted, answers-refused}
+use Rattle.interpreter.specs.Entries.{toName}
+use mathlib.Core.List.{[]}
 use borrow.Author.Needs.{needs}
 use Rattle.interpreter.proofs.entries.exec_name.Statement.{statement}
 use Rattle.interpreter.proofs.entries.exec_name.Tie as tie
@@ -51,7 +53,7 @@ returns c =
     let after-check = c .before .before .before .before .before .before .before .before .before in
     let check = after-check .check in
     let entry = after-check .before .before .before .before in
-    names-accepted (entry .args .text .now) (entry .args .scratch .now) (check .last .1 .0) _ (check .ensures) (c .before .before .before .before .before .enum-told .given .1) (c .name-in .ensures)
+    answers-accepted (entry .args .text .now) (entry .args .scratch .now) (check .last .1 .0) _ (check .ensures) (toName (entry .args .line)) [] (c .before .before .before .before .before .enum-told .given .1) (c .name-in .ensures)
 
 sub-result : tie.Need-sub-result
 sub-result c = search needs
@@ -70,7 +72,7 @@ returns-2 c =
     let v = c .before .before .v in
     let check = c .before .before .before .before .before .before .check in
     let entry = c .before .before .before .before .before .before .before .before .before .before in
-    names-refused (entry .args .text .now) (entry .args .scratch .now) (check .last .1 .0) _ (check .ensures) (entry .args .line) (v .given .0 .0) (v .given .0 .1 .0) (v .given .1)
+    answers-refused (entry .args .text .now) (entry .args .scratch .now) (check .last .1 .0) _ (check .ensures) (toName (entry .args .line)) [] (v .given .0 .0) (v .given .0 .1 .0) (v .given .1)
 
 pub exec-name-spec : {M : Type 1} → statement M
 exec-name-spec =

@@ -2,10 +2,9 @@ use mathlib.Core.Path.{_≡_}
 use Prim.Native.Nat.{_≤_}
 use native.Mathlib.Omega.{arith}
 use lib.ListN.{length}
-use Rattle.calculus.specs.Machine.{callReport}
 use Rattle.check_accepted.specs.Verdicts.{scratch-enough, text-accepted}
 use Rattle.interpreter.specs.Inside.{answers-accepted, answers-refused}
-use Rattle.interpreter.specs.RunningOn.{report-refusing}
+use Rattle.interpreter.specs.Entries.{toReport}
 use Rattle.interpreter.specs.Reporting.{text-refused-report}
 use borrow.Author.Needs.{needs}
 use Rattle.interpreter.proofs.entries.report.Statement.{statement}
@@ -54,7 +53,7 @@ returns c =
     let check = c .before .before .before .before .before .before .before .check in
     let entry = c .before .before .before .before .before .before .before .before .before .before .before .before in
     let run = entry .args .run .now in
-    record { answers = answers-accepted (entry .args .text .now) (entry .args .scratch .now) (check .last .1 .0) _ (check .ensures) run (λ n. callReport n (length run)) (c .before .before .before .enum-told .given .1) (c .report-in .ensures .answers); rest = c .report-in .ensures .rest }
+    record { answers = answers-accepted (entry .args .text .now) (entry .args .scratch .now) (check .last .1 .0) _ (check .ensures) toReport run (c .before .before .before .enum-told .given .1) (c .report-in .ensures .answers); rest = c .report-in .ensures .rest }
 
 no-report-requires : tie.Need-no-report-requires
 no-report-requires c κs = search needs
@@ -68,7 +67,7 @@ returns-2 c =
     let check = c .before .before .before .before .before .before .check in
     let entry = c .before .before .before .before .before .before .before .before .before .before .before in
     let run = entry .args .run .now in
-    text-refused-report (entry .args .text .now) (entry .args .scratch .now) run (check .last .1 .0) (v .given .0 .0) (v .given .0 .1 .0) _ (c .no-report .ensures) (answers-refused (entry .args .text .now) (entry .args .scratch .now) (check .last .1 .0) _ (check .ensures) run (λ n. callReport n (length run)) _ (report-refusing (length run)) (v .given .0 .0) (v .given .0 .1 .0) (v .given .1))
+    text-refused-report (entry .args .text .now) (entry .args .scratch .now) run (check .last .1 .0) (v .given .0 .0) (v .given .0 .1 .0) _ (c .no-report .ensures) (answers-refused (entry .args .text .now) (entry .args .scratch .now) (check .last .1 .0) _ (check .ensures) toReport run (v .given .0 .0) (v .given .0 .1 .0) (v .given .1))
 
 pub report-spec : {M : Type 1} → statement M
 report-spec =

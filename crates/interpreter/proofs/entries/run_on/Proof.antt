@@ -4,8 +4,7 @@ use native.Mathlib.Omega.{arith}
 use lib.ListN.{length}
 use Rattle.check_accepted.specs.Verdicts.{scratch-enough, text-accepted}
 use Rattle.interpreter.specs.Inside.{answers-accepted, answers-refused}
-use Rattle.calculus.specs.Machine.{callRunOn}
-use Rattle.interpreter.specs.RunningOn.{run-refusing}
+use Rattle.interpreter.specs.Entries.{toRunOn}
 use borrow.Author.Needs.{needs}
 use Rattle.interpreter.proofs.entries.run_on.Statement.{statement}
 use Rattle.interpreter.proofs.entries.run_on.Tie as tie
@@ -56,7 +55,7 @@ returns c =
     let check = after-check .check in
     let entry = after-check .before .before .before .before .before in
     let run = entry .args .run .now in
-    answers-accepted (entry .args .text .now) (entry .args .scratch .now) (check .last .1 .0) _ (check .ensures) run (λ n. callRunOn n (length run) (entry .args .budget)) (c .before .before .before .before .before .before .enum-told .given .1) (c .before .before .run-on-in .ensures)
+    answers-accepted (entry .args .text .now) (entry .args .scratch .now) (check .last .1 .0) _ (check .ensures) (toRunOn (entry .args .budget)) run (c .before .before .before .before .before .before .enum-told .given .1) (c .before .before .run-on-in .ensures)
 
 same-length-3 : tie.Need-same-length-3
 same-length-3 c = search needs
@@ -67,7 +66,7 @@ returns-2 c =
     let check = c .before .before .before .before .before .check in
     let entry = c .before .before .before .before .before .before .before .before .before .before in
     let run = entry .args .run .now in
-    answers-refused (entry .args .text .now) (entry .args .scratch .now) (check .last .1 .0) _ (check .ensures) run (λ n. callRunOn n (length run) (entry .args .budget)) _ (run-refusing (length run) (entry .args .budget)) (v .given .0 .0) (v .given .0 .1 .0) (v .given .1)
+    answers-refused (entry .args .text .now) (entry .args .scratch .now) (check .last .1 .0) _ (check .ensures) (toRunOn (entry .args .budget)) run (v .given .0 .0) (v .given .0 .1 .0) (v .given .1)
 
 pub run-on-spec : {M : Type 1} → statement M
 run-on-spec =

@@ -3,7 +3,8 @@ use Prim.Native.Nat.{_≤_}
 use native.Mathlib.Omega.{arith}
 use lib.ListN.{length}
 use Rattle.check_accepted.specs.Verdicts.{scratch-enough, text-accepted}
-use Rattle.interpreter.specs.Inside.{starts-accepted, starts-refused}
+use Rattle.interpreter.specs.Inside.{answers-accepted, answers-refused}
+use Rattle.interpreter.specs.Entries.{toStart}
 use borrow.Author.Needs.{needs}
 use Rattle.interpreter.proofs.entries.start.Statement.{statement}
 use Rattle.interpreter.proofs.entries.start.Tie as tie
@@ -53,7 +54,7 @@ returns c =
     let after-check = c .before .before .before .before .before .before .before .before .before .before in
     let check = after-check .check in
     let entry = after-check .before .before .before .before .before in
-    starts-accepted (entry .args .text .now) (entry .args .scratch .now) (check .last .1 .0) _ (check .ensures) (c .before .before .before .before .before .before .enum-told .given .1) (c .before .before .start-in .ensures)
+    answers-accepted (entry .args .text .now) (entry .args .scratch .now) (check .last .1 .0) _ (check .ensures) (toStart (entry .args .line)) (entry .args .run .now) (c .before .before .before .before .before .before .enum-told .given .1) (c .before .before .start-in .ensures)
 
 same-length-3 : tie.Need-same-length-3
 same-length-3 c = search needs
@@ -63,7 +64,7 @@ returns-2 c =
     let v = c .before .v in
     let check = c .before .before .before .before .before .check in
     let entry = c .before .before .before .before .before .before .before .before .before .before in
-    starts-refused (entry .args .text .now) (entry .args .scratch .now) (check .last .1 .0) _ (check .ensures) (entry .args .run .now) (entry .args .line) (v .given .0 .0) (v .given .0 .1 .0) (v .given .1)
+    answers-refused (entry .args .text .now) (entry .args .scratch .now) (check .last .1 .0) _ (check .ensures) (toStart (entry .args .line)) (entry .args .run .now) (v .given .0 .0) (v .given .0 .1 .0) (v .given .1)
 
 pub start-spec : {M : Type 1} → statement M
 start-spec =

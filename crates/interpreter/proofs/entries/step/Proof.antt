@@ -4,8 +4,7 @@ use native.Mathlib.Omega.{arith}
 use lib.ListN.{length}
 use Rattle.check_accepted.specs.Verdicts.{scratch-enough, text-accepted}
 use Rattle.interpreter.specs.Inside.{answers-accepted, answers-refused}
-use Rattle.calculus.specs.Machine.{callStep}
-use Rattle.interpreter.specs.Stepping.{step-refusing}
+use Rattle.interpreter.specs.Entries.{toStep}
 use borrow.Author.Needs.{needs}
 use Rattle.interpreter.proofs.entries.step.Statement.{statement}
 use Rattle.interpreter.proofs.entries.step.Tie as tie
@@ -56,7 +55,7 @@ returns c =
     let check = after-check .check in
     let entry = after-check .before .before .before .before .before in
     let run = entry .args .run .now in
-    answers-accepted (entry .args .text .now) (entry .args .scratch .now) (check .last .1 .0) _ (check .ensures) run (λ n. callStep n (length run) (entry .args .place)) (c .before .before .before .before .before .before .enum-told .given .1) (c .before .before .step-in .ensures)
+    answers-accepted (entry .args .text .now) (entry .args .scratch .now) (check .last .1 .0) _ (check .ensures) (toStep (entry .args .place)) run (c .before .before .before .before .before .before .enum-told .given .1) (c .before .before .step-in .ensures)
 
 same-length-3 : tie.Need-same-length-3
 same-length-3 c = search needs
@@ -67,7 +66,7 @@ returns-2 c =
     let check = c .before .before .before .before .before .check in
     let entry = c .before .before .before .before .before .before .before .before .before .before in
     let run = entry .args .run .now in
-    answers-refused (entry .args .text .now) (entry .args .scratch .now) (check .last .1 .0) _ (check .ensures) run (λ n. callStep n (length run) (entry .args .place)) _ (step-refusing (length run) (entry .args .place)) (v .given .0 .0) (v .given .0 .1 .0) (v .given .1)
+    answers-refused (entry .args .text .now) (entry .args .scratch .now) (check .last .1 .0) _ (check .ensures) (toStep (entry .args .place)) run (v .given .0 .0) (v .given .0 .1 .0) (v .given .1)
 
 pub step-spec : {M : Type 1} → statement M
 step-spec =

@@ -1,5 +1,7 @@
+use mathlib.Core.Path.{refl}
+use Rattle.interpreter.specs.Entries.{toRunOn}
 use Rattle.check_accepted.specs.Texts.{tables-in, everywhere-in, bodies-in}
-use Rattle.interpreter.specs.Told.{holds-in, formed-in, run-in, well-formed-in, run-short, run-stranger, run-told}
+use Rattle.interpreter.specs.Told.{holds-in, formed-in, run-in, well-formed-in, too-short, stranger, run-told}
 use borrow.Author.Needs.{needs}
 use Rattle.interpreter.proofs.inside.run_on_in.Statement.{statement}
 use Rattle.interpreter.proofs.inside.run_on_in.Tie as tie
@@ -9,7 +11,7 @@ use Rattle.run_steps.proofs.running.steps_until.Reads as steps-until-reads
 use Rattle.run_wellformed.proofs.well_formed.Reads as well-formed-reads
 
 returns : tie.Need-returns
-returns c = run-short (c .before .before .before .before .pre) (c .if1 .taken)
+returns c = too-short (c .before .before .before .before .pre) (toRunOn _) refl (c .if1 .taken)
 
 well-formed-requires : tie.Need-well-formed-requires
 well-formed-requires c κs =
@@ -37,7 +39,7 @@ same-length-2 c = search needs
 returns-3 : tie.Need-returns-3
 returns-3 c =
     let entry = c .before .before .before .before .before .before .before in
-    run-stranger (entry .pre) (c .before .before .before .if1 .left) (λ f. c .before .well-formed .ensures .no (c .if2 .left) (formed-in (entry .pre) _ f))
+    stranger (entry .pre) (toRunOn _) refl (c .before .before .before .if1 .left) (λ f. c .before .well-formed .ensures .no (c .if2 .left) (formed-in (entry .pre) _ f))
 
 pub run-on-in-spec : {M : Type 1} → statement M
 run-on-in-spec =

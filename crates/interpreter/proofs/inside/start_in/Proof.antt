@@ -1,5 +1,7 @@
+use mathlib.Core.Path.{refl}
+use Rattle.interpreter.specs.Entries.{toStart}
 use Rattle.check_accepted.specs.Texts.{tables-in}
-use Rattle.interpreter.specs.Told.{small-in, start-short, start-told}
+use Rattle.interpreter.specs.Told.{small-in, too-short, start-told}
 use borrow.Author.Needs.{needs}
 use Rattle.interpreter.proofs.inside.start_in.Statement.{statement}
 use Rattle.interpreter.proofs.inside.start_in.Tie as tie
@@ -8,7 +10,7 @@ use Rattle.interpreter.proofs.inside.start_in.Lts as lts
 use Rattle.run_steps.proofs.starting.begin_line.Reads as begin-line-reads
 
 returns : tie.Need-returns
-returns c = start-short (c .before .before .before .before .pre) (c .if1 .taken)
+returns c = too-short (c .before .before .before .before .pre) (toStart _) refl (c .if1 .taken)
 
 begin-line-requires : tie.Need-begin-line-requires
 begin-line-requires c κs =

@@ -1,5 +1,7 @@
+use mathlib.Core.Path.{refl}
+use Rattle.interpreter.specs.Entries.{toStep}
 use Rattle.check_accepted.specs.Texts.{tables-in, everywhere-in}
-use Rattle.interpreter.specs.Told.{holds-in, formed-in, step-short, step-stranger}
+use Rattle.interpreter.specs.Told.{holds-in, formed-in, too-short, stranger}
 use borrow.Author.Needs.{needs}
 use Rattle.interpreter.proofs.inside.step_in.Statement.{statement}
 use Rattle.interpreter.proofs.inside.step_in.Tie as tie
@@ -9,7 +11,7 @@ use Rattle.interpreter.proofs.inside.step_placed.Reads as step-placed-r
 use Rattle.run_wellformed.proofs.well_formed.Reads as well-formed-reads
 
 returns : tie.Need-returns
-returns c = step-short (c .before .before .before .before .pre) (c .if1 .taken)
+returns c = too-short (c .before .before .before .before .pre) (toStep _) refl (c .if1 .taken)
 
 well-formed-requires : tie.Need-well-formed-requires
 well-formed-requires c κs =
@@ -33,7 +35,7 @@ same-length-2 c = search needs
 returns-3 : tie.Need-returns-3
 returns-3 c =
     let entry = c .before .before .before .before .before .before .before in
-    step-stranger (entry .pre) (c .before .before .before .if1 .left) (λ f. c .before .well-formed .ensures .no (c .if2 .left) (formed-in (entry .pre) _ f))
+    stranger (entry .pre) (toStep _) refl (c .before .before .before .if1 .left) (λ f. c .before .well-formed .ensures .no (c .if2 .left) (formed-in (entry .pre) _ f))
 
 pub step-in-spec : {M : Type 1} → statement M
 step-in-spec =
