@@ -27,7 +27,8 @@ use Rattle.theory_ends.specs.Contexts.{held-plain, context-names, context-witho
 use Rattle.theory_ends.specs.FarEnds.{HeldFar}
 use Rattle.theory_preservation.specs.Mates.{put}
 use Rattle.theory_preservation.specs.Roster.{channelKey, Has, TypedDoing, Good, NamesOf, Goes, runs-on, runs-awake, folds}
-use Rattle.theory_preservation.specs.LettingGo.{let-go-sub, raised, left, left-alone}
+use Rattle.theory_preservation.specs.LettingGo.{raised, left, left-alone}
+use Rattle.theory_preservation.specs.Outsides.{let-go-sub}
 use Rattle.theory_preservation.specs.Places.{Shows, shows-set, shows-in, shows-out, idIn, id-in-low, id-in-new, relinked-in, up-below, idOut}
 use Rattle.theory_preservation.specs.FarEnds.{fresh-unheld}
 use Rattle.theory_preservation.specs.Forwarding.{forwarded, forwarded-out}

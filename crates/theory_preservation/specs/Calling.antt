@@ -24,7 +24,7 @@ use Rattle.theory_ends.specs.Ends.{keyAt}
 use Rattle.theory_preservation.specs.Witness.{of-channels, Recast}
 use Rattle.theory_preservation.specs.Roster.{Has, tipOf, Fine, runs-awake}
 use Rattle.theory_preservation.specs.LettingGo.{less}
-use Rattle.theory_preservation.specs.Retyping.{key-of-key, held-tip}
+use Rattle.theory_preservation.specs.TwoEnds.{key-of-key, held-tip}
 use Rattle.theory_preservation.specs.Invariant.{Inv, at-roster, fine-at, inv-set}
 use Rattle.theory_preservation.specs.Weakening.{weakened}
 

@@ -22,7 +22,7 @@ use Rattle.theory_preservation.specs.Witness.{Key, Tip, Rel, Witness, fe
 use Rattle.theory_preservation.specs.Mates.{put, put-elim, Profile, Mates, mates-same, mates-put, mates-new, Quiet, quiet-none, quiet-some}
 use Rattle.theory_preservation.specs.Roster.{Roster, channelKey, linkKey, link-key-one, channel-no-link, keyOf, tipOf, linkTip, Tips, holds, links, waits, Has, outside, inside, TypedDoing, Fine, fine-new, fine-less, profile, Good, NamesOf, Goes, runs-on, runs-awake, folds, names-less, names-snoc}
 use Rattle.theory_preservation.specs.LettingGo.{profile-put-two}
-use Rattle.theory_preservation.specs.Retyping.{key-from-key, above, owner, held-tip}
+use Rattle.theory_preservation.specs.TwoEnds.{key-from-key, above, owner, held-tip}
 
 abbrev linkKeys : Option ℕ → List Key
 linkKeys none = []

@@ -14,38 +14,11 @@ use Rattle.calculus.specs.Program.{Program}
 use Rattle.calculus.specs.Typing.{Typed}
 use Rattle.calculus.specs.Configuration.{End, Doing, running, Process, Outside, letGo, doingNow, linkedBy, becoming}
 use Rattle.calculus.specs.WellFormed.{In, Rising, contextOf, isWaiting, NoneTwice}
-use Rattle.theory_ends.specs.Lists.{sub-in, sub-once}
+use Rattle.theory_ends.specs.Lists.{sub-in}
 use Rattle.theory_preservation.specs.Witness.{Tip, fewer, Recast, recast-same, recasting}
+use Rattle.theory_preservation.specs.Outsides.{fair-less}
 use Rattle.theory_preservation.specs.Mates.{put, put-elim, put-at, Profile, Mates, mates-same, mates-put, mates-cut, Quiet, quiet-none, quiet-some}
-use Rattle.theory_preservation.specs.Roster.{Roster, tipOf, linkTip, outsideTip, Tips, holds, links, waits, Has, outside, inside, TypedDoing, Fine, fine-less, Fair, profile, Good, becomes, one-good, NamesOf, Goes}
-
--- ── the outside lets go
-rising-from : {low high : ℕ} (l : List ℕ) → low ≤ high → Rising high l → Rising low l
-rising-from [] h r = tt
-rising-from (n ∷ l) h r = let a = r .0 in (omega arith, r .1)
-
-rising-sub : {A : Type 0} (f : A → ℕ) {l m : List A} (low : ℕ) → Sublistᴰ l m → Rising low (map f m) → Rising low (map f l)
-rising-sub f low Sublistᴰ·slnil r = tt
-rising-sub f low (Sublistᴰ·cons {a} {l₁ = l} s) r = let a0 = r .0 in rising-from (map f l) (omega arith) (rising-sub f (suc (f a)) s (r .1))
-rising-sub f low (Sublistᴰ·cons-cons {l₁ = l} e s) r = (subst (λ x. low ≤ f x) (sym e) (r .0), subst (λ x. Rising (suc (f x)) (map f l)) (sym e) (rising-sub f _ s (r .1)))
-
-pub fair-less : {p : Program} {given : ℕ} {o o′ : List Outside} → Fair p given o → Sublistᴰ o′ o → Fair p given o′
-fair-less f s = record {
-  outwards = λ y i. f .outwards y (sub-in s i);
-  below = λ y i. f .below y (sub-in s i);
-  rising = rising-sub (λ (y : Outside). y .number) 0 s (f .rising);
-  keys = sub-once (λ (y : Outside). y .channel) s (f .keys);
-  channels = λ y i. f .channels y (sub-in s i);
-}
-
-pub let-go-sub : (k : ℕ) (o : List Outside) → Sublistᴰ (letGo k o) o
-unfolding letGo
-let-go-sub k [] = Sublistᴰ·slnil
-let-go-sub k (y ∷ o) = go (eqb k (y .channel)) (let-go-sub k o)
-  where
-    go : (b : Bool) → Sublistᴰ (letGo k o) o → Sublistᴰ (cond b (letGo k o) (y ∷ letGo k o)) (y ∷ o)
-    go true s = Sublistᴰ·cons s
-    go false s = Sublistᴰ·cons-cons refl s
+use Rattle.theory_preservation.specs.Roster.{Roster, tipOf, linkTip, outsideTip, Tips, holds, links, waits, Has, outside, inside, TypedDoing, Fine, fine-less, Turns, profile, Good, becomes, one-good, NamesOf}
 
 -- what is seen of a roster after a process is put in
 pub profile-put : (u : ℕ) (x : Option Process) (S : Roster) (v : ℕ) → profile (put u x S v) ≡ put u (profile x) (λ v. profile (S v)) v
@@ -70,10 +43,11 @@ module _ {p : Program} {S : Roster} {o : List Outside} {given next : ℕ} (G : G
       (becomes G (Recast p (Has S o)) u r su d l w f s (λ h s t. recast-same p (Has S o) u (linkTip h s) t))
       (λ v e n z t. recast-same p (Has S o) v e t) (λ y i. recast-same p (Has S o) 0 (outsideTip y) (outside refl y (sub-in k i) refl)) (fair-less (G .fair) k)
 
-  pub lessen : (u : ℕ) (r : Process) → S u ≡ some r → (d : Doing) → Goes (r .doing) d → {l : List (Name × End)} → Sublistᴰ l (r .held)
+  pub lessen : {u : ℕ} {r : Process} {d : Doing} → Turns S u r d → {l : List (Name × End)} → Sublistᴰ l (r .held)
       → TypedDoing p (contextOf l) (isSome (r .link)) d → {o′ : List Outside} → Sublistᴰ o′ o → Good p (put u (some (becoming d l r)) S) o′ given next
-  lessen u r su d w {l} s t k = less u r su d l (w .waits) (fine-less (G .fine u r su) d w s t)
-      (λ x i. recast-same p (Has S o) u (tipOf (x .1)) (inside r su (holds x (sub-in s i) refl))) k
+  lessen {u} {r} {d} a {l} s t k =
+      less u r (a .there) d l (a .goes .waits) (fine-less (G .fine u r (a .there)) d (a .goes) s t)
+      (λ x i. recast-same p (Has S o) u (tipOf (x .1)) (inside r (a .there) (holds x (sub-in s i) refl))) k
 
   -- ── links go too: y is what stands at v afterwards
   pub record Shrinks (v : ℕ) (y : Option Process) : Type 0 where

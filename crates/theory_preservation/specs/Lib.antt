@@ -1,7 +1,9 @@
 pub mod Witness
 pub mod Mates
 pub mod Roster
+pub mod Outsides
 pub mod LettingGo
+pub mod TwoEnds
 pub mod Retyping
 pub mod Passing
 pub mod Relocating

@@ -111,6 +111,11 @@ pub record Fine (p : Program) (r : Process) : Type 0 where
 pub fine-new : {p : Program} {r : Process} → Fine p r → Fine p (process (r .doing) (r .held) (r .link))
 fine-new f = record { typed = f .typed; names = f .names; keys = f .keys; room = f .room; channels = f .channels }
 
+-- the process r of u does d from now on, under the same names
+pub record Turns (S : Roster) (u : ℕ) (r : Process) (d : Doing) : Type 0 where
+  pub there : S u ≡ some r
+  pub goes : Goes (r .doing) d
+
 -- ── the outside's channels
 pub record Fair (p : Program) (given : ℕ) (o : List Outside) : Type 0 where
   pub outwards : (y : Outside) → In y o → outward p (y .type) ≡ true

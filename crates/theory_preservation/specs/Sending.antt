@@ -27,12 +27,13 @@ use Rattle.theory_ends.specs.Contexts.{context-without, context-length, absent-
 use Rattle.theory_ends.specs.FarEnds.{HeldFar, FarOutside, FarNobody, far-held, far-outside, far-nobody, stands-at}
 use Rattle.theory_ends.specs.Onward.{onward-is, outside-onward-is}
 use Rattle.theory_preservation.specs.Roster.{Has, outside, tipOf, runs-on}
-use Rattle.theory_preservation.specs.LettingGo.{let-go-sub}
-use Rattle.theory_preservation.specs.Retyping.{above, one-type, ends-apart, held-tip, chosen, chosen-unheard, chosen-out}
+use Rattle.theory_preservation.specs.Outsides.{let-go-sub}
+use Rattle.theory_preservation.specs.TwoEnds.{Facing, one-type, held-tip, ends-apart, facing}
+use Rattle.theory_preservation.specs.Retyping.{chosen, chosen-unheard, chosen-out}
 use Rattle.theory_preservation.specs.Passing.{lookup-without, passed, passed-unheard, passed-gone, passed-out}
 use Rattle.theory_preservation.specs.FarEnds.{nobody-has}
 use Rattle.theory_preservation.specs.AfterMessage.{branch-typed, after-label, after-channel, TypedEnd, typed-end, typed-on, typed-taking, LabelOver, label-over, ChannelOver, channel-over}
-use Rattle.theory_preservation.specs.Invariant.{Inv, at-roster, fine-at, typed-at, runs-typed, inv-set, inv-less, inv-two}
+use Rattle.theory_preservation.specs.Invariant.{Inv, at-roster, fine-at, typed-at, runs-typed, turns, inv-set, inv-less, inv-two}
 use Rattle.theory_preservation.specs.Alone.{gives-up}
 
 module _ {p : Program} {C : Config} (I : Inv p C) where
@@ -40,9 +41,6 @@ module _ {p : Program} {C : Config} (I : Inv p C) where
   linked q = isSome (Option·map (I .id) (q .link))
 
   -- ── who has the two ends
-  has-end : {i : ℕ} {q : Process} {R : Proc} → Runs C i q R → (n : Name) (e : End) → In (n, e) (q .held) → Has (I .roster) (C .outside) (I .id i) (tipOf e)
-  has-end {i} {q} r n e m = held-tip (I .good) (I .id i) (relinked (I .id) q) (at-roster I i q (r .stands .there)) (n, e) m
-
   -- the holder of a far end, which answers
   module _ (e : End) {h : Holder} {c : Located} {R : Proc} (f : HeldFar C e h) (an : Answers h c R) where
     far-runs : Runs C (h .place) (h .process) R
@@ -55,18 +53,21 @@ module _ {p : Program} {C : Config} (I : Inv p C) where
     far-named = ap (λ n. lookup n (h .process .held)) (an .name) ∙ far-end
 
     module _ {i : ℕ} {q : Process} {Q : Proc} (r : Runs C i q Q) (n : Name) (le : lookup n (q .held) ≡ some e) where
+      faces : Facing (I .roster) (C .outside) (I .id i) (I .id (h .place)) e (f .end)
+      faces =
+          facing (I .good) (at-roster I i q (r .stands .there)) (at-roster I (h .place) (h .process) (f .stands)) n (h .name) (lookup-in n (q .held) le) (f .held)
+          (f .channel) (f .side)
+
       two-places : h .place ≢ i
-      two-places z =
-          ends-apart (I .good) (I .id i) (I .id (h .place)) e (f .end) (f .channel) (f .side) (has-end r n e (lookup-in n (q .held) le)) (has-end far-runs (h .name) (f .end) (f .held))
-          (above (I .good) (I .id i) (relinked (I .id) q) (at-roster I i q (r .stands .there)))
-          (above (I .good) (I .id (h .place)) (relinked (I .id) (h .process)) (at-roster I (h .place) (h .process) (f .stands))) (ap (I .id) (sym z))
+      two-places z = ends-apart (I .good) faces (ap (I .id) (sym z))
 
       far-one : OneType p (e .type) (f .end .type)
-      far-one = one-type (I .good) (I .id i) (I .id (h .place)) e (f .end) (sym (f .channel)) (has-end r n e (lookup-in n (q .held) le)) (has-end far-runs (h .name) (f .end) (f .held))
+      far-one = one-type (I .good) (I .id i) (I .id (h .place)) e (f .end) (sym (f .channel)) (faces .near) (faces .far)
 
-  outside-one : {i : ℕ} {q : Process} {R : Proc} → Runs C i q R → (n : Name) {e : End} → lookup n (q .held) ≡ some e → (y : FarOutside C e) → OneType p (e .type) (y .entry .type)
+  outside-one : {i : ℕ} {q : Process} {R : Proc} → Runs C i q R → (n : Name) {e : End} → lookup n (q .held) ≡ some e → (y : FarOutside (C .outside) e) → OneType p (e .type) (y .entry .type)
   outside-one {i} {q} r n {e} le y =
-      one-type (I .good) (I .id i) 0 e (end used (y .entry .channel) (y .entry .type)) (sym (y .channel)) (has-end r n e (lookup-in n (q .held) le)) (outside refl (y .entry) (y .listed) refl)
+      one-type (I .good) (I .id i) 0 e (end used (y .entry .channel) (y .entry .type)) (sym (y .channel))
+      (held-tip (I .good) (I .id i) (relinked (I .id) q) (at-roster I i q (r .stands .there)) (n, e) (lookup-in n (q .held) le)) (outside refl (y .entry) (y .listed) refl)
 
   -- ── a unit
   module _ {i o : ℕ} {q : Process} {c : Located} {P : Proc} (r : Runs C i q (sendUnit o c P)) where
@@ -140,25 +141,22 @@ module _ {p : Program} {C : Config} (I : Inv p C) where
             let d = subst (λ n. Typed p (retyped n (x .0) (contextOf (h .process .held))) (linked (h .process)) Q) (an .name) (x .2) in
             rw (onward-is p (chooses l) (c .name) (q .held) le, onward-is p (chooses l) (h .name) (h .process .held) (far-end e f an))
             (inv-two I i (h .place) q (h .process) (r .stands .there) (f .stands) (running P) (running Q) _ _
-            (chosen (I .good) (I .id i) (relinked (I .id) q) (at-roster I i q (r .stands .there)) (running P) (runs-on (r .runs) P) (c .name) e left le (ch .typed)
-            (ch .over (f .end .type) (far-one e f an r (c .name) le) .one) (I .id (h .place)) (relinked (I .id) (h .process)) (at-roster I (h .place) (h .process) (f .stands))
-            (running Q) (runs-on (an .runs) Q) (h .name) (f .end) (far-end e f an) (f .channel) (f .side)
+            (chosen (I .good) (turns I r P) (c .name) left le (ch .typed) (ch .over (f .end .type) (far-one e f an r (c .name) le) .one)
+            (turns I (far-runs e f an) Q) (h .name) (far-end e f an) (f .channel) (f .side)
             (typed-on p (h .name) (h .process .held) (after-label p l (f .end .type) z (x .1)) d)))
 
-    pub label-shown : FarOutside C e → Inv p (withOutside (outsideOnward p (chooses l) (e .channel) (C .outside)) (replaced i chooser C))
+    pub label-shown : FarOutside (C .outside) e → Inv p (withOutside (outsideOnward p (chooses l) (e .channel) (C .outside)) (replaced i chooser C))
     label-shown y =
         let x = ch .over (y .entry .type) (outside-one r (c .name) le y) in
         rw (onward-is p (chooses l) (c .name) (q .held) le, outside-onward-is p (chooses l) (e .channel) (C .outside) (y .found))
         (inv-set I i q (r .stands .there) (running P) (retypedEnd (c .name) left (q .held)) (I .numbers)
-        (chosen-out (I .good) (I .id i) (relinked (I .id) q) (at-roster I i q (r .stands .there)) (running P) (runs-on (r .runs) P) (c .name) e (x .one) le (ch .typed)
-        (y .entry) (y .listed) (y .channel) (y .side) (x .outwards (I .good .fair .outwards (y .entry) (y .listed)))))
+        (chosen-out (I .good) (turns I r P) (c .name) left le (ch .typed) (x .one) y (x .outwards (I .good .fair .outwards (y .entry) (y .listed)))))
 
     pub label-gone : FarNobody C e → Inv p (replaced i chooser C)
     label-gone n =
         rw (onward-is p (chooses l) (c .name) (q .held) le)
         (inv-set I i q (r .stands .there) (running P) (retypedEnd (c .name) left (q .held)) (I .numbers)
-        (chosen-unheard (I .good) (I .id i) (relinked (I .id) q) (at-roster I i q (r .stands .there)) (running P) (runs-on (r .runs) P) (c .name) e left le (ch .typed)
-        (nobody-has C (I .shows) e (n .processes) (n .outside))))
+        (chosen-unheard (I .good) (turns I r P) (c .name) left le (ch .typed) (nobody-has C (I .shows) e (n .processes) (n .outside))))
 
   -- ── a channel a, of which the sender has the end d
   module _ {i o : ℕ} {q : Process} {c a : Located} {P : Proc} {e : End} (r : Runs C i q (sendChannel o c a P)) (le : lookup (c .name) (q .held) ≡ some e) where
@@ -219,9 +217,8 @@ module _ {p : Program} {C : Config} (I : Inv p C) where
         go (recvs-channel T t pt ac br d) =
             rw (onward-sender, onward-is p (passes a) (h .name) (h .process .held) (far-end e f an), far-end e f an, ps .found, y .goes)
             (inv-two I i (h .place) q (h .process) (r .stands .there) (f .stands) (running P) (running Q) _ _
-            (passed (I .good) (I .id i) (relinked (I .id) q) (at-roster I i q (r .stands .there)) (running P) (runs-on (r .runs) P) (c .name) (a .name) (ps .apart) e (ps .end) rest le
-            (ps .found) (ps .typed) (y .one) (y .what) (I .id (h .place)) (relinked (I .id) (h .process)) (at-roster I (h .place) (h .process) (f .stands))
-            (running Q) (runs-on (an .runs) Q) (h .name) (x .name) (f .end) (far-end e f an) (f .channel) (f .side) (absent-held (x .name) (h .process .held) (br .new))
+            (passed (I .good) (turns I r P) (ps .apart) rest le (ps .found) (ps .typed) (y .one) (y .what) (turns I (far-runs e f an) Q) (h .name) (x .name) (far-end e f an) (f .channel) (f .side)
+            (absent-held (x .name) (h .process .held) (br .new))
             (subst (λ n. n < heldLimit) (context-length (h .process .held)) (br .room))
             (typed-taking p (h .name) (h .process .held) (x .name) got (after-channel p a (f .end .type) (y .goes)) own)))
           where
@@ -235,7 +232,7 @@ module _ {p : Program} {C : Config} (I : Inv p C) where
                 (retyped (an .name j) (same-passing j .after) (contextOf (h .process .held)))) d
 
     -- to the outside: the end d is on the used side, and outward
-    module _ (y : FarOutside C e) {d : End} (ld : lookup (a .name) (q .held) ≡ some d) (lt : C .given < outsideNumbers) where
+    module _ (y : FarOutside (C .outside) e) {d : End} (ld : lookup (a .name) (q .held) ≡ some d) (lt : C .given < outsideNumbers) where
       x : ChannelOver p a (e .type) (y .entry .type) (d .type) (d .side)
       x = subst (λ (d : End). ChannelOver p a (e .type) (y .entry .type) (d .type) (d .side)) (is-end ld) (ps .over (y .entry .type) (outside-one r (c .name) le y))
 
@@ -248,20 +245,17 @@ module _ {p : Program} {C : Config} (I : Inv p C) where
       channel-shown =
           rw (onward-sender, outside-onward-is p (passes a) (e .channel) (C .outside) (y .found), y .found, x .goes)
           (inv-set I i q (r .stands .there) (running P) _ lt
-          (passed-out (I .good) (I .id i) (relinked (I .id) q) (at-roster I i q (r .stands .there)) (running P) (runs-on (r .runs) P) (c .name) (a .name) (ps .apart) e d rest le ld
-          (ps .typed) (x .one) (x .what) (y .entry) (y .listed) (y .channel) (y .side) (sym (x .side) ∙ x .outside-uses out) (x .left out) (x .passed out)))
+          (passed-out (I .good) (turns I r P) (ps .apart) rest le ld (ps .typed) (x .one) (x .what) y (sym (x .side) ∙ x .outside-uses out) (x .left out) (x .passed out)))
 
       pub gone-shown : Inv p (oneMoreGiven (withOutside (outsideOnward p (passes a) (e .channel) (C .outside)) (replaced i passer C)))
       gone-shown =
           rw (onward-sender, outside-onward-is p (passes a) (e .channel) (C .outside) (y .found))
           (inv-set I i q (r .stands .there) (running P) _ lt
-          (passed-gone (I .good) (I .id i) (relinked (I .id) q) (at-roster I i q (r .stands .there)) (running P) (runs-on (r .runs) P) (c .name) (a .name) (ps .apart) e d rest le ld
-          (ps .typed) (x .one) (x .what) (y .entry) (y .listed) (y .channel) (y .side) (sym (x .side) ∙ x .outside-uses out) (x .left out) (x .passed out)))
+          (passed-gone (I .good) (turns I r P) (ps .apart) rest le ld (ps .typed) (x .one) (x .what) y (sym (x .side) ∙ x .outside-uses out) (x .left out) (x .passed out)))
 
     -- to nobody
     pub channel-gone : FarNobody C e → {d : End} → lookup (a .name) (q .held) ≡ some d → {seen : Seen} {D : Config} → GivesUp C d seen D → Inv p (replaced i passer D)
     channel-gone n {d} ld g = gives-up (λ D. Inv p (replaced i passer D)) g λ ys s.
         rw onward-sender
         (inv-set I i q (r .stands .there) (running P) _ (I .numbers)
-        (passed-unheard (I .good) (I .id i) (relinked (I .id) q) (at-roster I i q (r .stands .there)) (running P) (runs-on (r .runs) P) (c .name) (a .name) (ps .apart) e d rest le ld
-        (ps .typed) (nobody-has C (I .shows) e (n .processes) (n .outside)) s))
+        (passed-unheard (I .good) (turns I r P) (ps .apart) rest le ld (ps .typed) (nobody-has C (I .shows) e (n .processes) (n .outside)) s))

@@ -25,7 +25,7 @@ use Rattle.theory_ends.specs.Ends.{side-clash, keyAt, process-end, end-process,
 use Rattle.theory_preservation.specs.Witness.{Key, Tip, key-discrete, OneOf, of-channels, of-links, joint, Witness, tipNumber, tipKey, tipType, keyNumber, keySide}
 use Rattle.theory_preservation.specs.Mates.{Mates, link-of}
 use Rattle.theory_preservation.specs.Roster.{Roster, channelKey, linkKey, channel-key-one, link-key-one, channel-no-link, tipOf, linkTip, outsideTip, Tips, holds, links, waits, Has, outside, inside, TypedDoing, Fine, Fair, profile, Good, NamesOf}
-use Rattle.theory_preservation.specs.Retyping.{above, owner, one-type, key-of-key}
+use Rattle.theory_preservation.specs.TwoEnds.{above, owner, one-type, key-of-key}
 use Rattle.theory_preservation.specs.Places.{Shows}
 use Rattle.theory_preservation.specs.Invariant.{Inv, at-roster, fine-at, handler}
 use Rattle.theory_preservation.specs.Joints.{forest-back, forest-along, numbers, joints-are, numbers-once, numbers-live, numbers-all}
