@@ -20,7 +20,9 @@ pub mod AfterMessage
 pub mod Sending
 pub mod Stepping
 pub mod Joints
-pub mod WellFormed
+pub mod FromInvariant
+pub mod Seats
+pub mod ToInvariant
 pub mod Start
 pub mod Preserved
 pub mod Accepted

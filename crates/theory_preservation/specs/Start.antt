@@ -28,7 +28,7 @@ use Rattle.theory_preservation.specs.Witness.{Key, Tip, OneOf, of-channe
 use Rattle.theory_preservation.specs.Mates.{Quiet, quiet-none, quiet-some, mates-quiet}
 use Rattle.theory_preservation.specs.Roster.{Roster, channelKey, channel-key-one, Tips, holds, links, waits, Has, outside, inside, Fine, Fair, profile}
 use Rattle.theory_preservation.specs.Invariant.{Inv}
-use Rattle.theory_preservation.specs.WellFormed.{inv-well-formed}
+use Rattle.theory_preservation.specs.FromInvariant.{inv-well-formed}
 
 -- ── the channels of a start, from k on
 start-context : (k : ℕ) (l : List (Name × Ty Name)) → contextOf (startHeld k l) ≡ onSide provided l
