@@ -1,11 +1,10 @@
 -- After a message each end goes on by its own type: what typing says of its holder then, and that the two ends are of one type again.
-use Prim.Native.Nat.{ℕ}
-use mathlib.Core.Path.{_≡_, refl, sym, _∙_, ap, subst}
+use mathlib.Core.Path.{_≡_, sym, _∙_, ap, subst}
 use mathlib.Core.List.{List, [], _∷_, _++_}
-use mathlib.Core.Option.{Option, some, none, Option·getD, Option·none-ne-some, Option·some-injective}
+use mathlib.Core.Option.{some, Option·getD, Option·none-ne-some, Option·some-injective}
 use mathlib.Core.Bool.{Bool, true, cond}
 use Rattle.notation.specs.Tree.{Name, Located, Ty, Alternatives, Proc, Branches}
-use Rattle.calculus.specs.Named.{lookup, without}
+use Rattle.calculus.specs.Named.{lookup}
 use Rattle.calculus.specs.Types.{Side, used, standing, Passing, passing, Choosing, choosing, labelled}
 use Rattle.calculus.specs.Program.{slot, Context, Program}
 use Rattle.calculus.specs.Declarations.{outward}

@@ -2,12 +2,12 @@
 use mathlib.Core.Path.{_≡_, refl, sym, _∙_, ap, subst}
 use mathlib.Core.List.{List, [], _∷_, _++_, map, Sublistᴰ·refl, List·Memᴰ·head, List·Memᴰ·tail, List·Memᴰ·not-nil, Memᴰ·of-map, Memᴰ·cast}
 use mathlib.Core.Option.{Option, some, none, Option·map, Option·some-injective}
-use mathlib.Core.Bool.{true, false, and-eq-true-iff}
+use mathlib.Core.Bool.{true, and-eq-true-iff}
 use Prim.Native.Nat.{ℕ, _≤_, _<_}
 use lib.ListN.{length, getElem?}
 use Rattle.notation.specs.Limits.{heldLimit, channelPlaces}
 use Rattle.notation.specs.Tree.{Name, Located, Ty, call}
-use Rattle.calculus.specs.Named.{lookup, names, distinct, isSome}
+use Rattle.calculus.specs.Named.{lookup, names, isSome}
 use Rattle.calculus.specs.Types.{Side, provided, used}
 use Rattle.calculus.specs.Program.{Slot, slot, Context, Signature, Program, onSide, signatureContext}
 use Rattle.calculus.specs.Typing.{OneType, Typed, calls, TypedBody, Bodies, namesOf, entryFits, listFits}

@@ -1,20 +1,18 @@
 -- A forwarder: its two channels become one, and it is left empty.
 use mathlib.Core.Path.{_≡_, refl, sym, _∙_, ap, subst}
 use mathlib.Core.Logic.{_≢_, _⊎_, inl, inr}
-use mathlib.Core.List.{List, [], _∷_, map, Sublistᴰ·nil-sublist, List·Memᴰ·head, List·Memᴰ·tail, List·Memᴰ·not-nil, List·Memᴰ·eq-of-singleton, Memᴰ·map, Memᴰ·of-map, Memᴰ·cast}
+use mathlib.Core.List.{List, [], _∷_, map, Sublistᴰ·nil-sublist, List·Memᴰ·head, List·Memᴰ·not-nil, List·Memᴰ·eq-of-singleton, Memᴰ·of-map}
 use mathlib.Core.Option.{some}
-use mathlib.Core.Bool.{Bool, true, false, cond}
+use mathlib.Core.Bool.{false}
 use Prim.Native.Nat.{ℕ, _≤_, _<_}
-use lib.Dec.{eqb}
 use Rattle.notation.specs.Limits.{heldLimit, channelPlaces}
 use Rattle.notation.specs.Tree.{Name}
 use Rattle.calculus.specs.Named.{lookup, isSome}
 use Rattle.calculus.specs.Types.{provided, used, other}
 use Rattle.calculus.specs.Program.{Program}
-use Rattle.calculus.specs.Declarations.{outward}
 use Rattle.calculus.specs.Typing.{OneType}
-use Rattle.calculus.specs.Configuration.{End, end, ofChannel, folding, Process, Outside, outsideOfChannel, changedOutside, movedOutside, holding, foldsUp}
-use Rattle.calculus.specs.WellFormed.{In, NoneTwice, Rising, key, isWaiting}
+use Rattle.calculus.specs.Configuration.{End, end, ofChannel, folding, Process, Outside, outsideOfChannel, movedOutside, holding, foldsUp}
+use Rattle.calculus.specs.WellFormed.{In, key, isWaiting}
 use Rattle.theory_derivations.specs.OneType.{one-sym, one-trans}
 use Rattle.theory_ends.specs.Names.{lookup-in}
 use Rattle.theory_ends.specs.Ends.{side-clash, keyAt}

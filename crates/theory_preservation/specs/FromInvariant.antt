@@ -1,11 +1,11 @@
 -- What keeps the invariant is well formed.
 use mathlib.Core.Path.{_≡_, refl, sym, _∙_, ap, subst}
 use mathlib.Core.Logic.{_≢_, _⊎_, inl, inr}
-use mathlib.Core.List.{List, map, _++_, List·Memᴰ·append-cases, Memᴰ·of-map}
+use mathlib.Core.List.{map, List·Memᴰ·append-cases, Memᴰ·of-map}
 use mathlib.Core.Option.{Option, some, none, Option·map, Option·none-ne-some, map-eq-some-iff}
 use mathlib.Core.Bool.{Bool, true}
 use Prim.Native.Nat.{ℕ, _<_}
-use lib.ListN.{length, getElem?}
+use lib.ListN.{getElem?}
 use Rattle.notation.specs.Limits.{channelPlaces}
 use Rattle.notation.specs.Tree.{Name}
 use Rattle.calculus.specs.Named.{names, isSome}

@@ -1,10 +1,10 @@
 -- The invariant of a configuration: its list shows a good roster. What a step leaves keeps it.
 -- Why identities: inserting or removing a process shifts places and links, and under identities nothing of the forest changes then;
 -- only the map from places to identities does. So each rule is proved on rosters, and read off the list by one of three laws of Places.
-use mathlib.Core.Path.{_≡_, refl, sym, _∙_, ap, subst}
+use mathlib.Core.Path.{_≡_, sym, _∙_, ap, subst}
 use mathlib.Core.Logic.{_≢_}
 use mathlib.Core.List.{List, Sublistᴰ}
-use mathlib.Core.Option.{Option, some, none, Option·map, Option·some-injective}
+use mathlib.Core.Option.{Option, some, Option·map, Option·some-injective}
 use mathlib.Core.Bool.{Bool, true, false, true≢false}
 use Prim.Native.Nat.{ℕ, _≤_}
 use native.Mathlib.Omega.{arith}

@@ -1,19 +1,18 @@
 -- Rules that only let go: of channels, of a link, of a place in the list.
 use mathlib.Core.Path.{_≡_, refl, sym, _∙_, ap, subst}
 use mathlib.Core.Logic.{ite, apply-ite}
-use mathlib.Core.List.{List, [], _∷_, map, Sublistᴰ, Sublistᴰ·slnil, Sublistᴰ·cons, Sublistᴰ·cons-cons}
+use mathlib.Core.List.{List, Sublistᴰ}
 use mathlib.Core.Option.{Option, some, none, Option·none-ne-some, Option·some-injective}
-use mathlib.Core.Bool.{Bool, true, false, cond, true≢false}
-use Prim.Native.Nat.{ℕ, suc, _≤_}
+use mathlib.Core.Bool.{Bool, true, false, true≢false}
+use Prim.Native.Nat.{ℕ}
 use native.Mathlib.Omega.{arith}
 use native.Mathlib.Decide.{ℕ-discrete}
-use lib.Dec.{eqb}
 use Rattle.notation.specs.Tree.{Name, Proc}
 use Rattle.calculus.specs.Named.{isSome, names}
 use Rattle.calculus.specs.Program.{Program}
 use Rattle.calculus.specs.Typing.{Typed}
-use Rattle.calculus.specs.Configuration.{End, Doing, running, Process, Outside, letGo, doingNow, linkedBy, becoming}
-use Rattle.calculus.specs.WellFormed.{In, Rising, contextOf, isWaiting, NoneTwice}
+use Rattle.calculus.specs.Configuration.{End, Doing, running, Process, Outside, doingNow, linkedBy, becoming}
+use Rattle.calculus.specs.WellFormed.{In, contextOf, isWaiting, NoneTwice}
 use Rattle.theory_ends.specs.Lists.{sub-in}
 use Rattle.theory_preservation.specs.Witness.{Tip, fewer, Recast, recast-same, recasting}
 use Rattle.theory_preservation.specs.Outsides.{fair-less}

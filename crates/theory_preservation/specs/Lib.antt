@@ -12,7 +12,10 @@ pub mod Growing
 pub mod Places
 pub mod FarEnds
 pub mod Invariant
-pub mod Alone
+pub mod GivingUp
+pub mod Handlers
+pub mod Making
+pub mod Joining
 pub mod Weakening
 pub mod Calling
 pub mod Outward

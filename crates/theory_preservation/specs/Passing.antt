@@ -10,7 +10,7 @@ use Rattle.notation.specs.Limits.{heldLimit, channelPlaces}
 use Rattle.notation.specs.Bytes.{same}
 use Rattle.notation.specs.Tree.{Name, Ty}
 use Rattle.calculus.specs.Named.{lookup, without, names, isSome}
-use Rattle.calculus.specs.Types.{Side, used, other}
+use Rattle.calculus.specs.Types.{used, other}
 use Rattle.calculus.specs.Program.{Program}
 use Rattle.calculus.specs.Declarations.{outward}
 use Rattle.calculus.specs.Typing.{OneType}

@@ -1,5 +1,5 @@
 -- A label goes over a channel: each of its ends gets another type, and these are one type again.
-use mathlib.Core.Path.{_≡_, refl, sym, _∙_, ap, subst}
+use mathlib.Core.Path.{_≡_, refl, sym, ap, subst}
 use mathlib.Core.Logic.{_≢_, _⊎_, inl, inr}
 use mathlib.Core.List.{List, map, Memᴰ·map, Memᴰ·of-map, Sublistᴰ, Sublistᴰ·refl}
 use mathlib.Core.Option.{Option, some}
@@ -9,7 +9,7 @@ use native.Mathlib.Omega.{arith}
 use Rattle.notation.specs.Limits.{heldLimit, channelPlaces}
 use Rattle.notation.specs.Tree.{Name, Ty}
 use Rattle.calculus.specs.Named.{lookup, names, isSome}
-use Rattle.calculus.specs.Types.{used, other}
+use Rattle.calculus.specs.Types.{other}
 use Rattle.calculus.specs.Program.{Program}
 use Rattle.calculus.specs.Declarations.{outward}
 use Rattle.calculus.specs.Typing.{OneType}
@@ -24,14 +24,11 @@ use Rattle.theory_preservation.specs.Witness.{Tip, Rel, one-of-refl, of-
 use Rattle.theory_preservation.specs.Mates.{put}
 use Rattle.theory_preservation.specs.Roster.{Roster, Turns, channelKey, channel-key-one, channel-no-link, keyOf, tipOf, linkTip, outsideTip, Has, outside, TypedDoing, Fine, Good, Change, becomes, one-good, two-good, NamesOf, Goes, names-less}
 use Rattle.theory_preservation.specs.TwoEnds.{farKeyOf, key-cases, key-from-key, Facing, Opposite, turned, above, held-tip, opposite, opposite-outside, opposite-nobody, elsewhere, facing}
-use Rattle.theory_preservation.specs.Outsides.{channelOf, each-changed, fair-retyped}
+use Rattle.theory_preservation.specs.Outsides.{each-changed, fair-retyped}
 
 -- ── a process with one end retyped
-retyped-keys-same : (A : Ty Name) (x : End) → key (ofType A x) ≡ key x
-retyped-keys-same A x = refl
-
 pub retyped-keys : (c : Name) (A : Ty Name) (l : List (Name × End)) → map keyAt (retypedEnd c A l) ≡ map keyAt l
-retyped-keys c A l = changed-map key c (ofType A) (retyped-keys-same A) l
+retyped-keys c A l = changed-map key c (ofType A) (λ _. refl) l
 
 pub retyped-channels : (c : Name) (A : Ty Name) (l : List (Name × End)) (n : ℕ) → ((x : Name × End) → In x l → x .1 .channel < n) → (x : Name × End)
     → In x (retypedEnd c A l) → x .1 .channel < n

@@ -1,7 +1,7 @@
 -- The invariant that the rules keep, on identities: a process keeps its identity while places shift, and a link is the handler's identity.
 use mathlib.Core.Path.{_≡_, refl, sym, _∙_, ap, subst}
 use mathlib.Core.Logic.{_≢_}
-use mathlib.Core.List.{List, map, Sublistᴰ, _++_, [], _∷_}
+use mathlib.Core.List.{List, [], map, Sublistᴰ, _++_, _∷_}
 use mathlib.Core.Option.{Option, some, none, Option·none-ne-some, Option·some-injective}
 use mathlib.Core.Bool.{Bool, true, false}
 use Prim.Native.Nat.{ℕ, suc, _+_, _≤_, _<_}

@@ -1,40 +1,38 @@
 -- The rules of a send: it meets a recv, it shows outside, or it is lost. Each keeps the invariant.
 use mathlib.Core.Path.{_≡_, refl, sym, _∙_, ap, subst}
 use mathlib.Core.Logic.{_≢_}
-use mathlib.Core.List.{List, [], _∷_, _++_, append-nil, Sublistᴰ, Sublistᴰ·refl}
-use mathlib.Core.Option.{Option, some, none, Option·map, Option·some-injective}
-use mathlib.Core.Bool.{Bool, true, false, false≢true}
-use Prim.Native.Nat.{ℕ, suc, _≤_, _<_}
+use mathlib.Core.List.{List, _++_, Sublistᴰ, Sublistᴰ·refl}
+use mathlib.Core.Option.{some, Option·map, Option·some-injective}
+use mathlib.Core.Bool.{Bool, true, false≢true}
+use Prim.Native.Nat.{ℕ, _<_}
 use lib.ListN.{getElem?}
 use Rattle.notation.specs.Limits.{outsideNumbers, heldLimit}
-use Rattle.notation.specs.Bytes.{same}
 use Rattle.notation.specs.Tree.{Name, Located, Ty, Proc, sendUnit, sendChannel, sendLabel, recvUnit, recvChannel, recvLabel, Branches}
 use Rattle.calculus.specs.Named.{lookup, without, isSome}
-use Rattle.calculus.specs.Types.{Side, provided, used, other, standing, Passing, passing, Choosing, choosing, labelled}
+use Rattle.calculus.specs.Types.{used, Passing, passing, choosing}
 use Rattle.calculus.specs.Program.{slot, Program}
 use Rattle.calculus.specs.Declarations.{outward}
-use Rattle.calculus.specs.Typing.{OneType, acting, Typed, sends-unit, recvs-unit, sends-channel, recvs-channel, sends-label, recvs-label, bringing, retyped}
-use Rattle.calculus.specs.Configuration.{End, end, ofType, running, Process, relinked, Outside, Config, withOutside, oneMoreGiven, replaced, goesOn, Holder, Far, atProcess, atOutside, givenUp, retypedEnd, letGo, outsideOf}
-use Rattle.calculus.specs.Steps.{passes, chooses, afterMessage, comesOver, onward, outsideOnward, newOutside, branchOf, bound}
+use Rattle.calculus.specs.Typing.{OneType, Typed, sends-unit, recvs-unit, sends-channel, recvs-channel, sends-label, recvs-label, bringing, retyped}
+use Rattle.calculus.specs.Configuration.{End, end, ofType, running, Process, relinked, Outside, Config, withOutside, oneMoreGiven, replaced, goesOn, Holder, atProcess, retypedEnd, letGo, outsideOf}
+use Rattle.calculus.specs.Steps.{passes, chooses, afterMessage, onward, outsideOnward, newOutside, branchOf, bound}
 use Rattle.calculus.specs.Reduces.{Runs, Holds, Answers, GivesUp}
-use Rattle.calculus.specs.WellFormed.{In, contextOf}
+use Rattle.calculus.specs.WellFormed.{contextOf}
 use Rattle.calculus.specs.declared.answers.Seen.{Seen}
 use Rattle.theory_derivations.specs.Equality.{same-iff}
-use Rattle.theory_derivations.specs.OneType.{one-trans}
 use Rattle.theory_ends.specs.Lists.{set-off}
 use Rattle.theory_ends.specs.Names.{lookup-in, in-lookup, without-sub}
 use Rattle.theory_ends.specs.Contexts.{context-without, context-length, absent-held, held-plain}
-use Rattle.theory_ends.specs.FarEnds.{HeldFar, FarOutside, FarNobody, far-held, far-outside, far-nobody, stands-at}
+use Rattle.theory_ends.specs.FarEnds.{HeldFar, FarOutside, FarNobody, far-held, stands-at}
 use Rattle.theory_ends.specs.Onward.{onward-is, outside-onward-is}
-use Rattle.theory_preservation.specs.Roster.{Has, outside, tipOf, runs-on}
+use Rattle.theory_preservation.specs.Roster.{outside, runs-on}
 use Rattle.theory_preservation.specs.Outsides.{let-go-sub}
 use Rattle.theory_preservation.specs.TwoEnds.{Facing, one-type, held-tip, ends-apart, facing}
 use Rattle.theory_preservation.specs.Retyping.{chosen, chosen-unheard, chosen-out}
 use Rattle.theory_preservation.specs.Passing.{lookup-without, passed, passed-unheard, passed-gone, passed-out}
 use Rattle.theory_preservation.specs.FarEnds.{nobody-has}
-use Rattle.theory_preservation.specs.AfterMessage.{branch-typed, after-label, after-channel, TypedEnd, typed-end, typed-on, typed-taking, LabelOver, label-over, ChannelOver, channel-over}
+use Rattle.theory_preservation.specs.AfterMessage.{branch-typed, after-label, after-channel, typed-end, typed-on, typed-taking, LabelOver, label-over, ChannelOver, channel-over}
 use Rattle.theory_preservation.specs.Invariant.{Inv, at-roster, fine-at, typed-at, runs-typed, turns, inv-set, inv-less, inv-two}
-use Rattle.theory_preservation.specs.Alone.{gives-up}
+use Rattle.theory_preservation.specs.GivingUp.{gives-up}
 
 module _ {p : Program} {C : Config} (I : Inv p C) where
   abbrev linked : Process → Bool
