@@ -43,7 +43,7 @@ module _ {p : Program} {S : Roster} {o : List Outside} {given next : ℕ} (G : G
     stays : (v w : ℕ) (t : Tip) → v ≢ u → Has S o v t → R w v t
     stays v w t n h = inl ((λ m. n (owner G v u (keyOf d) (t .1) (some (d .type)) (subst (λ q. Has S o v (q, t .1)) (List·Memᴰ·eq-of-singleton m) h) hc)), recast-same p (Has S o) v t h)
 
-    emptied : (w : ℕ) → Change p (R w) u (S u) (some (foldsUp r []))
+    emptied : (w : ℕ) → Change p (R w) next u (S u) (some (foldsUp r []))
     emptied w =
         becomes G (R w) u r su folding [] wr (fine-less (G .fine u r su) folding (folds wr) (Sublistᴰ·nil-sublist (r .held)) tt) (λ y i. absurd (List·Memᴰ·not-nil i))
         (λ h s t. inl ((λ m. channel-no-link (d .channel) h (sym (ap keyNumber (List·Memᴰ·eq-of-singleton m)))), recast-same p (Has S o) u (linkTip h s) t))

@@ -20,7 +20,7 @@ use Rattle.theory_ends.specs.Names.{absent, kept-sub, kept-in, names-map, names
 use Rattle.theory_ends.specs.Ends.{keyAt}
 use Rattle.theory_preservation.specs.Witness.{Key, Tip, Rel, Witness, fewer, Moved, Joined, sides, Between, over, joined-uses, joined-provides, tipNumber, keyNumber}
 use Rattle.theory_preservation.specs.Mates.{put, put-elim, Profile, Mates, mates-same, mates-put, mates-new, Quiet, quiet-none, quiet-some}
-use Rattle.theory_preservation.specs.Roster.{Roster, channelKey, linkKey, link-key-one, channel-no-link, keyOf, tipOf, linkTip, Tips, holds, links, waits, Has, outside, inside, TypedDoing, Fine, fine-new, fine-less, profile, Good, NamesOf, Goes, runs-on, runs-awake, folds, names-less, names-snoc}
+use Rattle.theory_preservation.specs.Roster.{Roster, channelKey, linkKey, link-key-one, channel-no-link, keyOf, tipOf, linkTip, Tips, holds, links, waits, Has, outside, inside, TypedDoing, Fine, fine-new, fine-less, profile, Good, Afterwards, one-after, good-after, same-after, NamesOf, Goes, runs-on, runs-awake, folds, names-less, names-snoc}
 use Rattle.theory_preservation.specs.LettingGo.{profile-put-two}
 use Rattle.theory_preservation.specs.TwoEnds.{key-from-key, above, owner, held-tip}
 
@@ -159,34 +159,15 @@ module _ {p : Program} {S : Roster} {o : List Outside} {given next : ℕ} (G : G
         between (inl x) = inl (own-is provided ∙ x .0, own-is used ∙ x .1)
         between (inr x) = inr (own-is provided ∙ x .0, own-is used ∙ x .1)
 
-    -- ── what stands F.ends v afterwards
-    record Grows (v : ℕ) (y : Option Process) : Type 0 where
-      fine : (q : Process) → y ≡ some q → Fine p q
-      tips : (q : Process) → y ≡ some q → (t : Tip) → Tips v q t → R v t
-      place : (q : Process) → y ≡ some q → (0 < v) × (v < suc next)
+    -- ── what is at v afterwards
+    abbrev Grows : ℕ → Option Process → Type 0
+    Grows = Afterwards p R (suc next)
 
     grown-good : Witness p R (suc next) → {S′ : Roster} → ((v : ℕ) → Grows v (S′ v)) → Mates (λ v. profile (S′ v)) → Good p S′ o given (suc next)
-    grown-good W {S′} c m = record {
-      witness = fewer W (omega arith) have;
-      fine = λ v q e. c v .fine q e;
-      placed = λ v q e. c v .place q e;
-      mates = m;
-      fair = G .fair;
-    }
-      where
-        have : (v : ℕ) (t : Tip) → Has S′ o v t → R v t
-        have v t (outside z y i h) = elsewhere v t (λ e. u0 (sym e ∙ z)) (outside z y i h)
-        have v t (inside q s x) = c v .tips q s t x
+    grown-good W c m = good-after W c m (λ y i. elsewhere 0 _ (λ e. u0 (sym e)) (outside refl y i refl)) (G .fair)
 
     old : (v : ℕ) → v ≢ F.u → Grows v (S v)
-    old v n = record { fine = λ q e. G .fine v q e; tips = λ q e t x. elsewhere v t n (inside q e x); place = λ q e. let b = G .placed v q e in (b .0, let c = b .1 in omega arith) }
-
-    at-one : (v : ℕ) → (0 < v) × (v < suc next) → (q : Process) → Fine p q → ((t : Tip) → Tips v q t → R v t) → Grows v (some q)
-    at-one v b q f h = record {
-      fine = λ q′ e. subst (Fine p) (Option·some-injective _ _ e) f;
-      tips = λ q′ e. subst (λ q. (t : Tip) → Tips v q t → R v t) (Option·some-injective _ _ e) h;
-      place = λ _ _. b;
-    }
+    old v n = same-after G v (omega arith) (λ e _ h. elsewhere v e n h)
 
     u-place : (0 < F.u) × (F.u < suc next)
     u-place = let b = G .placed F.u F.r F.there in (b .0, let c = b .1 in omega arith)
@@ -264,10 +245,10 @@ module _ {p : Program} {S : Roster} {o : List Outside} {given next : ℕ} (G : G
         grown-good fork
         (grown fork (joined-provides (G .witness) (channelKey n) u next (some A) free (omega arith) (G .placed u r su .1)) (inr (refl, refl)))
         (put-elim (Grows fork) next (some made) (put u (some maker) S)
-        (at-one fork next (next-place fork) made
+        (one-after made (next-place fork)
         (fine-new (brought r (G .fine u r su) (running P) (runs-on wr P) none t x (end provided n A) new (no-key provided) roomP lt tP)) made-tips)
         (λ v _. put-elim (Grows fork) u (some maker) S
-        (at-one fork u (u-place fork) maker
+        (one-after maker (u-place fork)
         (brought r (G .fine u r su) (running Q) (runs-on wr Q) (r .link) rest x (end used n A) new (no-key used) roomQ lt tQ) maker-tips)
         (old fork) v))
         mates′
@@ -342,10 +323,10 @@ module _ {p : Program} {S : Roster} {o : List Outside} {given next : ℕ} (G : G
         grown-good fork′
         (grown fork′ (joined-uses (G .witness) (linkKey next) u next none link-free (omega arith) (G .placed u r su .1)) (inl (refl, refl)))
         (put-elim (Grows fork′) u (some tryer) (put next (some waiter) S)
-        (at-one fork′ u (u-place fork′) tryer
+        (one-after tryer (u-place fork′)
         (half (running P) (runs-on wr P .names _ (G .fine u r su .names)) (some next) t₁ tP) tryer-tips)
         (λ v nu. put-elim (λ v y. v ≢ u → Grows fork′ v y) next (some waiter) S
-        (λ _. at-one fork′ next (next-place fork′) waiter
+        (λ _. one-after waiter (next-place fork′)
         (fine-new (half (waiting Q) (runs-on wr Q .names _ (G .fine u r su .names)) (r .link) t₂ tQ)) waiter-tips)
         (λ v _ n. old fork′ v n) v nu))
         (mates-same (λ v. sym (profile-put-two u next (some tryer) (some waiter) S v))

@@ -17,7 +17,7 @@ use Rattle.theory_ends.specs.Lists.{sub-in}
 use Rattle.theory_preservation.specs.Witness.{Tip, fewer, Recast, recast-same, recasting}
 use Rattle.theory_preservation.specs.Outsides.{fair-less}
 use Rattle.theory_preservation.specs.Mates.{put, put-elim, put-at, Profile, Mates, mates-same, mates-put, mates-cut, Quiet, quiet-none, quiet-some}
-use Rattle.theory_preservation.specs.Roster.{Roster, tipOf, linkTip, outsideTip, Tips, holds, links, waits, Has, outside, inside, TypedDoing, Fine, fine-less, Turns, profile, Good, becomes, one-good, NamesOf}
+use Rattle.theory_preservation.specs.Roster.{Roster, tipOf, linkTip, outsideTip, Tips, holds, links, waits, Has, outside, inside, TypedDoing, Fine, fine-less, Turns, profile, Good, Afterwards, nobody-after, one-after, good-after, same-after, becomes, one-good, NamesOf}
 
 -- what is seen of a roster after a process is put in
 pub profile-put : (u : ℕ) (x : Option Process) (S : Roster) (v : ℕ) → profile (put u x S v) ≡ put u (profile x) (λ v. profile (S v)) v
@@ -48,40 +48,21 @@ module _ {p : Program} {S : Roster} {o : List Outside} {given next : ℕ} (G : G
       less u r (a .there) d l (a .goes .waits) (fine-less (G .fine u r (a .there)) d (a .goes) s t)
       (λ x i. recast-same p (Has S o) u (tipOf (x .1)) (inside r (a .there) (holds x (sub-in s i) refl))) k
 
-  -- ── links go too: y is what stands at v afterwards
-  pub record Shrinks (v : ℕ) (y : Option Process) : Type 0 where
-    pub fine : (r : Process) → y ≡ some r → Fine p r
-    pub tips : (r : Process) → y ≡ some r → (e : Tip) → Tips v r e → Has S o v e
-    pub was : (r : Process) → y ≡ some r → (q : Process) × (S v ≡ some q)
+  -- ── links go too
+  abbrev Shrinks : ℕ → Option Process → Type 0
+  Shrinks = Afterwards p (Has S o) next
 
   shrunk-good : {S′ : Roster} → ((v : ℕ) → Shrinks v (S′ v)) → Mates (λ v. profile (S′ v)) → Good p S′ o given next
-  shrunk-good {S′} c m = record {
-    witness = fewer (G .witness) (omega arith) have;
-    fine = λ v r e. c v .fine r e;
-    placed = λ v r e. let q = c v .was r e in G .placed v (q .0) (q .1);
-    mates = m;
-    fair = G .fair;
-  }
-    where
-      have : (v : ℕ) (e : Tip) → Has S′ o v e → Has S o v e
-      have v e (outside z y i h) = outside z y i h
-      have v e (inside r s t) = c v .tips r s e t
+  shrunk-good c m = good-after (G .witness) c m (λ y i. outside refl y i refl) (G .fair)
 
   stays : (v : ℕ) → Shrinks v (S v)
-  stays v = record { fine = λ r e. G .fine v r e; tips = λ r s e t. inside r s t; was = λ r e. (r, e) }
-
-  leaves : (v : ℕ) → Shrinks v none
-  leaves v = record { fine = λ r e. absurd (Option·none-ne-some r e); tips = λ r s. absurd (Option·none-ne-some r s); was = λ r e. absurd (Option·none-ne-some r e) }
+  stays v = same-after G v (omega arith) (λ e _ h. h)
 
   -- the process r of v does d from now on, which is no waiting, with its link or none
   shrinks : (v : ℕ) (r : Process) → S v ≡ some r → (d : Doing) (k : Option ℕ) → isWaiting d ≡ false → ((h : ℕ) → k ≡ some h → r .link ≡ some h)
       → NamesOf d (names (r .held)) → TypedDoing p (contextOf (r .held)) (isSome k) d
       → Shrinks v (some (linkedBy k (doingNow d r)))
-  shrinks v r sv d k w s n t = record {
-    fine = λ q e. subst (Fine p) (Option·some-injective _ _ e) fine′;
-    tips = λ q e. subst (λ q. (t : Tip) → Tips v q t → Has S o v t) (Option·some-injective _ _ e) here;
-    was = λ _ _. (r, sv);
-  }
+  shrinks v r sv d k w s n t = one-after (linkedBy k (doingNow d r)) (G .placed v r sv) fine′ here
     where
       fine′ : Fine p (linkedBy k (doingNow d r))
       fine′ = let f = G .fine v r sv in record { typed = t; names = n; keys = f .keys; room = f .room; channels = f .channels }
@@ -120,12 +101,12 @@ module _ {p : Program} {S : Roster} {o : List Outside} {given next : ℕ} (G : G
     pub left : Good p (put u none (put h (some (doingNow d s)) S)) o given next
     left =
         shrunk-good
-        (put-elim Shrinks u none (put h (some (doingNow d s)) S) (leaves u) (λ v _. put-elim Shrinks h _ S handler (λ v _. stays v) v))
+        (put-elim Shrinks u none (put h (some (doingNow d s)) S) nobody-after (λ v _. put-elim Shrinks h _ S handler (λ v _. stays v) v))
         (mates-same (λ v. put-twice u none (some (none, false)) (put h (some (s .link, false)) (λ v. profile (S v))) v ∙ rest-same none none refl v)
         (mates-put cut-mates u none (subst Quiet (sym (put-at u (some (none, false)) (put h (some (s .link, false)) (λ v. profile (S v))) u refl)) quiet-some) quiet-none))
 
   -- without a link nothing else changes
   pub left-alone : (u : ℕ) (r : Process) → S u ≡ some r → isWaiting (r .doing) ≡ false → r .link ≡ none → Good p (put u none S) o given next
   left-alone u r su w lk =
-      shrunk-good (put-elim Shrinks u none S (leaves u) (λ v _. stays v))
+      shrunk-good (put-elim Shrinks u none S nobody-after (λ v _. stays v))
       (mates-same (λ v. sym (profile-put u none S v)) (mates-put (G .mates) u none (subst Quiet (sym (profile-at u r su false w ∙ ap (λ l. some (l, false)) lk)) quiet-some) quiet-none))

@@ -101,7 +101,7 @@ module _ {p : Program} {S : Roster} {o : List Outside} {given next : ℕ} (G : G
       passed-end one = (some (d .type), ha, inr (other-channel, of-channels one))
 
       -- to v, by whatever way
-      sender : (v : ℕ) → Change p (To v) u (S u) (some after)
+      sender : (v : ℕ) → Change p (To v) next u (S u) (some after)
       sender v =
           becomes G (To v) u r (t .there) P left (t .goes .waits) fine
           (λ x i. let y = sender-end x i in inl ((λ n. y .1 (key-from-key (x .1) d (only-d n))), y .0))

@@ -79,7 +79,7 @@ module _ {p : Program} {S : Roster} {o : List Outside} {given next : ℕ} (G : G
 
   -- the process r of u with its end e retyped
   retypes : {u w : ℕ} {r : Process} {d : Doing} (a : Turns S u r d) (c : Name) {e : End} {T A : Ty Name} → Opposite S o u w e → OneType p T A → lookup c (r .held) ≡ some e
-      → TypedDoing p (contextOf (retypedEnd c A (r .held))) (isSome (r .link)) d → Change p (Over e T) u (S u) (some (becoming d (retypedEnd c A (r .held)) r))
+      → TypedDoing p (contextOf (retypedEnd c A (r .held))) (isSome (r .link)) d → Change p (Over e T) next u (S u) (some (becoming d (retypedEnd c A (r .held)) r))
   retypes {u} {r = r} {d = d} a c {e} {T} {A} m one lc t =
       becomes G (Over e T) u r (a .there) d (retypedEnd c A (r .held)) (a .goes .waits) (fine-retyped (G .fine u r (a .there)) d (a .goes) (Sublistᴰ·refl (r .held)) c A t)
       (λ x i. retyped-tip m one (x .1) (entry x (changed-cases key c (ofType A) (r .held) e (G .fine u r (a .there) .keys) lc x i)))
@@ -108,7 +108,7 @@ module _ {p : Program} {S : Roster} {o : List Outside} {given next : ℕ} (G : G
     chosen {B} one {w} {q} {d′} b c′ {f} lf z s t =
         two-good G (retyping (G .witness) (channelKey (e .channel)) (some A)) u w after (becoming d′ (retypedEnd c′ B (q .held)) q)
         (retypes a c (opposite G m) (one-refl p A) lc td)
-        (subst (λ k. Change p (Retyped p (Has S o) (channelKey k) (some A)) w (S w) (some (becoming d′ (retypedEnd c′ B (q .held)) q))) z (retypes b c′ (opposite G (turned m)) one lf t))
+        (subst (λ k. Change p (Retyped p (Has S o) (channelKey k) (some A)) next w (S w) (some (becoming d′ (retypedEnd c′ B (q .held)) q))) z (retypes b c′ (opposite G (turned m)) one lf t))
         (λ v t nu nw h. retyped-off p (Has S o) v t h (elsewhere G (opposite G m) v t nu nw h)) u0 (m .far-process)
       where
         m : Facing S o u w e f

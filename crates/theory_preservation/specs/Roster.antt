@@ -136,42 +136,67 @@ pub record Good (p : Program) (S : Roster) (o : List Outside) (given next : ℕ)
   pub mates : Mates (λ v. profile (S v))
   pub fair : Fair p given o
 
--- ── what becomes of the process of an identity, where links stay as they are: R is who then has which ends
-pub record Change (p : Program) (R : Rel) (v : ℕ) (x y : Option Process) : Type 0 where
-  pub alike : profile y ≡ profile x
+-- ── what is at v afterwards: R is who then has which ends, and identities are below n
+pub record Afterwards (p : Program) (R : Rel) (n v : ℕ) (y : Option Process) : Type 0 where
   pub fine : (r : Process) → y ≡ some r → Fine p r
   pub tips : (r : Process) → y ≡ some r → (e : Tip) → Tips v r e → R v e
+  pub placed : (r : Process) → y ≡ some r → (0 < v) × (v < n)
 
-profile-some : (x y : Option Process) → profile y ≡ profile x → (r : Process) → y ≡ some r → (q : Process) × (x ≡ some q)
-profile-some none y e r h = absurd (Option·none-ne-some (r .link, isWaiting (r .doing)) (sym e ∙ ap profile h))
-profile-some (some q) y e r h = (q, refl)
+pub nobody-after : {p : Program} {R : Rel} {n v : ℕ} → Afterwards p R n v none
+nobody-after = record {
+  fine = λ r e. absurd (Option·none-ne-some r e);
+  tips = λ r e. absurd (Option·none-ne-some r e);
+  placed = λ r e. absurd (Option·none-ne-some r e);
+}
+
+pub one-after : {p : Program} {R : Rel} {n v : ℕ} (q : Process) → (0 < v) × (v < n) → Fine p q → ((e : Tip) → Tips v q e → R v e) → Afterwards p R n v (some q)
+one-after {p} {R} {v = v} q b f h = record {
+  fine = λ _ e. subst (Fine p) (Option·some-injective _ _ e) f;
+  tips = λ _ e. subst (λ q. (t : Tip) → Tips v q t → R v t) (Option·some-injective _ _ e) h;
+  placed = λ _ _. b;
+}
+
+pub good-after : {p : Program} {R : Rel} {S : Roster} {o : List Outside} {given n : ℕ} → Witness p R n → ((v : ℕ) → Afterwards p R n v (S v)) → Mates (λ v. profile (S v))
+    → ((y : Outside) → In y o → R 0 (outsideTip y)) → Fair p given o → Good p S o given n
+good-after {R = R} {S = S} {o = o} W c m out f = record {
+  witness = fewer W (omega arith) have;
+  fine = λ v r e. c v .fine r e;
+  placed = λ v r e. c v .placed r e;
+  mates = m;
+  fair = f;
+}
+  where
+    have : (v : ℕ) (e : Tip) → Has S o v e → R v e
+    have v e (outside z y i h) = rw (z, h) (out y i)
+    have v e (inside r s t) = c v .tips r s e t
+
+-- the same, where links and waiting stay as they are
+pub record Change (p : Program) (R : Rel) (n v : ℕ) (x y : Option Process) : Type 0 where
+  pub alike : profile y ≡ profile x
+  pub after : Afterwards p R n v y
 
 module _ {p : Program} {S : Roster} {o : List Outside} {given next : ℕ} (G : Good p S o given next) where
-  pub changed-good : {R : Rel} {S′ : Roster} {o′ : List Outside} {given′ : ℕ} → Witness p R next → ((v : ℕ) → Change p R v (S v) (S′ v))
-      → ((y : Outside) → In y o′ → R 0 (outsideTip y)) → Fair p given′ o′ → Good p S′ o′ given′ next
-  changed-good {R} {S′} {o′} W c out f = record {
-    witness = fewer W (omega arith) have;
-    fine = λ v r e. c v .fine r e;
-    placed = λ v r e. let q = profile-some (S v) (S′ v) (c v .alike) r e in G .placed v (q .0) (q .1);
-    mates = mates-same (λ v. sym (c v .alike)) (G .mates);
-    fair = f;
+  pub same-after : {R : Rel} {n : ℕ} (v : ℕ) → next ≤ n → ((e : Tip) → v ≢ 0 → Has S o v e → R v e) → Afterwards p R n v (S v)
+  same-after v le h = record {
+    fine = λ r e. G .fine v r e;
+    tips = λ r s e t. h e (λ z. let b = G .placed v r s .0 in omega arith) (inside r s t);
+    placed = λ r e. let b = G .placed v r e in (b .0, let c = b .1 in omega arith);
   }
-    where
-      have : (v : ℕ) (e : Tip) → Has S′ o′ v e → R v e
-      have v e (outside z y i h) = rw (z, h) (out y i)
-      have v e (inside r s t) = c v .tips r s e t
 
-  pub unchanged : (R : Rel) (v : ℕ) → ((e : Tip) → Has S o v e → R v e) → Change p R v (S v) (S v)
-  unchanged R v h = record { alike = refl; fine = λ r e. G .fine v r e; tips = λ r s e t. h e (inside r s t) }
+  pub unchanged : (R : Rel) (v : ℕ) → ((e : Tip) → v ≢ 0 → Has S o v e → R v e) → Change p R next v (S v) (S v)
+  unchanged R v h = record { alike = refl; after = same-after v (omega arith) h }
+
+  changed-good : {R : Rel} {S′ : Roster} {o′ : List Outside} {given′ : ℕ} → Witness p R next → ((v : ℕ) → Change p R next v (S v) (S′ v))
+      → ((y : Outside) → In y o′ → R 0 (outsideTip y)) → Fair p given′ o′ → Good p S′ o′ given′ next
+  changed-good W c out f = good-after W (λ v. c v .after) (mates-same (λ v. sym (c v .alike)) (G .mates)) out f
 
   -- the process r of u now does d and holds l; its ends of links are as before
   pub becomes : (R : Rel) (u : ℕ) (r : Process) → S u ≡ some r → (d : Doing) (l : List (Name × End)) → isWaiting (r .doing) ≡ isWaiting d
       → Fine p (becoming d l r) → ((x : Name × End) → In x l → R u (tipOf (x .1))) → ((h : ℕ) (s : Side) → Has S o u (linkTip h s) → R u (linkTip h s))
-      → Change p R u (S u) (some (becoming d l r))
+      → Change p R next u (S u) (some (becoming d l r))
   becomes R u r su d l w f hl hk = record {
     alike = ap (λ b. some (r .link, b)) (sym w) ∙ ap profile (sym su);
-    fine = λ q e. subst (Fine p) (Option·some-injective _ _ e) f;
-    tips = λ q e. subst (λ q. (t : Tip) → Tips u q t → R u t) (Option·some-injective _ _ e) here;
+    after = one-after (becoming d l r) (G .placed u r su) f here;
   }
     where
       here : (e : Tip) → Tips u (becoming d l r) e → R u e
@@ -180,22 +205,17 @@ module _ {p : Program} {S : Roster} {o : List Outside} {given next : ℕ} (G : G
       here e (waits k z) = rw z (hk u used (inside r su (waits (w ∙ k) refl)))
 
   -- the process r of u becomes q
-  pub one-good : {R : Rel} {o′ : List Outside} {given′ : ℕ} → Witness p R next → (u : ℕ) (q : Process) → Change p R u (S u) (some q)
+  pub one-good : {R : Rel} {o′ : List Outside} {given′ : ℕ} → Witness p R next → (u : ℕ) (q : Process) → Change p R next u (S u) (some q)
       → ((v : ℕ) (e : Tip) → v ≢ u → v ≢ 0 → Has S o v e → R v e) → ((y : Outside) → In y o′ → R 0 (outsideTip y)) → Fair p given′ o′ → Good p (put u (some q) S) o′ given′ next
-  one-good {R} W u q c rest out f =
-      changed-good W (put-elim (λ v y. Change p R v (S v) y) u (some q) S c
-      (λ v n. record { alike = refl; fine = λ r e. G .fine v r e; tips = λ r s e t. rest v e n (above v r s) (inside r s t) })) out f
-    where
-      above : (v : ℕ) (r : Process) → S v ≡ some r → v ≢ 0
-      above v r s e = let b = G .placed v r s .0 in omega arith
+  one-good {R} W u q c rest out f = changed-good W (put-elim (λ v y. Change p R next v (S v) y) u (some q) S c (λ v n. unchanged R v (λ e. rest v e n))) out f
 
   -- those of u and w become q and q′
-  pub two-good : {R : Rel} → Witness p R next → (u w : ℕ) (q q′ : Process) → Change p R u (S u) (some q) → Change p R w (S w) (some q′)
+  pub two-good : {R : Rel} → Witness p R next → (u w : ℕ) (q q′ : Process) → Change p R next u (S u) (some q) → Change p R next w (S w) (some q′)
       → ((v : ℕ) (e : Tip) → v ≢ u → v ≢ w → Has S o v e → R v e) → u ≢ 0 → w ≢ 0 → Good p (put w (some q′) (put u (some q) S)) o given next
   two-good {R} W u w q q′ c c′ rest u0 w0 =
       changed-good W
-      (put-elim (λ v y. Change p R v (S v) y) w (some q′) (put u (some q) S) c′
-      (λ v n. put-elim (λ v y. v ≢ w → Change p R v (S v) y) u (some q) S (λ _. c) (λ v m n. unchanged R v (λ e. rest v e m n)) v n))
+      (put-elim (λ v y. Change p R next v (S v) y) w (some q′) (put u (some q) S) c′
+      (λ v n. put-elim (λ v y. v ≢ w → Change p R next v (S v) y) u (some q) S (λ _. c) (λ v m n. unchanged R v (λ e _. rest v e m n)) v n))
       (λ y i. rest 0 (outsideTip y) (λ e. u0 (sym e)) (λ e. w0 (sym e)) (outside refl y i refl)) (G .fair)
 
 -- ── a process that holds less
