@@ -18,9 +18,9 @@ use Rattle.theory_ends.specs.Names.{lookup-in}
 use Rattle.theory_ends.specs.Ends.{side-clash, keyAt}
 use Rattle.theory_preservation.specs.Witness.{Tip, Rel, of-channels, Witness, Recast, recast-same, recasting, Moved, over, outing, keyNumber, keySide}
 use Rattle.theory_preservation.specs.Mates.{put}
-use Rattle.theory_preservation.specs.Roster.{Roster, channelKey, channel-no-link, keyOf, tipOf, linkTip, outsideTip, Has, outside, TypedDoing, Fine, fine-less, Good, Change, becomes, one-good, two-good, NamesOf, folds}
+use Rattle.theory_preservation.specs.Roster.{Roster, channelKey, channel-no-link, keyOf, tipOf, linkTip, outsideTip, Has, outside, TypedDoing, Fine, fine-less, Good, Change, becomes, one-good, two-good, NamesDiffer, goes-folding}
 use Rattle.theory_preservation.specs.Relocating.{Relocated}
-use Rattle.theory_preservation.specs.TwoEnds.{farKeyOf, key-cases, Facing, above, owner, one-type, held-tip, joins, between, ends-apart, opposite, facing}
+use Rattle.theory_preservation.specs.TwoEnds.{farKeyOf, key-cases, Facing, above, owner, one-type, held-tip, is-joint, joint-between, ends-apart, facing-opposite, held-facing}
 use Rattle.theory_preservation.specs.Outsides.{channelOf, each-changed, fair-moved}
 
 module _ {p : Program} {S : Roster} {o : List Outside} {given next : ℕ} (G : Good p S o given next) where
@@ -43,9 +43,9 @@ module _ {p : Program} {S : Roster} {o : List Outside} {given next : ℕ} (G : G
     stays : (v w : ℕ) (t : Tip) → v ≢ u → Has S o v t → R w v t
     stays v w t n h = inl ((λ m. n (owner G v u (keyOf d) (t .1) (some (d .type)) (subst (λ q. Has S o v (q, t .1)) (List·Memᴰ·eq-of-singleton m) h) hc)), recast-same p (Has S o) v t h)
 
-    emptied : (w : ℕ) → Change p (R w) next u (S u) (some (foldsUp r []))
-    emptied w =
-        becomes G (R w) u r su folding [] wr (fine-less (G .fine u r su) folding (folds wr) (Sublistᴰ·nil-sublist (r .held)) tt) (λ y i. absurd (List·Memᴰ·not-nil i))
+    forwarder : (w : ℕ) → Change p (R w) next u (S u) (some (foldsUp r []))
+    forwarder w =
+        becomes G (R w) u r su folding [] wr (fine-less (G .fine u r su) folding (goes-folding wr) (Sublistᴰ·nil-sublist (r .held)) tt) (λ y i. absurd (List·Memᴰ·not-nil i))
         (λ h s t. inl ((λ m. channel-no-link (d .channel) h (sym (ap keyNumber (List·Memᴰ·eq-of-singleton m)))), recast-same p (Has S o) u (linkTip h s) t))
 
     -- the far end of e takes the place of d, with its own type
@@ -63,7 +63,7 @@ module _ {p : Program} {S : Roster} {o : List Outside} {given next : ℕ} (G : G
     module _ (w : ℕ) (q : Process) (sw : S w ≡ some q) (n : Name) (f : End) (hf : In (n, f) (q .held)) (z : f .channel ≡ e .channel) (s : f .side ≡ other (e .side))
         (l′ : List (Name × End)) (rl : Relocated f (d .channel) (q .held) l′) where
       m : Facing S o u w e f
-      m = facing G su sw x n (lookup-in x (r .held) lx) hf z s
+      m = held-facing G su sw x n (lookup-in x (r .held) lx) hf z s
 
       sf : f .side ≡ used
       sf = s ∙ ap other se
@@ -72,16 +72,16 @@ module _ {p : Program} {S : Roster} {o : List Outside} {given next : ℕ} (G : G
       unfolding recasting
       W =
           over (recasting (G .witness)) (keyOf d ∷ []) u w (λ y i. ap (G .witness .own) (List·Memᴰ·eq-of-singleton i) ∙ G .witness .sound u (tipOf d) hc) u0 (channelKey (e .channel))
-          (joins G m) (λ t i. off (key-cases e (keyOf d) (sym (ap keyNumber (List·Memᴰ·eq-of-singleton i))))) (between G m)
+          (is-joint G m) (λ t i. off (key-cases e (keyOf d) (sym (ap keyNumber (List·Memᴰ·eq-of-singleton i))))) (joint-between G m)
         where
           off : (keyOf d ≡ keyOf e) ⊎ (keyOf d ≡ farKeyOf e) → ⊥
           off (inl h) = side-clash (sym se ∙ ap keySide (sym h) ∙ sd)
-          off (inr h) = opposite G m .not-near (some (d .type)) (subst (λ k. Has S o u (k, some (d .type))) h hc)
+          off (inr h) = facing-opposite G m .not-near (some (d .type)) (subst (λ k. Has S o u (k, some (d .type))) h hc)
 
       q-fine : Fine p (holding l′ q)
       q-fine = record {
         typed = subst (λ C. TypedDoing p C (isSome (q .link)) (q .doing)) (sym (rl .context)) (g .typed);
-        names = subst (NamesOf (q .doing)) (sym (rl .names)) (g .names);
+        names = subst (NamesDiffer (q .doing)) (sym (rl .names)) (g .names);
         keys = rl .once fresh;
         room = subst (λ n. n ≤ heldLimit) (sym (rl .long)) (g .room);
         channels = λ y i. chan y (rl .entry y i);
@@ -102,7 +102,7 @@ module _ {p : Program} {S : Roster} {o : List Outside} {given next : ℕ} (G : G
 
       pub forwarded : Good p (put w (some (holding l′ q)) (put u (some (foldsUp r [])) S)) o given next
       forwarded =
-          two-good G W u w (foldsUp r []) (holding l′ q) (emptied w)
+          two-good G W u w (foldsUp r []) (holding l′ q) (forwarder w)
           (becomes G (R w) w q sw (q .doing) l′ refl q-fine (λ y i. end-at y (rl .entry y i)) (λ h s t. stays w w (linkTip h s) (λ y. ends-apart G m (sym y)) t))
           (λ v t nu nw h. stays v w t nu h) u0 (m .far-process)
         where
@@ -114,7 +114,7 @@ module _ {p : Program} {S : Roster} {o : List Outside} {given next : ℕ} (G : G
     pub forwarded-out : Good p (put u (some (foldsUp r [])) S) (movedOutside (e .channel) (d .channel) o) given next
     unfolding recasting
     forwarded-out =
-        one-good G (outing (recasting (G .witness)) (keyOf d) u u0 (G .witness .sound u (tipOf d) hc)) u (foldsUp r []) (emptied 0) (λ v t nu _ h. stays v 0 t nu h)
+        one-good G (outing (recasting (G .witness)) (keyOf d) u u0 (G .witness .sound u (tipOf d) hc)) u (foldsUp r []) (forwarder 0) (λ v t nu _ h. stays v 0 t nu h)
         (each-changed (e .channel) (outsideOfChannel (d .channel)) (λ y. R 0 0 (outsideTip y)) o (G .fair .keys)
         (λ y i z. moves 0 (end used (y .channel) (y .type)) (end used (d .channel) (y .type)) (outside refl y i refl) z refl refl)
         (λ y i _. stays 0 0 (outsideTip y) (λ k. u0 (sym k)) (outside refl y i refl)))

@@ -21,7 +21,7 @@ use Rattle.theory_ends.specs.Contexts.{context-names}
 use Rattle.theory_ends.specs.Ends.{keyAt, end-process, keys-once, end-outside, keys-outside}
 use Rattle.theory_preservation.specs.Witness.{joint, Witness}
 use Rattle.theory_preservation.specs.Mates.{link-of}
-use Rattle.theory_preservation.specs.Roster.{Roster, tipOf, holds, Has, outside, inside, TypedDoing, profile, Good, NamesOf}
+use Rattle.theory_preservation.specs.Roster.{Roster, tipOf, holds, Has, outside, inside, TypedDoing, profile, Good, NamesDiffer}
 use Rattle.theory_preservation.specs.TwoEnds.{above, owner, one-type, key-of-key}
 use Rattle.theory_preservation.specs.Invariant.{Inv, at-roster, fine-at, handler}
 use Rattle.theory_preservation.specs.Joints.{forest-back, numbers, joints-are, numbers-once, numbers-live}
@@ -30,7 +30,7 @@ pub is-some-map : {A B : Type 0} (f : A → B) (o : Option A) → isSome (Option
 is-some-map f none = refl
 is-some-map f (some x) = refl
 
-typed-as : (p : Program) (G : Context) (b : Bool) (d : Doing) → NamesOf d (names G) → TypedDoing p G b d → TypedAs p G b d
+typed-as : (p : Program) (G : Context) (b : Bool) (d : Doing) → NamesDiffer d (names G) → TypedDoing p G b d → TypedAs p G b d
 typed-as p G b (running P) n t = (distinct-iff (names G) .1 n, t)
 typed-as p G b folding n t = tt
 typed-as p G b (waiting P) n t = (distinct-iff (names G) .1 n, t)
@@ -102,7 +102,7 @@ module _ {p : Program} {C : Config} (I : Inv p C) where
   pub inv-well-formed : WellFormed p C
   inv-well-formed = record {
     typed = λ i q s. let f = fine-at I i q (s .there) in
-        typed-as p (contextOf (q .held)) (isSome (q .link)) (q .doing) (subst (NamesOf (q .doing)) (sym (context-names (q .held))) (f .names))
+        typed-as p (contextOf (q .held)) (isSome (q .link)) (q .doing) (subst (NamesDiffer (q .doing)) (sym (context-names (q .held))) (f .names))
         (subst (λ b. TypedDoing p (contextOf (q .held)) b (q .doing)) (is-some-map (I .id) (q .link)) (f .typed));
     once = none-held-twice;
     agree = λ e d m n z. let u = end-has e m in let v = end-has d n in one-type G (u .0) (v .0) e d z (u .1) (v .1);

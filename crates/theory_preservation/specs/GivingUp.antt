@@ -15,7 +15,7 @@ use Rattle.calculus.specs.WellFormed.{contextOf, isWaiting, Stands}
 use Rattle.calculus.specs.declared.answers.Seen.{Seen}
 use Rattle.theory_ends.specs.Names.{without-sub}
 use Rattle.theory_ends.specs.Contexts.{context-without}
-use Rattle.theory_preservation.specs.Roster.{TypedDoing, Goes, runs-on, folds}
+use Rattle.theory_preservation.specs.Roster.{TypedDoing, Goes, runs-on, goes-folding}
 use Rattle.theory_preservation.specs.Outsides.{let-go-sub}
 use Rattle.theory_preservation.specs.Growing
 use Rattle.theory_preservation.specs.Invariant.{Inv, inv-less}
@@ -40,7 +40,7 @@ module _ {p : Program} {C : Config} (I : Inv p C) {i : ℕ} {q : Process} (here 
 
   -- it folds up, and has let go of some ends
   pub folds-up : isWaiting (q .doing) ≡ false → {l : List (Name × End)} → Sublistᴰ l (q .held) → Inv p (replaced i (foldsUp q l) C)
-  folds-up w s = inv-less I i q at folding (folds w) s tt (Sublistᴰ·refl (C .outside))
+  folds-up w s = inv-less I i q at folding (goes-folding w) s tt (Sublistᴰ·refl (C .outside))
 
   pub cancel-keeps : {o : ℕ} {c : Located} {P : Proc} {e : End} {seen : Seen} {D : Config} → q .doing ≡ running (cancel o c P) → GivesUp C e seen D
       → Typed p (contextOf (q .held)) b (cancel o c P) → Inv p (replaced i (goesOn q P (without (c .name) (q .held))) D)
@@ -48,4 +48,4 @@ module _ {p : Program} {C : Config} (I : Inv p C) {i : ℕ} {q : Process} (here 
       parts (running P) (runs-on r P) (without-sub (c .name) (q .held)) (subst (λ G. Typed p G b P) (context-without (c .name) (q .held)) t) g
 
   pub fold-keeps : {n : Name} {e : End} {l : List (Name × End)} {seen : Seen} {D : Config} → q .doing ≡ folding → q .held ≡ (n, e) ∷ l → GivesUp C e seen D → Inv p (replaced i (foldsUp q l) D)
-  fold-keeps {l = l} r z g = parts folding (folds (ap isWaiting r)) (subst (Sublistᴰ l) (sym z) (Sublistᴰ·cons (Sublistᴰ·refl l))) tt g
+  fold-keeps {l = l} r z g = parts folding (goes-folding (ap isWaiting r)) (subst (Sublistᴰ l) (sym z) (Sublistᴰ·cons (Sublistᴰ·refl l))) tt g

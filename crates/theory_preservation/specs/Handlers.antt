@@ -18,7 +18,7 @@ use Rattle.calculus.specs.Reduces.{Empty, no-term, no-channel}
 use Rattle.calculus.specs.WellFormed.{contextOf, isWaiting, NoneTwice, Stands}
 use Rattle.theory_ends.specs.Lists.{length-removed, set-cases, found-below}
 use Rattle.theory_preservation.specs.Mates.{put}
-use Rattle.theory_preservation.specs.Roster.{TypedDoing, NamesOf, runs-on, runs-awake}
+use Rattle.theory_preservation.specs.Roster.{TypedDoing, NamesDiffer, runs-on, runs-awake}
 use Rattle.theory_preservation.specs.LettingGo.{raised, left, left-alone}
 use Rattle.theory_preservation.specs.Places.{Shows, shows-set, shows-out, idOut}
 use Rattle.theory_preservation.specs.Growing
@@ -34,7 +34,7 @@ started-typed p H c (running P) t = t
 started-typed p H c folding t = t
 started-typed p H c (waiting P) t = t
 
-started-names : (ns : List Name) (d : Doing) → NamesOf d ns → NamesOf (startedDoing d) ns
+started-names : (ns : List Name) (d : Doing) → NamesDiffer d ns → NamesDiffer (startedDoing d) ns
 started-names ns (running P) n = n
 started-names ns folding n = n
 started-names ns (waiting P) n = n
@@ -63,7 +63,7 @@ module _ {p : Program} {C : Config} (I : Inv p C) {i : ℕ} {q : Process} (here 
     link-id : Option·map (I .id) (q .link) ≡ some (I .id h)
     link-id = ap (Option·map (I .id)) lk
 
-    raised-inv : isWaiting d ≡ false → NamesOf d (names (r .held)) → TypedDoing p (contextOf (r .held)) (isSome (Option·map (I .id) (r .link))) d → (P : Proc)
+    raised-inv : isWaiting d ≡ false → NamesDiffer d (names (r .held)) → TypedDoing p (contextOf (r .held)) (isSome (Option·map (I .id) (r .link))) d → (P : Proc)
         → NoneTwice (names (q .held)) → Typed p (contextOf (q .held)) false P
         → Inv p (withProcesses (set l₁ i (linkedBy none (goesOn q P (q .held)))) C)
     raised-inv wd nd td P n t = record {
@@ -76,7 +76,7 @@ module _ {p : Program} {C : Config} (I : Inv p C) {i : ℕ} {q : Process} (here 
       numbers = I .numbers;
     }
 
-    left-inv : isWaiting d ≡ false → NamesOf d (names (r .held)) → TypedDoing p (contextOf (r .held)) (isSome (Option·map (I .id) (r .link))) d
+    left-inv : isWaiting d ≡ false → NamesDiffer d (names (r .held)) → TypedDoing p (contextOf (r .held)) (isSome (Option·map (I .id) (r .link))) d
         → Inv p (withProcesses (removed i l₁) C)
     left-inv wd nd td = record {
       id = idOut s₁ i;

@@ -19,7 +19,7 @@ use Rattle.calculus.specs.Reduces.{Runs}
 use Rattle.calculus.specs.WellFormed.{contextOf, isWaiting}
 use Rattle.theory_ends.specs.Lists.{found-below, below-found}
 use Rattle.theory_preservation.specs.Mates.{put}
-use Rattle.theory_preservation.specs.Roster.{Roster, TypedDoing, Fine, Turns, profile, Good, Goes, runs-on}
+use Rattle.theory_preservation.specs.Roster.{Roster, TypedDoing, Fine, Continues, profile, Good, Goes, runs-on}
 use Rattle.theory_preservation.specs.LettingGo.{lessen}
 use Rattle.theory_preservation.specs.Places.{Shows, shows-set}
 
@@ -70,8 +70,8 @@ module _ {p : Program} {C : Config} (I : Inv p C) where
         (x .0, x .1, ap (λ (y : Option ℕ × Bool). y .1) (Option·some-injective _ _ (sym (ap profile (I .shows .there h (x .0) (x .1))) ∙ m .1)))
 
   -- a process that runs a term goes on with P
-  pub turns : {i : ℕ} {q : Process} {R : Proc} → Runs C i q R → (P : Proc) → Turns (I .roster) (I .id i) (relinked (I .id) q) (running P)
-  turns {i} {q} r P = record { there = at-roster i q (r .stands .there); goes = runs-on (r .runs) P }
+  pub continuing : {i : ℕ} {q : Process} {R : Proc} → Runs C i q R → (P : Proc) → Continues (I .roster) (I .id i) (relinked (I .id) q) (running P)
+  continuing {i} {q} r P = record { there = at-roster i q (r .stands .there); goes = runs-on (r .runs) P }
 
   -- the term that a process runs is typed with what it holds
   pub runs-typed : {i : ℕ} {q : Process} {P : Proc} → Runs C i q P → Typed p (contextOf (q .held)) (isSome (Option·map (I .id) (q .link))) P

@@ -17,7 +17,7 @@ use Rattle.calculus.specs.WellFormed.{contextOf, Stands}
 use Rattle.calculus.specs.declared.answers.Seen.{Seen}
 use Rattle.theory_ends.specs.Contexts.{held-plain}
 use Rattle.theory_ends.specs.FarEnds.{HeldFar}
-use Rattle.theory_preservation.specs.Roster.{runs-awake, folds}
+use Rattle.theory_preservation.specs.Roster.{runs-awake, goes-folding}
 use Rattle.theory_preservation.specs.Forwarding.{forwarded, forwarded-out}
 use Rattle.theory_preservation.specs.Relocating.{Relocated, relocated}
 use Rattle.theory_preservation.specs.Growing
@@ -34,12 +34,12 @@ module _ {p : Program} {C : Config} (I : Inv p C) {i : ℕ} {q : Process} (here 
   -- e is the end of x, d that of c
   module _ {o : ℕ} {x c : Located} (r : q .doing ≡ running (fwd o x c)) {e d : End} (le : lookup (x .name) (q .held) ≡ some e) (ld : lookup (c .name) (q .held) ≡ some d) where
     -- x is provided, c is used, and their types are one
-    record Forwards : Type 0 where
+    record ForwarderTyped : Type 0 where
       gives : e .side ≡ provided
       takes : d .side ≡ used
       one : OneType p (e .type) (d .type)
 
-    forwards-as : Typed p (contextOf (q .held)) b (fwd o x c) → Forwards
+    forwards-as : Typed p (contextOf (q .held)) b (fwd o x c) → ForwarderTyped
     forwards-as (forwards A B hx hc ab _) =
         let a = held-plain (x .name) (q .held) provided A hx in
         let b = held-plain (c .name) (q .held) used B hc in
@@ -70,4 +70,4 @@ module _ {p : Program} {C : Config} (I : Inv p C) {i : ℕ} {q : Process} (here 
     joined-nobody = folds-up I here (runs-awake r) (Sublistᴰ·nil-sublist (q .held))
 
     pub nobody-joined : {seen : Seen} {D : Config} → GivesUp C e seen D → Inv p (replaced i (foldsUp q []) D)
-    nobody-joined g = parts I here folding (folds (runs-awake r)) (Sublistᴰ·nil-sublist (q .held)) tt g
+    nobody-joined g = parts I here folding (goes-folding (runs-awake r)) (Sublistᴰ·nil-sublist (q .held)) tt g

@@ -17,7 +17,7 @@ use Rattle.theory_ends.specs.Lists.{sub-in}
 use Rattle.theory_preservation.specs.Witness.{Tip, fewer, Recast, recast-same, recasting}
 use Rattle.theory_preservation.specs.Outsides.{fair-less}
 use Rattle.theory_preservation.specs.Mates.{put, put-elim, put-at, Profile, Mates, mates-same, mates-put, mates-cut, Quiet, quiet-none, quiet-some}
-use Rattle.theory_preservation.specs.Roster.{Roster, tipOf, linkTip, outsideTip, Tips, holds, links, waits, Has, outside, inside, TypedDoing, Fine, fine-less, Turns, profile, Good, Afterwards, nobody-after, one-after, good-after, same-after, becomes, one-good, NamesOf}
+use Rattle.theory_preservation.specs.Roster.{Roster, tipOf, linkTip, outsideTip, Tips, holds, links, waits, Has, outside, inside, TypedDoing, Fine, fine-less, Continues, profile, Good, Afterwards, nobody-after, one-after, good-after, same-after, becomes, one-good, NamesDiffer}
 
 -- what is seen of a roster after a process is put in
 pub profile-put : (u : ℕ) (x : Option Process) (S : Roster) (v : ℕ) → profile (put u x S v) ≡ put u (profile x) (λ v. profile (S v)) v
@@ -42,7 +42,7 @@ module _ {p : Program} {S : Roster} {o : List Outside} {given next : ℕ} (G : G
       (becomes G (Recast p (Has S o)) u r su d l w f s (λ h s t. recast-same p (Has S o) u (linkTip h s) t))
       (λ v e n z t. recast-same p (Has S o) v e t) (λ y i. recast-same p (Has S o) 0 (outsideTip y) (outside refl y (sub-in k i) refl)) (fair-less (G .fair) k)
 
-  pub lessen : {u : ℕ} {r : Process} {d : Doing} → Turns S u r d → {l : List (Name × End)} → Sublistᴰ l (r .held)
+  pub lessen : {u : ℕ} {r : Process} {d : Doing} → Continues S u r d → {l : List (Name × End)} → Sublistᴰ l (r .held)
       → TypedDoing p (contextOf l) (isSome (r .link)) d → {o′ : List Outside} → Sublistᴰ o′ o → Good p (put u (some (becoming d l r)) S) o′ given next
   lessen {u} {r} {d} a {l} s t k =
       less u r (a .there) d l (a .goes .waits) (fine-less (G .fine u r (a .there)) d (a .goes) s t)
@@ -59,10 +59,10 @@ module _ {p : Program} {S : Roster} {o : List Outside} {given next : ℕ} (G : G
   stays v = same-after G v (omega arith) (λ e _ h. h)
 
   -- the process r of v does d from now on, which is no waiting, with its link or none
-  shrinks : (v : ℕ) (r : Process) → S v ≡ some r → (d : Doing) (k : Option ℕ) → isWaiting d ≡ false → ((h : ℕ) → k ≡ some h → r .link ≡ some h)
-      → NamesOf d (names (r .held)) → TypedDoing p (contextOf (r .held)) (isSome k) d
+  shrinks-to : (v : ℕ) (r : Process) → S v ≡ some r → (d : Doing) (k : Option ℕ) → isWaiting d ≡ false → ((h : ℕ) → k ≡ some h → r .link ≡ some h)
+      → NamesDiffer d (names (r .held)) → TypedDoing p (contextOf (r .held)) (isSome k) d
       → Shrinks v (some (linkedBy k (doingNow d r)))
-  shrinks v r sv d k w s n t = one-after (linkedBy k (doingNow d r)) (G .placed v r sv) fine′ here
+  shrinks-to v r sv d k w s n t = one-after (linkedBy k (doingNow d r)) (G .placed v r sv) fine′ here
     where
       fine′ : Fine p (linkedBy k (doingNow d r))
       fine′ = let f = G .fine v r sv in record { typed = t; names = n; keys = f .keys; room = f .room; channels = f .channels }
@@ -77,12 +77,12 @@ module _ {p : Program} {S : Roster} {o : List Outside} {given next : ℕ} (G : G
 
   -- the process r of u, linked to the waiting s of h, goes on without its link, and s without waiting
   module _ (u h : ℕ) (r s : Process) (su : S u ≡ some r) (sh : S h ≡ some s) (w : isWaiting (r .doing) ≡ false) (lk : r .link ≡ some h) (wh : isWaiting (s .doing) ≡ true)
-      (d : Doing) (wd : isWaiting d ≡ false) (nd : NamesOf d (names (s .held))) (td : TypedDoing p (contextOf (s .held)) (isSome (s .link)) d) where
+      (d : Doing) (wd : isWaiting d ≡ false) (nd : NamesDiffer d (names (s .held))) (td : TypedDoing p (contextOf (s .held)) (isSome (s .link)) d) where
     cut-mates : Mates (put u (some (none, false)) (put h (some (s .link, false)) (λ v. profile (S v))))
     cut-mates = mates-cut (G .mates) u h (s .link) (profile-at u r su false w ∙ ap (λ l. some (l, false)) lk) (profile-at h s sh true wh)
 
     handler : Shrinks h (some (doingNow d s))
-    handler = shrinks h s sh d (s .link) wd (λ _ e. e) nd td
+    handler = shrinks-to h s sh d (s .link) wd (λ _ e. e) nd td
 
     rest-same : (x : Option Process) (y : Profile) → profile x ≡ y → (v : ℕ)
         → put u y (put h (some (s .link, false)) (λ v. profile (S v))) v ≡ profile (put u x (put h (some (doingNow d s)) S) v)
@@ -94,7 +94,7 @@ module _ {p : Program} {S : Roster} {o : List Outside} {given next : ℕ} (G : G
         → Good p (put u (some (linkedBy none (doingNow (running P) r))) (put h (some (doingNow d s)) S)) o given next
     raised P n t =
         shrunk-good
-        (put-elim Shrinks u _ (put h (some (doingNow d s)) S) (shrinks u r su (running P) none refl (λ k e. absurd (Option·none-ne-some k e)) n t)
+        (put-elim Shrinks u _ (put h (some (doingNow d s)) S) (shrinks-to u r su (running P) none refl (λ k e. absurd (Option·none-ne-some k e)) n t)
         (λ v _. put-elim Shrinks h _ S handler (λ v _. stays v) v))
         (mates-same (rest-same (some (linkedBy none (doingNow (running P) r))) (some (none, false)) refl) cut-mates)
 

@@ -56,7 +56,7 @@ module _ {p : Program} {C : Config} (I : Inv p C) {i : ℕ} {q : Process} (here 
     roster = put (I .next) (some made) (put (I .id i) (some (relinked (I .id) maker)) (I .roster));
     next = suc (I .next);
     shows = shows-in s₁ i (I .next) (omega (arith, inside, len₁)) (λ j h. new-id j (omega (arith, len₁))) made (λ h z. absurd (Option·none-ne-some h z));
-    good = Growing.spawned (I .good) (I .id i) (relinked (I .id) q) (at-roster I i q at) w t n (plain A) k (fresh .1) (fresh .0) (absent-held n (q .held) (bP .new)) P Q
+    good = Growing.spawn-good (I .good) (I .id i) (relinked (I .id) q) (at-roster I i q at) w t n (plain A) k (fresh .1) (fresh .0) (absent-held n (q .held) (bP .new)) P Q
         (room t (bP .room)) (room (λ m. not (t m)) (bQ .room)) (subst (λ G. Typed p G false P) (sym (half t (end provided k (plain A)))) tP)
         (subst (λ G. Typed p G b Q) (sym (half (λ m. not (t m)) (end used k (plain A)))) tQ);
     places = let c = length-inserted i made (set (C .processes) i maker) in omega (arith, len₁);
@@ -103,7 +103,7 @@ module _ {p : Program} {C : Config} (I : Inv p C) {i : ℕ} {q : Process} (here 
     next = suc (I .next);
     shows = shows-set s₁ i (omega (arith, inside, len₁)) tryer (λ h z. let y = Option·some-injective _ _ z in omega (arith, inside, len₁));
     good = subst (λ S. Good p S (C .outside) (C .given) (suc (I .next))) same
-        (Growing.tried (I .good) (I .id i) (relinked (I .id) q) (at-roster I i q at) w (mentions P) (mentions Q) disjoint P Q
+        (Growing.try-good (I .good) (I .id i) (relinked (I .id) q) (at-roster I i q at) w (mentions P) (mentions Q) disjoint P Q
         (subst (λ G. Typed p G true P) (context-kept (mentions P) (q .held)) tP) (subst (λ G. Typed p G b Q) (context-kept (mentions Q) (q .held)) tQ));
     places = subst (λ n. n ≤ processPlaces) (sym (length-set (inserted i waiter (C .processes)) i tryer ∙ len₁)) lt;
     numbers = I .numbers;

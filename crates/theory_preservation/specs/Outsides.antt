@@ -52,29 +52,29 @@ let-go-sub k (y ∷ o) = go (eqb k (y .channel)) (let-go-sub k o)
 
 -- ── one entry is changed
 -- an entry afterwards: the changed one of the channel k, or another
-abbrev pub Changed : ℕ → (Outside → Outside) → List Outside → Outside → Type 0
-Changed k f o y = ((x : Outside) × In x o × (x .channel ≡ k) × (y ≡ f x)) ⊎ (In y o × (y .channel ≢ k))
+abbrev pub ChangedEntry : ℕ → (Outside → Outside) → List Outside → Outside → Type 0
+ChangedEntry k f o y = ((x : Outside) × In x o × (x .channel ≡ k) × (y ≡ f x)) ⊎ (In y o × (y .channel ≢ k))
 
 module _ (k : ℕ) (f : Outside → Outside) where
-  pub outside-cases : (o : List Outside) → NoneTwice (map channelOf o) → (y : Outside) → In y (changedOutside k f o) → Changed k f o y
+  pub outside-cases : (o : List Outside) → NoneTwice (map channelOf o) → (y : Outside) → In y (changedOutside k f o) → ChangedEntry k f o y
   unfolding changedOutside
   outside-cases [] u y i = absurd (List·Memᴰ·not-nil i)
   outside-cases (a ∷ o) u y i = go (bool-cases (eqb k (a .channel))) (outside-cases o (u .1) y) i
     where
-      further : Changed k f o y → Changed k f (a ∷ o) y
+      further : ChangedEntry k f o y → ChangedEntry k f (a ∷ o) y
       further (inl r) = inl (r .0, List·Memᴰ·tail (r .1), r .2, r .3)
       further (inr r) = inr (List·Memᴰ·tail (r .0), r .1)
 
-      here : k ≡ a .channel → In y (f a ∷ o) → Changed k f (a ∷ o) y
+      here : k ≡ a .channel → In y (f a ∷ o) → ChangedEntry k f (a ∷ o) y
       here z (List·Memᴰ·head h) = inl (a, List·Memᴰ·head refl, sym z, h)
       here z (List·Memᴰ·tail j) = inr (List·Memᴰ·tail j, λ w. u .0 (Memᴰ·cast (sym z ∙ sym w) (Memᴰ·map channelOf j)))
 
-      past : k ≢ a .channel → (In y (changedOutside k f o) → Changed k f o y) → In y (a ∷ changedOutside k f o) → Changed k f (a ∷ o) y
+      past : k ≢ a .channel → (In y (changedOutside k f o) → ChangedEntry k f o y) → In y (a ∷ changedOutside k f o) → ChangedEntry k f (a ∷ o) y
       past n r (List·Memᴰ·head h) = inr (List·Memᴰ·head h, λ w. n (sym w ∙ ap channelOf h))
       past n r (List·Memᴰ·tail j) = further (r j)
 
-      go : (eqb k (a .channel) ≡ true) ⊎ (eqb k (a .channel) ≡ false) → (In y (changedOutside k f o) → Changed k f o y)
-          → In y (cond (eqb k (a .channel)) (f a ∷ o) (a ∷ changedOutside k f o)) → Changed k f (a ∷ o) y
+      go : (eqb k (a .channel) ≡ true) ⊎ (eqb k (a .channel) ≡ false) → (In y (changedOutside k f o) → ChangedEntry k f o y)
+          → In y (cond (eqb k (a .channel)) (f a ∷ o) (a ∷ changedOutside k f o)) → ChangedEntry k f (a ∷ o) y
       go (inl e) r j = here (eqb-iff k (a .channel) .0 e) (subst (In y) (cond-true _ _ e) j)
       go (inr e) r j = past (λ z. false≢true (sym e ∙ eqb-iff k (a .channel) .1 z)) r (subst (In y) (cond-false _ _ e) j)
 
@@ -83,7 +83,7 @@ module _ (k : ℕ) (f : Outside → Outside) where
       → ((x : Outside) → In x o → x .channel ≢ k → Q x) → (y : Outside) → In y (changedOutside k f o) → Q y
   each-changed Q o u a b y i = go (outside-cases o u y i)
     where
-      go : Changed k f o y → Q y
+      go : ChangedEntry k f o y → Q y
       go (inl r) = subst Q (sym (r .3)) (a (r .0) (r .1) (r .2))
       go (inr r) = b y (r .0) (r .1)
 

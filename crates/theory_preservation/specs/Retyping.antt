@@ -22,8 +22,8 @@ use Rattle.theory_ends.specs.Ends.{keyAt}
 use Rattle.theory_ends.specs.FarEnds.{FarOutside}
 use Rattle.theory_preservation.specs.Witness.{Tip, Rel, one-of-refl, of-channels, Retyped, retyping, keyNumber}
 use Rattle.theory_preservation.specs.Mates.{put}
-use Rattle.theory_preservation.specs.Roster.{Roster, Turns, channelKey, channel-key-one, channel-no-link, keyOf, tipOf, linkTip, outsideTip, Has, outside, TypedDoing, Fine, Good, Change, becomes, one-good, two-good, NamesOf, Goes, names-less}
-use Rattle.theory_preservation.specs.TwoEnds.{farKeyOf, key-cases, key-from-key, Facing, Opposite, turned, above, held-tip, opposite, opposite-outside, opposite-nobody, elsewhere, facing}
+use Rattle.theory_preservation.specs.Roster.{Roster, Continues, channelKey, channel-key-one, channel-no-link, keyOf, tipOf, linkTip, outsideTip, Has, outside, TypedDoing, Fine, Good, Change, becomes, one-good, two-good, NamesDiffer, Goes, names-less}
+use Rattle.theory_preservation.specs.TwoEnds.{farKeyOf, key-cases, key-from-key, Facing, Opposite, turned, above, held-tip, facing-opposite, opposite-outside, opposite-nobody, elsewhere, held-facing}
 use Rattle.theory_preservation.specs.Outsides.{each-changed, fair-retyped}
 
 -- ── a process with one end retyped
@@ -40,7 +40,7 @@ pub fine-retyped : {p : Program} {r : Process} → Fine p r → (d : Doing) → 
     → TypedDoing p (contextOf (retypedEnd c A l)) (isSome (r .link)) d → Fine p (becoming d (retypedEnd c A l) r)
 fine-retyped {p} {r} f d w {l} s c A t = record {
   typed = t;
-  names = subst (NamesOf d) (sym (changed-names c _ l)) (names-less d s (w .names (names (r .held)) (f .names)));
+  names = subst (NamesDiffer d) (sym (changed-names c _ l)) (names-less d s (w .names (names (r .held)) (f .names)));
   keys = subst NoneTwice (sym (retyped-keys c A l)) (sub-once keyAt s (f .keys));
   room = subst (λ n. n ≤ heldLimit) (sym (changed-length c _ l)) (let a = f .room in let b = sub-length s in omega arith);
   channels = retyped-channels c A l channelPlaces (λ x i. f .channels x (sub-in s i));
@@ -51,12 +51,12 @@ pub retyped-off : (p : Program) (H : Rel) {k : ℕ} {T : Option (Ty Name)} (v : 
 retyped-off p H v t h n = (t .1, h, inr (n, one-of-refl p (t .1)))
 
 module _ {p : Program} {S : Roster} {o : List Outside} {given next : ℕ} (G : Good p S o given next) where
-  abbrev pub Over : End → Ty Name → Rel
-  Over e T = Retyped p (Has S o) (channelKey (e .channel)) (some T)
+  abbrev pub RetypedChannel : End → Ty Name → Rel
+  RetypedChannel e T = Retyped p (Has S o) (channelKey (e .channel)) (some T)
 
   -- e itself, and each other end of u
   pub retyped-tip : {u w : ℕ} {e : End} → Opposite S o u w e → {T A : Ty Name} → OneType p T A → (x : End) → (x ≡ ofType A e) ⊎ (Has S o u (tipOf x) × (key x ≢ key e))
-      → Over e T u (tipOf x)
+      → RetypedChannel e T u (tipOf x)
   retyped-tip {u} {e = e} m {T} one x (inl z) = (
     some (e .type),
     subst (λ k. Has S o u (k, some (e .type))) (λ i. (channelKey (sym z i .channel), sym z i .side)) (m .near),
@@ -68,20 +68,20 @@ module _ {p : Program} {S : Roster} {o : List Outside} {given next : ℕ} (G : G
       go (inl z) = h .1 (key-from-key x e z)
       go (inr z) = m .not-near (some (x .type)) (subst (λ k. Has S o u (k, some (x .type))) z (h .0))
 
-  pub retyped-link : (e : End) (T : Ty Name) (u h : ℕ) {s : _} → Has S o u (linkTip h s) → Over e T u (linkTip h s)
+  pub retyped-link : (e : End) (T : Ty Name) (u h : ℕ) {s : _} → Has S o u (linkTip h s) → RetypedChannel e T u (linkTip h s)
   retyped-link e T u h {s} t = retyped-off p (Has S o) u (linkTip h s) t (λ z. channel-no-link (e .channel) h (sym z))
 
   -- the outside's ends
-  pub retyped-out : (e : End) {T A : Ty Name} → OneType p T A → (y : Outside) → In y (retypedOutside (e .channel) A o) → Over e T 0 (outsideTip y)
-  retyped-out e {T} {A} one = each-changed (e .channel) (outsideOfType A) (λ y. Over e T 0 (outsideTip y)) o (G .fair .keys)
+  pub retyped-out : (e : End) {T A : Ty Name} → OneType p T A → (y : Outside) → In y (retypedOutside (e .channel) A o) → RetypedChannel e T 0 (outsideTip y)
+  retyped-out e {T} {A} one = each-changed (e .channel) (outsideOfType A) (λ y. RetypedChannel e T 0 (outsideTip y)) o (G .fair .keys)
       (λ x i z. (some (x .type), outside refl x i refl, inl (ap channelKey z, of-channels one)))
       (λ x i n. retyped-off p (Has S o) 0 (outsideTip x) (outside refl x i refl) (λ z. n (channel-key-one (x .channel) (e .channel) z)))
 
   -- the process r of u with its end e retyped
-  retypes : {u w : ℕ} {r : Process} {d : Doing} (a : Turns S u r d) (c : Name) {e : End} {T A : Ty Name} → Opposite S o u w e → OneType p T A → lookup c (r .held) ≡ some e
-      → TypedDoing p (contextOf (retypedEnd c A (r .held))) (isSome (r .link)) d → Change p (Over e T) next u (S u) (some (becoming d (retypedEnd c A (r .held)) r))
+  retypes : {u w : ℕ} {r : Process} {d : Doing} (a : Continues S u r d) (c : Name) {e : End} {T A : Ty Name} → Opposite S o u w e → OneType p T A → lookup c (r .held) ≡ some e
+      → TypedDoing p (contextOf (retypedEnd c A (r .held))) (isSome (r .link)) d → Change p (RetypedChannel e T) next u (S u) (some (becoming d (retypedEnd c A (r .held)) r))
   retypes {u} {r = r} {d = d} a c {e} {T} {A} m one lc t =
-      becomes G (Over e T) u r (a .there) d (retypedEnd c A (r .held)) (a .goes .waits) (fine-retyped (G .fine u r (a .there)) d (a .goes) (Sublistᴰ·refl (r .held)) c A t)
+      becomes G (RetypedChannel e T) u r (a .there) d (retypedEnd c A (r .held)) (a .goes .waits) (fine-retyped (G .fine u r (a .there)) d (a .goes) (Sublistᴰ·refl (r .held)) c A t)
       (λ x i. retyped-tip m one (x .1) (entry x (changed-cases key c (ofType A) (r .held) e (G .fine u r (a .there) .keys) lc x i)))
       (λ h s k. retyped-link e T u h k)
     where
@@ -90,7 +90,7 @@ module _ {p : Program} {S : Roster} {o : List Outside} {given next : ℕ} (G : G
       entry x (inr z) = inr (held-tip G u r (a .there) x (z .0), z .1)
 
   -- ── the rules: a label goes over the channel of e, from the process r of u, and A is what is left for it
-  module _ {u : ℕ} {r : Process} {d : Doing} (a : Turns S u r d) (c : Name) {e : End} (A : Ty Name) (lc : lookup c (r .held) ≡ some e)
+  module _ {u : ℕ} {r : Process} {d : Doing} (a : Continues S u r d) (c : Name) {e : End} (A : Ty Name) (lc : lookup c (r .held) ≡ some e)
       (td : TypedDoing p (contextOf (retypedEnd c A (r .held))) (isSome (r .link)) d) where
     abbrev after : Process
     after = becoming d (retypedEnd c A (r .held)) r
@@ -102,17 +102,17 @@ module _ {p : Program} {S : Roster} {o : List Outside} {given next : ℕ} (G : G
     u0 = above G u r (a .there)
 
     -- to the process q of w, whose end f goes on by its own type
-    pub chosen : {B : Ty Name} → OneType p A B → {w : ℕ} {q : Process} {d′ : Doing} → Turns S w q d′ → (c′ : Name) {f : End} → lookup c′ (q .held) ≡ some f → f .channel ≡ e .channel
+    pub chosen : {B : Ty Name} → OneType p A B → {w : ℕ} {q : Process} {d′ : Doing} → Continues S w q d′ → (c′ : Name) {f : End} → lookup c′ (q .held) ≡ some f → f .channel ≡ e .channel
         → f .side ≡ other (e .side) → TypedDoing p (contextOf (retypedEnd c′ B (q .held))) (isSome (q .link)) d′
         → Good p (put w (some (becoming d′ (retypedEnd c′ B (q .held)) q)) (put u (some after) S)) o given next
     chosen {B} one {w} {q} {d′} b c′ {f} lf z s t =
         two-good G (retyping (G .witness) (channelKey (e .channel)) (some A)) u w after (becoming d′ (retypedEnd c′ B (q .held)) q)
-        (retypes a c (opposite G m) (one-refl p A) lc td)
-        (subst (λ k. Change p (Retyped p (Has S o) (channelKey k) (some A)) next w (S w) (some (becoming d′ (retypedEnd c′ B (q .held)) q))) z (retypes b c′ (opposite G (turned m)) one lf t))
-        (λ v t nu nw h. retyped-off p (Has S o) v t h (elsewhere G (opposite G m) v t nu nw h)) u0 (m .far-process)
+        (retypes a c (facing-opposite G m) (one-refl p A) lc td)
+        (subst (λ k. Change p (Retyped p (Has S o) (channelKey k) (some A)) next w (S w) (some (becoming d′ (retypedEnd c′ B (q .held)) q))) z (retypes b c′ (facing-opposite G (turned m)) one lf t))
+        (λ v t nu nw h. retyped-off p (Has S o) v t h (elsewhere G (facing-opposite G m) v t nu nw h)) u0 (m .far-process)
       where
         m : Facing S o u w e f
-        m = facing G (a .there) (b .there) c c′ (lookup-in c (r .held) lc) (lookup-in c′ (q .held) lf) z s
+        m = held-facing G (a .there) (b .there) c c′ (lookup-in c (r .held) lc) (lookup-in c′ (q .held) lf) z s
 
     -- to the outside, whose end goes on by its own type
     pub chosen-out : {B : Ty Name} → OneType p A B → FarOutside o e → outward p B ≡ true → Good p (put u (some after) S) (retypedOutside (e .channel) B o) given next

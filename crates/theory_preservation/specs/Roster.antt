@@ -1,7 +1,7 @@
 -- The invariant that the rules keep, on identities: a process keeps its identity while places shift, and a link is the handler's identity.
 use mathlib.Core.Path.{_≡_, refl, sym, _∙_, ap, subst}
-use mathlib.Core.Logic.{_≢_}
-use mathlib.Core.List.{List, [], map, Sublistᴰ, _++_, _∷_}
+use mathlib.Core.Logic.{_≢_, _⊎_, inl, inr}
+use mathlib.Core.List.{List, List·Memᴰ·append-cases, List·Memᴰ·eq-of-singleton, [], map, Sublistᴰ, _++_, _∷_}
 use mathlib.Core.Option.{Option, some, none, Option·none-ne-some, Option·some-injective}
 use mathlib.Core.Bool.{Bool, true, false}
 use Prim.Native.Nat.{ℕ, suc, _+_, _≤_, _<_}
@@ -14,10 +14,10 @@ use Rattle.calculus.specs.Types.{Side, provided, used}
 use Rattle.calculus.specs.Program.{Context, Program}
 use Rattle.calculus.specs.Declarations.{outward}
 use Rattle.calculus.specs.Typing.{Typed}
-use Rattle.calculus.specs.Configuration.{End, end, Doing, running, folding, waiting, Process, process, Outside, becoming}
-use Rattle.calculus.specs.WellFormed.{In, NoneTwice, Rising, contextOf, isWaiting}
-use Rattle.theory_ends.specs.Lists.{sub-in, sub-once, sub-length, once-snoc}
-use Rattle.theory_ends.specs.Names.{names-map}
+use Rattle.calculus.specs.Configuration.{End, end, Doing, running, folding, waiting, Process, process, Outside, becoming, linkedBy}
+use Rattle.calculus.specs.WellFormed.{In, NoneTwice, Rising, contextOf, key, isWaiting}
+use Rattle.theory_ends.specs.Lists.{sub-in, sub-once, sub-length, once-snoc, length-snoc, map-append}
+use Rattle.theory_ends.specs.Names.{names-map, names-append}
 use Rattle.theory_ends.specs.Ends.{keyAt}
 use Rattle.theory_preservation.specs.Witness.{Key, Tip, Rel, Witness, fewer}
 use Rattle.theory_preservation.specs.Mates.{put, put-elim, Profile, Mates, mates-same}
@@ -71,48 +71,65 @@ TypedDoing p G link folding = Unit {0}
 TypedDoing p G link (waiting Q) = Typed p G link Q
 
 -- the names that a process holds differ, unless it folds up
-abbrev pub NamesOf : Doing → List Name → Type 0
-NamesOf (running P) ns = NoneTwice ns
-NamesOf folding ns = Unit {0}
-NamesOf (waiting Q) ns = NoneTwice ns
+abbrev pub NamesDiffer : Doing → List Name → Type 0
+NamesDiffer (running P) ns = NoneTwice ns
+NamesDiffer folding ns = Unit {0}
+NamesDiffer (waiting Q) ns = NoneTwice ns
 
 -- a process that does d goes on to do d′, under the same names
 pub record Goes (d d′ : Doing) : Type 0 where
   pub waits : isWaiting d ≡ isWaiting d′
-  pub names : (ns : List Name) → NamesOf d ns → NamesOf d′ ns
+  pub names : (ns : List Name) → NamesDiffer d ns → NamesDiffer d′ ns
 
 pub runs-on : {d : Doing} {R : Proc} → d ≡ running R → (P : Proc) → Goes d (running P)
-runs-on r P = record { waits = ap isWaiting r; names = λ ns n. subst (λ d. NamesOf d ns) r n }
+runs-on r P = record { waits = ap isWaiting r; names = λ ns n. subst (λ d. NamesDiffer d ns) r n }
 
-pub folds : {d : Doing} → isWaiting d ≡ false → Goes d folding
-folds w = record { waits = w; names = λ ns n. tt }
+pub goes-folding : {d : Doing} → isWaiting d ≡ false → Goes d folding
+goes-folding w = record { waits = w; names = λ ns n. tt }
 
 pub runs-awake : {d : Doing} {R : Proc} → d ≡ running R → isWaiting d ≡ false
 runs-awake r = ap isWaiting r
 
-pub names-less : (d : Doing) {l m : List (Name × End)} → Sublistᴰ l m → NamesOf d (names m) → NamesOf d (names l)
+pub names-less : (d : Doing) {l m : List (Name × End)} → Sublistᴰ l m → NamesDiffer d (names m) → NamesDiffer d (names l)
 names-less (running P) {l} {m} s n = subst NoneTwice (sym (names-map l)) (sub-once (λ (e : Name × End). e .0) s (subst NoneTwice (names-map m) n))
 names-less folding s n = tt
 names-less (waiting P) {l} {m} s n = subst NoneTwice (sym (names-map l)) (sub-once (λ (e : Name × End). e .0) s (subst NoneTwice (names-map m) n))
 
-pub names-snoc : (d : Doing) (ns : List Name) (x : Name) → NamesOf d ns → ¬ In x ns → NamesOf d (ns ++ (x ∷ []))
+names-snoc : (d : Doing) (ns : List Name) (x : Name) → NamesDiffer d ns → ¬ In x ns → NamesDiffer d (ns ++ (x ∷ []))
 names-snoc (running P) ns x n f = once-snoc ns x n f
 names-snoc folding ns x n f = tt
 names-snoc (waiting P) ns x n f = once-snoc ns x n f
 
 pub record Fine (p : Program) (r : Process) : Type 0 where
   pub typed : TypedDoing p (contextOf (r .held)) (isSome (r .link)) (r .doing)
-  pub names : NamesOf (r .doing) (names (r .held))
+  pub names : NamesDiffer (r .doing) (names (r .held))
   pub keys : NoneTwice (map keyAt (r .held))
   pub room : length (r .held) ≤ heldLimit
   pub channels : (x : Name × End) → In x (r .held) → x .1 .channel < channelPlaces
+
+-- a process that holds l, and x with the end e beside
+pub fine-more : {p : Program} (r : Process) (d : Doing) (k : Option ℕ) (l : List (Name × End)) (x : Name) (e : End) → NamesDiffer d (names l) → ¬ In x (names l)
+    → NoneTwice (map keyAt l) → ¬ In (key e) (map keyAt l) → length l < heldLimit → ((y : Name × End) → In y l → y .1 .channel < channelPlaces) → e .channel < channelPlaces
+    → TypedDoing p (contextOf (l ++ ((x, e) ∷ []))) (isSome k) d → Fine p (linkedBy k (becoming d (l ++ ((x, e) ∷ [])) r))
+unfolding names
+fine-more r d k l x e ns nx ks nk room cs lt t = record {
+  typed = t;
+  names = subst (NamesDiffer d) (sym (names-append l ((x, e) ∷ []))) (names-snoc d (names l) x ns nx);
+  keys = subst NoneTwice (sym (map-append keyAt l ((x, e) ∷ []))) (once-snoc (map keyAt l) (key e) ks nk);
+  room = subst (λ n. n ≤ heldLimit) (sym (length-snoc l (x, e))) room;
+  channels = λ y i. chan y (List·Memᴰ·append-cases l i);
+}
+  where
+    chan : (y : Name × End) → In y l ⊎ In y ((x, e) ∷ []) → y .1 .channel < channelPlaces
+    chan y (inl i) = cs y i
+    chan y (inr i) = subst (λ (y : Name × End). y .1 .channel < channelPlaces) (sym (List·Memᴰ·eq-of-singleton i)) lt
 
 -- a new process that does, holds and is linked as another
 pub fine-new : {p : Program} {r : Process} → Fine p r → Fine p (process (r .doing) (r .held) (r .link))
 fine-new f = record { typed = f .typed; names = f .names; keys = f .keys; room = f .room; channels = f .channels }
 
 -- the process r of u does d from now on, under the same names
-pub record Turns (S : Roster) (u : ℕ) (r : Process) (d : Doing) : Type 0 where
+pub record Continues (S : Roster) (u : ℕ) (r : Process) (d : Doing) : Type 0 where
   pub there : S u ≡ some r
   pub goes : Goes (r .doing) d
 

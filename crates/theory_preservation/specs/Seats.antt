@@ -25,8 +25,8 @@ seated l (suc i) = Option·map (relinked suc) (getElem? l i)
 -- ── where an end is
 -- v has the end e of a channel
 data HasEnd (C : Config) (v : ℕ) (e : End) : Type 0 where
-  by-outside : v ≡ 0 → (y : Outside) → In y (C .outside) → e ≡ end used (y .channel) (y .type) → HasEnd C v e
-  by-process : (i : ℕ) (q : Process) → v ≡ suc i → getElem? (C .processes) i ≡ some q → (n : Name) → In (n, e) (q .held) → HasEnd C v e
+  outside-has : v ≡ 0 → (y : Outside) → In y (C .outside) → e ≡ end used (y .channel) (y .type) → HasEnd C v e
+  process-has : (i : ℕ) (q : Process) → v ≡ suc i → getElem? (C .processes) i ≡ some q → (n : Name) → In (n, e) (q .held) → HasEnd C v e
 
 -- v has the side s of the link to the handler at h
 data HasLink (C : Config) (v h : ℕ) (s : Side) : Type 0 where
@@ -34,8 +34,8 @@ data HasLink (C : Config) (v h : ℕ) (s : Side) : Type 0 where
   by-handler : (r : Process) → v ≡ suc h → getElem? (C .processes) h ≡ some r → s ≡ used → HasLink C v h s
 
 data Seat (C : Config) (v : ℕ) (t : Tip) : Type 0 where
-  of-channel : (e : End) → t ≡ tipOf e → HasEnd C v e → Seat C v t
-  of-link : (h : ℕ) (s : Side) → t ≡ linkTip (suc h) s → HasLink C v h s → Seat C v t
+  channel-seat : (e : End) → t ≡ tipOf e → HasEnd C v e → Seat C v t
+  link-seat : (h : ℕ) (s : Side) → t ≡ linkTip (suc h) s → HasLink C v h s → Seat C v t
 
 module _ (C : Config) where
   abbrev pub SeatedHas : ℕ → Tip → Type 0
@@ -46,19 +46,19 @@ module _ (C : Config) where
   seat-back (suc i) r e = let x = map-eq-some-iff {B = Process} (relinked suc) (getElem? (C .processes) i) .0 e in (i, x .0, refl, x .1, x .2)
 
   has-seat : (v : ℕ) (t : Tip) → SeatedHas v t → Seat C v t
-  has-seat v t (outside z y i e) = of-channel (end used (y .channel) (y .type)) e (by-outside z y i refl)
+  has-seat v t (outside z y i e) = channel-seat (end used (y .channel) (y .type)) e (outside-has z y i refl)
   has-seat v t (inside r w h) = go (seat-back v r w) h
     where
       go : (i : ℕ) × (q : Process) × (v ≡ suc i) × (getElem? (C .processes) i ≡ some q) × (relinked suc q ≡ r) → Tips v r t → Seat C v t
-      go (i, q, z, e, y) (holds x m k) = of-channel (x .1) k (by-process i q z e (x .0) (subst (λ (r : Process). In x (r .held)) (sym y) m))
+      go (i, q, z, e, y) (holds x m k) = channel-seat (x .1) k (process-has i q z e (x .0) (subst (λ (r : Process). In x (r .held)) (sym y) m))
       go (i, q, z, e, y) (links h l k) =
           let x = map-eq-some-iff {B = ℕ} suc (q .link) .0 (ap (λ (r : Process). r .link) y ∙ l) in
-          of-link (x .0) provided (k ∙ ap (λ h. linkTip h provided) (sym (x .2))) (by-linked i q z e (x .1) refl)
-      go (i, q, z, e, y) (waits _ k) = of-link i used (k ∙ ap (λ v. linkTip v used) z) (by-handler q z e refl)
+          link-seat (x .0) provided (k ∙ ap (λ h. linkTip h provided) (sym (x .2))) (by-linked i q z e (x .1) refl)
+      go (i, q, z, e, y) (waits _ k) = link-seat i used (k ∙ ap (λ v. linkTip v used) z) (by-handler q z e refl)
 
   end-below : (v : ℕ) (e : End) → HasEnd C v e → v < suc (length (C .processes))
-  end-below v e (by-outside z _ _ _) = omega arith
-  end-below v e (by-process i q z h _ _) = let b = found-below (C .processes) i h in omega arith
+  end-below v e (outside-has z _ _ _) = omega arith
+  end-below v e (process-has i q z h _ _) = let b = found-below (C .processes) i h in omega arith
 
   link-below : (v h : ℕ) (s : Side) → HasLink C v h s → v < suc (length (C .processes))
   link-below v h s (by-linked i q z e _ _) = let b = found-below (C .processes) i e in omega arith
@@ -68,8 +68,8 @@ module _ (C : Config) where
   has-below v t h = go (has-seat v t h)
     where
       go : Seat C v t → v < suc (length (C .processes))
-      go (of-channel e _ x) = end-below v e x
-      go (of-link k s _ x) = link-below v k s x
+      go (channel-seat e _ x) = end-below v e x
+      go (link-seat k s _ x) = link-below v k s x
 
 -- ── one owner, one type
 module _ {p : Program} {C : Config} (w : WellFormed p C) where
@@ -84,10 +84,10 @@ module _ {p : Program} {C : Config} (w : WellFormed p C) where
       (Memᴰ·map key (process-end (C .processes) i q e x n)) (Memᴰ·map key (outside-end (C .outside) y m))
 
   end-one : (u v : ℕ) (e d : End) → HasEnd C u e → HasEnd C v d → key e ≡ key d → u ≡ v
-  end-one u v e d (by-outside z _ _ _) (by-outside y _ _ _) k = z ∙ sym y
-  end-one u v e d (by-outside _ o m g) (by-process j r _ n x l) k = absurd (not-both o m j r n (x, d) l (sym k ∙ ap key g))
-  end-one u v e d (by-process j r _ n x l) (by-outside _ o m g) k = absurd (not-both o m j r n (x, e) l (k ∙ ap key g))
-  end-one u v e d (by-process i q z m x l) (by-process j r y n x′ l′) k =
+  end-one u v e d (outside-has z _ _ _) (outside-has y _ _ _) k = z ∙ sym y
+  end-one u v e d (outside-has _ o m g) (process-has j r _ n x l) k = absurd (not-both o m j r n (x, d) l (sym k ∙ ap key g))
+  end-one u v e d (process-has j r _ n x l) (outside-has _ o m g) k = absurd (not-both o m j r n (x, e) l (k ∙ ap key g))
+  end-one u v e d (process-has i q z m x l) (process-has j r y n x′ l′) k =
       z ∙ ap suc (one-process (C .processes) process-keys i j q r m n (x, e) (x′, d) l l′ k) ∙ sym y
 
   link-one : (u v h g : ℕ) (s t : Side) → HasLink C u h s → HasLink C v g t → h ≡ g → s ≡ t → u ≡ v
@@ -105,28 +105,28 @@ module _ {p : Program} {C : Config} (w : WellFormed p C) where
   has-one u v e f x y k = go (has-seat C u e x) (has-seat C v f y)
     where
       go : Seat C u e → Seat C v f → u ≡ v
-      go (of-channel d a h) (of-channel d′ b g) = end-one u v d d′ h g (key-from-key d d′ (ap tipKey (sym a) ∙ k ∙ ap tipKey b))
-      go (of-channel d a _) (of-link h s b _) = absurd (mixed e f d h s a b (ap keyNumber k))
-      go (of-link h s a _) (of-channel d b _) = absurd (mixed f e d h s b a (ap keyNumber (sym k)))
-      go (of-link h s a x) (of-link h′ s′ b y) =
+      go (channel-seat d a h) (channel-seat d′ b g) = end-one u v d d′ h g (key-from-key d d′ (ap tipKey (sym a) ∙ k ∙ ap tipKey b))
+      go (channel-seat d a _) (link-seat h s b _) = absurd (mixed e f d h s a b (ap keyNumber k))
+      go (link-seat h s a _) (channel-seat d b _) = absurd (mixed f e d h s b a (ap keyNumber (sym k)))
+      go (link-seat h s a x) (link-seat h′ s′ b y) =
           let z = ap tipKey (sym a) ∙ k ∙ ap tipKey b in
           let n = link-key-one (suc h) (suc h′) (ap keyNumber z) in
           link-one u v h h′ s s′ x y (omega arith) (ap keySide z)
 
   end-in : (v : ℕ) (e : End) → HasEnd C v e → In e (ends C)
-  end-in v e (by-outside _ y m z) = Memᴰ·append-right (processEnds (C .processes)) (Memᴰ·cast z (outside-end (C .outside) y m))
-  end-in v e (by-process i q _ h n m) = Memᴰ·append-left (outsideEnds (C .outside)) (process-end (C .processes) i q h (n, e) m)
+  end-in v e (outside-has _ y m z) = Memᴰ·append-right (processEnds (C .processes)) (Memᴰ·cast z (outside-end (C .outside) y m))
+  end-in v e (process-has i q _ h n m) = Memᴰ·append-left (outsideEnds (C .outside)) (process-end (C .processes) i q h (n, e) m)
 
   pub has-agree : (u v : ℕ) (e f : Tip) → SeatedHas C u e → SeatedHas C v f → e .0 .0 ≡ f .0 .0 → OneOf p (e .1) (f .1)
   has-agree u v e f x y z = go (has-seat C u e x) (has-seat C v f y)
     where
       go : Seat C u e → Seat C v f → OneOf p (e .1) (f .1)
-      go (of-channel d a h) (of-channel d′ b g) =
+      go (channel-seat d a h) (channel-seat d′ b g) =
           let c = channel-key-one (d .channel) (d′ .channel) (ap tipNumber (sym a) ∙ z ∙ ap tipNumber b) in
           rw (a, b) (of-channels (w .agree d d′ (end-in u d h) (end-in v d′ g) c))
-      go (of-channel d a _) (of-link h s b _) = absurd (mixed e f d h s a b z)
-      go (of-link h s a _) (of-channel d b _) = absurd (mixed f e d h s b a (sym z))
-      go (of-link h s a _) (of-link h′ s′ b _) = rw (a, b) of-links
+      go (channel-seat d a _) (link-seat h s b _) = absurd (mixed e f d h s a b z)
+      go (link-seat h s a _) (channel-seat d b _) = absurd (mixed f e d h s b a (sym z))
+      go (link-seat h s a _) (link-seat h′ s′ b _) = rw (a, b) of-links
 
 -- ── who has the end of a key, by a search
 search-places : {A : Type 0} {Q : ℕ → A → Type 0} → ((i : ℕ) (a : A) → Dec (Q i a)) → (l : List A) → Dec ((i : ℕ) × (a : A) × (getElem? l i ≡ some a) × Q i a)
@@ -181,8 +181,8 @@ module _ (C : Config) where
   abbrev Owned : Key → Type 0
   Owned k = (v : ℕ) × (t : Option (Ty Name)) × SeatedHas C v (k, t)
 
-  owned : (k : Key) → Dec (Owned k)
-  owned k = out (search (λ (y : Outside). key-discrete (outsideTip y .0) k) (C .outside))
+  find-owner : (k : Key) → Dec (Owned k)
+  find-owner k = out (search (λ (y : Outside). key-discrete (outsideTip y .0) k) (C .outside))
     where
       inner : ¬ ((y : Outside) × In y (C .outside) × (outsideTip y .0 ≡ k))
           → Dec ((i : ℕ) × (q : Process) × (getElem? (C .processes) i ≡ some q) × TipAt (suc i) (relinked suc q) k) → Dec (Owned k)
@@ -204,11 +204,11 @@ module _ (C : Config) where
   ownerIf (no _) = 0
 
   pub ownerOf : Key → ℕ
-  ownerOf k = ownerIf (owned k)
+  ownerOf k = ownerIf (find-owner k)
 
   pub owner-below : (k : Key) → ownerOf k < suc (length (C .processes))
   unfolding ownerOf
-  owner-below k = go (owned k)
+  owner-below k = go (find-owner k)
     where
       go : (d : Dec (Owned k)) → ownerIf d < suc (length (C .processes))
       go (yes r) = has-below C (r .0) (k, r .1) (r .2)
@@ -216,7 +216,7 @@ module _ (C : Config) where
 
 pub owner-sound : {p : Program} {C : Config} → WellFormed p C → (v : ℕ) (t : Tip) → SeatedHas C v t → ownerOf C (t .0) ≡ v
 unfolding ownerOf
-owner-sound {C = C} w v t h = go (owned C (t .0))
+owner-sound {C = C} w v t h = go (find-owner C (t .0))
   where
     go : (d : Dec (Owned C (t .0))) → ownerIf C d ≡ v
     go (yes r) = has-one w (r .0) v (t .0, r .1) t (r .2) h refl

@@ -26,12 +26,12 @@ use Rattle.theory_ends.specs.FarEnds.{HeldFar, FarOutside, FarNobody, far-held,
 use Rattle.theory_ends.specs.Onward.{onward-is, outside-onward-is}
 use Rattle.theory_preservation.specs.Roster.{outside, runs-on}
 use Rattle.theory_preservation.specs.Outsides.{let-go-sub}
-use Rattle.theory_preservation.specs.TwoEnds.{Facing, one-type, held-tip, ends-apart, facing}
+use Rattle.theory_preservation.specs.TwoEnds.{Facing, one-type, held-tip, ends-apart, held-facing}
 use Rattle.theory_preservation.specs.Retyping.{chosen, chosen-unheard, chosen-out}
 use Rattle.theory_preservation.specs.Passing.{lookup-without, passed, passed-unheard, passed-gone, passed-out}
 use Rattle.theory_preservation.specs.FarEnds.{nobody-has}
 use Rattle.theory_preservation.specs.AfterMessage.{branch-typed, after-label, after-channel, typed-end, typed-on, typed-taking, LabelOver, label-over, ChannelOver, channel-over}
-use Rattle.theory_preservation.specs.Invariant.{Inv, at-roster, fine-at, typed-at, runs-typed, turns, inv-set, inv-less, inv-two}
+use Rattle.theory_preservation.specs.Invariant.{Inv, at-roster, fine-at, typed-at, runs-typed, continuing, inv-set, inv-less, inv-two}
 use Rattle.theory_preservation.specs.GivingUp.{gives-up}
 
 module _ {p : Program} {C : Config} (I : Inv p C) where
@@ -53,7 +53,7 @@ module _ {p : Program} {C : Config} (I : Inv p C) where
     module _ {i : ℕ} {q : Process} {Q : Proc} (r : Runs C i q Q) (n : Name) (le : lookup n (q .held) ≡ some e) where
       faces : Facing (I .roster) (C .outside) (I .id i) (I .id (h .place)) e (f .end)
       faces =
-          facing (I .good) (at-roster I i q (r .stands .there)) (at-roster I (h .place) (h .process) (f .stands)) n (h .name) (lookup-in n (q .held) le) (f .held)
+          held-facing (I .good) (at-roster I i q (r .stands .there)) (at-roster I (h .place) (h .process) (f .stands)) n (h .name) (lookup-in n (q .held) le) (f .held)
           (f .channel) (f .side)
 
       two-places : h .place ≢ i
@@ -112,16 +112,16 @@ module _ {p : Program} {C : Config} (I : Inv p C) where
     left = afterMessage p (chooses l) (e .type)
 
     -- what typing says of the sender, and of another end of one type
-    record Chooses : Type 0 where
+    record ChooserTyped : Type 0 where
       typed : Typed p (contextOf (retypedEnd (c .name) left (q .held))) (linked q) P
       over : (B : Ty Name) → OneType p (e .type) B → LabelOver p l (e .type) B
 
-    chooses-on : Typed p (contextOf (q .held)) (linked q) (sendLabel o c l P) → Chooses
+    chooses-on : Typed p (contextOf (q .held)) (linked q) (sendLabel o c l P) → ChooserTyped
     chooses-on (sends-label T A t ch ac la d) =
         let z = ap choosing (typed-end p (q .held) (c .name) le ac .type) ∙ ch in
         record { typed = typed-on p (c .name) (q .held) (after-label p l (e .type) z la) d; over = λ B one. label-over p l one z la }
 
-    ch : Chooses
+    ch : ChooserTyped
     ch = chooses-on (runs-typed I r)
 
     pub label-met : {o′ : ℕ} {c′ : Located} {B : Branches} {Q : Proc} {h : Holder} → HeldFar C e h → Answers h c′ (recvLabel o′ c′ B) → branchOf (l .name) B ≡ some Q
@@ -139,8 +139,8 @@ module _ {p : Program} {C : Config} (I : Inv p C) where
             let d = subst (λ n. Typed p (retyped n (x .0) (contextOf (h .process .held))) (linked (h .process)) Q) (an .name) (x .2) in
             rw (onward-is p (chooses l) (c .name) (q .held) le, onward-is p (chooses l) (h .name) (h .process .held) (far-end e f an))
             (inv-two I i (h .place) q (h .process) (r .stands .there) (f .stands) (running P) (running Q) _ _
-            (chosen (I .good) (turns I r P) (c .name) left le (ch .typed) (ch .over (f .end .type) (far-one e f an r (c .name) le) .one)
-            (turns I (far-runs e f an) Q) (h .name) (far-end e f an) (f .channel) (f .side)
+            (chosen (I .good) (continuing I r P) (c .name) left le (ch .typed) (ch .over (f .end .type) (far-one e f an r (c .name) le) .one)
+            (continuing I (far-runs e f an) Q) (h .name) (far-end e f an) (f .channel) (f .side)
             (typed-on p (h .name) (h .process .held) (after-label p l (f .end .type) z (x .1)) d)))
 
     pub label-shown : FarOutside (C .outside) e → Inv p (withOutside (outsideOnward p (chooses l) (e .channel) (C .outside)) (replaced i chooser C))
@@ -148,13 +148,13 @@ module _ {p : Program} {C : Config} (I : Inv p C) where
         let x = ch .over (y .entry .type) (outside-one r (c .name) le y) in
         rw (onward-is p (chooses l) (c .name) (q .held) le, outside-onward-is p (chooses l) (e .channel) (C .outside) (y .found))
         (inv-set I i q (r .stands .there) (running P) (retypedEnd (c .name) left (q .held)) (I .numbers)
-        (chosen-out (I .good) (turns I r P) (c .name) left le (ch .typed) (x .one) y (x .outwards (I .good .fair .outwards (y .entry) (y .listed)))))
+        (chosen-out (I .good) (continuing I r P) (c .name) left le (ch .typed) (x .one) y (x .outwards (I .good .fair .outwards (y .entry) (y .listed)))))
 
     pub label-gone : FarNobody C e → Inv p (replaced i chooser C)
     label-gone n =
         rw (onward-is p (chooses l) (c .name) (q .held) le)
         (inv-set I i q (r .stands .there) (running P) (retypedEnd (c .name) left (q .held)) (I .numbers)
-        (chosen-unheard (I .good) (turns I r P) (c .name) left le (ch .typed) (nobody-has C (I .shows) e (n .processes) (n .outside))))
+        (chosen-unheard (I .good) (continuing I r P) (c .name) left le (ch .typed) (nobody-has C (I .shows) e (n .processes) (n .outside))))
 
   -- ── a channel a, of which the sender has the end d
   module _ {i o : ℕ} {q : Process} {c a : Located} {P : Proc} {e : End} (r : Runs C i q (sendChannel o c a P)) (le : lookup (c .name) (q .held) ≡ some e) where
@@ -165,14 +165,14 @@ module _ {p : Program} {C : Config} (I : Inv p C) where
     rest = afterMessage p (passes a) (e .type)
 
     -- what typing says of the sender, of the end that it passes, and of another end of one type
-    record Passes : Type 0 where
+    record PasserTyped : Type 0 where
       apart : c .name ≢ a .name
       typed : Typed p (contextOf (retypedEnd (c .name) rest (without (a .name) (q .held)))) (linked q) P
       end : End
       found : lookup (a .name) (q .held) ≡ some end
       over : (B : Ty Name) → OneType p (e .type) B → ChannelOver p a (e .type) B (end .type) (end .side)
 
-    passes-on : Typed p (contextOf (q .held)) (linked q) (sendChannel o c a P) → Passes
+    passes-on : Typed p (contextOf (q .held)) (linked q) (sendChannel o c a P) → PasserTyped
     passes-on (sends-channel T A t ca ps ac la sm d) =
         let g = held-plain (a .name) (q .held) (t .side) A la in
         let z = ap passing (typed-end p (q .held) (c .name) le ac .type) ∙ ps in
@@ -185,15 +185,15 @@ module _ {p : Program} {C : Config} (I : Inv p C) where
           over = λ B one. rw (g .side) (channel-over p a one z (rw (g .type) sm));
         }
 
-    ps : Passes
+    ps : PasserTyped
     ps = passes-on (runs-typed I r)
 
     onward-sender : onward p (passes a) (c .name) (without (a .name) (q .held)) ≡ retypedEnd (c .name) rest (without (a .name) (q .held))
     onward-sender = onward-is p (passes a) (c .name) (without (a .name) (q .held)) (lookup-without (c .name) (a .name) (q .held) (ps .apart) ∙ le)
 
     -- the end d that a rule names is the one that typing speaks of
-    is-end : {d : End} → lookup (a .name) (q .held) ≡ some d → ps .end ≡ d
-    is-end h = Option·some-injective _ _ (sym (ps .found) ∙ h)
+    is-passed : {d : End} → lookup (a .name) (q .held) ≡ some d → ps .end ≡ d
+    is-passed h = Option·some-injective _ _ (sym (ps .found) ∙ h)
 
     pub channel-met : {o′ : ℕ} {c′ x : Located} {Q : Proc} {h : Holder} → HeldFar C e h → Answers h c′ (recvChannel o′ c′ x Q)
         → Inv p (replaced (h .place)
@@ -215,7 +215,7 @@ module _ {p : Program} {C : Config} (I : Inv p C) where
         go (recvs-channel T t pt ac br d) =
             rw (onward-sender, onward-is p (passes a) (h .name) (h .process .held) (far-end e f an), far-end e f an, ps .found, y .goes)
             (inv-two I i (h .place) q (h .process) (r .stands .there) (f .stands) (running P) (running Q) _ _
-            (passed (I .good) (turns I r P) (ps .apart) rest le (ps .found) (ps .typed) (y .one) (y .what) (turns I (far-runs e f an) Q) (h .name) (x .name) (far-end e f an) (f .channel) (f .side)
+            (passed (I .good) (continuing I r P) (ps .apart) rest le (ps .found) (ps .typed) (y .one) (y .what) (continuing I (far-runs e f an) Q) (h .name) (x .name) (far-end e f an) (f .channel) (f .side)
             (absent-held (x .name) (h .process .held) (br .new))
             (subst (λ n. n < heldLimit) (context-length (h .process .held)) (br .room))
             (typed-taking p (h .name) (h .process .held) (x .name) got (after-channel p a (f .end .type) (y .goes)) own)))
@@ -232,7 +232,7 @@ module _ {p : Program} {C : Config} (I : Inv p C) where
     -- to the outside: the end d is on the used side, and outward
     module _ (y : FarOutside (C .outside) e) {d : End} (ld : lookup (a .name) (q .held) ≡ some d) (lt : C .given < outsideNumbers) where
       x : ChannelOver p a (e .type) (y .entry .type) (d .type) (d .side)
-      x = subst (λ (d : End). ChannelOver p a (e .type) (y .entry .type) (d .type) (d .side)) (is-end ld) (ps .over (y .entry .type) (outside-one r (c .name) le y))
+      x = subst (λ (d : End). ChannelOver p a (e .type) (y .entry .type) (d .type) (d .side)) (is-passed ld) (ps .over (y .entry .type) (outside-one r (c .name) le y))
 
       out : outward p (y .entry .type) ≡ true
       out = I .good .fair .outwards (y .entry) (y .listed)
@@ -243,17 +243,17 @@ module _ {p : Program} {C : Config} (I : Inv p C) where
       channel-shown =
           rw (onward-sender, outside-onward-is p (passes a) (e .channel) (C .outside) (y .found), y .found, x .goes)
           (inv-set I i q (r .stands .there) (running P) _ lt
-          (passed-out (I .good) (turns I r P) (ps .apart) rest le ld (ps .typed) (x .one) (x .what) y (sym (x .side) ∙ x .outside-uses out) (x .left out) (x .passed out)))
+          (passed-out (I .good) (continuing I r P) (ps .apart) rest le ld (ps .typed) (x .one) (x .what) y (sym (x .side) ∙ x .outside-uses out) (x .left out) (x .passed out)))
 
       pub gone-shown : Inv p (oneMoreGiven (withOutside (outsideOnward p (passes a) (e .channel) (C .outside)) (replaced i passer C)))
       gone-shown =
           rw (onward-sender, outside-onward-is p (passes a) (e .channel) (C .outside) (y .found))
           (inv-set I i q (r .stands .there) (running P) _ lt
-          (passed-gone (I .good) (turns I r P) (ps .apart) rest le ld (ps .typed) (x .one) (x .what) y (sym (x .side) ∙ x .outside-uses out) (x .left out) (x .passed out)))
+          (passed-gone (I .good) (continuing I r P) (ps .apart) rest le ld (ps .typed) (x .one) (x .what) y (sym (x .side) ∙ x .outside-uses out) (x .left out) (x .passed out)))
 
     -- to nobody
     pub channel-gone : FarNobody C e → {d : End} → lookup (a .name) (q .held) ≡ some d → {seen : Seen} {D : Config} → GivesUp C d seen D → Inv p (replaced i passer D)
     channel-gone n {d} ld g = gives-up (λ D. Inv p (replaced i passer D)) g λ ys s.
         rw onward-sender
         (inv-set I i q (r .stands .there) (running P) _ (I .numbers)
-        (passed-unheard (I .good) (turns I r P) (ps .apart) rest le ld (ps .typed) (nobody-has C (I .shows) e (n .processes) (n .outside)) s))
+        (passed-unheard (I .good) (continuing I r P) (ps .apart) rest le ld (ps .typed) (nobody-has C (I .shows) e (n .processes) (n .outside)) s))

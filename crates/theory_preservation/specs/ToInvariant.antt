@@ -19,7 +19,7 @@ use Rattle.theory_ends.specs.Contexts.{context-names}
 use Rattle.theory_ends.specs.Ends.{process-end, keys-of-process, outside-end, outside-keys}
 use Rattle.theory_preservation.specs.Witness.{Witness}
 use Rattle.theory_preservation.specs.Mates.{Mates}
-use Rattle.theory_preservation.specs.Roster.{TypedDoing, Fine, Fair, profile, NamesOf}
+use Rattle.theory_preservation.specs.Roster.{TypedDoing, Fine, Fair, profile, NamesDiffer}
 use Rattle.theory_preservation.specs.Places.{Shows}
 use Rattle.theory_preservation.specs.Invariant.{Inv}
 use Rattle.theory_preservation.specs.Joints.{forest-along, numbers, joints-are, numbers-once, numbers-all}
@@ -31,7 +31,7 @@ as-typed p G b (running P) t = t .1
 as-typed p G b folding t = tt
 as-typed p G b (waiting P) t = t .1
 
-as-names : (p : Program) (G : Context) (b : Bool) (d : Doing) → TypedAs p G b d → NamesOf d (names G)
+as-names : (p : Program) (G : Context) (b : Bool) (d : Doing) → TypedAs p G b d → NamesDiffer d (names G)
 as-names p G b (running P) t = distinct-iff (names G) .0 (t .0)
 as-names p G b folding t = tt
 as-names p G b (waiting P) t = distinct-iff (names G) .0 (t .0)
@@ -119,7 +119,7 @@ module _ {p : Program} {C : Config} (w : WellFormed p C) where
   found-fine i q e = record {
     typed = subst (λ b. TypedDoing p (contextOf (q .held)) b (q .doing)) (sym (is-some-map suc (q .link)))
         (as-typed p (contextOf (q .held)) (isSome (q .link)) (q .doing) (w .typed i q (record { there = e })));
-    names = subst (NamesOf (q .doing)) (context-names (q .held)) (as-names p (contextOf (q .held)) (isSome (q .link)) (q .doing) (w .typed i q (record { there = e })));
+    names = subst (NamesDiffer (q .doing)) (context-names (q .held)) (as-names p (contextOf (q .held)) (isSome (q .link)) (q .doing) (w .typed i q (record { there = e })));
     keys = keys-of-process (C .processes) (process-keys w) i q e;
     room = w .held i q (record { there = e });
     channels = λ x m. w .channels (x .1) (Memᴰ·append-left (outsideEnds (C .outside)) (process-end (C .processes) i q e x m));

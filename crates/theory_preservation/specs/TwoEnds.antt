@@ -87,8 +87,8 @@ module _ {p : Program} {S : Roster} {o : List Outside} {given next : ℕ} (G : G
 
   -- ── at two processes: the channel is a joint, and these are two
   module _ {u w : ℕ} {e f : End} (m : Facing S o u w e f) where
-    pub joins : In (channelKey (e .channel)) (G .witness .K)
-    joins = go (e .side) refl
+    pub is-joint : In (channelKey (e .channel)) (G .witness .K)
+    is-joint = go (e .side) refl
       where
         go : (t : Side) → e .side ≡ t → In (channelKey (e .channel)) (G .witness .K)
         go provided z = G .witness .live u w (tipOf e) (tipOf f) (m .near) (m .far) (m .near-process) (m .far-process) (ap channelKey (sym (m .channel))) z (m .side ∙ ap other z)
@@ -101,22 +101,22 @@ module _ {p : Program} {S : Roster} {o : List Outside} {given next : ℕ} (G : G
     far-owner : (t : Side) → e .side ≡ t → G .witness .own (channelKey (e .channel), other t) ≡ w
     far-owner t y = (λ i. G .witness .own (channelKey (sym (m .channel) i), (ap other (sym y) ∙ sym (m .side)) i)) ∙ G .witness .sound w (tipOf f) (m .far)
 
-    pub between : Between (G .witness .own) (channelKey (e .channel)) u w
-    between = go (e .side) refl
+    pub joint-between : Between (G .witness .own) (channelKey (e .channel)) u w
+    joint-between = go (e .side) refl
       where
         go : (t : Side) → e .side ≡ t → Between (G .witness .own) (channelKey (e .channel)) u w
         go provided y = inl (near-owner provided y, far-owner provided y)
         go used y = inr (far-owner used y, near-owner used y)
 
     pub ends-apart : u ≢ w
-    ends-apart z = no-loop (joint (G .witness .own)) (G .witness .K) (G .witness .forest) (channelKey (e .channel)) joins (go between)
+    ends-apart z = no-loop (joint (G .witness .own)) (G .witness .K) (G .witness .forest) (channelKey (e .channel)) is-joint (go joint-between)
       where
         go : Between (G .witness .own) (channelKey (e .channel)) u w → G .witness .own (channelKey (e .channel), provided) ≡ G .witness .own (channelKey (e .channel), used)
         go (inl y) = y .0 ∙ z ∙ sym (y .1)
         go (inr y) = y .0 ∙ sym z ∙ sym (y .1)
 
-    pub opposite : Opposite S o u w e
-    opposite = record { near = m .near; only = only; not-near = λ t h. ends-apart (only u t h) }
+    pub facing-opposite : Opposite S o u w e
+    facing-opposite = record { near = m .near; only = only; not-near = λ t h. ends-apart (only u t h) }
       where
         only : (v : ℕ) (t : Option (Ty Name)) → Has S o v (farKeyOf e, t) → v ≡ w
         only v t h = owner v w (farKeyOf e) t (some (f .type)) h (subst (λ k. Has S o w (k, some (f .type))) (λ i. (channelKey (m .channel i), m .side i)) (m .far))
@@ -140,9 +140,9 @@ module _ {p : Program} {S : Roster} {o : List Outside} {given next : ℕ} (G : G
       go (inr y) = nw (m .only v (t .1) (subst (λ k. Has S o v (k, t .1)) y h))
 
   -- what a process holds, and the far end that another holds
-  pub facing : {u w : ℕ} {r q : Process} → S u ≡ some r → S w ≡ some q → (c n : Name) {e f : End} → In (c, e) (r .held) → In (n, f) (q .held) → f .channel ≡ e .channel
+  pub held-facing : {u w : ℕ} {r q : Process} → S u ≡ some r → S w ≡ some q → (c n : Name) {e f : End} → In (c, e) (r .held) → In (n, f) (q .held) → f .channel ≡ e .channel
       → f .side ≡ other (e .side) → Facing S o u w e f
-  facing {u} {w} {r} {q} su sw c n {e} {f} i j z s = record {
+  held-facing {u} {w} {r} {q} su sw c n {e} {f} i j z s = record {
     near = held-tip u r su (c, e) i;
     far = held-tip w q sw (n, f) j;
     channel = z;
