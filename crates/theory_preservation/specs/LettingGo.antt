@@ -2,7 +2,7 @@
 use mathlib.Core.Path.{_≡_, refl, sym, _∙_, ap, subst}
 use mathlib.Core.Logic.{ite, apply-ite}
 use mathlib.Core.List.{List, Sublistᴰ}
-use mathlib.Core.Option.{Option, some, none, Option·none-ne-some, Option·some-injective}
+use mathlib.Core.Option.{Option, some, none, Option·none-ne-some}
 use mathlib.Core.Bool.{Bool, true, false, true≢false}
 use Prim.Native.Nat.{ℕ}
 use native.Mathlib.Omega.{arith}
@@ -14,7 +14,7 @@ use Rattle.calculus.specs.Typing.{Typed}
 use Rattle.calculus.specs.Configuration.{End, Doing, running, Process, Outside, doingNow, linkedBy, becoming}
 use Rattle.calculus.specs.WellFormed.{In, contextOf, isWaiting, NoneTwice}
 use Rattle.theory_ends.specs.Lists.{sub-in}
-use Rattle.theory_preservation.specs.Witness.{Tip, fewer, Recast, recast-same, recasting}
+use Rattle.theory_preservation.specs.Witness.{Tip, Recast, recast-same, recasting}
 use Rattle.theory_preservation.specs.Outsides.{fair-less}
 use Rattle.theory_preservation.specs.Mates.{put, put-elim, put-at, Profile, Mates, mates-same, mates-put, mates-cut, Quiet, quiet-none, quiet-some}
 use Rattle.theory_preservation.specs.Roster.{Roster, tipOf, linkTip, outsideTip, Tips, holds, links, waits, Has, outside, inside, TypedDoing, Fine, fine-less, Continues, profile, Good, Afterwards, nobody-after, one-after, good-after, same-after, becomes, one-good, NamesDiffer}

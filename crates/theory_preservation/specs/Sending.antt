@@ -72,13 +72,16 @@ module _ {p : Program} {C : Config} (I : Inv p C) where
     abbrev closer : Process
     closer = goesOn q P (without (c .name) (q .held))
 
+    abbrev closedBoth : Holder → Proc → Config
+    closedBoth h Q = replaced (h .place) (goesOn (h .process) Q (without (h .name) (h .process .held))) (replaced i closer C)
+
     closes : Typed p (contextOf (q .held)) (linked q) (sendUnit o c P) → {ys : List Outside} → Sublistᴰ ys (C .outside) → Inv p (withOutside ys (replaced i closer C))
     closes (sends-unit _ t) =
         inv-less I i q (r .stands .there) (running P) (runs-on (r .runs) P) (without-sub (c .name) (q .held))
         (subst (λ G. Typed p G (linked q) P) (context-without (c .name) (q .held)) t)
 
     pub close-met : {o′ : ℕ} {c′ : Located} {Q : Proc} {e : End} {h : Holder} → Holds C q c e (atProcess h) → Answers h c′ (recvUnit o′ c′ Q)
-        → Inv p (replaced (h .place) (goesOn (h .process) Q (without (h .name) (h .process .held))) (replaced i closer C))
+        → Inv p (closedBoth h Q)
     close-met {o′} {c′} {Q} {e} {h} hd an = go (typed-at J (h .place) (h .process) stays (running (recvUnit o′ c′ Q)) (an .runs))
       where
         f : HeldFar C e h
@@ -90,8 +93,7 @@ module _ {p : Program} {C : Config} (I : Inv p C) where
         stays : getElem? (replaced i closer C .processes) (h .place) ≡ some (h .process)
         stays = set-off (C .processes) i (h .place) closer (two-places e f an r (c .name) (hd .held)) ∙ f .stands
 
-        go : Typed p (contextOf (h .process .held)) (isSome (Option·map (J .id) (h .process .link))) (recvUnit o′ c′ Q)
-            → Inv p (replaced (h .place) (goesOn (h .process) Q (without (h .name) (h .process .held))) (replaced i closer C))
+        go : Typed p (contextOf (h .process .held)) (isSome (Option·map (J .id) (h .process .link))) (recvUnit o′ c′ Q) → Inv p (closedBoth h Q)
         go (recvs-unit _ t) =
             inv-less J (h .place) (h .process) stays (running Q) (runs-on (an .runs) Q) (without-sub (h .name) (h .process .held))
             (subst (λ G. Typed p G (isSome (Option·map (J .id) (h .process .link))) Q)
@@ -111,6 +113,9 @@ module _ {p : Program} {C : Config} (I : Inv p C) where
     abbrev left : Ty Name
     left = afterMessage p (chooses l) (e .type)
 
+    abbrev chosenBoth : Holder → Proc → Config
+    chosenBoth h Q = replaced (h .place) (goesOn (h .process) Q (onward p (chooses l) (h .name) (h .process .held))) (replaced i chooser C)
+
     -- what typing says of the sender, and of another end of one type
     record ChooserTyped : Type 0 where
       typed : Typed p (contextOf (retypedEnd (c .name) left (q .held))) (linked q) P
@@ -125,14 +130,10 @@ module _ {p : Program} {C : Config} (I : Inv p C) where
     ch = chooses-on (runs-typed I r)
 
     pub label-met : {o′ : ℕ} {c′ : Located} {B : Branches} {Q : Proc} {h : Holder} → HeldFar C e h → Answers h c′ (recvLabel o′ c′ B) → branchOf (l .name) B ≡ some Q
-        → Inv p (replaced (h .place) (goesOn (h .process) Q (onward p (chooses l) (h .name) (h .process .held))) (replaced i chooser C))
+        → Inv p (chosenBoth h Q)
     label-met {o′} {c′} {B} {Q} {h} f an br = go (runs-typed I (far-runs e f an))
       where
-        own : Ty Name
-        own = afterMessage p (chooses l) (f .end .type)
-
-        go : Typed p (contextOf (h .process .held)) (linked (h .process)) (recvLabel o′ c′ B)
-            → Inv p (replaced (h .place) (goesOn (h .process) Q (onward p (chooses l) (h .name) (h .process .held))) (replaced i chooser C))
+        go : Typed p (contextOf (h .process .held)) (linked (h .process)) (recvLabel o′ c′ B) → Inv p (chosenBoth h Q)
         go (recvs-label T t ch′ ac fit ds) =
             let x = branch-typed ds (l .name) Q br in
             let z = ap choosing (typed-end p (h .process .held) (c′ .name) (far-named e f an) ac .type) ∙ ch′ in
@@ -154,7 +155,7 @@ module _ {p : Program} {C : Config} (I : Inv p C) where
     label-gone n =
         rw (onward-is p (chooses l) (c .name) (q .held) le)
         (inv-set I i q (r .stands .there) (running P) (retypedEnd (c .name) left (q .held)) (I .numbers)
-        (chosen-unheard (I .good) (continuing I r P) (c .name) left le (ch .typed) (nobody-has C (I .shows) e (n .processes) (n .outside))))
+        (chosen-unheard (I .good) (continuing I r P) (c .name) left le (ch .typed) (nobody-has C (I .shows) e n)))
 
   -- ── a channel a, of which the sender has the end d
   module _ {i o : ℕ} {q : Process} {c a : Located} {P : Proc} {e : End} (r : Runs C i q (sendChannel o c a P)) (le : lookup (c .name) (q .held) ≡ some e) where
@@ -163,6 +164,12 @@ module _ {p : Program} {C : Config} (I : Inv p C) where
 
     abbrev rest : Ty Name
     rest = afterMessage p (passes a) (e .type)
+
+    abbrev passedBoth : Holder → Located → Proc → Config
+    passedBoth h x Q =
+        replaced (h .place)
+        (goesOn (h .process) Q (onward p (passes a) (h .name) (h .process .held) ++ bound p (x .name) (lookup (h .name) (h .process .held)) (lookup (a .name) (q .held))))
+        (replaced i passer C)
 
     -- what typing says of the sender, of the end that it passes, and of another end of one type
     record PasserTyped : Type 0 where
@@ -196,9 +203,7 @@ module _ {p : Program} {C : Config} (I : Inv p C) where
     is-passed h = Option·some-injective _ _ (sym (ps .found) ∙ h)
 
     pub channel-met : {o′ : ℕ} {c′ x : Located} {Q : Proc} {h : Holder} → HeldFar C e h → Answers h c′ (recvChannel o′ c′ x Q)
-        → Inv p (replaced (h .place)
-        (goesOn (h .process) Q (onward p (passes a) (h .name) (h .process .held) ++ bound p (x .name) (lookup (h .name) (h .process .held)) (lookup (a .name) (q .held))))
-        (replaced i passer C))
+        → Inv p (passedBoth h x Q)
     channel-met {o′} {c′} {x} {Q} {h} f an = go (runs-typed I (far-runs e f an))
       where
         y : ChannelOver p a (e .type) (f .end .type) (ps .end .type) (ps .end .side)
@@ -208,15 +213,12 @@ module _ {p : Program} {C : Config} (I : Inv p C) where
         got : End
         got = ofType (y .passing-there .what) (ps .end)
 
-        go : Typed p (contextOf (h .process .held)) (linked (h .process)) (recvChannel o′ c′ x Q)
-            → Inv p (replaced (h .place)
-            (goesOn (h .process) Q (onward p (passes a) (h .name) (h .process .held) ++ bound p (x .name) (lookup (h .name) (h .process .held)) (lookup (a .name) (q .held))))
-            (replaced i passer C))
+        go : Typed p (contextOf (h .process .held)) (linked (h .process)) (recvChannel o′ c′ x Q) → Inv p (passedBoth h x Q)
         go (recvs-channel T t pt ac br d) =
             rw (onward-sender, onward-is p (passes a) (h .name) (h .process .held) (far-end e f an), far-end e f an, ps .found, y .goes)
             (inv-two I i (h .place) q (h .process) (r .stands .there) (f .stands) (running P) (running Q) _ _
-            (passed (I .good) (continuing I r P) (ps .apart) rest le (ps .found) (ps .typed) (y .one) (y .what) (continuing I (far-runs e f an) Q) (h .name) (x .name) (far-end e f an) (f .channel) (f .side)
-            (absent-held (x .name) (h .process .held) (br .new))
+            (passed (I .good) (continuing I r P) (ps .apart) rest le (ps .found) (ps .typed) (y .one) (y .what) (continuing I (far-runs e f an) Q)
+            (h .name) (x .name) (far-end e f an) (f .channel) (f .side) (absent-held (x .name) (h .process .held) (br .new))
             (subst (λ n. n < heldLimit) (context-length (h .process .held)) (br .room))
             (typed-taking p (h .name) (h .process .held) (x .name) got (after-channel p a (f .end .type) (y .goes)) own)))
           where
@@ -256,4 +258,4 @@ module _ {p : Program} {C : Config} (I : Inv p C) where
     channel-gone n {d} ld g = gives-up (λ D. Inv p (replaced i passer D)) g λ ys s.
         rw onward-sender
         (inv-set I i q (r .stands .there) (running P) _ (I .numbers)
-        (passed-unheard (I .good) (continuing I r P) (ps .apart) rest le ld (ps .typed) (nobody-has C (I .shows) e (n .processes) (n .outside)) s))
+        (passed-unheard (I .good) (continuing I r P) (ps .apart) rest le ld (ps .typed) (nobody-has C (I .shows) e n) s))

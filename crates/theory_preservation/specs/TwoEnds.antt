@@ -54,7 +54,7 @@ pub record Facing (S : Roster) (o : List Outside) (u w : ℕ) (e f : End) : Type
   pub near-process : u ≢ 0
   pub far-process : w ≢ 0
 
--- u has the end e, and the far end only w has, which is not u
+-- u has the end e, and not the far end: if anybody has that, w has
 pub record Opposite (S : Roster) (o : List Outside) (u w : ℕ) (e : End) : Type 0 where
   pub near : Has S o u (tipOf e)
   pub only : (v : ℕ) (t : Option (Ty Name)) → Has S o v (farKeyOf e, t) → v ≡ w
