@@ -3,13 +3,13 @@
 use Prim.Native.Nat.{ℕ}
 use mathlib.Core.Path.{_≡_, refl, sym, _∙_, ap}
 use mathlib.Core.Logic.{_↔_}
-use mathlib.Core.Bool.{Bool, true, false, So}
+use mathlib.Core.Bool.{Bool, true, false, So, and-eq-true-iff}
 use mathlib.Core.Option.{Option, some, none}
 use Rattle.notation.specs.Tree.{Name, Ty, unit}
-use Rattle.calculus.specs.Types.{sameType, standing, Passing, passing, Choosing, choosing, labelled}
-use Rattle.calculus.specs.Program.{Program}
-use Rattle.calculus.specs.Typing.{OneType}
-use Rattle.theory_derivations.specs.Equality.{sameType-iff}
+use Rattle.calculus.specs.Types.{Side, sameSide, sameType, standing, Passing, passing, Choosing, choosing, labelled}
+use Rattle.calculus.specs.Program.{Slot, Program}
+use Rattle.calculus.specs.Typing.{OneType, entryFits}
+use Rattle.theory_derivations.specs.Equality.{sameSide-iff, sameType-iff}
 
 module _ (p : Program) where
   -- while a type is compared down to names, two types are one only where they are the same type
@@ -41,6 +41,10 @@ module _ (p : Program) where
       go true b f g = sym (f refl)
       go false true f g = g refl
       go false false f g = refl
+
+  -- a held channel that fits an entry of a signature is on its side, and of one type with it
+  pub one-fits : (s : Side) (A : Ty Name) (h : Slot) → entryFits s A (some h) ≡ true → (h .side ≡ s) × OneType p (h .type) A
+  one-fits s A h e = let r = and-eq-true-iff (sameSide (h .side) s) (sameType (h .type) A) .0 e in (sameSide-iff (h .side) s .0 (r .0), one-iff (h .type) A .0 (r .1))
 
   -- ── where one is closed, so is the other
   pub one-unit : {A B : Ty Name} → OneType p A B → standing (p .types) A ≡ unit → standing (p .types) B ≡ unit

@@ -151,10 +151,10 @@ far-is C e = go (holderFrom 0 (e .channel) (other (e .side)) (C .processes)) ref
 
 -- ── what is known by the answer
 -- the outside's channel that a far end is
-pub record FarOutside (C : Config) (e : End) : Type 0 where
+pub record FarOutside (o : List Outside) (e : End) : Type 0 where
   pub entry : Outside
-  pub found : outsideOf (e .channel) (C .outside) ≡ some entry
-  pub listed : In entry (C .outside)
+  pub found : outsideOf (e .channel) o ≡ some entry
+  pub listed : In entry o
   pub channel : entry .channel ≡ e .channel
   pub side : e .side ≡ provided
 
@@ -170,14 +170,14 @@ module _ (C : Config) (e : End) where
       go : {h : Holder} → FarIs C e (atProcess h) → HeldFar C e h
       go (at-process h f) = f
 
-  pub far-outside : {n : ℕ} → farEnd C e ≡ atOutside n → FarOutside C e
+  pub far-outside : {n : ℕ} → farEnd C e ≡ atOutside n → FarOutside (C .outside) e
   far-outside z = go (subst (FarIs C e) z (far-is C e))
     where
-      by : (o : Option Outside) → outsideOf (e .channel) (C .outside) ≡ o → (y : Outside) → In y (C .outside) → y .channel ≡ e .channel → e .side ≡ provided → FarOutside C e
+      by : (o : Option Outside) → outsideOf (e .channel) (C .outside) ≡ o → (y : Outside) → In y (C .outside) → y .channel ≡ e .channel → e .side ≡ provided → FarOutside (C .outside) e
       by none w y i c s = absurd (outside-none (e .channel) (C .outside) w y i c)
       by (some x) w y i c s = let r = outside-some (e .channel) (C .outside) x w in record { entry = x; found = w; listed = r .0; channel = r .1; side = s }
 
-      go : {n : ℕ} → FarIs C e (atOutside n) → FarOutside C e
+      go : {n : ℕ} → FarIs C e (atOutside n) → FarOutside (C .outside) e
       go (at-outside n y i c s) = by (outsideOf (e .channel) (C .outside)) refl y i c s
 
   pub far-nobody : farEnd C e ≡ givenUp → FarNobody C e

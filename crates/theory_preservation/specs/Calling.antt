@@ -2,13 +2,13 @@
 use mathlib.Core.Path.{_≡_, refl, sym, _∙_, ap, subst}
 use mathlib.Core.List.{List, [], _∷_, _++_, map, Sublistᴰ·refl, List·Memᴰ·head, List·Memᴰ·tail, List·Memᴰ·not-nil, Memᴰ·of-map, Memᴰ·cast}
 use mathlib.Core.Option.{Option, some, none, Option·map, Option·some-injective}
-use mathlib.Core.Bool.{true, false, and-eq-true-iff}
+use mathlib.Core.Bool.{true, and-eq-true-iff}
 use Prim.Native.Nat.{ℕ, _≤_, _<_}
 use lib.ListN.{length, getElem?}
 use Rattle.notation.specs.Limits.{heldLimit, channelPlaces}
 use Rattle.notation.specs.Tree.{Name, Located, Ty, call}
-use Rattle.calculus.specs.Named.{lookup, names, distinct, isSome}
-use Rattle.calculus.specs.Types.{Side, provided, used, sameSide, sameType}
+use Rattle.calculus.specs.Named.{lookup, names, isSome}
+use Rattle.calculus.specs.Types.{Side, provided, used}
 use Rattle.calculus.specs.Program.{Slot, slot, Context, Signature, Program, onSide, signatureContext}
 use Rattle.calculus.specs.Typing.{OneType, Typed, calls, TypedBody, Bodies, namesOf, entryFits, listFits}
 use Rattle.calculus.specs.Configuration.{End, end, running, Process, relinked, Config, replaced, goesOn, becoming}
@@ -16,8 +16,7 @@ use Rattle.calculus.specs.Steps.{renamedEnd, renamed}
 use Rattle.calculus.specs.Reduces.{Runs}
 use Rattle.calculus.specs.WellFormed.{In, NoneTwice, contextOf, key}
 use Rattle.theory_derivations.specs.Booleans.{never}
-use Rattle.theory_derivations.specs.Equality.{sameSide-iff}
-use Rattle.theory_derivations.specs.OneType.{one-iff}
+use Rattle.theory_derivations.specs.OneType.{one-fits}
 use Rattle.theory_ends.specs.Lists.{once-by}
 use Rattle.theory_ends.specs.Names.{lookup-in, distinct-iff}
 use Rattle.theory_ends.specs.Contexts.{context-names, context-length, held-plain}
@@ -25,7 +24,7 @@ use Rattle.theory_ends.specs.Ends.{keyAt}
 use Rattle.theory_preservation.specs.Witness.{of-channels, Recast}
 use Rattle.theory_preservation.specs.Roster.{Has, tipOf, Fine, runs-awake}
 use Rattle.theory_preservation.specs.LettingGo.{less}
-use Rattle.theory_preservation.specs.Retyping.{key-of-key, held-tip}
+use Rattle.theory_preservation.specs.TwoEnds.{key-of-key, held-tip}
 use Rattle.theory_preservation.specs.Invariant.{Inv, at-roster, fine-at, inv-set}
 use Rattle.theory_preservation.specs.Weakening.{weakened}
 
@@ -50,9 +49,9 @@ module _ (p : Program) (l : List (Name × End)) where
       go : (o : Option Slot) → lookup a (contextOf l) ≡ o → entryFits s A o ≡ true → Given a (slot s A)
       go none z e = never e
       go (some h) z e =
-          let r = and-eq-true-iff (sameSide (h .side) s) (sameType (h .type) A) .0 e in
+          let r = one-fits p s A h e in
           let k = held-plain a l (h .side) (h .type) z in
-          record { end = k .end; found = k .found; side = k .side ∙ sameSide-iff (h .side) s .0 (r .0); one = rw (k .type) (one-iff p (h .type) A .0 (r .1)) }
+          record { end = k .end; found = k .found; side = k .side ∙ r .0; one = rw (k .type) (r .1) }
 
   list-fits : (s : Side) (ns : List Name) (es : List (Name × Ty Name)) → listFits (contextOf l) s ns es ≡ true → Fits ns (onSide s es)
   unfolding listFits

@@ -11,9 +11,11 @@ use Rattle.calculus.specs.Types.{Side, provided, used, other}
 use Rattle.calculus.specs.Configuration.{End, Process, relinked, Outside, Config, heldChannels, processChannels, channelsHeld, freshChannel}
 use Rattle.calculus.specs.WellFormed.{In}
 use Rattle.theory_ends.specs.Ends.{side-clash}
+use Rattle.theory_ends.specs.FarEnds.{FarNobody}
 use Rattle.theory_ends.specs.Fresh.{fresh-free}
 use Rattle.theory_preservation.specs.Witness.{Tip, tipNumber, tipSide}
 use Rattle.theory_preservation.specs.Roster.{Roster, channelKey, channel-key-one, channel-no-link, holds, links, waits, Has, outside, inside}
+use Rattle.theory_preservation.specs.TwoEnds.{farKeyOf}
 use Rattle.theory_preservation.specs.Places.{Shows}
 
 -- ── from the list to the roster
@@ -26,20 +28,17 @@ module _ (C : Config) {id : ℕ → ℕ} {S : Roster} (s : Shows id (C .processe
       (b .0, b .1, b .2, subst (λ (r : Process). In x (r .held)) (sym z) i)
 
   -- nobody has the far end of e
-  pub nobody-has : (e : End) → ((j : ℕ) (q : Process) → getElem? (C .processes) j ≡ some q → (x : Name × End) → In x (q .held) → x .1 .channel ≡ e .channel
-      → x .1 .side ≡ other (e .side) → ⊥)
-      → (e .side ≡ provided → (y : Outside) → In y (C .outside) → y .channel ≢ e .channel)
-      → (v : ℕ) (t : Option (Ty Name)) → ¬ Has S (C .outside) v ((channelKey (e .channel), other (e .side)), t)
-  nobody-has e a b v t (outside _ y i h) = b (sides (e .side) (ap tipSide h)) y i (sym (channel-key-one (e .channel) (y .channel) (ap tipNumber h)))
+  pub nobody-has : (e : End) → FarNobody C e → (v : ℕ) (t : Option (Ty Name)) → ¬ Has S (C .outside) v (farKeyOf e, t)
+  nobody-has e f v t (outside _ y i h) = f .outside (sides (e .side) (ap tipSide h)) y i (sym (channel-key-one (e .channel) (y .channel) (ap tipNumber h)))
     where
       sides : (s : Side) → other s ≡ used → s ≡ provided
       sides provided z = refl
       sides used z = absurd (side-clash z)
-  nobody-has e a b v t (inside r w (holds x i h)) =
+  nobody-has e f v t (inside r w (holds x i h)) =
       let q = held-back v r w x i in
-      a (q .0) (q .1) (q .2) x (q .3) (sym (channel-key-one (e .channel) (x .1 .channel) (ap tipNumber h))) (sym (ap tipSide h))
-  nobody-has e a b v t (inside r w (links k _ h)) = channel-no-link (e .channel) k (ap tipNumber h)
-  nobody-has e a b v t (inside r w (waits _ h)) = channel-no-link (e .channel) v (ap tipNumber h)
+      f .processes (q .0) (q .1) (q .2) x (q .3) (sym (channel-key-one (e .channel) (x .1 .channel) (ap tipNumber h))) (sym (ap tipSide h))
+  nobody-has e f v t (inside r w (links k _ h)) = channel-no-link (e .channel) k (ap tipNumber h)
+  nobody-has e f v t (inside r w (waits _ h)) = channel-no-link (e .channel) v (ap tipNumber h)
 
 -- ── a free channel
 held-channels : (l : List (Name × End)) (r : List ℕ) → ((x : Name × End) → In x l → In (x .1 .channel) (heldChannels l r)) × ((k : ℕ) → In k r → In k (heldChannels l r))

@@ -4,7 +4,7 @@ use mathlib.Core.Logic.{_≢_, _⊎_, inl, inr}
 use mathlib.Core.List.{List, [], _∷_, _++_, map, List·Memᴰ·head, List·Memᴰ·not-nil, List·Memᴰ·append-cases, List·Memᴰ·eq-of-singleton, Memᴰ·map, Memᴰ·of-map, Memᴰ·cast, Memᴰ·append-left, Memᴰ·append-right, Sublistᴰ}
 use mathlib.Core.Option.{Option, some, none, Option·none-ne-some, Option·some-injective}
 use mathlib.Core.Bool.{Bool, true, false, So, not, true≢false}
-use Prim.Native.Nat.{ℕ, suc, _≤_, _<_}
+use Prim.Native.Nat.{ℕ, suc, _<_}
 use native.Mathlib.Omega.{arith}
 use lib.ListN.{length}
 use Rattle.notation.specs.Limits.{heldLimit, channelPlaces}
@@ -14,15 +14,15 @@ use Rattle.calculus.specs.Types.{Side, provided, used}
 use Rattle.calculus.specs.Program.{Program}
 use Rattle.calculus.specs.Typing.{Typed}
 use Rattle.calculus.specs.Configuration.{End, end, Doing, running, folding, waiting, Process, process, Outside, goesOn, linkedBy, becoming}
-use Rattle.calculus.specs.WellFormed.{In, NoneTwice, contextOf, key, isWaiting}
-use Rattle.theory_ends.specs.Lists.{once-by, sub-in, sub-once, once-snoc, length-snoc, map-append}
-use Rattle.theory_ends.specs.Names.{absent, kept-sub, kept-in, names-map, names-in, names-append}
+use Rattle.calculus.specs.WellFormed.{In, contextOf, key, isWaiting}
+use Rattle.theory_ends.specs.Lists.{once-by, sub-in, sub-once}
+use Rattle.theory_ends.specs.Names.{absent, kept-sub, kept-in, names-map, names-in}
 use Rattle.theory_ends.specs.Ends.{keyAt}
-use Rattle.theory_preservation.specs.Witness.{Key, Tip, Rel, Witness, fewer, Moved, Joined, sides, Between, over, joined-uses, joined-provides, tipNumber, keyNumber}
+use Rattle.theory_preservation.specs.Witness.{Key, Tip, Rel, Witness, Moved, Joined, sides, Between, over, joined-uses, joined-provides, tipNumber, keyNumber}
 use Rattle.theory_preservation.specs.Mates.{put, put-elim, Profile, Mates, mates-same, mates-put, mates-new, Quiet, quiet-none, quiet-some}
-use Rattle.theory_preservation.specs.Roster.{Roster, channelKey, linkKey, link-key-one, channel-no-link, keyOf, tipOf, linkTip, Tips, holds, links, waits, Has, outside, inside, TypedDoing, Fine, fine-new, fine-less, profile, Good, NamesOf, Goes, runs-on, runs-awake, folds, names-less, names-snoc}
+use Rattle.theory_preservation.specs.Roster.{Roster, channelKey, linkKey, link-key-one, channel-no-link, keyOf, tipOf, linkTip, Tips, holds, links, waits, Has, outside, inside, TypedDoing, Fine, fine-more, fine-new, fine-less, profile, Good, Afterwards, one-after, good-after, same-after, NamesDiffer, Goes, runs-on, runs-awake, goes-folding, names-less}
 use Rattle.theory_preservation.specs.LettingGo.{profile-put-two}
-use Rattle.theory_preservation.specs.Retyping.{key-from-key, above, owner, held-tip}
+use Rattle.theory_preservation.specs.TwoEnds.{key-from-key, above, owner, held-tip}
 
 abbrev linkKeys : Option ℕ → List Key
 linkKeys none = []
@@ -159,34 +159,15 @@ module _ {p : Program} {S : Roster} {o : List Outside} {given next : ℕ} (G : G
         between (inl x) = inl (own-is provided ∙ x .0, own-is used ∙ x .1)
         between (inr x) = inr (own-is provided ∙ x .0, own-is used ∙ x .1)
 
-    -- ── what stands F.ends v afterwards
-    record Grows (v : ℕ) (y : Option Process) : Type 0 where
-      fine : (q : Process) → y ≡ some q → Fine p q
-      tips : (q : Process) → y ≡ some q → (t : Tip) → Tips v q t → R v t
-      place : (q : Process) → y ≡ some q → (0 < v) × (v < suc next)
+    -- ── what is at v afterwards
+    abbrev Grows : ℕ → Option Process → Type 0
+    Grows = Afterwards p R (suc next)
 
     grown-good : Witness p R (suc next) → {S′ : Roster} → ((v : ℕ) → Grows v (S′ v)) → Mates (λ v. profile (S′ v)) → Good p S′ o given (suc next)
-    grown-good W {S′} c m = record {
-      witness = fewer W (omega arith) have;
-      fine = λ v q e. c v .fine q e;
-      placed = λ v q e. c v .place q e;
-      mates = m;
-      fair = G .fair;
-    }
-      where
-        have : (v : ℕ) (t : Tip) → Has S′ o v t → R v t
-        have v t (outside z y i h) = elsewhere v t (λ e. u0 (sym e ∙ z)) (outside z y i h)
-        have v t (inside q s x) = c v .tips q s t x
+    grown-good W c m = good-after W c m (λ y i. elsewhere 0 _ (λ e. u0 (sym e)) (outside refl y i refl)) (G .fair)
 
     old : (v : ℕ) → v ≢ F.u → Grows v (S v)
-    old v n = record { fine = λ q e. G .fine v q e; tips = λ q e t x. elsewhere v t n (inside q e x); place = λ q e. let b = G .placed v q e in (b .0, let c = b .1 in omega arith) }
-
-    at-one : (v : ℕ) → (0 < v) × (v < suc next) → (q : Process) → Fine p q → ((t : Tip) → Tips v q t → R v t) → Grows v (some q)
-    at-one v b q f h = record {
-      fine = λ q′ e. subst (Fine p) (Option·some-injective _ _ e) f;
-      tips = λ q′ e. subst (λ q. (t : Tip) → Tips v q t → R v t) (Option·some-injective _ _ e) h;
-      place = λ _ _. b;
-    }
+    old v n = same-after G v (omega arith) (λ e _ h. elsewhere v e n h)
 
     u-place : (0 < F.u) × (F.u < suc next)
     u-place = let b = G .placed F.u F.r F.there in (b .0, let c = b .1 in omega arith)
@@ -195,21 +176,14 @@ module _ {p : Program} {S : Roster} {o : List Outside} {given next : ℕ} (G : G
     next-place = let b = un in (omega arith, omega arith)
 
   -- ── a process that holds less and one more channel
-  brought : (r : Process) → Fine p r → (d : Doing) → Goes (r .doing) d → (k : Option ℕ) (t : Name → Bool) (x : Name) (e : End) → lookup x (r .held) ≡ none
+  with-channel : (r : Process) → Fine p r → (d : Doing) → Goes (r .doing) d → (k : Option ℕ) (t : Name → Bool) (x : Name) (e : End) → lookup x (r .held) ≡ none
       → ¬ In (key e) (map keyAt (r .held)) → length (kept t (r .held)) < heldLimit
       → e .channel < channelPlaces → TypedDoing p (contextOf (kept t (r .held) ++ ((x, e) ∷ []))) (isSome k) d → Fine p (linkedBy k (becoming d (kept t (r .held) ++ ((x, e) ∷ [])) r))
-  unfolding names
-  brought r f d w k t x e new nk room lt td = record {
-    typed = td;
-    names = subst (NamesOf d) (sym (names-append l ((x, e) ∷ []))) (names-snoc d (names l) x (names-less d sub (w .names (names (r .held)) (f .names))) no-name);
-    keys = subst NoneTwice (sym (map-append keyAt l ((x, e) ∷ []))) (once-snoc (map keyAt l) (key e) (sub-once keyAt sub (f .keys)) no-key);
-    room = subst (λ n. n ≤ heldLimit) (sym (length-snoc l (x, e))) room;
-    channels = λ y i. chan y (List·Memᴰ·append-cases l i);
-  }
+  with-channel r f d w k t x e new nk room lt td =
+      fine-more r d k (kept t (r .held)) x e (names-less d sub (w .names (names (r .held)) (f .names))) no-name (sub-once keyAt sub (f .keys))
+      (λ m. let y = Memᴰ·of-map keyAt (kept t (r .held)) m in nk (Memᴰ·cast (sym (y .2)) (Memᴰ·map keyAt (sub-in sub (y .1)))))
+      room (λ y i. f .channels y (sub-in sub i)) lt td
     where
-      l : List (Name × End)
-      l = kept t (r .held)
-
       sub : Sublistᴰ (kept t (r .held)) (r .held)
       sub = kept-sub t (r .held)
 
@@ -217,13 +191,6 @@ module _ {p : Program} {S : Roster} {o : List Outside} {given next : ℕ} (G : G
       no-name m =
           let y = Memᴰ·of-map (λ (y : Name × End). y .0) (kept t (r .held)) (subst (In x) (names-map (kept t (r .held))) m) in
           absent x (r .held) new (Memᴰ·cast (sym (y .2)) (names-in (r .held) (sub-in sub (y .1))))
-
-      no-key : ¬ In (key e) (map keyAt (kept t (r .held)))
-      no-key m = let y = Memᴰ·of-map keyAt (kept t (r .held)) m in nk (Memᴰ·cast (sym (y .2)) (Memᴰ·map keyAt (sub-in sub (y .1))))
-
-      chan : (y : Name × End) → In y (kept t (r .held)) ⊎ In y ((x, e) ∷ []) → y .1 .channel < channelPlaces
-      chan y (inl i) = f .channels y (sub-in sub i)
-      chan y (inr i) = subst (λ (y : Name × End). y .1 .channel < channelPlaces) (sym (List·Memᴰ·eq-of-singleton i)) lt
 
   -- ── spawn: the new process takes what t picks, and provides x on the channel n
   module _ (u : ℕ) (r : Process) (su : S u ≡ some r) {R₀ : Proc} (wr : r .doing ≡ running R₀) (t : Name → Bool) (x : Name) (A : Ty Name) (n : ℕ)
@@ -257,18 +224,18 @@ module _ {p : Program} {S : Roster} {o : List Outside} {given next : ℕ} (G : G
     abbrev R₁ : Rel
     R₁ = R fork
 
-    pub spawned : length (kept t (r .held)) < heldLimit → length (kept rest (r .held)) < heldLimit → Typed p (contextOf (made .held)) false P
+    pub spawn-good : length (kept t (r .held)) < heldLimit → length (kept rest (r .held)) < heldLimit → Typed p (contextOf (made .held)) false P
         → Typed p (contextOf (maker .held)) (isSome (r .link)) Q
         → Good p (put next (some made) (put u (some maker) S)) o given (suc next)
-    spawned roomP roomQ tP tQ =
+    spawn-good roomP roomQ tP tQ =
         grown-good fork
         (grown fork (joined-provides (G .witness) (channelKey n) u next (some A) free (omega arith) (G .placed u r su .1)) (inr (refl, refl)))
         (put-elim (Grows fork) next (some made) (put u (some maker) S)
-        (at-one fork next (next-place fork) made
-        (fine-new (brought r (G .fine u r su) (running P) (runs-on wr P) none t x (end provided n A) new (no-key provided) roomP lt tP)) made-tips)
+        (one-after made (next-place fork)
+        (fine-new (with-channel r (G .fine u r su) (running P) (runs-on wr P) none t x (end provided n A) new (no-key provided) roomP lt tP)) made-tips)
         (λ v _. put-elim (Grows fork) u (some maker) S
-        (at-one fork u (u-place fork) maker
-        (brought r (G .fine u r su) (running Q) (runs-on wr Q) (r .link) rest x (end used n A) new (no-key used) roomQ lt tQ) maker-tips)
+        (one-after maker (u-place fork)
+        (with-channel r (G .fine u r su) (running Q) (runs-on wr Q) (r .link) rest x (end used n A) new (no-key used) roomQ lt tQ) maker-tips)
         (old fork) v))
         mates′
       where
@@ -330,22 +297,22 @@ module _ {p : Program} {S : Roster} {o : List Outside} {given next : ℕ} (G : G
     abbrev R₂ : Rel
     R₂ = R fork′
 
-    half : (d : Doing) → NamesOf d (names (r .held)) → (k : Option ℕ) (t : Name → Bool) → TypedDoing p (contextOf (kept t (r .held))) (isSome k) d
+    half : (d : Doing) → NamesDiffer d (names (r .held)) → (k : Option ℕ) (t : Name → Bool) → TypedDoing p (contextOf (kept t (r .held))) (isSome k) d
         → Fine p (linkedBy k (becoming d (kept t (r .held)) r))
     half d n k t td =
-        let f = fine-less (G .fine u r su) folding (folds (runs-awake wr)) (kept-sub t (r .held)) tt in
+        let f = fine-less (G .fine u r su) folding (goes-folding (runs-awake wr)) (kept-sub t (r .held)) tt in
         record { typed = td; names = names-less d (kept-sub t (r .held)) n; keys = f .keys; room = f .room; channels = f .channels }
 
-    pub tried : Typed p (contextOf (kept t₁ (r .held))) true P → Typed p (contextOf (kept t₂ (r .held))) (isSome (r .link)) Q
+    pub try-good : Typed p (contextOf (kept t₁ (r .held))) true P → Typed p (contextOf (kept t₂ (r .held))) (isSome (r .link)) Q
         → Good p (put u (some tryer) (put next (some waiter) S)) o given (suc next)
-    tried tP tQ =
+    try-good tP tQ =
         grown-good fork′
         (grown fork′ (joined-uses (G .witness) (linkKey next) u next none link-free (omega arith) (G .placed u r su .1)) (inl (refl, refl)))
         (put-elim (Grows fork′) u (some tryer) (put next (some waiter) S)
-        (at-one fork′ u (u-place fork′) tryer
+        (one-after tryer (u-place fork′)
         (half (running P) (runs-on wr P .names _ (G .fine u r su .names)) (some next) t₁ tP) tryer-tips)
         (λ v nu. put-elim (λ v y. v ≢ u → Grows fork′ v y) next (some waiter) S
-        (λ _. at-one fork′ next (next-place fork′) waiter
+        (λ _. one-after waiter (next-place fork′)
         (fine-new (half (waiting Q) (runs-on wr Q .names _ (G .fine u r su .names)) (r .link) t₂ tQ)) waiter-tips)
         (λ v _ n. old fork′ v n) v nu))
         (mates-same (λ v. sym (profile-put-two u next (some tryer) (some waiter) S v))

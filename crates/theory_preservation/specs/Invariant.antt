@@ -1,10 +1,10 @@
 -- The invariant of a configuration: its list shows a good roster. What a step leaves keeps it.
 -- Why identities: inserting or removing a process shifts places and links, and under identities nothing of the forest changes then;
 -- only the map from places to identities does. So each rule is proved on rosters, and read off the list by one of three laws of Places.
-use mathlib.Core.Path.{_≡_, refl, sym, _∙_, ap, subst}
+use mathlib.Core.Path.{_≡_, sym, _∙_, ap, subst}
 use mathlib.Core.Logic.{_≢_}
 use mathlib.Core.List.{List, Sublistᴰ}
-use mathlib.Core.Option.{Option, some, none, Option·map, Option·some-injective}
+use mathlib.Core.Option.{Option, some, Option·map, Option·some-injective}
 use mathlib.Core.Bool.{Bool, true, false, true≢false}
 use Prim.Native.Nat.{ℕ, _≤_}
 use native.Mathlib.Omega.{arith}
@@ -19,7 +19,7 @@ use Rattle.calculus.specs.Reduces.{Runs}
 use Rattle.calculus.specs.WellFormed.{contextOf, isWaiting}
 use Rattle.theory_ends.specs.Lists.{found-below, below-found}
 use Rattle.theory_preservation.specs.Mates.{put}
-use Rattle.theory_preservation.specs.Roster.{Roster, TypedDoing, Fine, profile, Good, Goes}
+use Rattle.theory_preservation.specs.Roster.{Roster, TypedDoing, Fine, Continues, profile, Good, Goes, runs-on}
 use Rattle.theory_preservation.specs.LettingGo.{lessen}
 use Rattle.theory_preservation.specs.Places.{Shows, shows-set}
 
@@ -60,7 +60,7 @@ module _ {p : Program} {C : Config} (I : Inv p C) where
     -- it lets go of some of what it holds, and so does the outside
     pub inv-less : (d : Doing) → Goes (q .doing) d → {l : List (Name × End)} → Sublistᴰ l (q .held) → TypedDoing p (contextOf l) (isSome (Option·map (I .id) (q .link))) d
         → {o : List Outside} → Sublistᴰ o (C .outside) → Inv p (withOutside o (withProcesses (set (C .processes) i (becoming d l q)) C))
-    inv-less d w {l} s t k = inv-set d l (I .numbers) (lessen (I .good) (I .id i) (relinked (I .id) q) at-roster d w s t k)
+    inv-less d w {l} s t k = inv-set d l (I .numbers) (lessen (I .good) (record { there = at-roster; goes = w }) s t k)
 
     -- its handler stands where its link says, and waits
     pub handler : (h : ℕ) → q .link ≡ some h → (r : Process) × (getElem? (C .processes) h ≡ some r) × (isWaiting (r .doing) ≡ true)
@@ -68,6 +68,10 @@ module _ {p : Program} {C : Config} (I : Inv p C) where
         let x = below-found (C .processes) h (I .shows .within i q at h e) in
         let m = I .good .mates .up (I .id i) (I .id h) (isWaiting (q .doing)) (ap profile at-roster ∙ ap (λ o. some (Option·map (I .id) o, isWaiting (q .doing))) e) in
         (x .0, x .1, ap (λ (y : Option ℕ × Bool). y .1) (Option·some-injective _ _ (sym (ap profile (I .shows .there h (x .0) (x .1))) ∙ m .1)))
+
+  -- a process that runs a term goes on with P
+  pub continuing : {i : ℕ} {q : Process} {R : Proc} → Runs C i q R → (P : Proc) → Continues (I .roster) (I .id i) (relinked (I .id) q) (running P)
+  continuing {i} {q} r P = record { there = at-roster i q (r .stands .there); goes = runs-on (r .runs) P }
 
   -- the term that a process runs is typed with what it holds
   pub runs-typed : {i : ℕ} {q : Process} {P : Proc} → Runs C i q P → Typed p (contextOf (q .held)) (isSome (Option·map (I .id) (q .link))) P

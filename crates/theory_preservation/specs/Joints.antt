@@ -277,4 +277,4 @@ module _ (C : Config) {id : ℕ → ℕ} {S : Roster} (s : Shows id (C .processe
       at-far provided z _ (at-outside n o i c _) =
           absurd (v0 (sym (sound v f g) ∙ ap own far ∙ sound 0 ((channelKey (x .1 .channel), used), some (o .type)) (outside refl o i (λ j. ((channelKey (sym c j), used), some (o .type))))))
       at-far provided z _ (at-nobody n o) =
-          absurd (nobody-has C s (x .1) n o v (f .1) (subst (λ k. Has S (C .outside) v (k, f .1)) (far ∙ (λ i. (channelKey (x .1 .channel), other ((sym a ∙ ap tipSide y) i)))) g))
+          absurd (nobody-has C s (x .1) (record { processes = n; outside = o }) v (f .1) (subst (λ k. Has S (C .outside) v (k, f .1)) (far ∙ (λ i. (channelKey (x .1 .channel), other ((sym a ∙ ap tipSide y) i)))) g))

@@ -1,7 +1,9 @@
 pub mod Witness
 pub mod Mates
 pub mod Roster
+pub mod Outsides
 pub mod LettingGo
+pub mod TwoEnds
 pub mod Retyping
 pub mod Passing
 pub mod Relocating
@@ -10,7 +12,10 @@ pub mod Growing
 pub mod Places
 pub mod FarEnds
 pub mod Invariant
-pub mod Alone
+pub mod GivingUp
+pub mod Handlers
+pub mod Making
+pub mod Joining
 pub mod Weakening
 pub mod Calling
 pub mod Outward
@@ -18,7 +23,9 @@ pub mod AfterMessage
 pub mod Sending
 pub mod Stepping
 pub mod Joints
-pub mod WellFormed
+pub mod FromInvariant
+pub mod Seats
+pub mod ToInvariant
 pub mod Start
 pub mod Preserved
 pub mod Accepted

@@ -1,31 +1,32 @@
 -- A channel goes over a channel.
 use mathlib.Core.Path.{_≡_, refl, sym, _∙_, ap, subst}
 use mathlib.Core.Logic.{_≢_, _⊎_, inl, inr}
-use mathlib.Core.List.{List, [], _∷_, _++_, map, Sublistᴰ, List·Memᴰ·head, List·Memᴰ·tail, List·Memᴰ·append-cases, List·Memᴰ·eq-of-singleton, Memᴰ·of-map}
+use mathlib.Core.List.{List, [], _∷_, _++_, map, Sublistᴰ, List·Memᴰ·head, List·Memᴰ·append-cases, List·Memᴰ·eq-of-singleton, Memᴰ·of-map}
 use mathlib.Core.Option.{Option, some, none}
 use mathlib.Core.Bool.{true, cond}
-use Prim.Native.Nat.{ℕ, suc, _≤_, _<_}
-use native.Mathlib.Omega.{arith}
+use Prim.Native.Nat.{ℕ, suc, _<_}
 use lib.ListN.{length}
 use Rattle.notation.specs.Limits.{heldLimit, channelPlaces}
 use Rattle.notation.specs.Bytes.{same}
 use Rattle.notation.specs.Tree.{Name, Ty}
 use Rattle.calculus.specs.Named.{lookup, without, names, isSome}
-use Rattle.calculus.specs.Types.{Side, provided, used, other}
+use Rattle.calculus.specs.Types.{used, other}
 use Rattle.calculus.specs.Program.{Program}
 use Rattle.calculus.specs.Declarations.{outward}
 use Rattle.calculus.specs.Typing.{OneType}
 use Rattle.calculus.specs.Configuration.{End, ofType, Doing, Process, Outside, retypedEnd, retypedOutside, becoming}
-use Rattle.calculus.specs.WellFormed.{In, NoneTwice, Rising, contextOf, key}
+use Rattle.calculus.specs.WellFormed.{In, NoneTwice, contextOf, key}
 use Rattle.theory_derivations.specs.OneType.{one-refl}
-use Rattle.theory_ends.specs.Lists.{sub-in, sub-once, once-snoc, length-snoc, map-append}
-use Rattle.theory_ends.specs.Names.{by-test, lookup-in, absent, without-sub, without-cases, changed-cases, changed-names, changed-length, names-append}
+use Rattle.theory_ends.specs.Lists.{sub-in, sub-once}
+use Rattle.theory_ends.specs.Names.{by-test, lookup-in, absent, without-sub, without-cases, changed-cases, changed-names, changed-length}
 use Rattle.theory_ends.specs.Ends.{keyAt}
-use Rattle.theory_preservation.specs.Witness.{Tip, Rel, of-channels, Witness, Retyped, retyping, Moved, Between, over, outing, keyNumber}
+use Rattle.theory_ends.specs.FarEnds.{FarOutside}
+use Rattle.theory_preservation.specs.Witness.{Tip, Rel, of-channels, Witness, Retyped, retyping, Moved, over, outing, keyNumber}
 use Rattle.theory_preservation.specs.Mates.{put}
-use Rattle.theory_preservation.specs.Roster.{Roster, channelKey, channel-no-link, keyOf, tipOf, linkTip, outsideTip, Has, outside, TypedDoing, Fine, Fair, Good, Change, becomes, one-good, two-good, NamesOf, Goes, names-snoc}
-use Rattle.theory_preservation.specs.LettingGo.{fair-less}
-use Rattle.theory_preservation.specs.Retyping.{retyped-off, key-cases, retyped-tip, key-of-key, key-from-key, retyped-keys, retyped-channels, fine-retyped, above, owner, joins, far-owner, near-owner, ends-apart, whose, held-tip, out-retyped, out-far, fair-retyped, other-other}
+use Rattle.theory_preservation.specs.Roster.{Roster, Continues, channelKey, channel-no-link, keyOf, tipOf, linkTip, outsideTip, Has, outside, TypedDoing, Fine, fine-more, Fair, Good, Change, becomes, one-good, two-good, NamesDiffer}
+use Rattle.theory_preservation.specs.TwoEnds.{farKeyOf, key-cases, key-of-key, key-from-key, Facing, Opposite, turned, above, owner, held-tip, is-joint, joint-between, ends-apart, facing-opposite, opposite-outside, opposite-nobody, elsewhere, held-facing}
+use Rattle.theory_preservation.specs.Outsides.{channelOf, each-more, fair-less, fair-retyped, fair-later, fair-more}
+use Rattle.theory_preservation.specs.Retyping.{retyped-keys, retyped-channels, fine-retyped, retyped-off, RetypedChannel, retyped-tip, retyped-link, retyped-out}
 
 pub lookup-without : {X : Type 0} (c a : Name) (l : List (Name × X)) → c ≢ a → lookup c (without a l) ≡ lookup c l
 unfolding lookup without
@@ -35,268 +36,190 @@ lookup-without {X} c a (x ∷ l) n =
     (λ z. sym (by-test (λ b. cond b (some (x .1)) (lookup c l) ≡ lookup c l) c (x .0) (λ y. absurd (n (y ∙ sym z))) (λ _. refl)))
     (λ _. ap (λ r. cond (same c (x .0)) (some (x .1)) r) (lookup-without c a l n))
 
-rising-snoc : (l : List ℕ) (low n : ℕ) → Rising low l → low ≤ n → ((m : ℕ) → In m l → m < n) → Rising low (l ++ (n ∷ []))
-rising-snoc [] low n r h b = (h, tt)
-rising-snoc (m ∷ l) low n r h b = (r .0, rising-snoc l (suc m) n (r .1) (b m (List·Memᴰ·head refl)) (λ k i. b k (List·Memᴰ·tail i)))
-
 module _ {p : Program} {S : Roster} {o : List Outside} {given next : ℕ} (G : Good p S o given next) where
-  -- the process r of u sends its channel a, of which it has the end d, over c, of which it has the end e, and c then has the type B
-  module _ (u : ℕ) (r : Process) (su : S u ≡ some r) (P : Doing) (wP : Goes (r .doing) P) (c a : Name) (ca : c ≢ a) (e d : End) (B : Ty Name)
-      (lc : lookup c (r .held) ≡ some e) (la : lookup a (r .held) ≡ some d) (tP : TypedDoing p (contextOf (retypedEnd c B (without a (r .held)))) (isSome (r .link)) P) where
-    abbrev k : ℕ
-    k = channelKey (e .channel)
+  -- the process r of u sends its channel a, of which it has the end d, over c, of which it has the end e, and c then has the type B there
+  module _ {u : ℕ} {r : Process} {P : Doing} (t : Continues S u r P) {c a : Name} (ca : c ≢ a) {e d : End} (B : Ty Name) (lc : lookup c (r .held) ≡ some e) (la : lookup a (r .held) ≡ some d)
+      (tP : TypedDoing p (contextOf (retypedEnd c B (without a (r .held)))) (isSome (r .link)) P) where
+    abbrev left : List (Name × End)
+    left = retypedEnd c B (without a (r .held))
 
-    abbrev R : Rel
-    R = Retyped p (Has S o) k (some B)
+    abbrev after : Process
+    after = becoming P left r
+
+    -- the ends of c retyped, and that of d gone to v
+    abbrev To : ℕ → Rel
+    To v = Moved (RetypedChannel G e B) (keyOf d ∷ []) u v
 
     u0 : u ≢ 0
-    u0 = above G u r su
+    u0 = above G u r (t .there)
 
     hu : Has S o u (tipOf e)
-    hu = held-tip G u r su (c, e) (lookup-in c (r .held) lc)
+    hu = held-tip G u r (t .there) (c, e) (lookup-in c (r .held) lc)
 
     ha : Has S o u (tipOf d)
-    ha = held-tip G u r su (a, d) (lookup-in a (r .held) la)
+    ha = held-tip G u r (t .there) (a, d) (lookup-in a (r .held) la)
 
-    left-names : (x : Name × End) → In x (without a (r .held)) → In x (r .held) × (key (x .1) ≢ key d)
-    left-names = without-cases key a (r .held) d (G .fine u r su .keys) la
+    others : (x : Name × End) → In x (without a (r .held)) → In x (r .held) × (key (x .1) ≢ key d)
+    others = without-cases key a (r .held) d (G .fine u r (t .there) .keys) la
 
     lc′ : lookup c (without a (r .held)) ≡ some e
     lc′ = lookup-without c a (r .held) ca ∙ lc
 
     ed : key e ≢ key d
-    ed = left-names (c, e) (lookup-in c (without a (r .held)) lc′) .1
+    ed = others (c, e) (lookup-in c (without a (r .held)) lc′) .1
 
-    -- the sender's ends afterwards: none of them is that of d
-    module _ (far : (t : Option (Ty Name)) → ¬ Has S o u ((k, other (e .side)), t)) where
-      sender-end : (x : Name × End) → In x (retypedEnd c B (without a (r .held))) → R u (tipOf (x .1)) × (key (x .1) ≢ key d)
-      sender-end x i = go (changed-cases key c (ofType B) (without a (r .held)) e keys′ lc′ x i)
-        where
-          keys′ : NoneTwice (map keyAt (without a (r .held)))
-          keys′ = sub-once keyAt (without-sub a (r .held)) (G .fine u r su .keys)
+    -- d is one of some ends
+    only-d : {q : _} → In q (keyOf d ∷ []) → q ≡ keyOf d
+    only-d m = List·Memᴰ·eq-of-singleton m
 
-          go : (x .1 ≡ ofType B e) ⊎ (In x (without a (r .held)) × (key (x .1) ≢ key e)) → R u (tipOf (x .1)) × (key (x .1) ≢ key d)
-          go (inl z) = (retyped-tip p (Has S o) u e (one-refl p B) hu far (x .1) (inl z), λ y. ed (ap key (sym z) ∙ y))
-          go (inr z) = let m = left-names x (z .0) in (retyped-tip p (Has S o) u e (one-refl p B) hu far (x .1) (inr (held-tip G u r su x (m .0), z .1)), m .1)
-
-      -- d is on another channel
-      other-channel : channelKey (d .channel) ≢ k
-      other-channel z = two (key-cases e (keyOf d) z)
-        where
-          two : (keyOf d ≡ keyOf e) ⊎ (keyOf d ≡ (k, other (e .side))) → ⊥
-          two (inl h) = ed (sym (key-from-key d e h))
-          two (inr h) = far (some (d .type)) (subst (λ q. Has S o u (q, some (d .type))) h ha)
-
-      passed-end : {A : Ty Name} → OneType p (d .type) A → R u (tipOf (ofType A d))
-      passed-end one = (some (d .type), ha, inr (other-channel, of-channels one))
-
-      sender-fine : Fine p (becoming P (retypedEnd c B (without a (r .held))) r)
-      sender-fine = fine-retyped (G .fine u r su) P wP (without-sub a (r .held)) c B tP
-
-      -- to v, by whatever way
-      sender : (v : ℕ) → Change p (Moved R (keyOf d ∷ []) u v) u (S u) (some (becoming P (retypedEnd c B (without a (r .held))) r))
-      sender v =
-          becomes G (Moved R (keyOf d ∷ []) u v) u r su P (retypedEnd c B (without a (r .held))) (wP .waits) sender-fine
-          (λ x i. let t = sender-end x i in inl ((λ m. t .1 (key-from-key (x .1) d (List·Memᴰ·eq-of-singleton m))), t .0))
-          (λ h s t. inl (
-            (λ m. channel-no-link (d .channel) h (sym (ap keyNumber (List·Memᴰ·eq-of-singleton m)))),
-            retyped-off p (Has S o) u (linkTip h s) t
-                (λ z. channel-no-link (e .channel) h (sym z)),
-          ))
+    fine : Fine p after
+    fine = fine-retyped (G .fine u r (t .there)) P (t .goes) (without-sub a (r .held)) c B tP
 
     -- another's end stays, where it is no end of c
-    else-stays : (v w : ℕ) (t : Tip) → v ≢ u → Has S o v t → t .0 .0 ≢ k → Moved R (keyOf d ∷ []) u w v t
-    else-stays v w t nu h n =
-        inl ((λ m. nu (owner G v u (keyOf d) (t .1) (some (d .type)) (subst (λ q. Has S o v (q, t .1)) (List·Memᴰ·eq-of-singleton m) h) ha)), retyped-off p (Has S o) v t h n)
+    else-stays : (v w : ℕ) (x : Tip) → v ≢ u → Has S o v x → x .0 .0 ≢ channelKey (e .channel) → To w v x
+    else-stays v w x nu h n =
+        inl ((λ m. nu (owner G v u (keyOf d) (x .1) (some (d .type)) (subst (λ q. Has S o v (q, x .1)) (only-d m) h) ha)), retyped-off p (Has S o) v x h n)
+
+    module _ {w : ℕ} (m : Opposite S o u w e) where
+      -- the sender's ends afterwards: none of them is that of d
+      sender-end : (x : Name × End) → In x left → RetypedChannel G e B u (tipOf (x .1)) × (key (x .1) ≢ key d)
+      sender-end x i = go (changed-cases key c (ofType B) (without a (r .held)) e (sub-once keyAt (without-sub a (r .held)) (G .fine u r (t .there) .keys)) lc′ x i)
+        where
+          go : (x .1 ≡ ofType B e) ⊎ (In x (without a (r .held)) × (key (x .1) ≢ key e)) → RetypedChannel G e B u (tipOf (x .1)) × (key (x .1) ≢ key d)
+          go (inl z) = (retyped-tip G m (one-refl p B) (x .1) (inl z), λ y. ed (ap key (sym z) ∙ y))
+          go (inr z) = let y = others x (z .0) in (retyped-tip G m (one-refl p B) (x .1) (inr (held-tip G u r (t .there) x (y .0), z .1)), y .1)
+
+      -- d is on another channel
+      other-channel : channelKey (d .channel) ≢ channelKey (e .channel)
+      other-channel z = go (key-cases e (keyOf d) z)
+        where
+          go : (keyOf d ≡ keyOf e) ⊎ (keyOf d ≡ farKeyOf e) → ⊥
+          go (inl h) = ed (sym (key-from-key d e h))
+          go (inr h) = m .not-near (some (d .type)) (subst (λ q. Has S o u (q, some (d .type))) h ha)
+
+      passed-end : {A : Ty Name} → OneType p (d .type) A → RetypedChannel G e B u (tipOf (ofType A d))
+      passed-end one = (some (d .type), ha, inr (other-channel, of-channels one))
+
+      -- to v, by whatever way
+      sender : (v : ℕ) → Change p (To v) next u (S u) (some after)
+      sender v =
+          becomes G (To v) u r (t .there) P left (t .goes .waits) fine
+          (λ x i. let y = sender-end x i in inl ((λ n. y .1 (key-from-key (x .1) d (only-d n))), y .0))
+          (λ h s k. inl ((λ n. channel-no-link (d .channel) h (sym (ap keyNumber (only-d n)))), retyped-link G e B u h k))
 
     -- ── to the process q of w, which takes it as x; c then has the type B′ there, and x the type A
-    module _ {B′ A : Ty Name} (bb : OneType p B B′) (da : OneType p (d .type) A) (w : ℕ) (q : Process) (sw : S w ≡ some q) (Q : Doing) (wQ : Goes (q .doing) Q) (c′ x : Name) (f : End) (lf : lookup c′ (q .held) ≡ some f)
-        (z : f .channel ≡ e .channel) (s : f .side ≡ other (e .side)) (new : lookup x (q .held) ≡ none) (room : length (q .held) < heldLimit)
+    module _ {B′ A : Ty Name} (bb : OneType p B B′) (da : OneType p (d .type) A) {w : ℕ} {q : Process} {Q : Doing} (t′ : Continues S w q Q) (c′ x : Name) {f : End}
+        (lf : lookup c′ (q .held) ≡ some f) (z : f .channel ≡ e .channel) (s : f .side ≡ other (e .side)) (new : lookup x (q .held) ≡ none) (room : length (q .held) < heldLimit)
         (tQ : TypedDoing p (contextOf (retypedEnd c′ B′ (q .held) ++ ((x, ofType A d) ∷ []))) (isSome (q .link)) Q) where
-      w0 : w ≢ 0
-      w0 = above G w q sw
+      abbrev kept : List (Name × End)
+      kept = retypedEnd c′ B′ (q .held)
 
-      hw : Has S o w (tipOf f)
-      hw = held-tip G w q sw (c′, f) (lookup-in c′ (q .held) lf)
+      abbrev got : List (Name × End)
+      got = (x, ofType A d) ∷ []
 
-      uw : u ≢ w
-      uw = ends-apart G u w e f z s hu hw u0 w0
+      abbrev taker : Process
+      taker = becoming Q (kept ++ got) q
 
-      far : Has S o w ((k, other (e .side)), some (f .type))
-      far = subst (λ k. Has S o w (k, some (f .type))) (λ i. (channelKey (z i), s i)) hw
-
-      far-u : (t : Option (Ty Name)) → ¬ Has S o u ((k, other (e .side)), t)
-      far-u t h = uw (owner G u w _ t (some (f .type)) h far)
-
-      far-w : (t : Option (Ty Name)) → ¬ Has S o w ((channelKey (f .channel), other (f .side)), t)
-      far-w t h = uw (owner G u w _ (some (e .type)) t hu (subst (λ k. Has S o w (k, t)) (λ i. (channelKey (z i), (ap other s ∙ other-other (e .side)) i)) h))
+      m : Facing S o u w e f
+      m = held-facing G (t .there) (t′ .there) c c′ (lookup-in c (r .held) lc) (lookup-in c′ (q .held) lf) z s
 
       -- what w has of itself is not d
-      no-d : (t : Option (Ty Name)) → ¬ Has S o w (keyOf d, t)
-      no-d t h = uw (owner G u w (keyOf d) (some (d .type)) t ha h)
+      no-d : (k : Option (Ty Name)) → ¬ Has S o w (keyOf d, k)
+      no-d k h = ends-apart G m (owner G u w (keyOf d) (some (d .type)) k ha h)
 
-      own-end : (y : Name × End) → In y (retypedEnd c′ B′ (q .held)) → R w (tipOf (y .1))
+      own-end : (y : Name × End) → In y kept → RetypedChannel G e B w (tipOf (y .1))
       own-end y i =
           subst (λ k. Retyped p (Has S o) (channelKey k) (some B) w (tipOf (y .1))) z
-          (retyped-tip p (Has S o) w f bb hw far-w (y .1) (go (changed-cases key c′ (ofType B′) (q .held) f (G .fine w q sw .keys) lf y i)))
+          (retyped-tip G (facing-opposite G (turned m)) bb (y .1) (go (changed-cases key c′ (ofType B′) (q .held) f (G .fine w q (t′ .there) .keys) lf y i)))
         where
           go : (y .1 ≡ ofType B′ f) ⊎ (In y (q .held) × (key (y .1) ≢ key f)) → (y .1 ≡ ofType B′ f) ⊎ (Has S o w (tipOf (y .1)) × (key (y .1) ≢ key f))
           go (inl h) = inl h
-          go (inr h) = inr (held-tip G w q sw y (h .0), h .1)
+          go (inr h) = inr (held-tip G w q (t′ .there) y (h .0), h .1)
 
-      taken : (y : Name × End) → In y (retypedEnd c′ B′ (q .held)) ⊎ In y ((x, ofType A d) ∷ []) → Moved R (keyOf d ∷ []) u w w (tipOf (y .1))
-      taken y (inl i) = let t = own-end y i in inl ((λ m. no-d (t .0) (subst (λ q. Has S o w (q, t .0)) (List·Memᴰ·eq-of-singleton m) (t .1))), t)
+      taken : (y : Name × End) → In y kept ⊎ In y got → To w w (tipOf (y .1))
+      taken y (inl i) = let k = own-end y i in inl ((λ n. no-d (k .0) (subst (λ q. Has S o w (q, k .0)) (only-d n) (k .1))), k)
       taken y (inr i) =
-          subst (λ (y : Name × End). Moved R (keyOf d ∷ []) u w w (tipOf (y .1))) (sym (List·Memᴰ·eq-of-singleton i)) (inr (List·Memᴰ·head refl, refl, passed-end far-u da))
+          subst (λ (y : Name × End). To w w (tipOf (y .1))) (sym (List·Memᴰ·eq-of-singleton i)) (inr (List·Memᴰ·head refl, refl, passed-end (facing-opposite G m) da))
 
-      taker-fine : Fine p (becoming Q (retypedEnd c′ B′ (q .held) ++ ((x, ofType A d) ∷ [])) q)
-      unfolding names
-      taker-fine = record {
-        typed = tQ;
-        names = subst (NamesOf Q) (sym (names-append (retypedEnd c′ B′ (q .held)) ((x, ofType A d) ∷ [])))
-            (names-snoc Q (names (retypedEnd c′ B′ (q .held))) x (subst (NamesOf Q) (sym same-names) (wQ .names (names (q .held)) (g .names)))
-            (λ m. absent x (q .held) new (subst (In x) same-names m)));
-        keys = subst NoneTwice (sym (map-append keyAt (retypedEnd c′ B′ (q .held)) ((x, ofType A d) ∷ [])))
-            (once-snoc (map keyAt (retypedEnd c′ B′ (q .held))) (key d) (subst NoneTwice (sym (retyped-keys c′ B′ (q .held))) (g .keys)) no-key);
-        room = subst (λ n. n ≤ heldLimit) (sym (length-snoc (retypedEnd c′ B′ (q .held)) (x, ofType A d) ∙ ap suc (changed-length c′ _ (q .held)))) room;
-        channels = λ y i. chan y (List·Memᴰ·append-cases (retypedEnd c′ B′ (q .held)) i);
-      }
+      taker-fine : Fine p taker
+      taker-fine =
+          fine-more q Q (q .link) kept x (ofType A d) (subst (NamesDiffer Q) (sym same-names) (t′ .goes .names (names (q .held)) (g .names)))
+          (λ n. absent x (q .held) new (subst (In x) same-names n)) (subst NoneTwice (sym (retyped-keys c′ B′ (q .held))) (g .keys)) no-key
+          (subst (λ n. n < heldLimit) (sym (changed-length c′ _ (q .held))) room) (retyped-channels c′ B′ (q .held) channelPlaces (g .channels))
+          (G .fine u r (t .there) .channels (a, d) (lookup-in a (r .held) la)) tQ
         where
           g : Fine p q
-          g = G .fine w q sw
+          g = G .fine w q (t′ .there)
 
-          same-names : names (retypedEnd c′ B′ (q .held)) ≡ names (q .held)
+          same-names : names kept ≡ names (q .held)
           same-names = changed-names c′ _ (q .held)
 
-          no-key : ¬ In (key d) (map keyAt (retypedEnd c′ B′ (q .held)))
-          no-key m =
-              let y = Memᴰ·of-map keyAt (q .held) (subst (In (key d)) (retyped-keys c′ B′ (q .held)) m) in
-              no-d (some (y .0 .1 .type)) (subst (λ k. Has S o w (k, some (y .0 .1 .type))) (key-of-key (y .0 .1) d (y .2)) (held-tip G w q sw (y .0) (y .1)))
+          no-key : ¬ In (key d) (map keyAt kept)
+          no-key n =
+              let y = Memᴰ·of-map keyAt (q .held) (subst (In (key d)) (retyped-keys c′ B′ (q .held)) n) in
+              no-d (some (y .0 .1 .type)) (subst (λ k. Has S o w (k, some (y .0 .1 .type))) (key-of-key (y .0 .1) d (y .2)) (held-tip G w q (t′ .there) (y .0) (y .1)))
 
-          chan : (y : Name × End) → In y (retypedEnd c′ B′ (q .held)) ⊎ In y ((x, ofType A d) ∷ []) → y .1 .channel < channelPlaces
-          chan y (inl i) = retyped-channels c′ B′ (q .held) channelPlaces (g .channels) y i
-          chan y (inr i) = subst (λ (y : Name × End). y .1 .channel < channelPlaces) (sym (List·Memᴰ·eq-of-singleton i)) (G .fine u r su .channels (a, d) (lookup-in a (r .held) la))
-
-      taker : Change p (Moved R (keyOf d ∷ []) u w) w (S w) (some (becoming Q (retypedEnd c′ B′ (q .held) ++ ((x, ofType A d) ∷ [])) q))
-      taker =
-          becomes G (Moved R (keyOf d ∷ []) u w) w q sw Q (retypedEnd c′ B′ (q .held) ++ ((x, ofType A d) ∷ [])) (wQ .waits) taker-fine
-          (λ y i. taken y (List·Memᴰ·append-cases (retypedEnd c′ B′ (q .held)) i))
-          (λ h s t. else-stays w w (linkTip h s) (λ y. uw (sym y)) t (λ y. channel-no-link (e .channel) h (sym y)))
-
-      moving : Witness p (Moved R (keyOf d ∷ []) u w) next
+      moving : Witness p (To w) next
       unfolding retyping
       moving =
-          over (retyping (G .witness) k (some B)) (keyOf d ∷ []) u w (λ y m. ap (G .witness .own) (List·Memᴰ·eq-of-singleton m) ∙ G .witness .sound u (tipOf d) ha) u0 k
-          (joins G u w e f z s hu hw u0 w0) off (between (e .side) refl)
-        where
-          off : (s : Side) → ¬ In (k, s) (keyOf d ∷ [])
-          off s m = other-channel far-u (sym (ap keyNumber (List·Memᴰ·eq-of-singleton m)))
+          over (retyping (G .witness) (channelKey (e .channel)) (some B)) (keyOf d ∷ []) u w (λ y n. ap (G .witness .own) (only-d n) ∙ G .witness .sound u (tipOf d) ha) u0
+          (channelKey (e .channel)) (is-joint G m) (λ s n. other-channel (facing-opposite G m) (sym (ap keyNumber (only-d n)))) (joint-between G m)
 
-          between : (t : Side) → e .side ≡ t → Between (G .witness .own) k u w
-          between provided y = inl (
-            ap (λ t. G .witness .own (k, t)) (sym y) ∙ near-owner G u w e f z s hu hw u0 w0,
-            ap (λ t. G .witness .own (k, other t)) (sym y)
-                ∙ far-owner G u w e f z s hu hw u0 w0,
-          )
-          between used y = inr (
-            ap (λ t. G .witness .own (k, other t)) (sym y) ∙ far-owner G u w e f z s hu hw u0 w0,
-            ap (λ t. G .witness .own (k, t)) (sym y)
-                ∙ near-owner G u w e f z s hu hw u0 w0,
-          )
-
-      pub passed : Good p (put w (some (becoming Q (retypedEnd c′ B′ (q .held) ++ ((x, ofType A d) ∷ [])) q))
-          (put u (some (becoming P (retypedEnd c B (without a (r .held))) r)) S)) o given next
+      pub passed : Good p (put w (some taker) (put u (some after) S)) o given next
       passed =
-          two-good G moving u w (becoming P (retypedEnd c B (without a (r .held))) r) (becoming Q (retypedEnd c′ B′ (q .held) ++ ((x, ofType A d) ∷ [])) q)
-          (sender far-u w) taker (λ v t nu nw h. else-stays v w t nu h (λ y. rest v t nu nw (whose G u v e hu t h y))) u0 w0
-        where
-          rest : (v : ℕ) (t : Tip) → v ≢ u → v ≢ w → (v ≡ u) ⊎ Has S o v ((k, other (e .side)), t .1) → ⊥
-          rest v t nu nw (inl y) = nu y
-          rest v t nu nw (inr y) = nw (owner G v w _ (t .1) (some (f .type)) y far)
+          two-good G moving u w after taker (sender (facing-opposite G m) w)
+          (becomes G (To w) w q (t′ .there) Q (kept ++ got) (t′ .goes .waits) taker-fine (λ y i. taken y (List·Memᴰ·append-cases kept i))
+          (λ h s k. else-stays w w (linkTip h s) (λ y. ends-apart G m (sym y)) k (λ y. channel-no-link (e .channel) h (sym y))))
+          (λ v k nu nw h. else-stays v w k nu h (elsewhere G (facing-opposite G m) v k nu nw h)) u0 (m .far-process)
 
     -- ── to nobody: the channel is given up
-    pub passed-unheard : ((v : ℕ) (t : Option (Ty Name)) → ¬ Has S o v ((k, other (e .side)), t)) → {o′ : List Outside} → Sublistᴰ o′ o
-        → Good p (put u (some (becoming P (retypedEnd c B (without a (r .held))) r)) S) o′ given next
+    pub passed-unheard : ((v : ℕ) (k : Option (Ty Name)) → ¬ Has S o v (farKeyOf e, k)) → {o′ : List Outside} → Sublistᴰ o′ o → Good p (put u (some after) S) o′ given next
     passed-unheard far {o′} sub =
-        one-good G (retyping (G .witness) k (some B)) u (becoming P (retypedEnd c B (without a (r .held))) r)
-        (becomes G R u r su P (retypedEnd c B (without a (r .held))) (wP .waits) (sender-fine (far u)) (λ x i. sender-end (far u) x i .0)
-        (λ h s t. retyped-off p (Has S o) u (linkTip h s) t (λ z. channel-no-link (e .channel) h (sym z))))
-        (λ v t nu _ h. retyped-off p (Has S o) v t h (λ y. rest v t nu (whose G u v e hu t h y)))
-        (λ y i. let h : Has S o 0 (outsideTip y) = outside refl y (sub-in sub i) refl in retyped-off p (Has S o) 0 (outsideTip y) h
-        (λ z. rest 0 (outsideTip y) (λ k. u0 (sym k)) (whose G u 0 e hu (outsideTip y) h z)))
+        let m = opposite-nobody G hu far in
+        one-good G (retyping (G .witness) (channelKey (e .channel)) (some B)) u after
+        (becomes G (RetypedChannel G e B) u r (t .there) P left (t .goes .waits) fine (λ x i. sender-end m x i .0) (λ h s k. retyped-link G e B u h k))
+        (λ v k nu _ h. retyped-off p (Has S o) v k h (elsewhere G m v k nu nu h))
+        (λ y i. let h : Has S o 0 (outsideTip y) = outside refl y (sub-in sub i) refl in
+        retyped-off p (Has S o) 0 (outsideTip y) h (elsewhere G m 0 (outsideTip y) (λ z. u0 (sym z)) (λ z. u0 (sym z)) h))
         (fair-less (G .fair) sub)
-      where
-        rest : (v : ℕ) (t : Tip) → v ≢ u → (v ≡ u) ⊎ Has S o v ((k, other (e .side)), t .1) → ⊥
-        rest v t nu (inl y) = nu y
-        rest v t nu (inr y) = far v (t .1) y
 
     -- ── to the outside, which uses it from then on with the type A, or lets go of it at once; c then has the type B′ there
-    module _ {B′ A : Ty Name} (bb : OneType p B B′) (da : OneType p (d .type) A) (y : Outside) (i : In y o) (z : y .channel ≡ e .channel) (s : e .side ≡ provided) (sd : d .side ≡ used) (oB : outward p B′ ≡ true) (oA : outward p A ≡ true) where
-      far-out : Has S o 0 ((k, other (e .side)), some (y .type))
-      far-out = out-far G e y i z s
-
-      far-not : (t : Option (Ty Name)) → ¬ Has S o u ((k, other (e .side)), t)
-      far-not t h = u0 (owner G u 0 _ t (some (y .type)) h far-out)
-
+    module _ {B′ A : Ty Name} (bb : OneType p B B′) (da : OneType p (d .type) A) (y : FarOutside o e) (sd : d .side ≡ used) (oB : outward p B′ ≡ true) (oA : outward p A ≡ true) where
       abbrev shown : Outside
       shown = record { number = given; channel = d .channel; type = A }
-
-      d-out : keyOf d ≡ (channelKey (d .channel), used)
-      d-out i = (channelKey (d .channel), sd i)
-
-      W : Witness p (Moved R (keyOf d ∷ []) u 0) next
-      unfolding retyping
-      W = outing (retyping (G .witness) k (some B)) (keyOf d) u u0 (G .witness .sound u (tipOf d) ha)
-
-      old-out : (x : Outside) → In x (retypedOutside (e .channel) B′ o) → Moved R (keyOf d ∷ []) u 0 0 (outsideTip x)
-      old-out x j =
-          let t = out-retyped G (e .channel) bb x j in
-          inl ((λ m. u0 (owner G u 0 (keyOf d) (some (d .type)) (t .0) ha (subst (λ q. Has S o 0 (q, t .0)) (List·Memᴰ·eq-of-singleton m) (t .1)))), t)
-
-      new-out : Moved R (keyOf d ∷ []) u 0 0 (outsideTip shown)
-      new-out = inr (List·Memᴰ·head (sym d-out), refl, subst (λ q. R u (q, some A)) d-out (passed-end far-not da))
-
-      passed-to : (o′ : List Outside) → ((x : Outside) → In x o′ → Moved R (keyOf d ∷ []) u 0 0 (outsideTip x)) → Fair p (suc given) o′
-          → Good p (put u (some (becoming P (retypedEnd c B (without a (r .held))) r)) S) o′ (suc given) next
-      passed-to o′ out f =
-          one-good G W u (becoming P (retypedEnd c B (without a (r .held))) r) (sender far-not 0)
-          (λ v t nu n0 h. else-stays v 0 t nu h (λ j. rest v t nu n0 (whose G u v e hu t h j))) out f
-        where
-          rest : (v : ℕ) (t : Tip) → v ≢ u → v ≢ 0 → (v ≡ u) ⊎ Has S o v ((k, other (e .side)), t .1) → ⊥
-          rest v t nu n0 (inl j) = nu j
-          rest v t nu n0 (inr j) = n0 (owner G v 0 _ (t .1) (some (y .type)) j far-out)
 
       abbrev o₁ : List Outside
       o₁ = retypedOutside (e .channel) B′ o
 
-      f₁ : Fair p given o₁
-      f₁ = fair-retyped (G .fair) (e .channel) B′ oB
+      n : Opposite S o u 0 e
+      n = opposite-outside G u0 hu y
 
-      pub passed-gone : Good p (put u (some (becoming P (retypedEnd c B (without a (r .held))) r)) S) o₁ (suc given) next
-      passed-gone =
-          passed-to o₁ old-out (record { outwards = f₁ .outwards; below = λ x j. let b = f₁ .below x j in omega arith; rising = f₁ .rising; keys = f₁ .keys; channels = f₁ .channels })
+      d-used : keyOf d ≡ (channelKey (d .channel), used)
+      d-used i = (channelKey (d .channel), sd i)
 
-      pub passed-out : Good p (put u (some (becoming P (retypedEnd c B (without a (r .held))) r)) S) (o₁ ++ (shown ∷ [])) (suc given) next
-      passed-out = passed-to (o₁ ++ (shown ∷ [])) (λ x j. out x (List·Memᴰ·append-cases o₁ j)) (record {
-        outwards = λ x j. last (λ x. outward p (x .type) ≡ true) (f₁ .outwards) oA x (List·Memᴰ·append-cases o₁ j);
-        below = λ x j. last (λ x. x .number < suc given) (λ x j. let b = f₁ .below x j in omega arith) (omega arith) x (List·Memᴰ·append-cases o₁ j);
-        rising = subst (Rising 0) (sym (map-append _ o₁ (shown ∷ []))) (rising-snoc (map (λ (x : Outside). x .number) o₁) 0 given (f₁ .rising) (omega arith) num);
-        keys = subst NoneTwice (sym (map-append _ o₁ (shown ∷ []))) (once-snoc (map (λ (x : Outside). x .channel) o₁) (d .channel) (f₁ .keys) fresh);
-        channels = λ x j. last (λ x. x .channel < channelPlaces) (f₁ .channels) (G .fine u r su .channels (a, d) (lookup-in a (r .held) la)) x (List·Memᴰ·append-cases o₁ j);
-      })
-        where
-          last : (Q : Outside → Type 0) → ((x : Outside) → In x o₁ → Q x) → Q shown → (x : Outside) → In x o₁ ⊎ In x (shown ∷ []) → Q x
-          last Q a b x (inl j) = a x j
-          last Q a b x (inr j) = subst Q (sym (List·Memᴰ·eq-of-singleton j)) b
+      -- no end of the outside is that of d
+      no-d-out : (x : Outside) → In x o₁ → (channelKey (x .channel), used) ≢ keyOf d
+      no-d-out x j z = let k = retyped-out G e bb x j in u0 (owner G u 0 (keyOf d) (some (d .type)) (k .0) ha (subst (λ q. Has S o 0 (q, k .0)) z (k .1)))
 
-          out : (x : Outside) → In x o₁ ⊎ In x (shown ∷ []) → Moved R (keyOf d ∷ []) u 0 0 (outsideTip x)
-          out = last (λ x. Moved R (keyOf d ∷ []) u 0 0 (outsideTip x)) old-out new-out
+      old-out : (x : Outside) → In x o₁ → To 0 0 (outsideTip x)
+      old-out x j = inl ((λ k. no-d-out x j (only-d k)), retyped-out G e bb x j)
 
-          num : (n : ℕ) → In n (map (λ (x : Outside). x .number) o₁) → n < given
-          num n m = let x = Memᴰ·of-map (λ (x : Outside). x .number) o₁ m in subst (λ n. n < given) (x .2) (f₁ .below (x .0) (x .1))
+      new-out : To 0 0 (outsideTip shown)
+      new-out = inr (List·Memᴰ·head (sym d-used), refl, subst (λ q. RetypedChannel G e B u (q, some A)) d-used (passed-end n da))
 
-          fresh : ¬ In (d .channel) (map (λ (x : Outside). x .channel) o₁)
-          fresh m =
-              let x = Memᴰ·of-map (λ (x : Outside). x .channel) o₁ m in
-              let t = out-retyped G (e .channel) bb (x .0) (x .1) in
-              u0 (owner G u 0 (keyOf d) (some (d .type)) (t .0) ha (subst (λ q. Has S o 0 (q, t .0)) (λ j. (channelKey (x .2 j), sym sd j)) (t .1)))
+      passed-to : (o′ : List Outside) → ((x : Outside) → In x o′ → To 0 0 (outsideTip x)) → Fair p (suc given) o′ → Good p (put u (some after) S) o′ (suc given) next
+      unfolding retyping
+      passed-to o′ out f =
+          one-good G (outing (retyping (G .witness) (channelKey (e .channel)) (some B)) (keyOf d) u u0 (G .witness .sound u (tipOf d) ha)) u after (sender n 0)
+          (λ v k nu n0 h. else-stays v 0 k nu h (elsewhere G n v k nu n0 h)) out f
+
+      F : Fair p given o₁
+      F = fair-retyped (G .fair) (e .channel) B′ oB
+
+      pub passed-gone : Good p (put u (some after) S) o₁ (suc given) next
+      passed-gone = passed-to o₁ old-out (fair-later F)
+
+      pub passed-out : Good p (put u (some after) S) (o₁ ++ (shown ∷ [])) (suc given) next
+      passed-out = passed-to (o₁ ++ (shown ∷ [])) (each-more (λ x. To 0 0 (outsideTip x)) o₁ shown old-out new-out)
+          (fair-more shown F oA (G .fine u r (t .there) .channels (a, d) (lookup-in a (r .held) la))
+          (λ k. let x = Memᴰ·of-map channelOf o₁ k in no-d-out (x .0) (x .1) ((λ j. (channelKey (x .2 j), used)) ∙ sym d-used)))

@@ -10,7 +10,7 @@ use Rattle.calculus.specs.WellFormed.{WellFormed}
 use Rattle.calculus.specs.declared.answers.Seen.{Seen}
 use Rattle.theory_reductions.specs.StepIff.{step-iff}
 use Rattle.theory_preservation.specs.Stepping.{reduces-keep}
-use Rattle.theory_preservation.specs.WellFormed.{inv-iff}
+use Rattle.theory_preservation.specs.ToInvariant.{inv-iff}
 
 module _ (p : Program) (B : Bodies p) where
   -- each rule keeps well-formedness

@@ -2,7 +2,7 @@
 use mathlib.Core.Path.{_≡_, refl, sym, _∙_, ap, subst}
 use mathlib.Core.Logic.{_≢_, _⊎_, inl, inr}
 use mathlib.Core.List.{List, [], _∷_, _++_, map, append-nil, List·Memᴰ·head, List·Memᴰ·tail, List·Memᴰ·not-nil, Memᴰ·of-map}
-use mathlib.Core.Option.{Option, some, none, Option·none-ne-some, Option·some-injective}
+use mathlib.Core.Option.{some, none, Option·none-ne-some, Option·some-injective}
 use mathlib.Core.Bool.{true, false, true≢false}
 use Prim.Native.Nat.{ℕ, zero, suc, _+_, _≤_, _<_}
 use native.Mathlib.Omega.{arith}
@@ -14,20 +14,21 @@ use Rattle.calculus.specs.Named.{names, distinct, all}
 use Rattle.calculus.specs.Types.{provided, used}
 use Rattle.calculus.specs.Program.{slot, Signature, Program, onSide, signatureContext}
 use Rattle.calculus.specs.Declarations.{outward, entryTypes}
-use Rattle.calculus.specs.Typing.{Typed, TypedBody}
+use Rattle.calculus.specs.Typing.{OneType, Typed, TypedBody}
 use Rattle.calculus.specs.Configuration.{End, end, running, Process, process, relinked, Outside}
 use Rattle.calculus.specs.Runs.{startHeld, startOutside, startConfig}
 use Rattle.calculus.specs.WellFormed.{In, NoneTwice, Rising, contextOf, isWaiting, WellFormed}
 use Rattle.theory_derivations.specs.Booleans.{all-iff}
+use Rattle.theory_derivations.specs.OneType.{one-refl}
 use Rattle.theory_ends.specs.Lists.{once-by}
 use Rattle.theory_ends.specs.Names.{distinct-iff}
 use Rattle.theory_ends.specs.Contexts.{context-names, context-length}
 use Rattle.theory_ends.specs.Ends.{side-clash, keyAt}
-use Rattle.theory_preservation.specs.Witness.{Key, Tip, OneOf, one-of-refl, Witness, tipNumber, tipSide, tipType, keyNumber}
+use Rattle.theory_preservation.specs.Witness.{Key, Tip, OneOf, of-channels, one-of-refl, one-of-sym, one-of-trans, Witness, tipNumber, tipSide, tipType, keyNumber}
 use Rattle.theory_preservation.specs.Mates.{Quiet, quiet-none, quiet-some, mates-quiet}
 use Rattle.theory_preservation.specs.Roster.{Roster, channelKey, channel-key-one, Tips, holds, links, waits, Has, outside, inside, Fine, Fair, profile}
 use Rattle.theory_preservation.specs.Invariant.{Inv}
-use Rattle.theory_preservation.specs.WellFormed.{inv-well-formed}
+use Rattle.theory_preservation.specs.FromInvariant.{inv-well-formed}
 
 -- ── the channels of a start, from k on
 start-context : (k : ℕ) (l : List (Name × Ty Name)) → contextOf (startHeld k l) ≡ onSide provided l
@@ -48,11 +49,17 @@ start-keys k (e ∷ l) = (
   start-keys (suc k) l,
 )
 
--- the outside's channels are those of the process
-start-other : (k : ℕ) (l : List (Name × Ty Name)) (y : Outside) → In y (startOutside k l) → (x : Name × End) × In x (startHeld k l) × (x .1 .channel ≡ y .channel) × (x .1 .type ≡ y .type)
-start-other k [] y i = absurd (List·Memᴰ·not-nil i)
-start-other k (e ∷ l) y (List·Memᴰ·head h) = ((e .0, end provided k (e .1)), List·Memᴰ·head refl, ap (λ (y : Outside). y .channel) (sym h), ap (λ (y : Outside). y .type) (sym h))
-start-other k (e ∷ l) y (List·Memᴰ·tail i) = let r = start-other (suc k) l y i in (r .0, List·Memᴰ·tail (r .1), r .2, r .3)
+-- the outside's channels are those of the process, and of one type with them
+start-other : (p : Program) (k : ℕ) (l : List (Name × Ty Name)) (y : Outside) → In y (startOutside k l)
+    → (x : Name × End) × In x (startHeld k l) × (x .1 .channel ≡ y .channel) × OneType p (x .1 .type) (y .type)
+start-other p k [] y i = absurd (List·Memᴰ·not-nil i)
+start-other p k (e ∷ l) y (List·Memᴰ·head h) = (
+  (e .0, end provided k (e .1)),
+  List·Memᴰ·head refl,
+  ap (λ (y : Outside). y .channel) (sym h),
+  subst (λ (y : Outside). OneType p (e .1) (y .type)) (sym h) (one-refl p (e .1)),
+)
+start-other p k (e ∷ l) y (List·Memᴰ·tail i) = let r = start-other p (suc k) l y i in (r .0, List·Memᴰ·tail (r .1), r .2, r .3)
 
 start-number : (k : ℕ) (l : List (Name × Ty Name)) (y : Outside) → In y (startOutside k l)
     → (y .number ≡ y .channel) × (k ≤ y .channel) × (y .channel < k + length l) × In (y .type) (entryTypes l)
@@ -107,19 +114,19 @@ module _ (p : Program) (s : Signature) (d : distinct (names (signatureContext s)
   -- an end is provided by the process or used by the outside
   abbrev EndIs : ℕ → Tip → Type 0
   EndIs v e =
-      (x : Name × End) × In x (startHeld 0 l) × (e .0 .0 ≡ channelKey (x .1 .channel)) × (e .1 ≡ some (x .1 .type)) ×
+      (x : Name × End) × In x (startHeld 0 l) × (e .0 .0 ≡ channelKey (x .1 .channel)) × OneOf p (some (x .1 .type)) (e .1) ×
       (((v ≡ 1) × (e .0 .1 ≡ provided)) ⊎ ((v ≡ 0) × (e .0 .1 ≡ used)))
 
   ends-are : (v : ℕ) (e : Tip) → Has S O v e → EndIs v e
   ends-are v e (outside z y i h) =
-      let x = start-other 0 l y i in
-      (x .0, x .1, ap tipNumber h ∙ ap channelKey (sym (x .2)), ap tipType h ∙ ap some (sym (x .3)), inr (z, ap tipSide h))
+      let x = start-other p 0 l y i in
+      (x .0, x .1, ap tipNumber h ∙ ap channelKey (sym (x .2)), subst (OneOf p (some (x .0 .1 .type))) (ap tipType (sym h)) (of-channels (x .3)), inr (z, ap tipSide h))
   ends-are v e (inside r w h) = go (at-one v r w) h
     where
       go : (v ≡ 1) × (q ≡ r) → Tips v r e → EndIs v e
       go (z, y) (holds x i k) =
           let m : In x (startHeld 0 l) = subst (λ (r : Process). In x (r .held)) (sym y) i in
-          (x, m, ap tipNumber k, ap tipType k, inl (z, ap tipSide k ∙ start-end 0 l x m .2))
+          (x, m, ap tipNumber k, subst (OneOf p (some (x .1 .type))) (ap tipType (sym k)) (one-of-refl p (some (x .1 .type))), inl (z, ap tipSide k ∙ start-end 0 l x m .2))
       go (z, y) (links h k _) = absurd (Option·none-ne-some h (ap (λ (r : Process). r .link) y ∙ k))
       go (z, y) (waits k _) = absurd (true≢false (sym k ∙ ap (λ (r : Process). isWaiting (r .doing)) (sym y)))
 
@@ -150,7 +157,7 @@ module _ (p : Program) (s : Signature) (d : distinct (names (signatureContext s)
             channel-key-one (x .0 .1 .channel) (y .0 .1 .channel) (sym (x .2) ∙ z ∙ y .2) j,
             (start-end 0 l (x .0) (x .1) .2 ∙ sym (start-end 0 l (y .0) (y .1) .2)) j,
           )) in
-          subst (OneOf p (e .1)) (x .3 ∙ ap (λ (x : Name × End). some (x .1 .type)) one ∙ sym (y .3)) (one-of-refl p (e .1))
+          one-of-trans p (one-of-sym p (x .3)) (subst (λ (x : Name × End). OneOf p (some (x .1 .type)) (f .1)) (sym one) (y .3))
 
       no-use : (v : ℕ) (f : Tip) → v ≢ 0 → f .0 .1 ≡ used → ((v ≡ 1) × (f .0 .1 ≡ provided)) ⊎ ((v ≡ 0) × (f .0 .1 ≡ used)) → ⊥
       no-use v f n b (inl z) = side-clash (sym (z .1) ∙ b)

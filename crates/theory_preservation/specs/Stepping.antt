@@ -1,18 +1,18 @@
 -- What a step leaves keeps the invariant: a clause for each rule.
 use Prim.Native.Nat.{ℕ}
-use mathlib.Core.Path.{ap}
-use Rattle.notation.specs.Tree.{Proc}
 use Rattle.calculus.specs.Program.{Program}
 use Rattle.calculus.specs.Typing.{Bodies}
 use Rattle.calculus.specs.Configuration.{Config}
-use Rattle.calculus.specs.WellFormed.{isWaiting}
 use Rattle.calculus.specs.Reduces.{Sends, close-meets, channel-meets, label-meets, close-shows, label-shows, channel-shows, gone-shows, close-lost, label-lost, channel-lost, Reduces, communicates, spawns, tries, calls, cancels, raises, joins, joins-outside, joins-nobody, nobody-joins, unanswered, folds, leaves}
 use Rattle.calculus.specs.declared.answers.Seen.{Seen}
 use Rattle.theory_ends.specs.Names.{without-sub}
 use Rattle.theory_ends.specs.FarEnds.{far-held, far-outside, far-nobody}
 use Rattle.theory_preservation.specs.Roster.{runs-awake}
 use Rattle.theory_preservation.specs.Invariant.{Inv, runs-typed}
-use Rattle.theory_preservation.specs.Alone.{folds-up, cancel-keeps, raise-keeps, leave-keeps, fold-keeps, spawn-keeps, try-keeps, forward-keeps, forward-out-keeps, joined-nobody, nobody-joined}
+use Rattle.theory_preservation.specs.GivingUp.{folds-up, cancel-keeps, fold-keeps}
+use Rattle.theory_preservation.specs.Handlers.{raise-keeps, leave-keeps}
+use Rattle.theory_preservation.specs.Making.{spawn-keeps, try-keeps}
+use Rattle.theory_preservation.specs.Joining.{forward-keeps, forward-out-keeps, joined-nobody, nobody-joined}
 use Rattle.theory_preservation.specs.Calling.{call-keeps}
 use Rattle.theory_preservation.specs.Sending.{close-met, close-shown, close-gone, label-met, label-shown, label-gone, channel-met, channel-shown, gone-shown, channel-gone}
 

@@ -1,0 +1,134 @@
+-- Raise, which starts the handler, and leaving the list, by which the handler folds up.
+use mathlib.Core.Path.{_≡_, refl, sym, _∙_, ap, subst}
+use mathlib.Core.Logic.{_≢_, _⊎_, inl, inr}
+use mathlib.Core.List.{List}
+use mathlib.Core.Option.{Option, some, none, Option·map, Option·none-ne-some}
+use mathlib.Core.Bool.{Bool, true, false, false≢true}
+use Prim.Native.Nat.{ℕ, _≤_, _<_}
+use native.Mathlib.Omega.{arith}
+use lib.ListN.{length, set, getElem?, length-set}
+use Rattle.notation.specs.Limits.{processPlaces}
+use Rattle.notation.specs.Tree.{Name, Proc, raise}
+use Rattle.calculus.specs.Named.{names, isSome}
+use Rattle.calculus.specs.Program.{Context, Program}
+use Rattle.calculus.specs.Typing.{Typed, raises}
+use Rattle.calculus.specs.Configuration.{Doing, running, folding, waiting, Process, Config, withProcesses, replaced, relinked, removed, doingNow, linkedBy, goesOn, becoming}
+use Rattle.calculus.specs.Steps.{changedAt, putAt, startedHandler, startedDoing, foldedHandler}
+use Rattle.calculus.specs.Reduces.{Empty, no-term, no-channel}
+use Rattle.calculus.specs.WellFormed.{contextOf, isWaiting, NoneTwice, Stands}
+use Rattle.theory_ends.specs.Lists.{length-removed, set-cases, found-below}
+use Rattle.theory_preservation.specs.Mates.{put}
+use Rattle.theory_preservation.specs.Roster.{TypedDoing, NamesDiffer, runs-on, runs-awake}
+use Rattle.theory_preservation.specs.LettingGo.{raised, left, left-alone}
+use Rattle.theory_preservation.specs.Places.{Shows, shows-set, shows-out, idOut}
+use Rattle.theory_preservation.specs.Growing
+use Rattle.theory_preservation.specs.Invariant.{Inv, at-roster, fine-at, handler, unlinked}
+
+started-waits-not : (d : Doing) → isWaiting (startedDoing d) ≡ false
+started-waits-not (running P) = refl
+started-waits-not folding = refl
+started-waits-not (waiting P) = refl
+
+started-typed : (p : Program) (H : Context) (c : Bool) (d : Doing) → TypedDoing p H c d → TypedDoing p H c (startedDoing d)
+started-typed p H c (running P) t = t
+started-typed p H c folding t = t
+started-typed p H c (waiting P) t = t
+
+started-names : (ns : List Name) (d : Doing) → NamesDiffer d ns → NamesDiffer (startedDoing d) ns
+started-names ns (running P) n = n
+started-names ns folding n = n
+started-names ns (waiting P) n = n
+
+module _ {p : Program} {C : Config} (I : Inv p C) {i : ℕ} {q : Process} (here : Stands C i q) where
+  abbrev b : Bool
+  b = isSome (Option·map (I .id) (q .link))
+
+  at : getElem? (C .processes) i ≡ some q
+  at = here .there
+
+  inside : i < length (C .processes)
+  inside = found-below (C .processes) i at
+
+  -- the handler r at h goes on by g
+  module _ (w : isWaiting (q .doing) ≡ false) (h : ℕ) (lk : q .link ≡ some h) (r : Process) (rh : getElem? (C .processes) h ≡ some r) (rw : isWaiting (r .doing) ≡ true) (d : Doing) where
+    abbrev l₁ : List Process
+    l₁ = set (C .processes) h (doingNow d r)
+
+    len₁ : length l₁ ≡ length (C .processes)
+    len₁ = length-set (C .processes) h (doingNow d r)
+
+    s₁ : Shows (I .id) l₁ (put (I .id h) (some (relinked (I .id) (doingNow d r))) (I .roster))
+    s₁ = shows-set (I .shows) h (found-below (C .processes) h rh) (doingNow d r) (I .shows .within h r rh)
+
+    link-id : Option·map (I .id) (q .link) ≡ some (I .id h)
+    link-id = ap (Option·map (I .id)) lk
+
+    raised-inv : isWaiting d ≡ false → NamesDiffer d (names (r .held)) → TypedDoing p (contextOf (r .held)) (isSome (Option·map (I .id) (r .link))) d → (P : Proc)
+        → NoneTwice (names (q .held)) → Typed p (contextOf (q .held)) false P
+        → Inv p (withProcesses (set l₁ i (linkedBy none (goesOn q P (q .held)))) C)
+    raised-inv wd nd td P n t = record {
+      id = I .id;
+      roster = put (I .id i) (some (linkedBy none (goesOn q P (q .held)))) (put (I .id h) (some (relinked (I .id) (becoming d (r .held) r))) (I .roster));
+      next = I .next;
+      shows = shows-set s₁ i (omega (arith, inside, len₁)) (linkedBy none (goesOn q P (q .held))) (λ k e. absurd (Option·none-ne-some k e));
+      good = raised (I .good) (I .id i) (I .id h) (relinked (I .id) q) (relinked (I .id) r) (at-roster I i q at) (at-roster I h r rh) w link-id rw d wd nd td P n t;
+      places = subst (λ n. n ≤ processPlaces) (sym (length-set l₁ i _ ∙ len₁)) (I .places);
+      numbers = I .numbers;
+    }
+
+    left-inv : isWaiting d ≡ false → NamesDiffer d (names (r .held)) → TypedDoing p (contextOf (r .held)) (isSome (Option·map (I .id) (r .link))) d
+        → Inv p (withProcesses (removed i l₁) C)
+    left-inv wd nd td = record {
+      id = idOut s₁ i;
+      roster = put (I .id i) none (put (I .id h) (some (relinked (I .id) (becoming d (r .held) r))) (I .roster));
+      next = I .next;
+      shows = shows-out s₁ i (omega (arith, inside, len₁)) alone;
+      good = left (I .good) (I .id i) (I .id h) (relinked (I .id) q) (relinked (I .id) r) (at-roster I i q at) (at-roster I h r rh) w link-id rw d wd nd td;
+      places = let a = I .places in let b = length-removed i l₁ (omega (arith, inside, len₁)) in omega (arith, len₁);
+      numbers = I .numbers;
+    }
+      where
+        alone : (j : ℕ) (s : Process) → getElem? l₁ j ≡ some s → s .link ≢ some i
+        alone j s e z = go (set-cases (C .processes) h (doingNow d r) (found-below (C .processes) h rh) j s e)
+          where
+            go : ((j ≡ h) × (doingNow d r ≡ s)) ⊎ ((j ≢ h) × (getElem? (C .processes) j ≡ some s)) → ⊥
+            go (inl y) = unlinked I i q at w h r rh (ap (λ (s : Process). s .link) (y .1) ∙ z)
+            go (inr y) = unlinked I i q at w j s (y .1) z
+
+  pub raise-keeps : {o : ℕ} {P : Proc} → q .doing ≡ running (raise o P) → Typed p (contextOf (q .held)) b (raise o P)
+      → Inv p (replaced i (linkedBy none (goesOn q P (q .held))) (withProcesses (changedAt startedHandler (q .link) (C .processes)) C))
+  raise-keeps {P = P} r (raises e t) = go (q .link) refl
+    where
+      go : (o : Option ℕ) → q .link ≡ o → Inv p (replaced i (linkedBy none (goesOn q P (q .held))) (withProcesses (changedAt startedHandler o (C .processes)) C))
+      go none z = absurd (false≢true (sym (ap (λ o. isSome (Option·map (I .id) o)) z) ∙ e))
+      go (some h) z =
+          let x = handler I i q at h z in
+          subst (λ o. Inv p (replaced i (linkedBy none (goesOn q P (q .held))) (withProcesses (putAt (C .processes) h (Option·map startedHandler o)) C))) (sym (x .1))
+          (raised-inv (runs-awake r) h z (x .0) (x .1) (x .2) (startedDoing (x .0 .doing)) (started-waits-not (x .0 .doing))
+          (started-names _ (x .0 .doing) (fine-at I h (x .0) (x .1) .names))
+          (started-typed p _ _ (x .0 .doing) (fine-at I h (x .0) (x .1) .typed)) P (runs-on r P .names _ (fine-at I i q at .names)) t)
+
+  empty-awake : Empty q → isWaiting (q .doing) ≡ false
+  empty-awake (no-term e) = ap isWaiting e
+  empty-awake (no-channel e _) = ap isWaiting e
+
+  pub leave-keeps : Empty q → Inv p (withProcesses (removed i (changedAt foldedHandler (q .link) (C .processes))) C)
+  leave-keeps e = go (q .link) refl
+    where
+      w : isWaiting (q .doing) ≡ false
+      w = empty-awake e
+
+      go : (o : Option ℕ) → q .link ≡ o → Inv p (withProcesses (removed i (changedAt foldedHandler o (C .processes))) C)
+      go none z = record {
+        id = idOut (I .shows) i;
+        roster = put (I .id i) none (I .roster);
+        next = I .next;
+        shows = shows-out (I .shows) i inside (unlinked I i q at w);
+        good = left-alone (I .good) (I .id i) (relinked (I .id) q) (at-roster I i q at) w (ap (Option·map (I .id)) z);
+        places = let a = I .places in let b = length-removed i (C .processes) inside in omega arith;
+        numbers = I .numbers;
+      }
+      go (some h) z =
+          let r = handler I i q at h z in
+          subst (λ o. Inv p (withProcesses (removed i (putAt (C .processes) h (Option·map foldedHandler o))) C)) (sym (r .1))
+          (left-inv w h z (r .0) (r .1) (r .2) folding refl tt tt)
