@@ -1,4 +1,4 @@
--- Demand 1's "whoever calls .. gets an answer or a numbered refusal": the numbers of the refusals of a text and of a call.
+-- Demand 1's "Whoever calls .. gets an answer or a numbered refusal": the numbers of the refusals of a text and of a call.
 use Prim.Native.Nat.{ℕ, zero, suc, _≤_}
 use native.Mathlib.Omega.{arith}
 use mathlib.Core.Path.{_≡_, refl, subst}
