@@ -1,13 +1,13 @@
 -- A call: the process holds the same ends, under the names, on the sides and with the types of the signature.
 use mathlib.Core.Path.{_≡_, refl, sym, _∙_, ap, subst}
 use mathlib.Core.List.{List, [], _∷_, _++_, map, Sublistᴰ·refl, List·Memᴰ·head, List·Memᴰ·tail, List·Memᴰ·not-nil, Memᴰ·of-map, Memᴰ·cast}
-use mathlib.Core.Option.{Option, some, none, Option·map, Option·some-injective}
+use mathlib.Core.Option.{Option, some, none, Option·some-injective}
 use mathlib.Core.Bool.{true, and-eq-true-iff}
 use Prim.Native.Nat.{ℕ, _≤_, _<_}
 use lib.ListN.{length, getElem?}
 use Rattle.notation.specs.Limits.{heldLimit, channelPlaces}
 use Rattle.notation.specs.Tree.{Name, Located, Ty, call}
-use Rattle.calculus.specs.Named.{lookup, names, isSome}
+use Rattle.calculus.specs.Named.{lookup, names}
 use Rattle.calculus.specs.Types.{Side, provided, used}
 use Rattle.calculus.specs.Program.{Slot, slot, Context, Signature, Program, onSide, signatureContext}
 use Rattle.calculus.specs.Typing.{OneType, Typed, calls, TypedBody, Bodies, namesOf, entryFits, listFits}
@@ -25,7 +25,7 @@ use Rattle.theory_preservation.specs.Witness.{of-channels, Recast}
 use Rattle.theory_preservation.specs.Roster.{Has, tipOf, Fine, runs-awake}
 use Rattle.theory_preservation.specs.LettingGo.{less}
 use Rattle.theory_preservation.specs.TwoEnds.{key-of-key, held-tip}
-use Rattle.theory_preservation.specs.Invariant.{Inv, at-roster, fine-at, inv-set}
+use Rattle.theory_preservation.specs.Invariant.{Inv, hasLink, at-roster, fine-at, inv-set}
 use Rattle.theory_preservation.specs.Weakening.{weakened}
 
 module _ (p : Program) (l : List (Name × End)) where
@@ -116,7 +116,7 @@ module _ (p : Program) (l : List (Name × End)) where
 
 module _ {p : Program} (B : Bodies p) {C : Config} (I : Inv p C) {i : ℕ} {q : Process} where
   pub call-keeps : {o bracket : ℕ} {f : Located} {xs ys : List Located} {s : Signature} → Runs C i q (call o f bracket xs ys) → lookup (f .name) (p .processes) ≡ some s
-      → Typed p (contextOf (q .held)) (isSome (Option·map (I .id) (q .link))) (call o f bracket xs ys)
+      → Typed p (contextOf (q .held)) (hasLink I q) (call o f bracket xs ys)
       → Inv p (replaced i (goesOn q (s .body) (renamed (namesOf xs ++ namesOf ys) (signatureContext s) (q .held))) C)
   call-keeps {f = f} {xs = xs} {ys = ys} {s = s₀} r e (calls s e′ fx fy d _) =
       subst (λ s. Inv p (replaced i (goesOn q (s .body) (renamed ns (signatureContext s) (q .held))) C)) (Option·some-injective _ _ (sym e′ ∙ e))
@@ -161,7 +161,7 @@ module _ {p : Program} (B : Bodies p) {C : Config} (I : Inv p C) {i : ℕ} {q : 
 
       fine : Fine p (relinked (I .id) (becoming (running (s .body)) l q))
       fine = record {
-        typed = subst (λ H. Typed p H (isSome (Option·map (I .id) (q .link))) (s .body)) (sym same) (weakened (body .body) _);
+        typed = subst (λ H. Typed p H (hasLink I q) (s .body)) (sym same) (weakened (body .body) _);
         names = subst NoneTwice (sym (sym (context-names l) ∙ ap names same)) (distinct-iff (names G) .0 (B .names (f .name) s e′));
         keys = renamed-once p (q .held) ns G fits (distinct-iff ns .0 d) (g .keys);
         room = subst (λ n. n ≤ heldLimit) (sym (sym (context-length l) ∙ ap length same)) (body .room);

@@ -22,7 +22,7 @@ use Rattle.theory_preservation.specs.Roster.{TypedDoing, NamesDiffer, ru
 use Rattle.theory_preservation.specs.LettingGo.{raised, left, left-alone}
 use Rattle.theory_preservation.specs.Places.{Shows, shows-set, shows-out, idOut}
 use Rattle.theory_preservation.specs.Growing
-use Rattle.theory_preservation.specs.Invariant.{Inv, at-roster, fine-at, handler, unlinked}
+use Rattle.theory_preservation.specs.Invariant.{Inv, hasLink, at-roster, fine-at, handler, unlinked}
 
 started-waits-not : (d : Doing) → isWaiting (startedDoing d) ≡ false
 started-waits-not (running P) = refl
@@ -40,14 +40,8 @@ started-names ns folding n = n
 started-names ns (waiting P) n = n
 
 module _ {p : Program} {C : Config} (I : Inv p C) {i : ℕ} {q : Process} (here : Stands C i q) where
-  abbrev b : Bool
-  b = isSome (Option·map (I .id) (q .link))
-
-  at : getElem? (C .processes) i ≡ some q
-  at = here .there
-
   inside : i < length (C .processes)
-  inside = found-below (C .processes) i at
+  inside = found-below (C .processes) i (here .there)
 
   -- the handler r at h goes on by g
   module _ (w : isWaiting (q .doing) ≡ false) (h : ℕ) (lk : q .link ≡ some h) (r : Process) (rh : getElem? (C .processes) h ≡ some r) (rw : isWaiting (r .doing) ≡ true) (d : Doing) where
@@ -71,7 +65,7 @@ module _ {p : Program} {C : Config} (I : Inv p C) {i : ℕ} {q : Process} (here 
       roster = put (I .id i) (some (linkedBy none (goesOn q P (q .held)))) (put (I .id h) (some (relinked (I .id) (becoming d (r .held) r))) (I .roster));
       next = I .next;
       shows = shows-set s₁ i (omega (arith, inside, len₁)) (linkedBy none (goesOn q P (q .held))) (λ k e. absurd (Option·none-ne-some k e));
-      good = raised (I .good) (I .id i) (I .id h) (relinked (I .id) q) (relinked (I .id) r) (at-roster I i q at) (at-roster I h r rh) w link-id rw d wd nd td P n t;
+      good = raised (I .good) (I .id i) (I .id h) (relinked (I .id) q) (relinked (I .id) r) (at-roster I i q (here .there)) (at-roster I h r rh) w link-id rw d wd nd td P n t;
       places = subst (λ n. n ≤ processPlaces) (sym (length-set l₁ i _ ∙ len₁)) (I .places);
       numbers = I .numbers;
     }
@@ -83,7 +77,7 @@ module _ {p : Program} {C : Config} (I : Inv p C) {i : ℕ} {q : Process} (here 
       roster = put (I .id i) none (put (I .id h) (some (relinked (I .id) (becoming d (r .held) r))) (I .roster));
       next = I .next;
       shows = shows-out s₁ i (omega (arith, inside, len₁)) alone;
-      good = left (I .good) (I .id i) (I .id h) (relinked (I .id) q) (relinked (I .id) r) (at-roster I i q at) (at-roster I h r rh) w link-id rw d wd nd td;
+      good = left (I .good) (I .id i) (I .id h) (relinked (I .id) q) (relinked (I .id) r) (at-roster I i q (here .there)) (at-roster I h r rh) w link-id rw d wd nd td;
       places = let a = I .places in let b = length-removed i l₁ (omega (arith, inside, len₁)) in omega (arith, len₁);
       numbers = I .numbers;
     }
@@ -92,21 +86,21 @@ module _ {p : Program} {C : Config} (I : Inv p C) {i : ℕ} {q : Process} (here 
         alone j s e z = go (set-cases (C .processes) h (doingNow d r) (found-below (C .processes) h rh) j s e)
           where
             go : ((j ≡ h) × (doingNow d r ≡ s)) ⊎ ((j ≢ h) × (getElem? (C .processes) j ≡ some s)) → ⊥
-            go (inl y) = unlinked I i q at w h r rh (ap (λ (s : Process). s .link) (y .1) ∙ z)
-            go (inr y) = unlinked I i q at w j s (y .1) z
+            go (inl y) = unlinked I i q (here .there) w h r rh (ap (λ (s : Process). s .link) (y .1) ∙ z)
+            go (inr y) = unlinked I i q (here .there) w j s (y .1) z
 
-  pub raise-keeps : {o : ℕ} {P : Proc} → q .doing ≡ running (raise o P) → Typed p (contextOf (q .held)) b (raise o P)
+  pub raise-keeps : {o : ℕ} {P : Proc} → q .doing ≡ running (raise o P) → Typed p (contextOf (q .held)) (hasLink I q) (raise o P)
       → Inv p (replaced i (linkedBy none (goesOn q P (q .held))) (withProcesses (changedAt startedHandler (q .link) (C .processes)) C))
   raise-keeps {P = P} r (raises e t) = go (q .link) refl
     where
       go : (o : Option ℕ) → q .link ≡ o → Inv p (replaced i (linkedBy none (goesOn q P (q .held))) (withProcesses (changedAt startedHandler o (C .processes)) C))
       go none z = absurd (false≢true (sym (ap (λ o. isSome (Option·map (I .id) o)) z) ∙ e))
       go (some h) z =
-          let x = handler I i q at h z in
+          let x = handler I i q (here .there) h z in
           subst (λ o. Inv p (replaced i (linkedBy none (goesOn q P (q .held))) (withProcesses (putAt (C .processes) h (Option·map startedHandler o)) C))) (sym (x .1))
           (raised-inv (runs-awake r) h z (x .0) (x .1) (x .2) (startedDoing (x .0 .doing)) (started-waits-not (x .0 .doing))
           (started-names _ (x .0 .doing) (fine-at I h (x .0) (x .1) .names))
-          (started-typed p _ _ (x .0 .doing) (fine-at I h (x .0) (x .1) .typed)) P (runs-on r P .names _ (fine-at I i q at .names)) t)
+          (started-typed p _ _ (x .0 .doing) (fine-at I h (x .0) (x .1) .typed)) P (runs-on r P .names _ (fine-at I i q (here .there) .names)) t)
 
   empty-awake : Empty q → isWaiting (q .doing) ≡ false
   empty-awake (no-term e) = ap isWaiting e
@@ -123,12 +117,12 @@ module _ {p : Program} {C : Config} (I : Inv p C) {i : ℕ} {q : Process} (here 
         id = idOut (I .shows) i;
         roster = put (I .id i) none (I .roster);
         next = I .next;
-        shows = shows-out (I .shows) i inside (unlinked I i q at w);
-        good = left-alone (I .good) (I .id i) (relinked (I .id) q) (at-roster I i q at) w (ap (Option·map (I .id)) z);
+        shows = shows-out (I .shows) i inside (unlinked I i q (here .there) w);
+        good = left-alone (I .good) (I .id i) (relinked (I .id) q) (at-roster I i q (here .there)) w (ap (Option·map (I .id)) z);
         places = let a = I .places in let b = length-removed i (C .processes) inside in omega arith;
         numbers = I .numbers;
       }
       go (some h) z =
-          let r = handler I i q at h z in
+          let r = handler I i q (here .there) h z in
           subst (λ o. Inv p (withProcesses (removed i (putAt (C .processes) h (Option·map foldedHandler o))) C)) (sym (r .1))
           (left-inv w h z (r .0) (r .1) (r .2) folding refl tt tt)

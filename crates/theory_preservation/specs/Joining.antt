@@ -1,12 +1,11 @@
 -- Fwd: the far ends of its two channels become one channel, and it is left empty.
 use mathlib.Core.Path.{_≡_, sym, _∙_, ap, subst}
 use mathlib.Core.List.{[], Sublistᴰ·nil-sublist}
-use mathlib.Core.Option.{some, Option·map, Option·some-injective}
-use mathlib.Core.Bool.{Bool}
+use mathlib.Core.Option.{some, Option·some-injective}
 use Prim.Native.Nat.{ℕ}
 use lib.ListN.{getElem?}
 use Rattle.notation.specs.Tree.{Located, fwd}
-use Rattle.calculus.specs.Named.{lookup, isSome}
+use Rattle.calculus.specs.Named.{lookup}
 use Rattle.calculus.specs.Types.{provided, used}
 use Rattle.calculus.specs.Program.{Program}
 use Rattle.calculus.specs.Typing.{OneType, Typed, forwards}
@@ -21,16 +20,10 @@ use Rattle.theory_preservation.specs.Roster.{runs-awake, goes-folding}
 use Rattle.theory_preservation.specs.Forwarding.{forwarded, forwarded-out}
 use Rattle.theory_preservation.specs.Relocating.{Relocated, relocated}
 use Rattle.theory_preservation.specs.Growing
-use Rattle.theory_preservation.specs.Invariant.{Inv, at-roster, fine-at, inv-set, inv-two}
+use Rattle.theory_preservation.specs.Invariant.{Inv, hasLink, at-roster, fine-at, inv-set, inv-two}
 use Rattle.theory_preservation.specs.GivingUp.{folds-up, parts}
 
 module _ {p : Program} {C : Config} (I : Inv p C) {i : ℕ} {q : Process} (here : Stands C i q) where
-  abbrev b : Bool
-  b = isSome (Option·map (I .id) (q .link))
-
-  at : getElem? (C .processes) i ≡ some q
-  at = here .there
-
   -- e is the end of x, d that of c
   module _ {o : ℕ} {x c : Located} (r : q .doing ≡ running (fwd o x c)) {e d : End} (le : lookup (x .name) (q .held) ≡ some e) (ld : lookup (c .name) (q .held) ≡ some d) where
     -- x is provided, c is used, and their types are one
@@ -39,7 +32,7 @@ module _ {p : Program} {C : Config} (I : Inv p C) {i : ℕ} {q : Process} (here 
       takes : d .side ≡ used
       one : OneType p (e .type) (d .type)
 
-    forwards-as : Typed p (contextOf (q .held)) b (fwd o x c) → ForwarderTyped
+    forwards-as : Typed p (contextOf (q .held)) (hasLink I q) (fwd o x c) → ForwarderTyped
     forwards-as (forwards A B hx hc ab _) =
         let a = held-plain (x .name) (q .held) provided A hx in
         let b = held-plain (c .name) (q .held) used B hc in
@@ -51,20 +44,20 @@ module _ {p : Program} {C : Config} (I : Inv p C) {i : ℕ} {q : Process} (here 
           one = rw (ap (λ (e : End). e .type) (sym ea) ∙ a .type, ap (λ (e : End). e .type) (sym db) ∙ b .type) ab;
         }
 
-    pub forward-keeps : {h : Holder} → Typed p (contextOf (q .held)) b (fwd o x c) → HeldFar C e h → Inv p (replaced (h .place) (farMoved e d (h .process)) (replaced i (foldsUp q []) C))
+    pub forward-keeps : {h : Holder} → Typed p (contextOf (q .held)) (hasLink I q) (fwd o x c) → HeldFar C e h → Inv p (replaced (h .place) (farMoved e d (h .process)) (replaced i (foldsUp q []) C))
     forward-keeps {h} t f =
         let m = forwards-as t in
-        inv-two I i (h .place) q (h .process) at (f .stands) folding (h .process .doing) [] _
-        (forwarded (I .good) (I .id i) (relinked (I .id) q) (at-roster I i q at) (runs-awake r) (x .name) (c .name) e d le ld (m .gives) (m .takes) (m .one) (I .id (h .place))
+        inv-two I i (h .place) q (h .process) (here .there) (f .stands) folding (h .process .doing) [] _
+        (forwarded (I .good) (I .id i) (relinked (I .id) q) (at-roster I i q (here .there)) (runs-awake r) (x .name) (c .name) e d le ld (m .gives) (m .takes) (m .one) (I .id (h .place))
         (relinked (I .id) (h .process)) (at-roster I (h .place) (h .process) (f .stands)) (h .name) (f .end) (f .held) (f .channel) (f .side) _
         (subst (Relocated (f .end) (d .channel) (h .process .held)) (λ t. movedEnd (f .channel t) (f .side t) (d .channel) (h .process .held))
         (relocated (h .name) (f .end) (d .channel) (h .process .held) (fine-at I (h .place) (h .process) (f .stands) .keys) (f .held))))
 
-    pub forward-out-keeps : Typed p (contextOf (q .held)) b (fwd o x c) → Inv p (withOutside (movedOutside (e .channel) (d .channel) (C .outside)) (replaced i (foldsUp q []) C))
+    pub forward-out-keeps : Typed p (contextOf (q .held)) (hasLink I q) (fwd o x c) → Inv p (withOutside (movedOutside (e .channel) (d .channel) (C .outside)) (replaced i (foldsUp q []) C))
     forward-out-keeps t =
         let m = forwards-as t in
-        inv-set I i q at folding [] (I .numbers)
-        (forwarded-out (I .good) (I .id i) (relinked (I .id) q) (at-roster I i q at) (runs-awake r) (x .name) (c .name) e d le ld (m .gives) (m .takes) (m .one))
+        inv-set I i q (here .there) folding [] (I .numbers)
+        (forwarded-out (I .good) (I .id i) (relinked (I .id) q) (at-roster I i q (here .there)) (runs-awake r) (x .name) (c .name) e d le ld (m .gives) (m .takes) (m .one))
 
     pub joined-nobody : Inv p (replaced i (foldsUp q []) C)
     joined-nobody = folds-up I here (runs-awake r) (Sublistᴰ·nil-sublist (q .held))

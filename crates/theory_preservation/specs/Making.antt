@@ -9,7 +9,7 @@ use native.Mathlib.Omega.{arith}
 use lib.ListN.{length, set, getElem?, length-set}
 use Rattle.notation.specs.Limits.{processPlaces, channelPlaces, heldLimit}
 use Rattle.notation.specs.Tree.{Name, Located, Ty, Proc, spawn, try, plain}
-use Rattle.calculus.specs.Named.{kept, names, isSome}
+use Rattle.calculus.specs.Named.{kept, names}
 use Rattle.calculus.specs.Types.{provided, used}
 use Rattle.calculus.specs.Program.{slot, Program}
 use Rattle.calculus.specs.Mentions.{mentions, halfMentions, spawnTakes, spawnLeaves, tryTakes, exactlyOne}
@@ -26,17 +26,11 @@ use Rattle.theory_preservation.specs.Places.{Shows, shows-set, shows-in,
 use Rattle.theory_preservation.specs.FarEnds.{fresh-unheld}
 use Rattle.theory_preservation.specs.Witness.{Tip}
 use Rattle.theory_preservation.specs.Growing
-use Rattle.theory_preservation.specs.Invariant.{Inv, at-roster}
+use Rattle.theory_preservation.specs.Invariant.{Inv, hasLink, at-roster}
 
 module _ {p : Program} {C : Config} (I : Inv p C) {i : ℕ} {q : Process} (here : Stands C i q) where
-  abbrev b : Bool
-  b = isSome (Option·map (I .id) (q .link))
-
-  at : getElem? (C .processes) i ≡ some q
-  at = here .there
-
   inside : i < length (C .processes)
-  inside = found-below (C .processes) i at
+  inside = found-below (C .processes) i (here .there)
 
   -- the identity `next` is nobody's
   new-id : (j : ℕ) → j < length (C .processes) → I .id j ≢ I .next
@@ -45,7 +39,7 @@ module _ {p : Program} {C : Config} (I : Inv p C) {i : ℕ} {q : Process} (here 
       let b = I .good .placed (I .id j) (relinked (I .id) (x .0)) (I .shows .there j (x .0) (x .1)) .1 in omega arith
 
   pub spawn-keeps : {x : Located} {A : Ty Located} {P Q : Proc} {k : ℕ} → q .doing ≡ running (spawn x A P Q) → length (C .processes) < processPlaces → freshChannel C ≡ some k
-      → Typed p (contextOf (q .held)) b (spawn x A P Q)
+      → Typed p (contextOf (q .held)) (hasLink I q) (spawn x A P Q)
       → Inv p (withProcesses
       (inserted i (process (running P) (spawnTakes (x .name) P (q .held) ++ ((x .name, end provided k (plain A)) ∷ [])) none)
       (set (C .processes) i (goesOn q Q (spawnLeaves (x .name) P (q .held) ++ ((x .name, end used k (plain A)) ∷ [])))))
@@ -56,9 +50,9 @@ module _ {p : Program} {C : Config} (I : Inv p C) {i : ℕ} {q : Process} (here 
     roster = put (I .next) (some made) (put (I .id i) (some (relinked (I .id) maker)) (I .roster));
     next = suc (I .next);
     shows = shows-in s₁ i (I .next) (omega (arith, inside, len₁)) (λ j h. new-id j (omega (arith, len₁))) made (λ h z. absurd (Option·none-ne-some h z));
-    good = Growing.spawn-good (I .good) (I .id i) (relinked (I .id) q) (at-roster I i q at) w t n (plain A) k (fresh .1) (fresh .0) (absent-held n (q .held) (bP .new)) P Q
+    good = Growing.spawn-good (I .good) (I .id i) (relinked (I .id) q) (at-roster I i q (here .there)) w t n (plain A) k (fresh .1) (fresh .0) (absent-held n (q .held) (bP .new)) P Q
         (room t (bP .room)) (room (λ m. not (t m)) (bQ .room)) (subst (λ G. Typed p G false P) (sym (half t (end provided k (plain A)))) tP)
-        (subst (λ G. Typed p G b Q) (sym (half (λ m. not (t m)) (end used k (plain A)))) tQ);
+        (subst (λ G. Typed p G (hasLink I q) Q) (sym (half (λ m. not (t m)) (end used k (plain A)))) tQ);
     places = let c = length-inserted i made (set (C .processes) i maker) in omega (arith, len₁);
     numbers = I .numbers;
   }
@@ -86,12 +80,12 @@ module _ {p : Program} {C : Config} (I : Inv p C) {i : ℕ} {q : Process} (here 
       len₁ = length-set (C .processes) i maker
 
       s₁ : Shows (I .id) (set (C .processes) i maker) (put (I .id i) (some (relinked (I .id) maker)) (I .roster))
-      s₁ = shows-set (I .shows) i inside maker (I .shows .within i q at)
+      s₁ = shows-set (I .shows) i inside maker (I .shows .within i q (here .there))
 
       fresh : (k < channelPlaces) × ((v : ℕ) (t : Tip) → Has (I .roster) (C .outside) v t → t .0 .0 ≢ channelKey k)
       fresh = fresh-unheld C (I .shows) k e
 
-  pub try-keeps : {o : ℕ} {P Q : Proc} → q .doing ≡ running (try o P Q) → length (C .processes) < processPlaces → Typed p (contextOf (q .held)) b (try o P Q)
+  pub try-keeps : {o : ℕ} {P Q : Proc} → q .doing ≡ running (try o P Q) → length (C .processes) < processPlaces → Typed p (contextOf (q .held)) (hasLink I q) (try o P Q)
       → Inv p (withProcesses
       (set (inserted i (process (waiting Q) (tryTakes Q (q .held)) (Option·map (movedUp i) (q .link))) (C .processes)) i
       (linkedBy (some (suc i)) (goesOn q P (tryTakes P (q .held)))))
@@ -103,8 +97,8 @@ module _ {p : Program} {C : Config} (I : Inv p C) {i : ℕ} {q : Process} (here 
     next = suc (I .next);
     shows = shows-set s₁ i (omega (arith, inside, len₁)) tryer (λ h z. let y = Option·some-injective _ _ z in omega (arith, inside, len₁));
     good = subst (λ S. Good p S (C .outside) (C .given) (suc (I .next))) same
-        (Growing.try-good (I .good) (I .id i) (relinked (I .id) q) (at-roster I i q at) w (mentions P) (mentions Q) disjoint P Q
-        (subst (λ G. Typed p G true P) (context-kept (mentions P) (q .held)) tP) (subst (λ G. Typed p G b Q) (context-kept (mentions Q) (q .held)) tQ));
+        (Growing.try-good (I .good) (I .id i) (relinked (I .id) q) (at-roster I i q (here .there)) w (mentions P) (mentions Q) disjoint P Q
+        (subst (λ G. Typed p G true P) (context-kept (mentions P) (q .held)) tP) (subst (λ G. Typed p G (hasLink I q) Q) (context-kept (mentions Q) (q .held)) tQ));
     places = subst (λ n. n ≤ processPlaces) (sym (length-set (inserted i waiter (C .processes)) i tryer ∙ len₁)) lt;
     numbers = I .numbers;
   }
@@ -124,7 +118,7 @@ module _ {p : Program} {C : Config} (I : Inv p C) {i : ℕ} {q : Process} (here 
       up-within : (h : ℕ) → Option·map (movedUp i) (q .link) ≡ some h → h < suc (length (C .processes))
       up-within h z =
           let x = map-eq-some-iff {B = ℕ} (movedUp i) (q .link) .0 z in
-          subst (λ h. h < suc (length (C .processes))) (x .2) (up-below (I .shows) i (x .0) (I .shows .within i q at (x .0) (x .1)))
+          subst (λ h. h < suc (length (C .processes))) (x .2) (up-below (I .shows) i (x .0) (I .shows .within i q (here .there) (x .0) (x .1)))
 
       s₁ : Shows f (inserted i waiter (C .processes)) (put (I .next) (some (relinked f waiter)) (I .roster))
       s₁ = shows-in (I .shows) i (I .next) inside new-id waiter up-within

@@ -119,7 +119,7 @@ Recast p H v e = (t : Option (Ty Name)) × H v (e .0, t) × OneOf p t (e .1)
 pub recast-same : (p : Program) (H : Rel) (v : ℕ) (e : Tip) → H v e → Recast p H v e
 recast-same p H v e h = (e .1, h, one-of-refl p (e .1))
 
--- ── the ends of k get types that are one with T, and each other one as before
+-- ── the ends of k get types that are one with T, and each other end one that is one with what it had
 abbrev pub Retyped : Program → Rel → ℕ → Option (Ty Name) → Rel
 Retyped p H k T v e = (t : Option (Ty Name)) × H v (e .0, t) × (((e .0 .0 ≡ k) × OneOf p T (e .1)) ⊎ ((e .0 .0 ≢ k) × OneOf p t (e .1)))
 
