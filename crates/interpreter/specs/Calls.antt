@@ -18,7 +18,7 @@ use Rattle.theory_refusals.specs.Refusals.{refusalOf}
 use Rattle.interpreter.specs.Entries.{EntryCall, callOf, configOf, HoldsRun, Answers}
 
 -- ── demand 1: "Whoever calls, with whatever text, buffers, numbers or order of calls, gets an answer or a numbered refusal; a refused step leaves the run as it was."
--- `Answers s m` is the contract of the entry that was called, the very record of its `ensures`.
+-- `Answers s m` is the contract of the entry that was called: the very record of its `ensures`, and of a report's the field `answers`.
 pub record Demand1 : Type 0 where
   pub numbered : (s : List ℕ) (m : EntryCall) → Answers s m → isRefused (m .answer) ≡ true → (1 ≤ refusalOf (m .answer)) × (refusalOf (m .answer) ≤ 21)
   pub unchanged : (s : List ℕ) (m : EntryCall) → Answers s m → isRefused (m .answer) ≡ true → m .left .run ≡ m .lent .run

@@ -62,19 +62,19 @@ callOf m = callAs (m .request) (length (m .lent .scratch)) (length (m .lent .run
 
 -- what becomes of the run: it is begun anew, what it holds is read, or none is lent
 pub data RunUse : Type 0 where
-  begun : RunUse
+  anew : RunUse
   read : RunUse
   unlent : RunUse
 
 abbrev pub useOf : Request → RunUse
-useOf (toStart line) = begun
+useOf (toStart line) = anew
 useOf (toStep place) = read
 useOf (toRunOn budget) = read
 useOf toReport = read
 useOf (toName line) = unlent
 
 abbrev pub isRead : RunUse → Bool
-isRead begun = false
+isRead anew = false
 isRead read = true
 isRead unlent = false
 
@@ -100,7 +100,7 @@ pub record Leaves (s ws vs : List ℕ) (D : Config) : Type 0 where
 
 -- "Every refusal leaves the run slice."
 abbrev pub keepsRun : RunUse → Answer → Bool
-keepsRun begun a = isRefused a
+keepsRun anew a = isRefused a
 keepsRun read a = isRefused a
 keepsRun unlent a = true
 

@@ -10,7 +10,7 @@ use Rattle.calculus.specs.Configuration.{Config}
 use Rattle.calculus.specs.Demands.{isRefused}
 use Rattle.calculus.specs.Machine.{Call, callStart, callStep, callRunOn, callReport, callExecName, Answer, refusal, respond, idle}
 use Rattle.theory_refusals.specs.Refusals.{refusalOf, offsetOf, ByArguments, Refuses, refuses-as, respond-numbered, respond-unrefused}
-use Rattle.interpreter.specs.Entries.{EntryCall, callOf, RunUse, begun, read, unlent, useOf, configOf, HoldsRun, keepsRun, leftAs, Reached, plainReply, Answers}
+use Rattle.interpreter.specs.Entries.{EntryCall, callOf, RunUse, anew, read, unlent, useOf, configOf, HoldsRun, keepsRun, leftAs, Reached, plainReply, Answers}
 use Rattle.interpreter.specs.Calls.{Demand1}
 
 -- ── 18
@@ -53,7 +53,7 @@ eighteen (callExecName scratch line) = (omega arith, omega arith)
 
 -- a refusal leaves the run
 refused-keeps : (u : RunUse) (a : Answer) → isRefused a ≡ true → keepsRun u a ≡ true
-refused-keeps begun a e = e
+refused-keeps anew a e = e
 refused-keeps read a e = e
 refused-keeps unlent a e = refl
 

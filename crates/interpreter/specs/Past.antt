@@ -16,7 +16,7 @@ use Rattle.calculus.specs.Steps.{step}
 use Rattle.calculus.specs.declared.answers.Started.the-variants as starts
 use Rattle.calculus.specs.declared.answers.Stepped.the-variants as steps
 use Rattle.calculus.specs.declared.answers.Reported.the-variants as reports
-use Rattle.interpreter.specs.Entries.{Request, toStart, toStep, toRunOn, toReport, toName, callAs, RunUse, begun, read, unlent, useOf, RunAfter}
+use Rattle.interpreter.specs.Entries.{Request, toStart, toStep, toRunOn, toReport, toName, callAs, RunUse, anew, read, unlent, useOf, RunAfter}
 
 -- a refusal as it answers what is asked
 abbrev pub refusalTo : Request → ℕ → ℕ → Answer
@@ -27,12 +27,12 @@ refuse q C k i = reply (refusalTo q k i) C
 
 -- where a run is lent, refusal 16 is tested
 abbrev pub isLent : RunUse → Bool
-isLent begun = true
+isLent anew = true
 isLent read = true
 isLent unlent = false
 
 abbrev pub onLent : RunUse → ℕ → (ℕ → ℕ → Reply) → Reply → Reply
-onLent begun run f y = onRun run f y
+onLent anew run f y = onRun run f y
 onLent read run f y = onRun run f y
 onLent unlent run f y = y
 
@@ -76,12 +76,12 @@ module _ (s : List ℕ) where
 
 -- 16, and past it
 pub lent-short : (u : RunUse) (m : ℕ) (f : ℕ → ℕ → Reply) (y : Reply) → isLent u ≡ true → m < runWords → onLent u m f y ≡ f 16 0
-lent-short begun m f y e l = ap (λ b. cond b y (f 16 0)) (lt-leb runWords m l)
+lent-short anew m f y e l = ap (λ b. cond b y (f 16 0)) (lt-leb runWords m l)
 lent-short read m f y e l = ap (λ b. cond b y (f 16 0)) (lt-leb runWords m l)
 lent-short unlent m f y e l = absurd (false≢true e)
 
 pub lent-past : (u : RunUse) (m : ℕ) (f : ℕ → ℕ → Reply) (y : Reply) → (isLent u ≡ true → runWords ≤ m) → onLent u m f y ≡ y
-lent-past begun m f y l = ap (λ b. cond b y (f 16 0)) (le-leb runWords m (l refl))
+lent-past anew m f y l = ap (λ b. cond b y (f 16 0)) (le-leb runWords m (l refl))
 lent-past read m f y l = ap (λ b. cond b y (f 16 0)) (le-leb runWords m (l refl))
 lent-past unlent m f y l = refl
 

@@ -43,6 +43,9 @@ abbrev key-of : {p : Program} {C : Config} {i : ℕ} → Shut p C i → JointKey
 key-of (nobody e) = handler 0
 key-of (waits-on k s w) = k
 
+somebody : (C : Config) {i : ℕ} → i < length (C .processes) → at C i ≢ none
+somebody C {i} b e = let q = below-found (C .processes) i b in Option·none-ne-some (q .0) (sym e ∙ q .1)
+
 module _ {p : Program} {C : Config} (v : WellFormed p C) where
   open-or-shut : (i : ℕ) → Open p C i ⊎ Shut p C i
   open-or-shut i = go (at C i) refl
@@ -65,7 +68,7 @@ module _ {p : Program} {C : Config} (v : WellFormed p C) where
   joint-in s (waits-receive e r g k) = channel-in s k
 
   key-in : {i : ℕ} → i < length (C .processes) → (x : Shut p C i) → In (key-of x) (jointKeys C)
-  key-in {i} b (nobody e) = let q = below-found (C .processes) i b in absurd (Option·none-ne-some (q .0) (sym e ∙ q .1))
+  key-in b (nobody e) = absurd (somebody C b e)
   key-in b (waits-on k s w) = joint-in s w
 
   -- ── two that wait on one joint are its two ends, and these match
@@ -110,8 +113,8 @@ module _ {p : Program} {C : Config} (v : WellFormed p C) where
 
   both-shut : {i j : ℕ} → i ≢ j → i < length (C .processes) → j < length (C .processes) → (x : Shut p C i) (y : Shut p C j) → key-of x ≡ key-of y
       → (n : ℕ) × Open p C n
-  both-shut {i} n a b (nobody e) y z = let q = below-found (C .processes) i a in absurd (Option·none-ne-some (q .0) (sym e ∙ q .1))
-  both-shut {j = j} n a b (waits-on k s w) (nobody e) z = let q = below-found (C .processes) j b in absurd (Option·none-ne-some (q .0) (sym e ∙ q .1))
+  both-shut n a b (nobody e) y z = absurd (somebody C a e)
+  both-shut n a b (waits-on k s w) (nobody e) z = absurd (somebody C b e)
   both-shut n a b (waits-on k s w) (waits-on l t u) z = both-wait n s t w u z
 
   -- joints are fewer than places, so where every place is shut two wait on one joint

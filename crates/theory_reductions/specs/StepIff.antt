@@ -10,26 +10,26 @@ use Rattle.calculus.specs.Steps.{Outcome, carried, notOpen, lacking, stepOf, st
 use Rattle.calculus.specs.declared.answers.Seen.{Seen}
 use Rattle.calculus.specs.Reduces.{Reduces, Lacks, Open}
 use Rattle.theory_reductions.specs.CarriedOut.{carried-out, lacks-out}
-use Rattle.theory_reductions.specs.Told.{Told, told-reduces, told-shut, told-short, step-told}
+use Rattle.theory_reductions.specs.Ruled.{Ruled, ruled-reduces, ruled-shut, ruled-short, step-ruled}
 
 module _ (p : Program) (C : Config) (i : ℕ) where
-  reduced : {seen : Seen} {D : Config} → Told p C i (carried seen D) → Reduces p C i seen D
-  reduced (told-reduces r) = r
+  reduced : {seen : Seen} {D : Config} → Ruled p C i (carried seen D) → Reduces p C i seen D
+  reduced (ruled-reduces r) = r
 
-  lacked : Told p C i lacking → Lacks C i
-  lacked (told-short l) = l
+  lacked : Ruled p C i lacking → Lacks C i
+  lacked (ruled-short l) = l
 
   pub step-iff : {seen : Seen} {D : Config} → (step p C i ≡ carried seen D) ↔ Reduces p C i seen D
-  step-iff = (λ e. reduced (subst (Told p C i) e (step-told p C i)), carried-out p)
+  step-iff = (λ e. reduced (subst (Ruled p C i) e (step-ruled p C i)), carried-out p)
 
   pub lacks-iff : (step p C i ≡ lacking) ↔ Lacks C i
-  lacks-iff = (λ e. lacked (subst (Told p C i) e (step-told p C i)), lacks-out p)
+  lacks-iff = (λ e. lacked (subst (Ruled p C i) e (step-ruled p C i)), lacks-out p)
 
   -- a step is open exactly where a rule applies
-  opened : {r : Outcome} → Told p C i r → isOpenBy r ≡ true → Open p C i
-  opened (told-reduces {seen = s} {D = D} r) e = inl (s, D, r)
-  opened told-shut e = absurd (false≢true e)
-  opened (told-short l) e = inr l
+  opened : {r : Outcome} → Ruled p C i r → isOpenBy r ≡ true → Open p C i
+  opened (ruled-reduces {seen = s} {D = D} r) e = inl (s, D, r)
+  opened ruled-shut e = absurd (false≢true e)
+  opened (ruled-short l) e = inr l
 
   opens : Open p C i → isOpenBy (step p C i) ≡ true
   opens (inl (s, D, r)) = ap isOpenBy (carried-out p r)
@@ -37,7 +37,7 @@ module _ (p : Program) (C : Config) (i : ℕ) where
 
   pub open-iff : (isOpen p C i ≡ true) ↔ Open p C i
   unfolding isOpen
-  open-iff = (opened (step-told p C i), opens)
+  open-iff = (opened (step-ruled p C i), opens)
 
   -- where a step is open, a process is
   pub open-place : Open p C i → (q : Process) × (at C i ≡ some q)
