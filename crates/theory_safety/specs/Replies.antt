@@ -17,7 +17,7 @@ use Rattle.calculus.specs.Steps.{Outcome, carried, notOpen, lacking, step}
 use Rattle.calculus.specs.Runs.{startConfig, lineSignature, execOf, runOn, report}
 use Rattle.calculus.specs.Reduces.{Lacks, Open}
 use Rattle.calculus.specs.Machine.{Call, callStart, callStep, callRunOn, callReport, callExecName, started, stepped, ranOn, reported, named, Reply, reply, textChecked, onProgram, onRun, onLine, onPlace, onStep, refusal, respond}
-use Rattle.calculus.specs.Demands.{Enough, isRefused, lengths, RefusedWhere}
+use Rattle.calculus.specs.Demands.{isRefused, lengths, RefusedWhere}
 use Rattle.calculus.specs.declared.answers.Seen.{Seen}
 use Rattle.calculus.specs.declared.answers.RanOn.{RanOn}
 use Rattle.calculus.specs.declared.answers.Started.the-variants as Starts
@@ -127,52 +127,28 @@ module _ (text : List ℕ) (ds : List Declaration) (ok : checked text ≡ accept
   unfolding textChecked
   enough-text scratch h = rw (leb-iff scratchWords scratch .1 h) ok
 
-  refused-start : (C : Config) (scratch run line : ℕ) → Enough scratch run
-      → RefusedWhere P C (callStart scratch run line) (respond text C (callStart scratch run line) .answer)
+  pub refused-where : (C : Config) (c : Call) → lengths c → RefusedWhere P C c (respond text C c .answer)
   unfolding respond execOf
-  refused-start C scratch run line h =
+  refused-where C (callStart scratch run line) h =
       rw (enough-text scratch (h .scratchEnough), leb-iff runWords run .1 (h .runEnough)) (go (getElem? (P .execs) line) refl)
     where
       go : (o : Option Located) → getElem? (P .execs) line ≡ o
           → (isRefused (onLine (lineSignature P o) (refusal C (callStart scratch run line)) (λ g. reply (started Starts.Begun) (startConfig g)) .answer) ≡ true) ↔ (length (P .execs) ≤ line)
       go none e = holds-iff refl (none-past (P .execs) line e)
       go (some n) e = rw (exec-defined text ds ok n (found-in (P .execs) line e) .1) (fails-iff refl (not-past (P .execs) line e))
-
-  refused-name : (C : Config) (scratch line : ℕ) → Enough scratch runWords
-      → RefusedWhere P C (callExecName scratch line) (respond text C (callExecName scratch line) .answer)
-  unfolding respond
-  refused-name C scratch line h = rw (enough-text scratch (h .scratchEnough)) (go (getElem? (P .execs) line) refl)
-    where
-      go : (o : Option Located) → getElem? (P .execs) line ≡ o
-          → (isRefused (onLine o (refusal C (callExecName scratch line)) (λ n. reply (named (n .name) 0 0) C) .answer) ≡ true) ↔ (length (P .execs) ≤ line)
-      go none e = holds-iff refl (none-past (P .execs) line e)
-      go (some n) e = fails-iff refl (not-past (P .execs) line e)
-
-  refused-step : (C : Config) (scratch run i : ℕ) → Enough scratch run
-      → RefusedWhere P C (callStep scratch run i) (respond text C (callStep scratch run i) .answer)
-  unfolding respond
-  refused-step C scratch run i h o =
+  refused-where C (callStep scratch run i) h = λ o.
       rw (enough-text scratch (h .scratchEnough), leb-iff runWords run .1 (h .runEnough), open-place P C i o .1) (go o)
     where
       go : Open P C i
           → (isRefused (onStep (step P C i) (refusal C (callStep scratch run i)) (λ seen D. reply (stepped (Steps.Carried seen)) D) .answer) ≡ true) ↔ Lacks C i
       go (inl (s, D, r)) = rw (carried-out P r) (fails-iff refl (reduces-or-lacks P C i r))
       go (inr l) = rw (lacks-out P l) (holds-iff refl l)
-
-  refused-run : (C : Config) (scratch run budget : ℕ) → Enough scratch run
-      → RefusedWhere P C (callRunOn scratch run budget) (respond text C (callRunOn scratch run budget) .answer)
-  unfolding respond
-  refused-run C scratch run budget h =
+  refused-where C (callRunOn scratch run budget) h =
       rw (enough-text scratch (h .scratchEnough), leb-iff runWords run .1 (h .runEnough)) (run-never-refused P C budget)
-
-  refused-report : (C : Config) (scratch run : ℕ) → Enough scratch run
-      → RefusedWhere P C (callReport scratch run) (respond text C (callReport scratch run) .answer)
-  unfolding respond
-  refused-report C scratch run h = rw (enough-text scratch (h .scratchEnough), leb-iff runWords run .1 (h .runEnough)) refl
-
-  pub refused-where : (C : Config) (c : Call) → lengths c → RefusedWhere P C c (respond text C c .answer)
-  refused-where C (callStart scratch run line) h = refused-start C scratch run line h
-  refused-where C (callStep scratch run i) h = refused-step C scratch run i h
-  refused-where C (callRunOn scratch run budget) h = refused-run C scratch run budget h
-  refused-where C (callReport scratch run) h = refused-report C scratch run h
-  refused-where C (callExecName scratch line) h = refused-name C scratch line h
+  refused-where C (callReport scratch run) h = rw (enough-text scratch (h .scratchEnough), leb-iff runWords run .1 (h .runEnough)) refl
+  refused-where C (callExecName scratch line) h = rw (enough-text scratch (h .scratchEnough)) (go (getElem? (P .execs) line) refl)
+    where
+      go : (o : Option Located) → getElem? (P .execs) line ≡ o
+          → (isRefused (onLine o (refusal C (callExecName scratch line)) (λ n. reply (named (n .name) 0 0) C) .answer) ≡ true) ↔ (length (P .execs) ≤ line)
+      go none e = holds-iff refl (none-past (P .execs) line e)
+      go (some n) e = fails-iff refl (not-past (P .execs) line e)
