@@ -13,7 +13,7 @@ use Rattle.calculus.specs.Declarations.{declared}
 use Rattle.calculus.specs.Demands.{Derivation, Derivable}
 use Rattle.calculus.specs.Verdict.{fine}
 use Rattle.calculus.specs.Verdict as calculus
-use Rattle.theory_derivations.specs.Demand.{demand2}
+use Rattle.theory_derivations.specs.Accepts.{accepts}
 use Rattle.calculus.specs.declared.verdict.Verdict.the-variants as verdict
 use Rattle.check_text.specs.Texts.{verdictIn, TextChecked}
 
@@ -33,11 +33,11 @@ fine-accepted (faulty n i) e = absurd (subst IsFine e tt)
 pub accepted-derivable : (s w v : List ℕ) → TextChecked s w verdict.Fine v → scratchWords ≤ length w → (ds : List Declaration) × Derivable s ds
 accepted-derivable s w v t h =
     let (ds, e) = fine-accepted (checked s) (t .enough h .0) in
-    (ds, demand2 .accepts s ds .0 e)
+    (ds, accepts s ds .0 e)
 
 -- one that it refuses, though its notation and declarations are in order, has none
 pub refused-underivable : (s w v : List ℕ) (n i : ℕ) → TextChecked s w (verdict.Refused n i) v → scratchWords ≤ length w
     → (ds : List Declaration) (d : Cursor) → readText s ≡ got ds d → declared ds ≡ fine → Derivation ds → ⊥
 refused-underivable s w v n i t h ds d r o D =
-    let e = demand2 .accepts s ds .1 (record { cursor = d; read = r; declarations = o; derivation = D }) in
+    let e = accepts s ds .1 (record { cursor = d; read = r; declarations = o; derivation = D }) in
     subst IsRefused (t .enough h .0 ∙ ap verdictIn e) tt

@@ -12,6 +12,7 @@ use calculus::answers::Started;
 use calculus::answers::Stepped;
 use calculus::verdict::Verdict;
 use check_text::check::check;
+use notation::script::Script;
 
 // Begins the run of an exec line anew.
 pub fn start(text: &[u8], scratch: &mut [u32], run: &mut [u32], line: u32) -> Started
@@ -19,7 +20,7 @@ pub fn start(text: &[u8], scratch: &mut [u32], run: &mut [u32], line: u32) -> St
 {
     let v = check(text, scratch);
     let Verdict::Refused(n, at) = v else {
-        return start_in(text, &scratch[0..8192], run, line);
+        return start_in(text, &scratch[0..Script::SCRATCH_WORDS], run, line);
     };
     Started::Refused(n, at)
 }
@@ -30,7 +31,7 @@ pub fn step(text: &[u8], scratch: &mut [u32], run: &mut [u32], place: u32) -> St
 {
     let v = check(text, scratch);
     let Verdict::Refused(n, at) = v else {
-        return step_in(text, &scratch[0..8192], run, place);
+        return step_in(text, &scratch[0..Script::SCRATCH_WORDS], run, place);
     };
     Stepped::Refused(n, at)
 }
@@ -41,7 +42,7 @@ pub fn run_on(text: &[u8], scratch: &mut [u32], run: &mut [u32], budget: u32) ->
 {
     let v = check(text, scratch);
     let Verdict::Refused(n, at) = v else {
-        return run_on_in(text, &scratch[0..8192], run, budget);
+        return run_on_in(text, &scratch[0..Script::SCRATCH_WORDS], run, budget);
     };
     RanOn::Refused(n, at)
 }
@@ -52,7 +53,7 @@ pub fn report(text: &[u8], scratch: &mut [u32], run: &[u32]) -> Report
 {
     let v = check(text, scratch);
     let Verdict::Refused(n, at) = v else {
-        return report_in(text, &scratch[0..8192], run);
+        return report_in(text, &scratch[0..Script::SCRATCH_WORDS], run);
     };
     no_report(n, at)
 }
@@ -69,7 +70,7 @@ pub fn exec_name<'a>(
 {
     let v = check(text, scratch);
     let Verdict::Refused(n, i) = v else {
-        return name_in(text, &scratch[0..8192], line, number, at);
+        return name_in(text, &scratch[0..Script::SCRATCH_WORDS], line, number, at);
     };
     *number = n;
     *at = i;

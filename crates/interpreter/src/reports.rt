@@ -14,11 +14,11 @@ use run_words::outside::outside_at;
 use run_words::outside::outside_count;
 
 // The numbers, in the order of the run; zeros after them.
-fn list_numbers(run: &[u32]) -> [u32; 32]
+fn list_numbers(run: &[u32]) -> [u32; Script::OUTSIDE_NUMBERS]
     requires { ⌜ (runWords ≤ length (now run)) × Bounded (rawIn (now run)) ⌝ }
     ensures { λ r. ⌜ Listed r (numbersOf (rawIn (now (run .entry)))) ⌝ }
 {
-    let mut numbers = [0u32; 32];
+    let mut numbers = [0u32; Script::OUTSIDE_NUMBERS];
     let n = outside_count(run);
     let mut k: usize = 0;
     while k < n {
@@ -33,7 +33,7 @@ fn list_numbers(run: &[u32]) -> [u32; 32]
 pub(crate) fn no_report(n: u32, at: usize) -> Report
     ensures { λ r. ⌜ Refuses n at r ⌝ }
 {
-    let numbers = [0u32; 32];
+    let numbers = [0u32; Script::OUTSIDE_NUMBERS];
     Report {
         answer: Reported::Refused(n, at),
         numbers,

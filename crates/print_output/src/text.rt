@@ -1,5 +1,7 @@
 // The pieces of a text, one after another, to standard output.
 use libc::STDOUT_FILENO;
+use notation::script::Script;
+use print_pieces::pieces::PIECE_BYTES;
 use print_pieces::pieces::Stage;
 use print_pieces::pieces::first_piece;
 use print_pieces::pieces::is_left;
@@ -29,9 +31,9 @@ fn print_rest(text: &[u8], scratch: &[u32], run: &mut [u32], out: &mut [u8], fro
 
 // What is to be printed for a text; answers whether it was written.
 pub fn print_text(text: &[u8]) -> bool {
-    let mut scratch = [0u32; 8192];
-    let mut run = [0u32; 6144];
-    let mut out = [0u8; 8320];
+    let mut scratch = [0u32; Script::SCRATCH_WORDS];
+    let mut run = [0u32; Script::RUN_WORDS];
+    let mut out = [0u8; PIECE_BYTES];
     let p = first_piece(text, &mut scratch, &mut out);
     let n = p.length;
     let is_written = io::write_all(STDOUT_FILENO, &out[..n]);

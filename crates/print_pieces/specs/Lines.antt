@@ -17,11 +17,17 @@ pub name-within : (s : List ℕ) (at : ℕ) {x : List ℕ} → x ≡ nameAt s at
 unfolding nameAt
 name-within s at e = omega (arith, ap length e, length-take (nameEnd s at - at) (drop at s), length-drop at s)
 
+abbrev pub number : ℕ → List ℕ
+number n = bytes "#" ++ decimal n
+
 abbrev pub channel : ℕ → List ℕ
 channel n = bytes "#" ++ (decimal n ++ bytes " -> ")
 
-pub channel-put : (n : ℕ) {o a b c : List ℕ} {at i j r : ℕ} → Appended o a at i (bytes "#") → Appended a b i j (decimal n) × (j ≤ i + 10) → Appended b c j r (bytes " -> ") → Appended o c at r (channel n) × (r ≤ at + 15)
-channel-put n p (q, l) u = (appended-on p (appended-on q u), omega (arith, p .ends, l, u .ends))
+pub number-put : (n : ℕ) {o a b : List ℕ} {at i r : ℕ} → Appended o a at i (bytes "#") → Appended a b i r (decimal n) × (r ≤ i + 10) → Appended o b at r (number n) × (r ≤ at + 11)
+number-put n p (q, l) = (appended-on p q, omega (arith, p .ends, l))
+
+pub channel-put : (n : ℕ) {o a b : List ℕ} {at i r : ℕ} → Appended o a at i (number n) × (i ≤ at + 11) → Appended a b i r (bytes " -> ") → Appended o b at r (channel n) × (r ≤ at + 15)
+channel-put n (p, l) q = (appended-as (append-assoc (bytes "#") (decimal n) (bytes " -> ")) (appended-on p q), omega (arith, l, q .ends))
 
 -- what came over the channel n
 pub shows-put : (n : ℕ) (what : List ℕ) {o a b c : List ℕ} {at i j r : ℕ} → Appended o a at i (channel n) → Appended a b i j what → Appended b c j r (10 ∷ []) → Appended o c at r (shows n what)
@@ -32,8 +38,9 @@ shows-put n what p q u =
 pub label-put : (n : ℕ) {name x o a b c d : List ℕ} {at i j k r : ℕ} → Appended o a at i (channel n) → Appended a b i j (bytes "'") → x ≡ name → Appended b c j k x → Appended c d k r (10 ∷ []) → Appended o d at r (shows n (bytes "'" ++ name))
 label-put n {name} p q e u v = shows-put n (bytes "'" ++ name) p (appended-on q (appended-as e u)) v
 
-pub passed-put : (n m : ℕ) {o a b c d : List ℕ} {at i j k r : ℕ} → Appended o a at i (channel n) × (i ≤ at + 15) → Appended a b i j (bytes "#") → Appended b c j k (decimal m) × (k ≤ j + 10) → Appended c d k r (10 ∷ []) → Appended o d at r (shows n (bytes "#" ++ decimal m)) × (r ≤ at + 27)
-passed-put n m (p, x) q (u, y) v = (shows-put n (bytes "#" ++ decimal m) p (appended-on q u) v, omega (arith, x, q .ends, y, v .ends))
+pub passed-put : (n m : ℕ) {o a b c : List ℕ} {at i j r : ℕ} → Appended o a at i (channel n) × (i ≤ at + 15) → Appended a b i j (number m) × (j ≤ i + 11) → Appended b c j r (10 ∷ [])
+    → Appended o c at r (shows n (number m)) × (r ≤ at + 27)
+passed-put n m (p, x) (q, y) u = (shows-put n (number m) p q u, omega (arith, x, y, u .ends))
 
 pub append-nil : (l : List ℕ) → l ++ [] ≡ l
 append-nil [] = refl

@@ -8,6 +8,7 @@ use lib.ListN.{length, take, drop}
 use Rattle.notation.specs.Bytes.{bytes}
 use Rattle.notation.specs.Tables.{tables}
 use Rattle.notation.specs.Tree.{Declaration}
+use Rattle.notation.specs.Limits.{textLimit}
 use Rattle.calculus.specs.Accepted.{accepted, checked}
 use Rattle.calculus.specs.Configuration.{Config}
 use Rattle.calculus.specs.Printed.{stepLimit, sighting, ending, runLines, allExecs, printed}
@@ -24,7 +25,7 @@ use Rattle.print_pieces.specs.declared.pieces.Piece.{Piece}
 
 -- bytes of the buffer that a piece is put into: a name may be as long as its text, 8,192 bytes, and fewer than 128 stand beside it
 abbrev pub pieceBytes : ℕ
-pieceBytes = 8320
+pieceBytes = textLimit + 128
 
 -- all from an exec line on; what is left of that line, of which so many steps were taken, and all after it; nothing
 abbrev pub left : List ℕ → Program → Config → Stage → List ℕ

@@ -10,7 +10,7 @@ use borrow.Author.Tests.{leb-true}
 use lib.Dec.{leb}
 use lib.ListN.{length, take, drop, getElem?, length-take, drop-of-length-le}
 use Rattle.notation.specs.Bytes.{bytes}
-use Rattle.notation.specs.Limits.{textLimit, scratchWords}
+use Rattle.notation.specs.Limits.{textLimit, scratchWords, execLimit}
 use Rattle.notation.specs.Reader.{nameIn}
 use Rattle.notation.specs.Scripts.{readText}
 use Rattle.notation.specs.Tables.{tables}
@@ -84,11 +84,11 @@ isAccepted (accepted ds) = true
 isAccepted (faulty n i) = false
 
 -- a text that is accepted is within its limit
-pub text-short : (s w : List ℕ) → TextIn s w → length s ≤ 8192
+pub text-short : (s w : List ℕ) → TextIn s w → length s ≤ textLimit
 unfolding checked readText
 text-short s w t = go (leb (length s) textLimit) refl
   where
-    go : (b : Bool) → leb (length s) textLimit ≡ b → length s ≤ 8192
+    go : (b : Bool) → leb (length s) textLimit ≡ b → length s ≤ textLimit
     go true e = leb-true (length s) textLimit e
     go false e =
         let h : isAccepted (checked s) ≡ true = ap isAccepted (t .accepts) in
@@ -265,7 +265,7 @@ module _ (s w ws : List ℕ) (line taken : ℕ) (r : RunningIn s w ws line taken
   pub told-steps : {a : RanOn} {vs : List ℕ} → RunsOn s w ws vs a (runOn Q (configIn s w ws) budget) → taken + given a ≤ stepLimit
   told-steps z = omega (arith, ap given (z .answer), given-within Q (configIn s w ws) budget, r .steps)
 
-  pub line-small : line < 16
+  pub line-small : line < execLimit
   line-small = omega (arith, r .exec, execs-many s w, tables-in (r .text) .within)
 
   pub running-next : {a : RanOn} {vs out : List ℕ} {x : Piece} → RunsOn s w ws vs a (runOn Q (configIn s w ws) budget) → Wrote out x (toldLines s taken a) (toldStage line taken a) → Next s w ws vs out (Running line taken) x

@@ -11,15 +11,24 @@ ghost use Rattle.notation.specs.Token.{nameAt};
 ghost use Rattle.calculus.specs.Printed.{decimal, line, shows, secondLine, sighting, ending};
 ghost use Rattle.print_pieces.specs.Writing.{Appended};
 
-// `#`, a channel's number and ` -> `.
+// A channel as the outside knows it: `#` and its number.
+fn put_number(out: &mut [u8], at: usize, n: u32) -> usize
+    requires { ⌜ at + 11 ≤ length (now out) ⌝ }
+    ensures { λ r. ⌜ Appended (now (out .entry)) (now (out .exit)) at r (bytes "#" ++ decimal n) ⌝ }
+    ensures { λ r. ⌜ r ≤ at + 11 ⌝ }
+{
+    let a = put(out, at, b"#");
+    put_decimal(out, a, n as usize)
+}
+
+// A channel and ` -> `.
 fn put_channel(out: &mut [u8], at: usize, n: u32) -> usize
     requires { ⌜ at + 15 ≤ length (now out) ⌝ }
     ensures { λ r. ⌜ Appended (now (out .entry)) (now (out .exit)) at r (bytes "#" ++ (decimal n ++ bytes " -> ")) ⌝ }
     ensures { λ r. ⌜ r ≤ at + 15 ⌝ }
 {
-    let a = put(out, at, b"#");
-    let b = put_decimal(out, a, n as usize);
-    put(out, b, b" -> ")
+    let a = put_number(out, at, n);
+    put(out, a, b" -> ")
 }
 
 // A line: what came over the channel n.
@@ -50,9 +59,8 @@ fn put_channel_passed(out: &mut [u8], n: u32, m: u32) -> usize
     ensures { λ r. ⌜ r ≤ 27 ⌝ }
 {
     let a = put_channel(out, 0, n);
-    let b = put(out, a, b"#");
-    let c = put_decimal(out, b, m as usize);
-    put(out, c, b"\n")
+    let b = put_number(out, a, m);
+    put(out, b, b"\n")
 }
 
 // The same, and whether it had been given up already.

@@ -6,6 +6,7 @@ use crate::lines::put_sighting;
 use calculus::answers::RanOn;
 use calculus::verdict::Verdict;
 use check_text::check::check;
+use notation::script::Script;
 use read_tables::access::exec_at;
 use read_tables::access::exec_count;
 use run_steps::running::steps_until;
@@ -13,12 +14,18 @@ use run_steps::starting::begin_line;
 ghost use mathlib.Core.Path.{_≡_};
 ghost use Prim.Native.Nat.{_+_, _≤_, _<_};
 ghost use lib.ListN.{length};
-ghost use Rattle.notation.specs.Limits.{scratchWords, runWords};
+ghost use Rattle.notation.specs.Limits.{execLimit, scratchWords, runWords};
 ghost use Rattle.calculus.specs.Printed.{stepLimit, ending};
 ghost use Rattle.theory_progress.specs.RunOn.{given};
 ghost use Rattle.check_accepted.specs.Texts.{TextIn};
 ghost use Rattle.print_pieces.specs.Pieces.{pieceBytes, RunningIn, Going, isLeft, First, Next, Wrote, toldLines, toldStage};
 ghost use Rattle.print_pieces.specs.declared.pieces.Stage.the-variants.{Exec, Running};
+
+// An exec line is given so many steps.
+const STEPS: u32 = 10000;
+
+// A buffer of so many bytes has room for every piece: a line with a name of the text in it.
+pub const PIECE_BYTES: usize = Script::TEXT + 128;
 
 // What is left to print: all from an exec line on; what is left of that line, of which so many steps were taken, and all after it; nothing.
 pub enum Stage {
@@ -110,7 +117,7 @@ fn exec_piece(text: &[u8], scratch: &[u32], run: &mut [u32], out: &mut [u8], lin
     }
 }
 
-// Run-on with what is left of the 10,000 steps.
+// Run-on with what is left of the steps.
 fn running_piece(
     text: &[u8],
     scratch: &[u32],
@@ -123,13 +130,13 @@ fn running_piece(
     requires { ⌜ pieceBytes ≤ length (now out) ⌝ }
     ensures { λ r. ⌜ Next (now (text .entry)) (now (scratch .entry)) (now (run .entry)) (now (run .exit)) (now (out .exit)) (Running line taken) r ⌝ }
 {
-    let r = steps_until(text, scratch, run, 10000 - taken);
+    let r = steps_until(text, scratch, run, STEPS - taken);
     told_piece(text, out, line, taken, r)
 }
 
 // What run-on told.
 fn told_piece(text: &[u8], out: &mut [u8], line: usize, taken: u32, answer: RanOn) -> Piece
-    requires { ⌜ (length (now text) + 52 ≤ length (now out)) × (taken + given answer ≤ stepLimit) × (line < 16) ⌝ }
+    requires { ⌜ (length (now text) + 52 ≤ length (now out)) × (taken + given answer ≤ stepLimit) × (line < execLimit) ⌝ }
     ensures { λ r. ⌜ Wrote (now (out .exit)) r (toldLines (now (text .entry)) taken answer) (toldStage line taken answer) ⌝ }
 {
     match answer {
@@ -152,7 +159,7 @@ fn told_piece(text: &[u8], out: &mut [u8], line: usize, taken: u32, answer: RanO
 
 // How an exec line ended.
 fn ended_piece(out: &mut [u8], word: &[u8], line: usize, steps: u32) -> Piece
-    requires { ⌜ (length (now word) + 24 ≤ length (now out)) × (line < 16) ⌝ }
+    requires { ⌜ (length (now word) + 24 ≤ length (now out)) × (line < execLimit) ⌝ }
     ensures { λ r. ⌜ Wrote (now (out .exit)) r (ending (now (word .entry)) steps) (Exec (line + 1)) ⌝ }
 {
     let length = put_ending(out, word, steps);

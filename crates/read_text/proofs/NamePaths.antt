@@ -75,7 +75,8 @@ module _ (s : List ℕ) (c : Cursor) (close n : ℕ) (wide : 1 ≤ n) {q : Taken
 -- ── names
 module _ (s : List ℕ) (c : Cursor) (close : ℕ) {q : Taken} (u : Stepped s c 1 0 0 (expect s kName c) q) where
   names-suc : (m : ℕ) → readNames (suc m) s close c
-      ≡ take (expect s kName c) (λ i d. choose (eqb (kindAt s (d .at)) kComma) (λ d. take (expect s kComma d) λ _ e. lastly (_∷_ (nameIn s i)) (readNames m s close e)) (λ d. take (expect s close d) λ _ e. got (nameIn s i ∷ []) e) d)
+      ≡ take (expect s kName c) (λ i d. choose (eqb (kindAt s (d .at)) kComma) (λ d. take (expect s kComma d) λ _ e. lastly (_∷_ (nameIn s i)) (readNames m s close e))
+      (λ d. take (expect s close d) λ _ e. got (nameIn s i ∷ []) e) d)
   unfolding readNames
   names-suc m = refl
 

@@ -145,7 +145,8 @@ as-process (got P d) h = record { said = h .said }
 as-process (refused n i) h = record { said = h .said }
 
 -- ── what is sent, and the rest
-module _ (s w : List ℕ) (c : Cursor) (k : Tally) (room : Room s w c k) (own : k .terms < c .terms) (at i : ℕ) (a : at < textLimit) (b : i < textLimit) (h : Payload) {q : Taken} (u : Stepped s c 1 0 0 (payloadTaken s c h) q) where
+module _ (s w : List ℕ) (c : Cursor) (k : Tally) (room : Room s w c k) (own : k .terms < c .terms) (at i : ℕ) (a : at < textLimit) (b : i < textLimit) (h : Payload) {q : Taken}
+    (u : Stepped s c 1 0 0 (payloadTaken s c h) q) where
   pub sent-no : {r : Out} {n j : ℕ} → q ≡ Refused n j → r ≡ asOut q → SentRead at i h s w c k r w
   sent-no g y = meets-no s w c k (refused-out g y) same (λ m _. sent-is _ s at (nameIn s i) c h ∙ rw (took u g))
 
@@ -164,12 +165,14 @@ module _ (s w : List ℕ) (c : Cursor) (k : Tally) (room : Room s w c k) (own : 
         (λ P. sent-after s h at (nameIn s i) j P k) (λ P. sent-write s h at i j P k w) (λ P. sent-fine s h at i j P a b (omega arith)) g pt (omega arith)
 
 -- ── () or a name, => and a process
-module _ (s w : List ℕ) (c : Cursor) (k : Tally) (room : Room s w c k) (own : k .terms < c .terms) (at i : ℕ) (a : at < textLimit) (b : i < textLimit) (h : Payload) {q : Taken} (u : Stepped s c 3 0 0 (payloadThen s c h) q) where
+module _ (s w : List ℕ) (c : Cursor) (k : Tally) (room : Room s w c k) (own : k .terms < c .terms) (at i : ℕ) (a : at < textLimit) (b : i < textLimit) (h : Payload) {q : Taken}
+    (u : Stepped s c 3 0 0 (payloadThen s c h) q) where
   pub one-no : {r : Out} {n j : ℕ} → q ≡ Refused n j → r ≡ asOut q → OneRead at i h s w c k r w
   one-no g y = meets-no s w c k (refused-out g y) same (λ m _. rw (took u g))
 
   module _ {j : ℕ} {d : Cursor} (e : q ≡ At j d) {p : Out} {v : List ℕ} (t : ProcessRead s w d k p v) where
-    one-part : (m : ℕ) → 3 * unread s c + 1 < m → (take (payloadThen s c h) (λ j d. lastly (recvdOf s h at (nameIn s i) j) (readProcess m s d)) ≡ lastly (recvdOf s h at (nameIn s i) j) (readProcess m s d)) × (3 * unread s d + 1 < m)
+    one-part : (m : ℕ) → 3 * unread s c + 1 < m → (take (payloadThen s c h) (λ j d. lastly (recvdOf s h at (nameIn s i) j) (readProcess m s d)) ≡ lastly (recvdOf s h at (nameIn s i) j)
+        (readProcess m s d)) × (3 * unread s d + 1 < m)
     one-part m lo = let o = u .on j d e in (rw (took u e), omega arith)
 
     pub one-inner-no : {n x : ℕ} → p ≡ Not n x → OneRead at i h s w c k p v
@@ -183,14 +186,16 @@ module _ (s w : List ℕ) (c : Cursor) (k : Tally) (room : Room s w c k) (own : 
         (λ P. received-after s h at (nameIn s i) j P k) (λ P. received-write s h at i j P k w) (λ P. received-fine s h at i j P a b (omega arith)) g pt (omega arith)
 
 -- ── a branch for each label
-module _ (s w : List ℕ) (c : Cursor) (k : Tally) (room : Room s w c k) (own : k .terms < c .terms) (at i : ℕ) (a : at < textLimit) (b : i < textLimit) {p : Out} {v : List ℕ} (t : BranchesRead 0 s w c k p v) where
+module _ (s w : List ℕ) (c : Cursor) (k : Tally) (room : Room s w c k) (own : k .terms < c .terms) (at i : ℕ) (a : at < textLimit) (b : i < textLimit) {p : Out} {v : List ℕ}
+    (t : BranchesRead 0 s w c k p v) where
   labels-part : (m : ℕ) → 3 * unread s c + 1 < m → (lastly (recvLabel at (nameIn s i)) (readBranches m s 0 c) ≡ lastly (recvLabel at (nameIn s i)) (readBranches m s 0 c)) × (3 * unread s c + 1 < m)
   labels-part m lo = (refl, lo)
 
   pub labels-no : {n x : ℕ} → p ≡ Not n x → LabelsRead at i s w c k p v
   labels-no = over-no s w c c k (recvLabel at (nameIn s i)) labels-part t
 
-  pub labels-got : {f : Cursor} {l l₂ : Tally} {v₂ : List ℕ} → p ≡ Got f l → Put v (putTerm v (l .terms) (termNode 8 at i (l .branches) (l .last))) (moreTerms l) l₂ v₂ → LabelsRead at i s w c k (Got f l₂) v₂
+  pub labels-got : {f : Cursor} {l l₂ : Tally} {v₂ : List ℕ} → p ≡ Got f l → Put v (putTerm v (l .terms) (termNode 8 at i (l .branches) (l .last))) (moreTerms l) l₂ v₂ → LabelsRead at i s w c k
+      (Got f l₂) v₂
   unfolding afterProcess writeProcess FineProcess
   labels-got {f} {l} g pt =
       let o = t .on f l g in
@@ -519,7 +524,8 @@ module _ (s w : List ℕ) (c : Cursor) (k : Tally) (room : Room s w c k) {q : Ta
             (λ m lo. gone-on (bracketedBy (λ d. readProcess m s d) s d) (t .is m (omega arith)) g λ P a _ _ _.
             rw (took u e, a, took y z, stopped (bracketedBy (λ d. readProcess m s d) s b) (t₂ .is m (omega arith)) h))
 
-        pub try-got : {b₂ : Cursor} {l₂ l₃ : Tally} {v₃ : List ℕ} → p₂ ≡ Got b₂ l₂ → Put v₂ (putTerm v₂ (l₂ .terms) (termNode 12 at 0 (l .last) (l₂ .last))) (moreTerms l₂) l₃ v₃ → TermRead Try s w c k (Got b₂ l₃) v₃
+        pub try-got : {b₂ : Cursor} {l₂ l₃ : Tally} {v₃ : List ℕ} → p₂ ≡ Got b₂ l₂ → Put v₂ (putTerm v₂ (l₂ .terms) (termNode 12 at 0 (l .last) (l₂ .last))) (moreTerms l₂) l₃ v₃ → TermRead Try s w c
+            k (Got b₂ l₃) v₃
         unfolding processBy afterProcess writeProcess FineProcess
         try-got {b₂} {l₂} h pt =
             let o = u .on at d e in
@@ -550,7 +556,8 @@ module _ (s w : List ℕ) (c : Cursor) (k : Tally) (room : Room s w c k) (own : 
         (λ m lo. gone-on (bracketedBy (λ d. readProcess m s d) s c) (t .is m (omega arith)) g λ P a _ _ _.
         rw (a, stopped (readRest m s d) (t₂ .is m (omega arith)) h))
 
-    pub parts-got : {b : Cursor} {l₂ l₃ : Tally} {v₃ : List ℕ} → p₂ ≡ Got b l₂ → Put v₂ (putTerm v₂ (l₂ .terms) (termNode 5 i (k .last) (l .last) (l₂ .last))) (moreTerms l₂) l₃ v₃ → PartsRead i s w c k (Got b l₃) v₃
+    pub parts-got : {b : Cursor} {l₂ l₃ : Tally} {v₃ : List ℕ} → p₂ ≡ Got b l₂ → Put v₂ (putTerm v₂ (l₂ .terms) (termNode 5 i (k .last) (l .last) (l₂ .last))) (moreTerms l₂) l₃ v₃ → PartsRead i s w c
+        k (Got b l₃) v₃
     parts-got {b} {l₂} h pt =
         let o = t .on d l g in
         let o₂ = t₂ .on b l₂ h in
@@ -580,7 +587,8 @@ spawn-parts x A (refused n i) rest = refl
 
 module _ (s w : List ℕ) (c : Cursor) (k : Tally) (room : Room s w c k) {q : Taken} (u : Stepped s c 2 0 1 (nameColon s c) q) where
   spawn-is : (m : ℕ) → termBy Spawn s c m
-      ≡ take (nameColon s c) (λ i e. part (readType m s e) λ A f. take (expect s kFrom f) λ _ g. part (bracketedBy (λ d. readProcess m s d) s g) λ P h. lastly (spawn (nameIn s i) A P) (readRest m s h))
+      ≡ take (nameColon s c) (λ i e. part (readType m s e) λ A f. take (expect s kFrom f) λ _ g. part (bracketedBy (λ d. readProcess m s d) s g) λ P h. lastly (spawn (nameIn s i) A P)
+      (readRest m s h))
   unfolding nameColon processBy
   spawn-is m = sym (then-take (processTerm s kName c) (expect s kColon) _)
 
@@ -614,7 +622,8 @@ module _ (s w : List ℕ) (c : Cursor) (k : Tally) (room : Room s w c k) {q : Ta
               let o₃ = y .on j b z in
               meets-no s w c k r (t₂ .kept upon t .kept)
               (λ m lo. gone-on (readType m s d) (t .is m (omega arith)) g λ A a _ _ _.
-              spawn-is m ∙ rw (took u e, a, took y z) (spawn-parts (nameIn s i) A (bracketedBy (λ d. readProcess m s d) s b) (λ d. readRest m s d) ∙ ap (lastly (spawned (nameIn s i) A)) (stopped (parts m) (t₂ .is m (omega arith)) r)))
+              spawn-is m ∙ rw (took u e, a, took y z) (spawn-parts (nameIn s i) A (bracketedBy (λ d. readProcess m s d) s b) (λ d. readRest m s d) ∙ ap (lastly (spawned (nameIn s i) A))
+              (stopped (parts m) (t₂ .is m (omega arith)) r)))
           go (Got b₂ l₂) r =
               let o = u .on i d e in
               let o₂ = t .on f l g in

@@ -158,7 +158,8 @@ module _ (s w : List ℕ) (c : Cursor) (k : Tally) (room : Room s w c k) {q : Ta
   abbrev Procs : Out → List ℕ → Type 0
   Procs = DeclarationRead ProcWord s w c k
 
-  proc-is : (m : ℕ) → procDeclaration m s (k .processes) c ≡ take (declaredName s kProc (k .processes) processLimit c) λ i e. part (entryList m s kRoundOpen kRoundClose e) λ xs f. part (entryList m s kSquareOpen kSquareClose f) λ ys g. take (expect s kEquals g) λ _ h. lastly (declareProc (nameIn s i) xs ys) (readProcess m s h)
+  proc-is : (m : ℕ) → procDeclaration m s (k .processes) c ≡ take (declaredName s kProc (k .processes) processLimit c) λ i e. part (entryList m s kRoundOpen kRoundClose e) λ xs f. part
+      (entryList m s kSquareOpen kSquareClose f) λ ys g. take (expect s kEquals g) λ _ h. lastly (declareProc (nameIn s i) xs ys) (readProcess m s h)
   unfolding procDeclaration declaredName
   proc-is m = name-taken (keyword s kProc (k .processes) processLimit c) (expect s kName) _
 
@@ -213,7 +214,8 @@ module _ (s w : List ℕ) (c : Cursor) (k : Tally) (room : Room s w c k) {q : Ta
               let o₆ = t₃ .on b₄ l₃ r in
               let few = name-held kProc (k .processes) processLimit u e in
               rw (pt .is, pt .words)
-              (meets-got s w c k (omega arith, count-is (moreProcesses l₃) (k .types) (k .processes + 1) (k .execs) (omega arith) (omega arith) (omega arith), λ n. omega arith) (put-kept pt upon t₃ .kept upon t₂ .kept upon t .kept)
+              (meets-got s w c k (omega arith, count-is (moreProcesses l₃) (k .types) (k .processes + 1) (k .execs) (omega arith) (omega arith) (omega arith), λ n. omega arith)
+              (put-kept pt upon t₃ .kept upon t₂ .kept upon t .kept)
               (λ m lo. gone-on (entryList m s kRoundOpen kRoundClose f) (t .is m (omega arith)) h λ xs x₁ al av fi.
               gone-on (entryList m s kSquareOpen kSquareClose b) (t₂ .is m (omega arith)) h₂ λ ys x₂ bl bv fi₂.
               gone-on (readProcess m s b₃) (t₃ .is m (omega arith)) r λ P x₃ cl cv fi₃.
@@ -228,7 +230,8 @@ module _ (s w : List ℕ) (c : Cursor) (k : Tally) (room : Room s w c k) {q : Ta
               (λ j. putProcess (all j) (number j) (processEntry i (k .entries) (first j) (second j) (last j .last))) (omega arith, fi, fi₂, fi₃)))
 
 -- ── a declaration that no token begins
-pub declare-no : (h : DeclarationHead) (s w : List ℕ) (c : Cursor) (k : Tally) {r : Out} → ((m : ℕ) → declarationBy h m s (countOf k) c ≡ misfit s c) → r ≡ misfitOut s c → DeclarationRead h s w c k r w
+pub declare-no : (h : DeclarationHead) (s w : List ℕ) (c : Cursor) (k : Tally) {r : Out} → ((m : ℕ) → declarationBy h m s (countOf k) c ≡ misfit s c) → r ≡ misfitOut s c → DeclarationRead h s w c k r
+    w
 unfolding misfit
 declare-no h s w c k e g = meets-no s w c k g same (λ m _. e m)
 

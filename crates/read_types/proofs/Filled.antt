@@ -110,5 +110,6 @@ module _ {A : Type 0} (F : Form A) (s w : List ℕ) (c : Cursor) (k : Tally) {b 
   more-got {d} {l} {v} o g h = meets-got s w c k o g (at-more (λ m. Made F w k (f m) (Got d l) v) h)
 
 -- the words of an answer at every fuel above the bound
-pub more-made : {A : Type 0} (F : Form A) (w : List ℕ) (k : Tally) (f : ℕ → Result A) {b : ℕ} {r : Out} {v : List ℕ} → ((m : ℕ) → b ≤ m → Made F w k (f (suc m)) r v) → (m : ℕ) → b < m → Made F w k (f m) r v
+pub more-made : {A : Type 0} (F : Form A) (w : List ℕ) (k : Tally) (f : ℕ → Result A) {b : ℕ} {r : Out} {v : List ℕ} → ((m : ℕ) → b ≤ m → Made F w k (f (suc m)) r v) → (m : ℕ) → b < m → Made F w k
+    (f m) r v
 more-made F w k f {r = r} {v} = at-more (λ m. Made F w k (f m) r v)

@@ -53,7 +53,8 @@ unfolding infixOf infixKind writeType
 infix-write kind A B k w = go (eqb kind kStar) (eqb kind kAt)
   where
     go : (a b : Bool)
-        → writeType (cond a (tensor A B) (cond b (par A B) (lolli A B))) k w ≡ putInfix (cond a 2 (cond b 3 4)) (afterType A k) (afterType B (afterType A k)) (writeType B (afterType A k) (writeType A k w))
+        → writeType (cond a (tensor A B) (cond b (par A B) (lolli A B))) k w ≡ putInfix (cond a 2 (cond b 3 4)) (afterType A k) (afterType B (afterType A k))
+        (writeType B (afterType A k) (writeType A k w))
     go true b = refl
     go false true = refl
     go false false = refl
@@ -136,7 +137,8 @@ module _ (s w : List ℕ) (c : Cursor) (k : Tally) (room : Room s w c k) where
           let o = u .on i d e in
           meets-no s w c k g (t .kept) (λ m lo. rw (took u e, stopped (readType m s d) (t .is m (omega arith)) g))
 
-      pub right-got : {f : Cursor} {l l₂ : Tally} {v₂ : List ℕ} → p ≡ Got f l → Put v (putNode v (l .nodes) (typeNode (infixKind kind) (k .last) (l .last))) (moreNodes l) l₂ v₂ → RightRead kind s w c k (Got f l₂) v₂
+      pub right-got : {f : Cursor} {l l₂ : Tally} {v₂ : List ℕ} → p ≡ Got f l → Put v (putNode v (l .nodes) (typeNode (infixKind kind) (k .last) (l .last))) (moreNodes l) l₂ v₂ → RightRead kind s w c
+          k (Got f l₂) v₂
       right-got {f} {l} g pt =
           let o = u .on i d e in
           let o₂ = t .on f l g in
@@ -193,7 +195,8 @@ choice-after kind r k = go (eqb kind kPlus)
     go true = refl
     go false = refl
 
-choice-write : (kind : ℕ) (r : Alternatives Located) (k : Tally) (w : List ℕ) → 28 ≤ kind → kind ≤ 29 → writeType (choiceOf kind r) k w ≡ putChoice (kind - 23) (afterAlternatives r k) (writeAlternatives r k w)
+choice-write : (kind : ℕ) (r : Alternatives Located) (k : Tally) (w : List ℕ) → 28 ≤ kind → kind ≤ 29 → writeType (choiceOf kind r) k w ≡ putChoice (kind - 23) (afterAlternatives r k)
+    (writeAlternatives r k w)
 unfolding choiceOf writeType
 choice-write kind r k w l h = go (ℕ-discrete kind 28)
   where
@@ -243,7 +246,8 @@ module _ (s w : List ℕ) (c : Cursor) (k : Tally) (room : Room s w c k) where
             meets-no s w c k (refused-out z h) (t .kept)
             (λ m lo. gone-on (readAlternatives m s 0 d) (t .is m (omega arith)) g λ r a _ _ _. choice-is m ∙ rw (took u e, a, took y z))
 
-        pub choice-got : {j : ℕ} {b : Cursor} {l₂ : Tally} {v₂ : List ℕ} → x ≡ At j b → Put v (putNode v (l .nodes) (typeNode (kind - 23) (l .alternatives) (l .last))) (moreNodes l) l₂ v₂ → ChoiceRead kind s w c k (Got (closed c b) l₂) v₂
+        pub choice-got : {j : ℕ} {b : Cursor} {l₂ : Tally} {v₂ : List ℕ} → x ≡ At j b → Put v (putNode v (l .nodes) (typeNode (kind - 23) (l .alternatives) (l .last))) (moreNodes l) l₂ v₂
+            → ChoiceRead kind s w c k (Got (closed c b) l₂) v₂
         choice-got {j} {b} z pt =
             let o = u .on i d e in
             let o₂ = t .on f l g in
@@ -307,7 +311,8 @@ module _ (s w : List ℕ) (c : Cursor) (k : Tally) (room : Room s w c k) where
             (λ m lo. gone-on (readType m s d) (t .is m (omega arith)) g λ A a _ _ _.
             alternatives-is m ∙ rw (took u e, a, stopped (moreBy (λ d. readAlternatives m s (n + 1) d) s f) (y .is m (omega arith)) z))
 
-        pub alternatives-got : {b : Cursor} {l₂ l₃ : Tally} {v₃ : List ℕ} → x ≡ Got b l₂ → Put v₂ (putAlternative v₂ (l₂ .alternatives) i (l .last)) (moreAlternatives l₂) l₃ v₃ → AlternativesRead n s w c k (Got b l₃) v₃
+        pub alternatives-got : {b : Cursor} {l₂ l₃ : Tally} {v₃ : List ℕ} → x ≡ Got b l₂ → Put v₂ (putAlternative v₂ (l₂ .alternatives) i (l .last)) (moreAlternatives l₂) l₃ v₃ → AlternativesRead n s
+            w c k (Got b l₃) v₃
         unfolding afterAlternatives writeAlternatives FineAlternatives
         alternatives-got {b} {l₂} z pt =
             let o = u .on i d e in

@@ -44,7 +44,8 @@ returns c =
     let after-wide = c .before .before .before .before in
     let end-at = after-wide .before .end-at in
     let loop = after-wide .before .before .before .loop in
-    divide-fails _ _ _ _ _ _ (loop .k) (loop .inv) (end-at .result) (end-at .ensures .0) _ _ _ _ (after-wide .wide .ensures .0) (c .before .before .before .half-takes .ensures) (c .before .before .half-takes2 .ensures) (c .before .is-fair .ensures) (not-true _ (c .if1 .taken))
+    divide-fails _ _ _ _ _ _ (loop .k) (loop .inv) (end-at .result) (end-at .ensures .0) _ _ _ _ (after-wide .wide .ensures .0) (c .before .before .before .half-takes .ensures)
+    (c .before .before .half-takes2 .ensures) (c .before .is-fair .ensures) (not-true _ (c .if1 .taken))
 
 add-k : tie.Need-add-k Inv-loop μ-loop
 add-k c = search needs
@@ -57,7 +58,8 @@ loop-again c =
     let after-wide = c .before .before .before .before in
     let end-at = after-wide .before .end-at in
     let loop = after-wide .before .before .before .loop in
-    divide-on _ _ _ _ _ _ (loop .k) (loop .inv) (end-at .result) (end-at .ensures .0) _ refl _ _ _ _ (after-wide .wide .ensures .0) (c .before .before .before .half-takes .ensures) (c .before .before .half-takes2 .ensures) (c .before .is-fair .ensures) (not-false _ (c .if1 .left))
+    divide-on _ _ _ _ _ _ (loop .k) (loop .inv) (end-at .result) (end-at .ensures .0) _ refl _ _ _ _ (after-wide .wide .ensures .0) (c .before .before .before .half-takes .ensures)
+    (c .before .before .half-takes2 .ensures) (c .before .is-fair .ensures) (not-false _ (c .if1 .left))
 
 returns-2 : tie.Need-returns-2 Inv-loop μ-loop
 returns-2 c = divide-all _ _ _ _ _ _ (c .before .loop .k) (c .before .loop .inv) (c .loop-test .left)

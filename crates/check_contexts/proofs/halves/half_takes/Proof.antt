@@ -19,7 +19,8 @@ returns : tie.Need-returns
 returns c =
     let entry = c .before .before .before .before .before .before .before in
     let text = entry .args .text .now in
-    spawn-bound text (entry .args .scratch .now) _ _ _ (sym (c .before .names-equal .ensures) ∙ c .if1 .taken) ∙ sym (ap (λ a. takes text (entry .args .scratch .now) a (nameAt text (entry .args .at))) (c .before .before .before .half .given .1))
+    spawn-bound text (entry .args .scratch .now) _ _ _ (sym (c .before .names-equal .ensures) ∙ c .if1 .taken) ∙ sym
+    (ap (λ a. takes text (entry .args .scratch .now) a (nameAt text (entry .args .at))) (c .before .before .before .half .given .1))
 
 mentions-requires : tie.Need-mentions-requires
 mentions-requires c κs =
@@ -38,7 +39,8 @@ returns-2 : tie.Need-returns-2
 returns-2 c =
     let entry = c .before .before .before .before .before .before .before .before in
     let text = entry .args .text .now in
-    spawn-other text (entry .args .scratch .now) _ _ _ (sym (c .before .before .names-equal .ensures) ∙ c .before .if1 .left) (c .mentions .ensures) ∙ sym (ap (λ a. takes text (entry .args .scratch .now) a (nameAt text (entry .args .at))) (c .before .before .before .before .half .given .1))
+    spawn-other text (entry .args .scratch .now) _ _ _ (sym (c .before .before .names-equal .ensures) ∙ c .before .if1 .left) (c .mentions .ensures) ∙ sym
+    (ap (λ a. takes text (entry .args .scratch .now) a (nameAt text (entry .args .at))) (c .before .before .before .before .half .given .1))
 
 returns-3 : tie.Need-returns-3
 returns-3 c =

@@ -54,7 +54,8 @@ loop-less c = search needs
 loop-again : tie.Need-loop-again Inv-loop μ-loop
 loop-again c =
     let loop = c .before .before .before .before .before .loop in
-    keep-next _ _ _ _ _ (loop .r) (loop .k) (loop .inv) (c .before .before .before .end-at .result) (c .before .before .before .end-at .ensures .0) _ refl _ _ _ (c .before .before .wide .ensures .0) (c .before .keeps-end .ensures) (c .with-if .ensures .0) (c .with-if .ensures .1)
+    keep-next _ _ _ _ _ (loop .r) (loop .k) (loop .inv) (c .before .before .before .end-at .result) (c .before .before .before .end-at .ensures .0) _ refl _ _ _ (c .before .before .wide .ensures .0)
+    (c .before .keeps-end .ensures) (c .with-if .ensures .0) (c .with-if .ensures .1)
 
 returns : tie.Need-returns Inv-loop μ-loop
 returns c = keep-all _ _ _ _ _ _ (c .before .loop .k) (c .before .loop .inv) (c .loop-test .left) (c .before .before .before .before .before .pre .1 .1)

@@ -15,7 +15,10 @@ with-requires : tie.Need-with-requires
 with-requires c κs = search needs
 
 returns : tie.Need-returns
-returns c = (c .with .ensures .0 ∙ sym (ap (λ b. heldIn (c .before .before .args .h) ++ cond b (endIn (c .before .before .args .e) ∷ []) []) (c .before .if1 .taken)), omega (arith, c .with .ensures .1))
+returns c = (
+  c .with .ensures .0 ∙ sym (ap (λ b. heldIn (c .before .before .args .h) ++ cond b (endIn (c .before .before .args .e) ∷ []) []) (c .before .if1 .taken)),
+  omega (arith, c .with .ensures .1),
+)
 
 returns-2 : tie.Need-returns-2
 returns-2 c = (sym (ap (λ b. heldIn (c .before .args .h) ++ cond b (endIn (c .before .args .e) ∷ []) []) (c .if1 .left) ∙ append-nil (heldIn (c .before .args .h))), omega arith)

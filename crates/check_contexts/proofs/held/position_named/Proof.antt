@@ -39,7 +39,8 @@ returns c =
     let loop = c .before .before .before .before .before .loop in
     let entry = c .before .before .before .before .before .before .before in
     let text = entry .args .text .now in
-    sym (loop .inv ∙ stops-here (isNamed text (entry .args .at)) _ (loop .k) (c .before .before .before .end-at .ensures .0) (ap (λ n. same (nameAt text (entry .args .at)) (nameAt text n)) (sym (c .before .before .wide .ensures .0)) ∙ sym (c .before .names-equal .ensures) ∙ c .if1 .taken))
+    sym (loop .inv ∙ stops-here (isNamed text (entry .args .at)) _ (loop .k) (c .before .before .before .end-at .ensures .0)
+    (ap (λ n. same (nameAt text (entry .args .at)) (nameAt text n)) (sym (c .before .before .wide .ensures .0)) ∙ sym (c .before .names-equal .ensures) ∙ c .if1 .taken))
 
 add-k : tie.Need-add-k Inv-loop μ-loop
 add-k c = search needs
@@ -52,7 +53,8 @@ loop-again c =
     let loop = c .before .before .before .before .before .loop in
     let entry = c .before .before .before .before .before .before .before in
     let text = entry .args .text .now in
-    loop .inv ∙ goes-on (isNamed text (entry .args .at)) _ (loop .k) (c .before .before .before .end-at .ensures .0) (ap (λ n. same (nameAt text (entry .args .at)) (nameAt text n)) (sym (c .before .before .wide .ensures .0)) ∙ sym (c .before .names-equal .ensures) ∙ c .if1 .left)
+    loop .inv ∙ goes-on (isNamed text (entry .args .at)) _ (loop .k) (c .before .before .before .end-at .ensures .0)
+    (ap (λ n. same (nameAt text (entry .args .at)) (nameAt text n)) (sym (c .before .before .wide .ensures .0)) ∙ sym (c .before .names-equal .ensures) ∙ c .if1 .left)
 
 returns-2 : tie.Need-returns-2 Inv-loop μ-loop
 returns-2 c = sym (c .before .loop .inv ∙ scan-end _ _ _ (c .before .loop .k) (omega (arith, c .loop-test .left, held-length (c .before .before .before .args .h))))

@@ -33,11 +33,14 @@ replaced-requires : tie.Need-replaced-requires
 replaced-requires c κs =
     let f = c .before .before .f in
     let entry = c .before .before .before .before .before .before in
-    let o = all-at BoundedEnd (heldIn (entry .args .h)) (f .given .0 .0) (entry .pre .1) (c .end-at .ensures .0) in
-    ((search needs, position-below (entry .args .text .now) (entry .args .h) (entry .args .at) _ (sym (c .before .before .before .before .position-named .ensures) ∙ f .given .1)), (record { name = o .name; node = search needs; channel = o .channel }, c .end-at .ensures .1 .0))
+    let o = all-at BoundedEnd (heldIn (entry .args .h)) (f .given .0 .0) (entry .pre .1) (c .end-at .ensures .0) in (
+      (search needs, position-below (entry .args .text .now) (entry .args .h) (entry .args .at) _ (sym (c .before .before .before .before .position-named .ensures) ∙ f .given .1)),
+      (record { name = o .name; node = search needs; channel = o .channel }, c .end-at .ensures .1 .0),
+    )
 
 returns-2 : tie.Need-returns-2
-returns-2 c = retypes-there _ _ _ _ (sym (c .before .before .before .before .before .position-named .ensures) ∙ c .before .before .before .f .given .1) (c .before .end-at .result) _ _ (c .before .end-at .ensures .0) (c .replaced .ensures .0) (c .replaced .ensures .1) (search needs)
+returns-2 c = retypes-there _ _ _ _ (sym (c .before .before .before .before .before .position-named .ensures) ∙ c .before .before .before .f .given .1) (c .before .end-at .result) _ _
+    (c .before .end-at .ensures .0) (c .replaced .ensures .0) (c .replaced .ensures .1) (search needs)
 
 pub retype-end-spec : {M : Type 1} → statement M
 retype-end-spec =

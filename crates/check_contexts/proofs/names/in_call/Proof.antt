@@ -28,7 +28,9 @@ in-list-requires-2 : tie.Need-in-list-requires-2
 in-list-requires-2 c κs = search needs
 
 returns-2 : tie.Need-returns-2
-returns-2 c = among-used _ _ _ _ (c .before .before .before .before .before .list-start .ensures) (subst (Among _ _ _) (c .before .before .before .if1 .left) (c .before .before .before .before .in-list .ensures)) (c .before .before .list-end .ensures) (c .before .list-start2 .ensures) (c .in-list2 .ensures)
+returns-2 c = among-used _ _ _ _ (c .before .before .before .before .before .list-start .ensures)
+    (subst (Among _ _ _) (c .before .before .before .if1 .left) (c .before .before .before .before .in-list .ensures)) (c .before .before .list-end .ensures) (c .before .list-start2 .ensures)
+    (c .in-list2 .ensures)
 
 pub in-call-spec : {M : Type 1} → statement M
 in-call-spec =

@@ -37,13 +37,15 @@ names-equal-requires : tie.Need-names-equal-requires Inv-loop μ-loop
 names-equal-requires c κs = search needs
 
 returns-2 : tie.Need-returns-2 Inv-loop μ-loop
-returns-2 c = unmet-met (c .before .before .before .before .before .before .loop .inv) _ _ (sym (c .before .before .before .before .before .next-argument .ensures .0) ∙ c .before .before .before .a .given .1) (sym (c .before .names-equal .ensures) ∙ c .if1 .taken)
+returns-2 c = unmet-met (c .before .before .before .before .before .before .loop .inv) _ _
+    (sym (c .before .before .before .before .before .next-argument .ensures .0) ∙ c .before .before .before .a .given .1) (sym (c .before .names-equal .ensures) ∙ c .if1 .taken)
 
 loop-less : tie.Need-loop-less Inv-loop μ-loop
 loop-less c = omega (arith, forward-name _ _ _ _ _ (c .before .before .before .before .before .next-argument .ensures .1) (c .before .before .before .a .given .1))
 
 loop-again : tie.Need-loop-again Inv-loop μ-loop
-loop-again c = unmet-on (c .before .before .before .before .before .before .loop .inv) _ _ (sym (c .before .before .before .before .before .next-argument .ensures .0) ∙ c .before .before .before .a .given .1) (sym (c .before .names-equal .ensures) ∙ c .if1 .left)
+loop-again c = unmet-on (c .before .before .before .before .before .before .loop .inv) _ _
+    (sym (c .before .before .before .before .before .next-argument .ensures .0) ∙ c .before .before .before .a .given .1) (sym (c .before .names-equal .ensures) ∙ c .if1 .left)
 
 pub in-list-spec : {M : Type 1} → statement M
 in-list-spec =

@@ -17,7 +17,8 @@ lowered-requires c κs = search needs
 returns : tie.Need-returns
 returns c =
     let entry = c .before .before .before .before .before .before .before in
-    bare-named _ _ (entry .pre .0) _ (entry .pre .1) (c .before .before .before .before .declared-type .ensures) (c .before .before .before .type-node .ensures) (c .before .if1 .taken) (c .lowered .ensures)
+    bare-named _ _ (entry .pre .0) _ (entry .pre .1) (c .before .before .before .before .declared-type .ensures) (c .before .before .before .type-node .ensures) (c .before .if1 .taken)
+    (c .lowered .ensures)
 
 returns-2 : tie.Need-returns-2
 returns-2 c =

@@ -22,7 +22,8 @@ declared-process-requires c κs =
     (entry .pre .0 .area, omega (arith, c .before .before .before .find-process .ensures .below _ (c .before .f .given .1), entry .pre .0 .within))
 
 returns-2 : tie.Need-returns-2
-returns-2 c = keeps-uses _ _ (c .before .before .before .before .before .before .find-process .ensures) (c .before .before .before .before .f .given .1) (c .before .before .declared-process .ensures) (c .if1 .taken)
+returns-2 c = keeps-uses _ _ (c .before .before .before .before .before .before .find-process .ensures) (c .before .before .before .before .f .given .1) (c .before .before .declared-process .ensures)
+    (c .if1 .taken)
 
 entries-other-requires : tie.Need-entries-other-requires
 entries-other-requires c κs =
@@ -34,7 +35,8 @@ returns-3 : tie.Need-returns-3
 returns-3 c =
     let after-f = c .before .before .before .before .before in
     let entry = after-f .before .before .before .before .before in
-    keeps-provides _ _ (after-f .before .before .find-process .ensures) (after-f .f .given .1) (c .before .before .before .declared-process .ensures) (entry .pre .1) (c .before .if1 .left) (c .entries-other .ensures)
+    keeps-provides _ _ (after-f .before .before .find-process .ensures) (after-f .f .given .1) (c .before .before .before .declared-process .ensures) (entry .pre .1) (c .before .if1 .left)
+    (c .entries-other .ensures)
 
 pub keeps-rule-spec : {M : Type 1} → statement M
 keeps-rule-spec =

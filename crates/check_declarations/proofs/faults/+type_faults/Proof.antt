@@ -75,13 +75,15 @@ pub +type-faults-spec : {M : Type 1} → statement M
     (λ c κs.
     let after-if1 = c .before .before .before .before .before in
     let entry = after-if1 .before .before .before .before .before in
-    let p = pair-there _ _ (entry .args .pass) _ _ (entry .pre .1) (after-if1 .before .before .type-node .ensures) (after-if1 .if1 .left) (c .before .before .before .if2 .left) (c .before .if3 .taken) in
+    let p = pair-there _ _ (entry .args .pass) _ _ (entry .pre .1) (after-if1 .before .before .type-node .ensures) (after-if1 .if1 .left) (c .before .before .before .if2 .left)
+    (c .before .if3 .taken) in
     (omega (arith, p .1, entry .pre .0), (entry .pre .1 .0, p .3)))
     -- returns-3
     (λ c.
     let after-if1 = c .before .before .before .before .before .before in
     let entry = after-if1 .before .before .before .before .before in
-    lowered-as (pair-there _ _ (entry .args .pass) _ _ (entry .pre .1) (after-if1 .before .before .type-node .ensures) (after-if1 .if1 .left) (c .before .before .before .before .if2 .left) (c .before .before .if3 .taken) .4) (lowered-then (c .before .type-faults .ensures) (c .type-faults2 .ensures)))
+    lowered-as (pair-there _ _ (entry .args .pass) _ _ (entry .pre .1) (after-if1 .before .before .type-node .ensures) (after-if1 .if1 .left) (c .before .before .before .before .if2 .left)
+    (c .before .before .if3 .taken) .4) (lowered-then (c .before .type-faults .ensures) (c .type-faults2 .ensures)))
     -- list-faults-requires
     (λ c κs.
     let entry = c .before .before .before .before .before .before .before .before .before in
@@ -118,9 +120,11 @@ pub +type-faults-spec : {M : Type 1} → statement M
     let loop = c .before .before .before .loop in
     let after-type-node = c .before .before .before .before .before .before .before .before .before .before .before in
     let entry = after-type-node .before .before .before in
-    walk-on refl (loop .inv) (c .before .before .loop-test .taken) (alternative-walked _ _ (entry .args .pass) (after-type-node .type-node .result .first) (loop .k) (c .before .alternative .ensures) (c .type-faults3 .ensures)))
+    walk-on refl (loop .inv) (c .before .before .loop-test .taken) (alternative-walked _ _ (entry .args .pass) (after-type-node .type-node .result .first) (loop .k) (c .before .alternative .ensures)
+    (c .type-faults3 .ensures)))
     -- returns-4
     (λ c.
     let after-type-node = c .before .before .before .before .before .before .before .before .before in
     let entry = after-type-node .before .before .before in
-    lowered-as (choice-there _ _ (entry .args .pass) _ _ (entry .pre .1) (after-type-node .type-node .ensures) (c .before .before .before .if3 .left) .1) (lowered-then (c .before .before .list-faults .ensures) (walk-end (c .before .loop .inv) (c .loop-test .left))))
+    lowered-as (choice-there _ _ (entry .args .pass) _ _ (entry .pre .1) (after-type-node .type-node .ensures) (c .before .before .before .if3 .left) .1)
+    (lowered-then (c .before .before .list-faults .ensures) (walk-end (c .before .loop .inv) (c .loop-test .left))))

@@ -37,7 +37,8 @@ loop-less : tie.Need-loop-less Inv-loop μ-loop
 loop-less c = search needs
 
 loop-again : tie.Need-loop-again Inv-loop μ-loop
-loop-again c = walk-on refl (c .before .before .before .loop .inv) (c .before .before .loop-test .taken) (entry-walked _ _ (c .before .before .before .before .before .before .args .pass) _ (c .before .before .before .loop .k) (c .before .entry .ensures) (c .type-faults .ensures))
+loop-again c = walk-on refl (c .before .before .before .loop .inv) (c .before .before .loop-test .taken)
+    (entry-walked _ _ (c .before .before .before .before .before .before .args .pass) _ (c .before .before .before .loop .k) (c .before .entry .ensures) (c .type-faults .ensures))
 
 returns : tie.Need-returns Inv-loop μ-loop
 returns c = lowered-as (entries-over _ _ (c .before .before .before .before .args .pass) _ _) (walk-end (c .before .loop .inv) (c .loop-test .left))

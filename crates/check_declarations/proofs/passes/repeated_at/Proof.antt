@@ -23,7 +23,9 @@ processes-faults-requires : tie.Need-processes-faults-requires
 processes-faults-requires c κs = search needs
 
 returns : tie.Need-returns
-returns c = lowered-as (repeated-in _ _ (c .before .before .before .before .before .type-count .ensures) (c .before .before .before .before .process-count .ensures)) (lowered-then (c .before .before .before .repeated-names .ensures) (lowered-then (c .before .before .repeated-names2 .ensures) (lowered-then (c .before .types-faults .ensures) (c .processes-faults .ensures))))
+returns c = lowered-as (repeated-in _ _ (c .before .before .before .before .before .type-count .ensures) (c .before .before .before .before .process-count .ensures))
+    (lowered-then (c .before .before .before .repeated-names .ensures) (lowered-then (c .before .before .repeated-names2 .ensures)
+    (lowered-then (c .before .types-faults .ensures) (c .processes-faults .ensures))))
 
 pub repeated-at-spec : {M : Type 1} → statement M
 repeated-at-spec =

@@ -40,7 +40,9 @@ process-faults-requires c κs =
     (entry .pre .0, (c .before .before .before .before .before .declared-process .ensures .stands _ (entry .pre .0) (entry .pre .1)) .body)
 
 returns : tie.Need-returns
-returns c = process-walked _ _ (c .before .before .before .before .before .before .before .before .before .args .pass) (c .before .before .before .before .before .before .declared-process .ensures) (lowered-then (c .before .before .before .before .list-faults .ensures) (lowered-then (c .before .before .before .entries-faults .ensures) (lowered-then (c .before .entries-faults2 .ensures) (c .process-faults .ensures))))
+returns c = process-walked _ _ (c .before .before .before .before .before .before .before .before .before .args .pass) (c .before .before .before .before .before .before .declared-process .ensures)
+    (lowered-then (c .before .before .before .before .list-faults .ensures)
+    (lowered-then (c .before .before .before .entries-faults .ensures) (lowered-then (c .before .entries-faults2 .ensures) (c .process-faults .ensures))))
 
 pub signature-faults-spec : {M : Type 1} → statement M
 signature-faults-spec =

@@ -36,7 +36,8 @@ loop-less : tie.Need-loop-less Inv-loop μ-loop
 loop-less c = search needs
 
 loop-again : tie.Need-loop-again Inv-loop μ-loop
-loop-again c = walk-on refl (c .before .before .before .loop .inv) (omega (arith, c .before .before .loop-test .taken, c .before .before .before .before .type-count .ensures)) (type-walked _ _ (c .before .before .before .before .before .before .before .args .pass) (c .before .declared-type .ensures) (c .type-faults .ensures))
+loop-again c = walk-on refl (c .before .before .before .loop .inv) (omega (arith, c .before .before .loop-test .taken, c .before .before .before .before .type-count .ensures))
+    (type-walked _ _ (c .before .before .before .before .before .before .before .args .pass) (c .before .declared-type .ensures) (c .type-faults .ensures))
 
 returns : tie.Need-returns Inv-loop μ-loop
 returns c = walk-end (c .before .loop .inv) (omega (arith, c .loop-test .left, c .before .before .type-count .ensures))

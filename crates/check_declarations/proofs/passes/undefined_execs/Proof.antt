@@ -35,7 +35,8 @@ loop-less : tie.Need-loop-less Inv-loop μ-loop
 loop-less c = search needs
 
 loop-again : tie.Need-loop-again Inv-loop μ-loop
-loop-again c = walk-on refl (c .before .before .before .loop .inv) (omega (arith, c .before .before .loop-test .taken, c .before .before .before .before .exec-count .ensures)) (exec-walked _ _ (c .before .exec-at .ensures) (c .undefined-process .ensures))
+loop-again c = walk-on refl (c .before .before .before .loop .inv) (omega (arith, c .before .before .loop-test .taken, c .before .before .before .before .exec-count .ensures))
+    (exec-walked _ _ (c .before .exec-at .ensures) (c .undefined-process .ensures))
 
 returns : tie.Need-returns Inv-loop μ-loop
 returns c = walk-end (c .before .loop .inv) (omega (arith, c .loop-test .left, c .before .before .exec-count .ensures))

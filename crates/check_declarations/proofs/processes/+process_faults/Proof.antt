@@ -69,7 +69,8 @@ pub +process-faults-spec : {M : Type 1} → statement M
     (λ c κs.
     let if1 = c .before .before .before .before .before .if1 in
     let entry = c .before .before .before .before .before .before .before .before in
-    let m = means _ _ (entry .args .pass) _ _ (entry .pre .1 .0) (if1 .left) (entry .pre .1 .1) (c .before .before .before .before .term-node .ensures) (c .before .before .parts-of .ensures) Third (c .enum-told2 .given .1) in
+    let m = means _ _ (entry .args .pass) _ _ (entry .pre .1 .0) (if1 .left) (entry .pre .1 .1) (c .before .before .before .before .term-node .ensures) (c .before .before .parts-of .ensures) Third
+    (c .enum-told2 .given .1) in
     (omega (arith, rank-falls _ _ (if1 .left) (m .0 .0), entry .pre .0), (entry .pre .1 .0, m .0 .1)))
     -- enum-told-3
     (λ c. search needs)
@@ -77,13 +78,15 @@ pub +process-faults-spec : {M : Type 1} → statement M
     (λ c κs.
     let if1 = c .before .before .before .before .before .if1 in
     let entry = c .before .before .before .before .before .before .before .before in
-    let m = means _ _ (entry .args .pass) _ _ (entry .pre .1 .0) (if1 .left) (entry .pre .1 .1) (c .before .before .before .before .term-node .ensures) (c .before .before .parts-of .ensures) Both (c .enum-told3 .given .1) in
+    let m = means _ _ (entry .args .pass) _ _ (entry .pre .1 .0) (if1 .left) (entry .pre .1 .1) (c .before .before .before .before .term-node .ensures) (c .before .before .parts-of .ensures) Both
+    (c .enum-told3 .given .1) in
     (omega (arith, rank-falls _ _ (if1 .left) (m .0 .0), entry .pre .0), (entry .pre .1 .0, m .0 .1)))
     -- process-faults-requires-3
     (λ c κs.
     let if1 = c .before .before .before .before .before .before .if1 in
     let entry = c .before .before .before .before .before .before .before .before .before in
-    let m = means _ _ (entry .args .pass) _ _ (entry .pre .1 .0) (if1 .left) (entry .pre .1 .1) (c .before .before .before .before .before .term-node .ensures) (c .before .before .before .parts-of .ensures) Both (c .before .enum-told3 .given .1) in
+    let m = means _ _ (entry .args .pass) _ _ (entry .pre .1 .0) (if1 .left) (entry .pre .1 .1) (c .before .before .before .before .before .term-node .ensures)
+    (c .before .before .before .parts-of .ensures) Both (c .before .enum-told3 .given .1) in
     (omega (arith, rank-falls _ _ (if1 .left) (m .1 .0), entry .pre .0), (entry .pre .1 .0, m .1 .1)))
     -- enum-told-4
     (λ c. search needs)
@@ -93,41 +96,58 @@ pub +process-faults-spec : {M : Type 1} → statement M
     (λ c.
     let after-term-node = c .before .before .before .before .before .before in
     let entry = after-term-node .before .before .before .before in
-    omega (arith, c .loop-test .taken, branches-fit _ _ (entry .pre .1 .0) _ _ _ (means _ _ (entry .args .pass) _ _ (entry .pre .1 .0) (after-term-node .before .if1 .left) (entry .pre .1 .1) (after-term-node .term-node .ensures) (c .before .before .before .before .parts-of .ensures) Branches (c .before .before .enum-told4 .given .1) .0)))
+    omega (
+      arith,
+      c .loop-test .taken,
+      branches-fit _ _ (entry .pre .1 .0) _ _ _
+          (means _ _ (entry .args .pass) _ _ (entry .pre .1 .0) (after-term-node .before .if1 .left) (entry .pre .1 .1) (after-term-node .term-node .ensures)
+          (c .before .before .before .before .parts-of .ensures) Branches (c .before .before .enum-told4 .given .1) .0),
+    ))
     -- branch-requires
     (λ c κs.
     let after-term-node = c .before .before .before .before .before .before in
     let entry = after-term-node .before .before .before .before in
-    let f = branches-fit _ _ (entry .pre .1 .0) _ _ _ (means _ _ (entry .args .pass) _ _ (entry .pre .1 .0) (after-term-node .before .if1 .left) (entry .pre .1 .1) (after-term-node .term-node .ensures) (c .before .before .before .before .parts-of .ensures) Branches (c .before .before .enum-told4 .given .1) .0) in
+    let f = branches-fit _ _ (entry .pre .1 .0) _ _ _ (means _ _ (entry .args .pass) _ _ (entry .pre .1 .0) (after-term-node .before .if1 .left) (entry .pre .1 .1)
+    (after-term-node .term-node .ensures) (c .before .before .before .before .parts-of .ensures) Branches (c .before .before .enum-told4 .given .1) .0) in
     (entry .pre .1 .0 .area, omega (arith, c .loop-test .taken, f), omega (arith, c .loop-test .taken, f)))
     -- process-faults-requires-4
     (λ c κs.
     let after-term-node = c .before .before .before .before .before .before .before in
     let if1 = after-term-node .before .if1 in
     let entry = after-term-node .before .before .before .before in
-    let f = branch-first _ _ (entry .pre .1 .0) _ _ _ (means _ _ (entry .args .pass) _ _ (entry .pre .1 .0) (if1 .left) (entry .pre .1 .1) (after-term-node .term-node .ensures) (c .before .before .before .before .before .parts-of .ensures) Branches (c .before .before .before .enum-told4 .given .1) .0) _ (c .before .loop-test .taken) (c .branch .ensures) in
+    let f = branch-first _ _ (entry .pre .1 .0) _ _ _ (means _ _ (entry .args .pass) _ _ (entry .pre .1 .0) (if1 .left) (entry .pre .1 .1) (after-term-node .term-node .ensures)
+    (c .before .before .before .before .before .parts-of .ensures) Branches (c .before .before .before .enum-told4 .given .1) .0) _ (c .before .loop-test .taken) (c .branch .ensures) in
     (omega (arith, rank-falls _ _ (if1 .left) (f .smaller), entry .pre .0), (entry .pre .1 .0, f .process)))
     -- add-k
     (λ c. search needs)
     -- loop-less
     (λ c. search needs)
     -- loop-again
-    (λ c. walk-on refl (c .before .before .before .loop .inv) (c .before .before .loop-test .taken) (branch-walked _ _ (c .before .before .before .before .before .before .before .before .before .before .before .before .args .pass) (c .before .before .before .before .before .before .before .before .term-node .result .second) (c .before .before .before .loop .k) (c .before .branch .ensures) (c .process-faults4 .ensures)))
+    (λ c. walk-on refl (c .before .before .before .loop .inv) (c .before .before .loop-test .taken)
+    (branch-walked _ _ (c .before .before .before .before .before .before .before .before .before .before .before .before .args .pass)
+    (c .before .before .before .before .before .before .before .before .term-node .result .second) (c .before .before .before .loop .k) (c .before .branch .ensures) (c .process-faults4 .ensures)))
     -- returns-2
     (λ c.
     let entry = c .before .before .before .before .before .before .before .before in
-    lowered-as (means _ _ (entry .args .pass) _ _ (entry .pre .1 .0) (c .before .before .before .before .before .if1 .left) (entry .pre .1 .1) (c .before .before .before .before .term-node .ensures) (c .before .before .parts-of .ensures) Leaf (c .enum-told .given .1)) (c .before .before .before .node-faults .ensures))
+    lowered-as (means _ _ (entry .args .pass) _ _ (entry .pre .1 .0) (c .before .before .before .before .before .if1 .left) (entry .pre .1 .1) (c .before .before .before .before .term-node .ensures)
+    (c .before .before .parts-of .ensures) Leaf (c .enum-told .given .1)) (c .before .before .before .node-faults .ensures))
     -- returns-3
     (λ c.
     let entry = c .before .before .before .before .before .before .before .before .before in
-    lowered-as (means _ _ (entry .args .pass) _ _ (entry .pre .1 .0) (c .before .before .before .before .before .before .if1 .left) (entry .pre .1 .1) (c .before .before .before .before .before .term-node .ensures) (c .before .before .before .parts-of .ensures) Third (c .before .enum-told2 .given .1) .1) (lowered-then (c .before .before .before .before .node-faults .ensures) (c .process-faults .ensures)))
+    lowered-as (means _ _ (entry .args .pass) _ _ (entry .pre .1 .0) (c .before .before .before .before .before .before .if1 .left) (entry .pre .1 .1)
+    (c .before .before .before .before .before .term-node .ensures) (c .before .before .before .parts-of .ensures) Third (c .before .enum-told2 .given .1) .1) (lowered-then
+    (c .before .before .before .before .node-faults .ensures) (c .process-faults .ensures)))
     -- returns-4
     (λ c.
     let after-parts-of = c .before .before .before .before in
     let entry = after-parts-of .before .before .before .before .before .before in
-    lowered-as (means _ _ (entry .args .pass) _ _ (entry .pre .1 .0) (after-parts-of .before .before .before .if1 .left) (entry .pre .1 .1) (after-parts-of .before .before .term-node .ensures) (after-parts-of .parts-of .ensures) Both (c .before .before .enum-told3 .given .1) .2) (lowered-then (after-parts-of .before .node-faults .ensures) (lowered-then (c .before .process-faults2 .ensures) (c .process-faults3 .ensures))))
+    lowered-as (means _ _ (entry .args .pass) _ _ (entry .pre .1 .0) (after-parts-of .before .before .before .if1 .left) (entry .pre .1 .1) (after-parts-of .before .before .term-node .ensures)
+    (after-parts-of .parts-of .ensures) Both (c .before .before .enum-told3 .given .1) .2) (lowered-then (after-parts-of .before .node-faults .ensures)
+    (lowered-then (c .before .process-faults2 .ensures) (c .process-faults3 .ensures))))
     -- returns-5
     (λ c.
     let after-parts-of = c .before .before .before .before in
     let entry = after-parts-of .before .before .before .before .before .before in
-    lowered-as (means _ _ (entry .args .pass) _ _ (entry .pre .1 .0) (after-parts-of .before .before .before .if1 .left) (entry .pre .1 .1) (after-parts-of .before .before .term-node .ensures) (after-parts-of .parts-of .ensures) Branches (c .before .before .enum-told4 .given .1) .1) (lowered-then (after-parts-of .before .node-faults .ensures) (walk-end (c .before .loop .inv) (c .loop-test .left))))
+    lowered-as (means _ _ (entry .args .pass) _ _ (entry .pre .1 .0) (after-parts-of .before .before .before .if1 .left) (entry .pre .1 .1) (after-parts-of .before .before .term-node .ensures)
+    (after-parts-of .parts-of .ensures) Branches (c .before .before .enum-told4 .given .1) .1) (lowered-then (after-parts-of .before .node-faults .ensures)
+    (walk-end (c .before .loop .inv) (c .loop-test .left))))

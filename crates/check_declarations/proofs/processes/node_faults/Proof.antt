@@ -29,7 +29,8 @@ returns-3 : tie.Need-returns-3
 returns-3 c = own-call _ _ (c .before .before .before .before .before .before .before .before .before .args .pass) _ (c .before .if3 .taken) (c .call-faults .ensures)
 
 returns-4 : tie.Need-returns-4
-returns-4 c = own-none _ _ (c .before .before .before .before .before .before .before .before .args .pass) _ (c .before .before .before .before .if1 .left) (c .before .before .if2 .left) (c .if3 .left)
+returns-4 c = own-none _ _ (c .before .before .before .before .before .before .before .before .args .pass) _ (c .before .before .before .before .if1 .left) (c .before .before .if2 .left)
+    (c .if3 .left)
 
 pub node-faults-spec : {M : Type 1} → statement M
 node-faults-spec =

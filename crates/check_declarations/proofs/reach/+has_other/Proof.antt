@@ -55,26 +55,31 @@ pub +has-other-spec : {M : Type 1} → statement M
     -- is-marked-requires
     (λ c κs. search needs)
     -- returns-2
-    (λ c. other-name _ _ _ _ _ (c .before .before .before .before .before .before .before .before .pre .1) (c .before .before .before .before .before .type-node .ensures) (c .before .if2 .taken) (c .is-marked .ensures))
+    (λ c. other-name _ _ _ _ _ (c .before .before .before .before .before .before .before .before .pre .1) (c .before .before .before .before .before .type-node .ensures) (c .before .if2 .taken)
+    (c .is-marked .ensures))
     -- has-other-requires
     (λ c κs.
     let entry = c .before .before .before .before .before .before .before .before .before in
     let p = pair-parts _ _ _ _ (entry .pre .1) (c .before .before .before .before .before .before .type-node .ensures) (c .if3 .taken) in
     (omega (arith, p .0, entry .pre .0), (entry .pre .1 .0, p .2)))
     -- returns-3
-    (λ c. or-here _ (c .before .has-other .ensures) (c .if4 .taken) (other-pair _ _ _ _ _ (c .before .before .before .before .before .before .before .before .before .before .before .pre .1) (c .before .before .before .before .before .before .before .before .type-node .ensures) (c .before .before .if3 .taken)))
+    (λ c. or-here _ (c .before .has-other .ensures) (c .if4 .taken) (other-pair _ _ _ _ _ (c .before .before .before .before .before .before .before .before .before .before .before .pre .1)
+    (c .before .before .before .before .before .before .before .before .type-node .ensures) (c .before .before .if3 .taken)))
     -- has-other-requires-2
     (λ c κs.
     let entry = c .before .before .before .before .before .before .before .before .before .before .before in
     let p = pair-parts _ _ _ _ (entry .pre .1) (c .before .before .before .before .before .before .before .before .type-node .ensures) (c .before .before .if3 .taken) in
     (omega (arith, p .1, entry .pre .0), (entry .pre .1 .0, p .3)))
     -- returns-4
-    (λ c. or-there (c .before .before .has-other .ensures) (c .before .if4 .left) (c .has-other2 .ensures) (other-pair _ _ _ _ _ (c .before .before .before .before .before .before .before .before .before .before .before .before .pre .1) (c .before .before .before .before .before .before .before .before .before .type-node .ensures) (c .before .before .before .if3 .taken)))
+    (λ c. or-there (c .before .before .has-other .ensures) (c .before .if4 .left) (c .has-other2 .ensures)
+    (other-pair _ _ _ _ _ (c .before .before .before .before .before .before .before .before .before .before .before .before .pre .1)
+    (c .before .before .before .before .before .before .before .before .before .type-node .ensures) (c .before .before .before .if3 .taken)))
     -- returns-5
     (λ c.
     let after-if1 = c .before .before .before .before .before .before in
     let entry = after-if1 .before .before .before .before .before in
-    other-mark _ _ _ _ _ (entry .pre .1) (after-if1 .before .before .type-node .ensures) (after-if1 .if1 .left) (c .before .before .before .before .if2 .left) (c .before .before .if3 .left) (c .if5 .taken))
+    other-mark _ _ _ _ _ (entry .pre .1) (after-if1 .before .before .type-node .ensures) (after-if1 .if1 .left) (c .before .before .before .before .if2 .left) (c .before .before .if3 .left)
+    (c .if5 .taken))
     -- loop-holds
     (λ c. test-start)
     -- sub-alternative
@@ -92,7 +97,8 @@ pub +has-other-spec : {M : Type 1} → statement M
     (λ c κs.
     let after-type-node = c .before .before .before .before .before .before .before .before .before .before .before in
     let entry = after-type-node .before .before .before in
-    let f = alternative-first _ _ (entry .pre .1 .0) _ _ _ (choice-parts _ _ _ _ (entry .pre .1) (after-type-node .type-node .ensures) (c .before .before .before .if5 .left)) _ (c .before .loop-test .taken) (c .alternative .ensures) in
+    let f = alternative-first _ _ (entry .pre .1 .0) _ _ _ (choice-parts _ _ _ _ (entry .pre .1) (after-type-node .type-node .ensures) (c .before .before .before .if5 .left)) _
+    (c .before .loop-test .taken) (c .alternative .ensures) in
     (omega (arith, f .smaller, entry .pre .0), (entry .pre .1 .0, f .type)))
     -- returns-6
     (λ c.
@@ -101,7 +107,9 @@ pub +has-other-spec : {M : Type 1} → statement M
     let after-type-node = after-loop .before .before .before .before .before .before .before .before .before in
     let type-node = after-type-node .type-node in
     let entry = after-type-node .before .before .before in
-    test-found (loop .inv) (c .before .before .before .loop-test .taken) (alternative-tested _ _ _ (type-node .result .first) (loop .k) (c .before .before .alternative .ensures) (c .before .has-other3 .ensures)) (c .if6 .taken) ∙ other-choice _ _ _ _ _ (entry .pre .1) (type-node .ensures) (after-loop .before .if5 .left))
+    test-found (loop .inv) (c .before .before .before .loop-test .taken)
+    (alternative-tested _ _ _ (type-node .result .first) (loop .k) (c .before .before .alternative .ensures) (c .before .has-other3 .ensures)) (c .if6 .taken) ∙ other-choice _ _ _ _ _ (entry .pre .1)
+    (type-node .ensures) (after-loop .before .if5 .left))
     -- add-k
     (λ c. search needs)
     -- loop-less
@@ -109,6 +117,10 @@ pub +has-other-spec : {M : Type 1} → statement M
     -- loop-again
     (λ c.
     let loop = c .before .before .before .before .loop in
-    test-on (loop .inv) (c .before .before .before .loop-test .taken) (alternative-tested _ _ _ (c .before .before .before .before .before .before .before .before .before .before .before .before .before .type-node .result .first) (loop .k) (c .before .before .alternative .ensures) (c .before .has-other3 .ensures)) refl (c .if6 .left))
+    test-on (loop .inv) (c .before .before .before .loop-test .taken) (alternative-tested _ _ _
+    (c .before .before .before .before .before .before .before .before .before .before .before .before .before .type-node .result .first) (loop .k) (c .before .before .alternative .ensures)
+    (c .before .has-other3 .ensures)) refl (c .if6 .left))
     -- returns-7
-    (λ c. test-end (c .before .loop .inv) (c .loop-test .left) ∙ other-choice _ _ _ _ _ (c .before .before .before .before .before .before .before .before .before .before .before .before .before .pre .1) (c .before .before .before .before .before .before .before .before .before .before .type-node .ensures) (c .before .before .if5 .left))
+    (λ c. test-end (c .before .loop .inv) (c .loop-test .left) ∙ other-choice _ _ _ _ _
+    (c .before .before .before .before .before .before .before .before .before .before .before .before .before .pre .1)
+    (c .before .before .before .before .before .before .before .before .before .before .type-node .ensures) (c .before .before .if5 .left))

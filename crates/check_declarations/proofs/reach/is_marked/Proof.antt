@@ -24,7 +24,8 @@ marked-so-requires : tie.Need-marked-so-requires Inv-loop μ-loop
 marked-so-requires c κs = search needs
 
 returns : tie.Need-returns Inv-loop μ-loop
-returns c = test-found (c .before .before .before .loop .inv) (omega (arith, c .before .before .loop-test .taken, c .before .before .before .before .type-count .ensures)) (c .before .marked-so .ensures) (c .if1 .taken) ∙ marked-any _ _ _ _
+returns c = test-found (c .before .before .before .loop .inv) (omega (arith, c .before .before .loop-test .taken, c .before .before .before .before .type-count .ensures))
+    (c .before .marked-so .ensures) (c .if1 .taken) ∙ marked-any _ _ _ _
 
 add-i : tie.Need-add-i Inv-loop μ-loop
 add-i c = search needs
@@ -33,7 +34,8 @@ loop-less : tie.Need-loop-less Inv-loop μ-loop
 loop-less c = search needs
 
 loop-again : tie.Need-loop-again Inv-loop μ-loop
-loop-again c = test-on (c .before .before .before .loop .inv) (omega (arith, c .before .before .loop-test .taken, c .before .before .before .before .type-count .ensures)) (c .before .marked-so .ensures) refl (c .if1 .left)
+loop-again c = test-on (c .before .before .before .loop .inv) (omega (arith, c .before .before .loop-test .taken, c .before .before .before .before .type-count .ensures))
+    (c .before .marked-so .ensures) refl (c .if1 .left)
 
 returns-2 : tie.Need-returns-2 Inv-loop μ-loop
 returns-2 c = test-end (c .before .loop .inv) (omega (arith, c .loop-test .left, c .before .before .type-count .ensures)) ∙ marked-any _ _ _ _

@@ -36,7 +36,8 @@ loop-less : tie.Need-loop-less Inv-loop μ-loop
 loop-less c = search needs
 
 loop-again : tie.Need-loop-again Inv-loop μ-loop
-loop-again c = mark-on (c .before .before .before .loop .i) refl (c .before .before .before .loop .inv) (omega (arith, c .before .before .loop-test .taken, c .before .before .before .before .type-count .ensures)) (search needs) (c .before .declared-type .ensures) (c .has-other .ensures)
+loop-again c = mark-on (c .before .before .before .loop .i) refl (c .before .before .before .loop .inv)
+    (omega (arith, c .before .before .loop-test .taken, c .before .before .before .before .type-count .ensures)) (search needs) (c .before .declared-type .ensures) (c .has-other .ensures)
 
 returns : tie.Need-returns Inv-loop μ-loop
 returns c = mark-end (c .before .loop .inv) (omega (arith, c .loop-test .left, c .before .before .type-count .ensures))

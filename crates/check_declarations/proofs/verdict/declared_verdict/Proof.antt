@@ -34,7 +34,8 @@ enum-told-4 c = search needs
 
 returns-2 : tie.Need-returns-2
 unfolding declared
-returns-2 c = goes-on (pass (c .before .before .before .before .before .before .before .repeated-at .ensures) (c .before .before .before .before .before .before .refusal .ensures)) (c .before .before .before .before .enum-told .given .1) (stops (pass (c .before .before .before .undefined-at .ensures) (c .before .before .refusal2 .ensures)) (c .enum-told4 .given .1) _)
+returns-2 c = goes-on (pass (c .before .before .before .before .before .before .before .repeated-at .ensures) (c .before .before .before .before .before .before .refusal .ensures))
+    (c .before .before .before .before .enum-told .given .1) (stops (pass (c .before .before .before .undefined-at .ensures) (c .before .before .refusal2 .ensures)) (c .enum-told4 .given .1) _)
 
 bare-names-requires : tie.Need-bare-names-requires
 bare-names-requires c κs = search needs
@@ -52,7 +53,9 @@ returns-3 : tie.Need-returns-3
 unfolding declared
 returns-3 c =
     let after-refusal2 = c .before .before .before .before .before .before in
-    goes-on (pass (after-refusal2 .before .before .before .before .before .repeated-at .ensures) (after-refusal2 .before .before .before .before .refusal .ensures)) (after-refusal2 .before .before .enum-told .given .1) (goes-on (pass (after-refusal2 .before .undefined-at .ensures) (after-refusal2 .refusal2 .ensures)) (c .before .before .before .before .enum-told3 .given .1) (stops (pass (c .before .before .before .bare-names .ensures) (c .before .before .refusal3 .ensures)) (c .enum-told6 .given .1) _))
+    goes-on (pass (after-refusal2 .before .before .before .before .before .repeated-at .ensures) (after-refusal2 .before .before .before .before .refusal .ensures))
+    (after-refusal2 .before .before .enum-told .given .1) (goes-on (pass (after-refusal2 .before .undefined-at .ensures) (after-refusal2 .refusal2 .ensures))
+    (c .before .before .before .before .enum-told3 .given .1) (stops (pass (c .before .before .before .bare-names .ensures) (c .before .before .refusal3 .ensures)) (c .enum-told6 .given .1) _))
 
 wrong-execs-requires : tie.Need-wrong-execs-requires
 wrong-execs-requires c κs = search needs
@@ -65,7 +68,10 @@ unfolding declared
 returns-4 c =
     let after-refusal3 = c .before .before .before .before in
     let after-refusal2 = after-refusal3 .before .before .before .before in
-    goes-on (pass (after-refusal2 .before .before .before .before .before .repeated-at .ensures) (after-refusal2 .before .before .before .before .refusal .ensures)) (after-refusal2 .before .before .enum-told .given .1) (goes-on (pass (after-refusal2 .before .undefined-at .ensures) (after-refusal2 .refusal2 .ensures)) (after-refusal3 .before .before .enum-told3 .given .1) (goes-on (pass (after-refusal3 .before .bare-names .ensures) (after-refusal3 .refusal3 .ensures)) (c .before .before .enum-told5 .given .1) (pass {r = c .refusal4 .result} (c .before .wrong-execs .ensures) (c .refusal4 .ensures) .says)))
+    goes-on (pass (after-refusal2 .before .before .before .before .before .repeated-at .ensures) (after-refusal2 .before .before .before .before .refusal .ensures))
+    (after-refusal2 .before .before .enum-told .given .1) (goes-on (pass (after-refusal2 .before .undefined-at .ensures) (after-refusal2 .refusal2 .ensures))
+    (after-refusal3 .before .before .enum-told3 .given .1) (goes-on (pass (after-refusal3 .before .bare-names .ensures) (after-refusal3 .refusal3 .ensures)) (c .before .before .enum-told5 .given .1)
+    (pass {r = c .refusal4 .result} (c .before .wrong-execs .ensures) (c .refusal4 .ensures) .says)))
 
 pub declared-verdict-spec : {M : Type 1} → statement M
 declared-verdict-spec =

@@ -35,8 +35,11 @@ wide-requires c κs = search needs
 standing-requires : tie.Need-standing-requires
 standing-requires c κs =
     let entry = c .before .before .before .before .before .before .before in
-    let scratch = entry .args .scratch .now in
-    (entry .pre .0, subst (TypeIn (entry .args .text .now) scratch) (sym (c .wide .ensures .0)) ((subst (FoundIn (entry .args .text .now) scratch) (c .before .before .f .given .1) (c .before .before .before .before .find-end .ensures .fits scratch (entry .pre .1))) .0 .type))
+    let scratch = entry .args .scratch .now in (
+      entry .pre .0,
+      subst (TypeIn (entry .args .text .now) scratch) (sym (c .wide .ensures .0))
+          ((subst (FoundIn (entry .args .text .now) scratch) (c .before .before .f .given .1) (c .before .before .before .before .find-end .ensures .fits scratch (entry .pre .1))) .0 .type),
+    )
 
 narrow-requires : tie.Need-narrow-requires
 narrow-requires c κs =
@@ -50,7 +53,10 @@ returns-2 c =
     let entry = after-f .before .before .before .before .before in
     let text = entry .args .text .now in
     let scratch = entry .args .scratch .now in
-    subst (λ j. Acts text scratch (entry .args .h) (entry .args .at) (lookups.Found (record { name = f .given .0 .0 .name; side = f .given .0 .0 .side; node = j; channel = f .given .0 .0 .channel }))) (sym (c .narrow .ensures)) (acts-found text scratch _ _ _ (f .given .0 .0) _ _ (after-f .before .before .find-end .ensures) (f .given .1) (entry .pre .1) (c .before .before .wide .ensures .0) (c .before .standing .ensures) (node-there text scratch (entry .pre .0) _ (c .before .standing .ensures .type)))
+    subst (λ j. Acts text scratch (entry .args .h) (entry .args .at) (lookups.Found
+    (record { name = f .given .0 .0 .name; side = f .given .0 .0 .side; node = j; channel = f .given .0 .0 .channel }))) (sym (c .narrow .ensures)) (acts-found text scratch _ _ _ (f .given .0 .0) _ _
+    (after-f .before .before .find-end .ensures) (f .given .1) (entry .pre .1) (c .before .before .wide .ensures .0) (c .before .standing .ensures)
+    (node-there text scratch (entry .pre .0) _ (c .before .standing .ensures .type)))
 
 pub acting-spec : {M : Type 1} → statement M
 acting-spec =

@@ -30,14 +30,17 @@ returns-2 c =
     let after-t = c .before .before .before in
     let t = after-t .t in
     let entry = after-t .before .before .before .before .before in
-    takes-own-end (entry .args .scratch .now) (entry .args .c) _ (after-t .before .before .before .wide .ensures .0) _ (after-t .before .before .passing .ensures) (t .given .0 .0) (t .given .0 .1 .0) (t .given .0 .1 .1 .0) (t .given .0 .1 .1 .1 .0) (t .given .1) (entry .pre .2) (c .if1 .taken)
+    takes-own-end (entry .args .scratch .now) (entry .args .c) _ (after-t .before .before .before .wide .ensures .0) _ (after-t .before .before .passing .ensures) (t .given .0 .0) (t .given .0 .1 .0)
+    (t .given .0 .1 .1 .0) (t .given .0 .1 .1 .1 .0) (t .given .1) (entry .pre .2) (c .if1 .taken)
 
 returns-3 : tie.Need-returns-3
 returns-3 c =
     let after-t = c .before .before .before in
     let t = after-t .t in
     let entry = after-t .before .before .before .before .before in
-    subst (TakesFrom (entry .args .scratch .now) (entry .args .c)) (t .given .1) (takes-by (entry .args .scratch .now) (entry .args .c) _ (after-t .before .before .before .wide .ensures .0) _ (after-t .before .before .passing .ensures) (t .given .0 .0) (t .given .0 .1 .0) (t .given .0 .1 .1 .0) (t .given .0 .1 .1 .1 .0) (t .given .1) (entry .pre .2) (c .if1 .left))
+    subst (TakesFrom (entry .args .scratch .now) (entry .args .c)) (t .given .1)
+    (takes-by (entry .args .scratch .now) (entry .args .c) _ (after-t .before .before .before .wide .ensures .0) _ (after-t .before .before .passing .ensures) (t .given .0 .0) (t .given .0 .1 .0)
+    (t .given .0 .1 .1 .0) (t .given .0 .1 .1 .1 .0) (t .given .1) (entry .pre .2) (c .if1 .left))
 
 pub takes-from-spec : {M : Type 1} → statement M
 takes-from-spec =

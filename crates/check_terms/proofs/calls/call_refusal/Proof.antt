@@ -26,7 +26,8 @@ lists-refusal-requires c κs = c .before .before .before .before .before .pre .0
 returns : tie.Need-returns
 returns c =
     let entry = c .before .before .before .before .before .before in
-    call-number (entry .args .text .now) (entry .args .scratch .now) (entry .args .h) (entry .args .q) (entry .args .bracket) _ _ _ _ _ _ (entry .pre .1) (c .before .before .before .list-start .ensures) (c .before .before .list-end .ensures) (c .before .list-start2 .ensures) (c .lists-refusal .ensures)
+    call-number (entry .args .text .now) (entry .args .scratch .now) (entry .args .h) (entry .args .q) (entry .args .bracket) _ _ _ _ _ _ (entry .pre .1)
+    (c .before .before .before .list-start .ensures) (c .before .before .list-end .ensures) (c .before .list-start2 .ensures) (c .lists-refusal .ensures)
 
 pub call-refusal-spec : {M : Type 1} → statement M
 call-refusal-spec =

@@ -47,7 +47,8 @@ loop-again c =
     let a = c .before .before .a in
     let loop = c .before .before .before .before .before .loop in
     let entry = c .before .before .before .before .before .before .before in
-    drop-on (entry .args .text .now) (entry .args .h) (entry .args .from) (loop .i) (loop .r) (loop .inv) (a .given .0 .0) (a .given .0 .1 .0) (sym (c .before .before .before .before .next-argument .ensures .0) ∙ a .given .1) _ (c .drop-end .ensures) (omega (arith, c .drop-end .ensures .few, loop .inv .many))
+    drop-on (entry .args .text .now) (entry .args .h) (entry .args .from) (loop .i) (loop .r) (loop .inv) (a .given .0 .0) (a .given .0 .1 .0)
+    (sym (c .before .before .before .before .next-argument .ensures .0) ∙ a .given .1) _ (c .drop-end .ensures) (omega (arith, c .drop-end .ensures .few, loop .inv .many))
 
 pub drop-list-spec : {M : Type 1} → statement M
 drop-list-spec =

@@ -27,7 +27,8 @@ enum-told c = search needs
 returns : tie.Need-returns
 returns c =
     let entry = c .before .before .before .before .before in
-    entry-absent (entry .args .text .now) (entry .args .scratch .now) (entry .args .h) (entry .args .at) (entry .args .side) (entry .args .node) (entry .pre .2) (sees-not (entry .args .text .now) (entry .args .scratch .now) (entry .args .h) (entry .args .at) _ (c .before .before .find-end .ensures) (c .enum-told .given .1))
+    entry-absent (entry .args .text .now) (entry .args .scratch .now) (entry .args .h) (entry .args .at) (entry .args .side) (entry .args .node) (entry .pre .2)
+    (sees-not (entry .args .text .now) (entry .args .scratch .now) (entry .args .h) (entry .args .at) _ (c .before .before .find-end .ensures) (c .enum-told .given .1))
 
 returns-2 : tie.Need-returns-2
 returns-2 c =
@@ -36,7 +37,9 @@ returns-2 c =
     let entry = c .before .before .before .before .before .before .before .before in
     let text = entry .args .text .now in
     let scratch = entry .args .scratch .now in
-    entry-other text scratch (entry .args .h) (entry .args .at) (entry .args .side) (entry .args .node) (entry .pre .2) (f .given .0 .0) (sees-so text scratch (entry .args .h) (entry .args .at) _ (f .given .0 .0) (find-end .ensures) (f .given .1)) ((end-found text scratch _ (f .given .0 .0) (find-end .ensures .fits scratch (entry .pre .1)) (f .given .1)) .1) (c .if1 .taken)
+    entry-other text scratch (entry .args .h) (entry .args .at) (entry .args .side) (entry .args .node) (entry .pre .2) (f .given .0 .0)
+    (sees-so text scratch (entry .args .h) (entry .args .at) _ (f .given .0 .0) (find-end .ensures) (f .given .1))
+    ((end-found text scratch _ (f .given .0 .0) (find-end .ensures .fits scratch (entry .pre .1)) (f .given .1)) .1) (c .if1 .taken)
 
 wide-requires : tie.Need-wide-requires
 wide-requires c κs = search needs
@@ -46,8 +49,12 @@ same-type-requires c κs =
     let after-f = c .before .before .before .before in
     let f = after-f .f in
     let entry = after-f .before .before .before .before .before in
-    let scratch = entry .args .scratch .now in
-    (entry .pre .0, typed-as (entry .args .text .now) scratch (f .given .0 .0) _ (c .wide .ensures .0) ((end-found (entry .args .text .now) scratch _ (f .given .0 .0) (after-f .before .before .find-end .ensures .fits scratch (entry .pre .1)) (f .given .1)) .0), entry .pre .3)
+    let scratch = entry .args .scratch .now in (
+      entry .pre .0,
+      typed-as (entry .args .text .now) scratch (f .given .0 .0) _ (c .wide .ensures .0)
+          ((end-found (entry .args .text .now) scratch _ (f .given .0 .0) (after-f .before .before .find-end .ensures .fits scratch (entry .pre .1)) (f .given .1)) .0),
+      entry .pre .3,
+    )
 
 returns-3 : tie.Need-returns-3
 returns-3 c =
@@ -57,7 +64,10 @@ returns-3 c =
     let entry = after-f .before .before .before .before .before in
     let text = entry .args .text .now in
     let scratch = entry .args .scratch .now in
-    entry-so text scratch (entry .args .h) (entry .args .at) (entry .args .side) (entry .args .node) (entry .pre .2) (f .given .0 .0) (sees-so text scratch (entry .args .h) (entry .args .at) _ (f .given .0 .0) (find-end .ensures) (f .given .1)) ((end-found text scratch _ (f .given .0 .0) (find-end .ensures .fits scratch (entry .pre .1)) (f .given .1)) .1) (c .before .before .if1 .left) (c .same-type .ensures ∙ ap (λ i. sameType (plainIn text scratch i) (plainIn text scratch (entry .args .node))) (c .before .wide .ensures .0))
+    entry-so text scratch (entry .args .h) (entry .args .at) (entry .args .side) (entry .args .node) (entry .pre .2) (f .given .0 .0)
+    (sees-so text scratch (entry .args .h) (entry .args .at) _ (f .given .0 .0) (find-end .ensures) (f .given .1))
+    ((end-found text scratch _ (f .given .0 .0) (find-end .ensures .fits scratch (entry .pre .1)) (f .given .1)) .1) (c .before .before .if1 .left)
+    (c .same-type .ensures ∙ ap (λ i. sameType (plainIn text scratch i) (plainIn text scratch (entry .args .node))) (c .before .wide .ensures .0))
 
 pub entry-fits-spec : {M : Type 1} → statement M
 entry-fits-spec =

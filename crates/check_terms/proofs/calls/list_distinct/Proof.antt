@@ -32,7 +32,8 @@ enum-told : tie.Need-enum-told Inv-loop μ-loop
 enum-told c = search needs
 
 returns : tie.Need-returns Inv-loop μ-loop
-returns c = distinct-end (now (c .before .before .before .before .before .args .text)) (c .before .before .before .loop .inv) _ (sym (c .before .before .next-argument .ensures .0) ∙ c .enum-told .given .1)
+returns c = distinct-end (now (c .before .before .before .before .before .args .text)) (c .before .before .before .loop .inv) _
+    (sym (c .before .before .next-argument .ensures .0) ∙ c .enum-told .given .1)
 
 in-list-requires : tie.Need-in-list-requires Inv-loop μ-loop
 in-list-requires c κs = search needs
@@ -42,7 +43,8 @@ returns-2 c =
     let after-a = c .before .before .before in
     let a = after-a .a in
     let entry = after-a .before .before .before .before .before in
-    distinct-not (entry .args .text .now) (after-a .before .before .before .loop .inv) (a .given .0 .0) (a .given .0 .1 .0) (sym (after-a .before .before .next-argument .ensures .0) ∙ a .given .1) _ (c .before .in-list .ensures) (c .if1 .taken)
+    distinct-not (entry .args .text .now) (after-a .before .before .before .loop .inv) (a .given .0 .0) (a .given .0 .1 .0) (sym (after-a .before .before .next-argument .ensures .0) ∙ a .given .1) _
+    (c .before .in-list .ensures) (c .if1 .taken)
 
 loop-less : tie.Need-loop-less Inv-loop μ-loop
 loop-less c = omega (arith, forward-name _ _ _ _ _ (c .before .before .before .before .before .next-argument .ensures .1) (c .before .before .before .a .given .1))
@@ -52,7 +54,8 @@ loop-again c =
     let after-a = c .before .before .before in
     let a = after-a .a in
     let entry = after-a .before .before .before .before .before in
-    distinct-on (entry .args .text .now) (after-a .before .before .before .loop .inv) (a .given .0 .0) (a .given .0 .1 .0) (sym (after-a .before .before .next-argument .ensures .0) ∙ a .given .1) _ (c .before .in-list .ensures) (c .if1 .left)
+    distinct-on (entry .args .text .now) (after-a .before .before .before .loop .inv) (a .given .0 .0) (a .given .0 .1 .0) (sym (after-a .before .before .next-argument .ensures .0) ∙ a .given .1) _
+    (c .before .in-list .ensures) (c .if1 .left)
 
 pub list-distinct-spec : {M : Type 1} → statement M
 list-distinct-spec =

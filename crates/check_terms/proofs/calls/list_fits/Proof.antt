@@ -37,26 +37,38 @@ returns : tie.Need-returns Inv-loop μ-loop
 returns c =
     let loop = c .before .before .before .loop in
     let entry = c .before .before .before .before .before .before in
-    fit-end (entry .args .text .now) (entry .args .scratch .now) (entry .args .h) (entry .args .from) (entry .args .side) (entry .args .first) (entry .args .n) (loop .i) (loop .k) (loop .m) (loop .inv) _ (sym (c .before .before .next-argument .ensures .0) ∙ c .enum-told .given .1)
+    fit-end (entry .args .text .now) (entry .args .scratch .now) (entry .args .h) (entry .args .from) (entry .args .side) (entry .args .first) (entry .args .n) (loop .i) (loop .k) (loop .m)
+    (loop .inv) _ (sym (c .before .before .next-argument .ensures .0) ∙ c .enum-told .given .1)
 
 returns-2 : tie.Need-returns-2 Inv-loop μ-loop
 returns-2 c =
     let a = c .before .before .a in
     let loop = c .before .before .before .before .before .loop in
     let entry = c .before .before .before .before .before .before .before .before in
-    fit-short (entry .args .text .now) (entry .args .scratch .now) (entry .args .h) (entry .args .from) (entry .args .side) (entry .args .first) (entry .args .n) (loop .i) (loop .k) (loop .m) (loop .inv) (a .given .0 .0) (a .given .0 .1 .0) (sym (c .before .before .before .before .next-argument .ensures .0) ∙ a .given .1) (c .if1 .taken)
+    fit-short (entry .args .text .now) (entry .args .scratch .now) (entry .args .h) (entry .args .from) (entry .args .side) (entry .args .first) (entry .args .n) (loop .i) (loop .k) (loop .m)
+    (loop .inv) (a .given .0 .0) (a .given .0 .1 .0) (sym (c .before .before .before .before .next-argument .ensures .0) ∙ a .given .1) (c .if1 .taken)
 
 entry-requires : tie.Need-entry-requires Inv-loop μ-loop
 entry-requires c κs =
     let loop = c .before .before .before .before .before .loop in
-    let entry = c .before .before .before .before .before .before .before .before in
-    (entry .pre .0 .area, entry-there (entry .args .text .now) (entry .args .scratch .now) (entry .pre .0) _ _ (entries-left (entry .args .text .now) (entry .args .scratch .now) (entry .args .h) (entry .args .from) (entry .args .side) (entry .args .first) (entry .args .n) (loop .i) (loop .k) (loop .m) (loop .inv) (c .if1 .left)))
+    let entry = c .before .before .before .before .before .before .before .before in (
+      entry .pre .0 .area,
+      entry-there (entry .args .text .now) (entry .args .scratch .now) (entry .pre .0) _ _
+          (entries-left (entry .args .text .now) (entry .args .scratch .now) (entry .args .h) (entry .args .from) (entry .args .side) (entry .args .first) (entry .args .n) (loop .i) (loop .k) (loop .m)
+          (loop .inv) (c .if1 .left)),
+    )
 
 entry-fits-requires : tie.Need-entry-fits-requires Inv-loop μ-loop
 entry-fits-requires c κs =
     let loop = c .before .before .before .before .before .before .loop in
-    let entry = c .before .before .before .before .before .before .before .before .before in
-    (entry .pre .0, entry .pre .1, entry .pre .2, c .entry .ensures .says (entry .args .text .now) _ (entries-left (entry .args .text .now) (entry .args .scratch .now) (entry .args .h) (entry .args .from) (entry .args .side) (entry .args .first) (entry .args .n) (loop .i) (loop .k) (loop .m) (loop .inv) (c .before .if1 .left)) .type)
+    let entry = c .before .before .before .before .before .before .before .before .before in (
+      entry .pre .0,
+      entry .pre .1,
+      entry .pre .2,
+      c .entry .ensures .says (entry .args .text .now) _
+          (entries-left (entry .args .text .now) (entry .args .scratch .now) (entry .args .h) (entry .args .from) (entry .args .side) (entry .args .first) (entry .args .n) (loop .i) (loop .k) (loop .m)
+          (loop .inv) (c .before .if1 .left)) .type,
+    )
 
 returns-3 : tie.Need-returns-3 Inv-loop μ-loop
 returns-3 c =
@@ -64,14 +76,21 @@ returns-3 c =
     let a = after-a .a in
     let loop = after-a .before .before .before .loop in
     let entry = after-a .before .before .before .before .before .before in
-    fit-not (entry .args .text .now) (entry .args .scratch .now) (entry .args .h) (entry .args .from) (entry .args .side) (entry .args .first) (entry .args .n) (loop .i) (loop .k) (loop .m) (loop .inv) (c .before .before .before .if1 .left) (c .before .before .entry .result) (c .before .before .entry .ensures) (a .given .0 .0) (a .given .0 .1 .0) (sym (after-a .before .before .next-argument .ensures .0) ∙ a .given .1) (sym (c .before .entry-fits .ensures) ∙ not-true _ (c .if2 .taken))
+    fit-not (entry .args .text .now) (entry .args .scratch .now) (entry .args .h) (entry .args .from) (entry .args .side) (entry .args .first) (entry .args .n) (loop .i) (loop .k) (loop .m)
+    (loop .inv) (c .before .before .before .if1 .left) (c .before .before .entry .result) (c .before .before .entry .ensures) (a .given .0 .0) (a .given .0 .1 .0)
+    (sym (after-a .before .before .next-argument .ensures .0) ∙ a .given .1) (sym (c .before .entry-fits .ensures) ∙ not-true _ (c .if2 .taken))
 
 add-k : tie.Need-add-k Inv-loop μ-loop
 add-k c =
     let after-loop = c .before .before .before .before .before .before .before .before in
     let loop = after-loop .loop in
     let entry = after-loop .before .before .before in
-    omega (arith, entry-there (entry .args .text .now) (entry .args .scratch .now) (entry .pre .0) _ _ (entries-left (entry .args .text .now) (entry .args .scratch .now) (entry .args .h) (entry .args .from) (entry .args .side) (entry .args .first) (entry .args .n) (loop .i) (loop .k) (loop .m) (loop .inv) (c .before .before .before .if1 .left)))
+    omega (
+      arith,
+      entry-there (entry .args .text .now) (entry .args .scratch .now) (entry .pre .0) _ _
+          (entries-left (entry .args .text .now) (entry .args .scratch .now) (entry .args .h) (entry .args .from) (entry .args .side) (entry .args .first) (entry .args .n) (loop .i) (loop .k) (loop .m)
+          (loop .inv) (c .before .before .before .if1 .left)),
+    )
 
 sub-m : tie.Need-sub-m Inv-loop μ-loop
 sub-m c = search needs
@@ -85,7 +104,9 @@ loop-again c =
     let a = after-a .a in
     let loop = after-a .before .before .before .loop in
     let entry = after-a .before .before .before .before .before .before in
-    fit-on (entry .args .text .now) (entry .args .scratch .now) (entry .args .h) (entry .args .from) (entry .args .side) (entry .args .first) (entry .args .n) (loop .i) (loop .k) (loop .m) (loop .inv) (c .before .before .before .if1 .left) (c .before .before .entry .result) (c .before .before .entry .ensures) (a .given .0 .0) (a .given .0 .1 .0) (sym (after-a .before .before .next-argument .ensures .0) ∙ a .given .1) _ _ refl refl (sym (c .before .entry-fits .ensures) ∙ not-false _ (c .if2 .left))
+    fit-on (entry .args .text .now) (entry .args .scratch .now) (entry .args .h) (entry .args .from) (entry .args .side) (entry .args .first) (entry .args .n) (loop .i) (loop .k) (loop .m)
+    (loop .inv) (c .before .before .before .if1 .left) (c .before .before .entry .result) (c .before .before .entry .ensures) (a .given .0 .0) (a .given .0 .1 .0)
+    (sym (after-a .before .before .next-argument .ensures .0) ∙ a .given .1) _ _ refl refl (sym (c .before .entry-fits .ensures) ∙ not-false _ (c .if2 .left))
 
 pub list-fits-spec : {M : Type 1} → statement M
 list-fits-spec =

@@ -52,7 +52,9 @@ returns-2 c =
     let after-a = c .before .before .before .before in
     let a = after-a .a in
     let entry = after-a .before .before .before .before .before in
-    held-not (entry .args .text .now) (entry .args .h) (after-a .before .before .before .loop .inv) (a .given .0 .0) (a .given .0 .1 .0) (sym (after-a .before .before .next-argument .ensures .0) ∙ a .given .1) (λ w. ap isSome (sees-not (entry .args .text .now) w (entry .args .h) (a .given .0 .0) _ (c .before .before .find-end .ensures) (c .enum-told2 .given .1)))
+    held-not (entry .args .text .now) (entry .args .h) (after-a .before .before .before .loop .inv) (a .given .0 .0) (a .given .0 .1 .0)
+    (sym (after-a .before .before .next-argument .ensures .0) ∙ a .given .1)
+    (λ w. ap isSome (sees-not (entry .args .text .now) w (entry .args .h) (a .given .0 .0) _ (c .before .before .find-end .ensures) (c .enum-told2 .given .1)))
 
 loop-less : tie.Need-loop-less Inv-loop μ-loop
 loop-less c = omega (arith, forward-name _ _ _ _ _ (c .before .before .before .before .before .before .before .next-argument .ensures .1) (c .before .before .before .before .before .a .given .1))
@@ -62,7 +64,9 @@ loop-again c =
     let after-a = c .before .before .before .before .before in
     let a = after-a .a in
     let entry = after-a .before .before .before .before .before in
-    held-on (entry .args .text .now) (entry .args .h) (after-a .before .before .before .loop .inv) (a .given .0 .0) (a .given .0 .1 .0) (sym (after-a .before .before .next-argument .ensures .0) ∙ a .given .1) (λ w. ap isSome (sees-so (entry .args .text .now) w (entry .args .h) (a .given .0 .0) _ _ (c .before .before .before .find-end .ensures) (c .before .f .given .1)))
+    held-on (entry .args .text .now) (entry .args .h) (after-a .before .before .before .loop .inv) (a .given .0 .0) (a .given .0 .1 .0)
+    (sym (after-a .before .before .next-argument .ensures .0) ∙ a .given .1)
+    (λ w. ap isSome (sees-so (entry .args .text .now) w (entry .args .h) (a .given .0 .0) _ _ (c .before .before .before .find-end .ensures) (c .before .f .given .1)))
 
 pub list-held-spec : {M : Type 1} → statement M
 list-held-spec =

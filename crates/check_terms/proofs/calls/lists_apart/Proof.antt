@@ -43,7 +43,8 @@ returns-2 c =
     let after-a = c .before .before .before in
     let a = after-a .a in
     let entry = after-a .before .before .before .before .before in
-    apart-not (entry .args .text .now) (entry .args .other) (after-a .before .before .before .loop .inv) (a .given .0 .0) (a .given .0 .1 .0) (sym (after-a .before .before .next-argument .ensures .0) ∙ a .given .1) _ (c .before .in-list .ensures) (c .if1 .taken)
+    apart-not (entry .args .text .now) (entry .args .other) (after-a .before .before .before .loop .inv) (a .given .0 .0) (a .given .0 .1 .0)
+    (sym (after-a .before .before .next-argument .ensures .0) ∙ a .given .1) _ (c .before .in-list .ensures) (c .if1 .taken)
 
 loop-less : tie.Need-loop-less Inv-loop μ-loop
 loop-less c = omega (arith, forward-name _ _ _ _ _ (c .before .before .before .before .before .next-argument .ensures .1) (c .before .before .before .a .given .1))
@@ -53,7 +54,8 @@ loop-again c =
     let after-a = c .before .before .before in
     let a = after-a .a in
     let entry = after-a .before .before .before .before .before in
-    apart-on (entry .args .text .now) (entry .args .other) (after-a .before .before .before .loop .inv) (a .given .0 .0) (a .given .0 .1 .0) (sym (after-a .before .before .next-argument .ensures .0) ∙ a .given .1) _ (c .before .in-list .ensures) (c .if1 .left)
+    apart-on (entry .args .text .now) (entry .args .other) (after-a .before .before .before .loop .inv) (a .given .0 .0) (a .given .0 .1 .0)
+    (sym (after-a .before .before .next-argument .ensures .0) ∙ a .given .1) _ (c .before .in-list .ensures) (c .if1 .left)
 
 pub lists-apart-spec : {M : Type 1} → statement M
 lists-apart-spec =

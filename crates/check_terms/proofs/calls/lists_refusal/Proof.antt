@@ -26,7 +26,8 @@ lists-fit-requires c κs = c .before .before .before .before .pre
 returns-2 : tie.Need-returns-2
 returns-2 c =
     let entry = c .before .before .before .before .before .before in
-    number-fit (entry .args .text .now) (entry .args .scratch .now) (entry .args .h) (entry .args .q) (entry .args .a) (entry .args .b) _ (c .before .before .before .lists-held .ensures) (not-false _ (c .before .before .if1 .left)) _ (c .before .lists-fit .ensures) (not-true _ (c .if2 .taken))
+    number-fit (entry .args .text .now) (entry .args .scratch .now) (entry .args .h) (entry .args .q) (entry .args .a) (entry .args .b) _ (c .before .before .before .lists-held .ensures)
+    (not-false _ (c .before .before .if1 .left)) _ (c .before .lists-fit .ensures) (not-true _ (c .if2 .taken))
 
 names-distinct-requires : tie.Need-names-distinct-requires
 names-distinct-requires c κs = search needs
@@ -35,7 +36,9 @@ returns-3 : tie.Need-returns-3
 returns-3 c =
     let after-if1 = c .before .before .before .before in
     let entry = after-if1 .before .before .before .before in
-    number-distinct (entry .args .text .now) (entry .args .scratch .now) (entry .args .h) (entry .args .q) (entry .args .a) (entry .args .b) _ (after-if1 .before .lists-held .ensures) (not-false _ (after-if1 .if1 .left)) _ (c .before .before .before .lists-fit .ensures) (not-false _ (c .before .before .if2 .left)) _ (c .before .names-distinct .ensures) (not-true _ (c .if3 .taken))
+    number-distinct (entry .args .text .now) (entry .args .scratch .now) (entry .args .h) (entry .args .q) (entry .args .a) (entry .args .b) _ (after-if1 .before .lists-held .ensures)
+    (not-false _ (after-if1 .if1 .left)) _ (c .before .before .before .lists-fit .ensures) (not-false _ (c .before .before .if2 .left)) _ (c .before .names-distinct .ensures)
+    (not-true _ (c .if3 .taken))
 
 count-left-requires : tie.Need-count-left-requires
 count-left-requires c κs = c .before .before .before .before .before .before .before .before .pre .1 .many
@@ -44,13 +47,17 @@ returns-4 : tie.Need-returns-4
 returns-4 c =
     let after-if2 = c .before .before .before .before in
     let entry = after-if2 .before .before .before .before .before .before in
-    number-fine (entry .args .text .now) (entry .args .scratch .now) (entry .args .h) (entry .args .q) (entry .args .a) (entry .args .b) _ (after-if2 .before .before .before .lists-held .ensures) (not-false _ (after-if2 .before .before .if1 .left)) _ (after-if2 .before .lists-fit .ensures) (not-false _ (after-if2 .if2 .left)) _ (c .before .before .before .names-distinct .ensures) (not-false _ (c .before .before .if3 .left)) _ (c .before .count-left .ensures) (c .if4 .taken)
+    number-fine (entry .args .text .now) (entry .args .scratch .now) (entry .args .h) (entry .args .q) (entry .args .a) (entry .args .b) _ (after-if2 .before .before .before .lists-held .ensures)
+    (not-false _ (after-if2 .before .before .if1 .left)) _ (after-if2 .before .lists-fit .ensures) (not-false _ (after-if2 .if2 .left)) _ (c .before .before .before .names-distinct .ensures)
+    (not-false _ (c .before .before .if3 .left)) _ (c .before .count-left .ensures) (c .if4 .taken)
 
 returns-5 : tie.Need-returns-5
 returns-5 c =
     let after-if2 = c .before .before .before .before in
     let entry = after-if2 .before .before .before .before .before .before in
-    number-left (entry .args .text .now) (entry .args .scratch .now) (entry .args .h) (entry .args .q) (entry .args .a) (entry .args .b) _ (after-if2 .before .before .before .lists-held .ensures) (not-false _ (after-if2 .before .before .if1 .left)) _ (after-if2 .before .lists-fit .ensures) (not-false _ (after-if2 .if2 .left)) _ (c .before .before .before .names-distinct .ensures) (not-false _ (c .before .before .if3 .left)) _ (c .before .count-left .ensures) (c .if4 .left)
+    number-left (entry .args .text .now) (entry .args .scratch .now) (entry .args .h) (entry .args .q) (entry .args .a) (entry .args .b) _ (after-if2 .before .before .before .lists-held .ensures)
+    (not-false _ (after-if2 .before .before .if1 .left)) _ (after-if2 .before .lists-fit .ensures) (not-false _ (after-if2 .if2 .left)) _ (c .before .before .before .names-distinct .ensures)
+    (not-false _ (c .before .before .if3 .left)) _ (c .before .count-left .ensures) (c .if4 .left)
 
 pub lists-refusal-spec : {M : Type 1} → statement M
 lists-refusal-spec =

@@ -24,7 +24,8 @@ lists-apart-requires c κs = search needs
 returns-2 : tie.Need-returns-2
 returns-2 c =
     let entry = c .before .before .before .before .before in
-    not-apart (entry .args .text .now) (entry .args .a) (entry .args .b) _ _ (c .before .before .before .list-distinct .ensures) (not-false _ (c .before .before .if1 .left)) (c .before .lists-apart .ensures) (not-true _ (c .if2 .taken))
+    not-apart (entry .args .text .now) (entry .args .a) (entry .args .b) _ _ (c .before .before .before .list-distinct .ensures) (not-false _ (c .before .before .if1 .left))
+    (c .before .lists-apart .ensures) (not-true _ (c .if2 .taken))
 
 list-distinct-requires-2 : tie.Need-list-distinct-requires-2
 list-distinct-requires-2 c κs = search needs
@@ -32,7 +33,8 @@ list-distinct-requires-2 c κs = search needs
 returns-3 : tie.Need-returns-3
 returns-3 c =
     let entry = c .before .before .before .before .before .before in
-    distinct-last (entry .args .text .now) (entry .args .a) (entry .args .b) _ _ _ (c .before .before .before .before .list-distinct .ensures) (not-false _ (c .before .before .before .if1 .left)) (c .before .before .lists-apart .ensures) (not-false _ (c .before .if2 .left)) (c .list-distinct2 .ensures)
+    distinct-last (entry .args .text .now) (entry .args .a) (entry .args .b) _ _ _ (c .before .before .before .before .list-distinct .ensures) (not-false _ (c .before .before .before .if1 .left))
+    (c .before .before .lists-apart .ensures) (not-false _ (c .before .if2 .left)) (c .list-distinct2 .ensures)
 
 pub names-distinct-spec : {M : Type 1} → statement M
 names-distinct-spec =

@@ -24,7 +24,8 @@ enum-told c = search needs
 returns : tie.Need-returns
 returns c =
     let entry = c .before .before .before .before .before in
-    forwards-no-x (entry .args .text .now) (entry .args .scratch .now) (entry .args .h) (entry .args .x) (entry .args .c) (sees-not (entry .args .text .now) (entry .args .scratch .now) (entry .args .h) (entry .args .x) _ (c .before .before .find-end .ensures) (c .enum-told .given .1))
+    forwards-no-x (entry .args .text .now) (entry .args .scratch .now) (entry .args .h) (entry .args .x) (entry .args .c)
+    (sees-not (entry .args .text .now) (entry .args .scratch .now) (entry .args .h) (entry .args .x) _ (c .before .before .find-end .ensures) (c .enum-told .given .1))
 
 find-end-requires-2 : tie.Need-find-end-requires-2
 find-end-requires-2 c κs = c .before .before .before .before .before .before .pre .1 .many
@@ -43,7 +44,8 @@ returns-2 c =
     let text = entry .args .text .now in
     let scratch = entry .args .scratch .now in
     let h = entry .args .h in
-    forwards-no-c text scratch h (entry .args .x) (entry .args .c) _ (sees-so text scratch h (entry .args .x) _ (f .given .0 .0) (after-f .before .before .find-end .ensures) (f .given .1)) (sees-not text scratch h (entry .args .c) _ (c .before .before .find-end2 .ensures) (c .enum-told2 .given .1))
+    forwards-no-c text scratch h (entry .args .x) (entry .args .c) _ (sees-so text scratch h (entry .args .x) _ (f .given .0 .0) (after-f .before .before .find-end .ensures) (f .given .1))
+    (sees-not text scratch h (entry .args .c) _ (c .before .before .find-end2 .ensures) (c .enum-told2 .given .1))
 
 may-join-requires : tie.Need-may-join-requires
 may-join-requires c κs =
@@ -54,7 +56,9 @@ may-join-requires c κs =
     let entry = after-f .before .before .before .before .before in
     let text = entry .args .text .now in
     let scratch = entry .args .scratch .now in
-    (entry .pre .0, (end-found text scratch _ (f .given .0 .0) (find-end .ensures .fits scratch (entry .pre .1)) (f .given .1)) .0, (end-found text scratch _ (g .given .0 .0) (c .before .before .before .find-end2 .ensures .fits scratch (entry .pre .1)) (g .given .1)) .0, (end-found text scratch _ (f .given .0 .0) (find-end .ensures .fits scratch (entry .pre .1)) (f .given .1)) .1, (end-found text scratch _ (g .given .0 .0) (c .before .before .before .find-end2 .ensures .fits scratch (entry .pre .1)) (g .given .1)) .1)
+    let end-found′′ = end-found text scratch _ (f .given .0 .0) (find-end .ensures .fits scratch (entry .pre .1)) (f .given .1) in
+    let end-found′ = end-found text scratch _ (g .given .0 .0) (c .before .before .before .find-end2 .ensures .fits scratch (entry .pre .1)) (g .given .1) in
+    (entry .pre .0, end-found′′ .0, end-found′ .0, end-found′′ .1, end-found′ .1)
 
 returns-3 : tie.Need-returns-3
 returns-3 c =
@@ -65,7 +69,9 @@ returns-3 c =
     let text = entry .args .text .now in
     let scratch = entry .args .scratch .now in
     let h = entry .args .h in
-    forwards-not text scratch h (entry .args .x) (entry .args .c) _ (sees-so text scratch h (entry .args .x) _ (f .given .0 .0) (after-f .before .before .find-end .ensures) (f .given .1)) _ (sees-so text scratch h (entry .args .c) _ (g .given .0 .0) (c .before .before .before .before .before .find-end2 .ensures) (g .given .1)) (sym (c .before .may-join .ensures) ∙ not-true _ (c .if1 .taken))
+    forwards-not text scratch h (entry .args .x) (entry .args .c) _ (sees-so text scratch h (entry .args .x) _ (f .given .0 .0) (after-f .before .before .find-end .ensures) (f .given .1)) _
+    (sees-so text scratch h (entry .args .c) _ (g .given .0 .0) (c .before .before .before .before .before .find-end2 .ensures) (g .given .1))
+    (sym (c .before .may-join .ensures) ∙ not-true _ (c .if1 .taken))
 
 drop-end-requires : tie.Need-drop-end-requires
 drop-end-requires c κs = c .before .before .before .before .before .before .before .before .before .before .before .before .pre .1 .many
@@ -86,7 +92,9 @@ returns-4 c =
     let text = entry .args .text .now in
     let scratch = entry .args .scratch .now in
     let h = entry .args .h in
-    forwards-so text scratch h (entry .args .x) (entry .args .c) _ (sees-so text scratch h (entry .args .x) _ (f .given .0 .0) (after-f .before .before .find-end .ensures) (f .given .1)) _ (sees-so text scratch h (entry .args .c) _ (g .given .0 .0) (after-g .before .before .find-end2 .ensures) (g .given .1)) (sym (after-if1 .before .may-join .ensures) ∙ not-false _ (after-if1 .if1 .left)) _ _ (c .before .before .before .drop-end .ensures) (c .before .before .drop-end2 .ensures) (c .if2 .taken)
+    forwards-so text scratch h (entry .args .x) (entry .args .c) _ (sees-so text scratch h (entry .args .x) _ (f .given .0 .0) (after-f .before .before .find-end .ensures) (f .given .1)) _
+    (sees-so text scratch h (entry .args .c) _ (g .given .0 .0) (after-g .before .before .find-end2 .ensures) (g .given .1))
+    (sym (after-if1 .before .may-join .ensures) ∙ not-false _ (after-if1 .if1 .left)) _ _ (c .before .before .before .drop-end .ensures) (c .before .before .drop-end2 .ensures) (c .if2 .taken)
 
 returns-5 : tie.Need-returns-5
 returns-5 c =
@@ -99,7 +107,9 @@ returns-5 c =
     let text = entry .args .text .now in
     let scratch = entry .args .scratch .now in
     let h = entry .args .h in
-    forwards-left text scratch h (entry .args .x) (entry .args .c) _ (sees-so text scratch h (entry .args .x) _ (f .given .0 .0) (after-f .before .before .find-end .ensures) (f .given .1)) _ (sees-so text scratch h (entry .args .c) _ (g .given .0 .0) (after-g .before .before .find-end2 .ensures) (g .given .1)) (sym (after-if1 .before .may-join .ensures) ∙ not-false _ (after-if1 .if1 .left)) _ _ (c .before .before .before .drop-end .ensures) (c .before .before .drop-end2 .ensures) (c .if2 .left)
+    forwards-left text scratch h (entry .args .x) (entry .args .c) _ (sees-so text scratch h (entry .args .x) _ (f .given .0 .0) (after-f .before .before .find-end .ensures) (f .given .1)) _
+    (sees-so text scratch h (entry .args .c) _ (g .given .0 .0) (after-g .before .before .find-end2 .ensures) (g .given .1))
+    (sym (after-if1 .before .may-join .ensures) ∙ not-false _ (after-if1 .if1 .left)) _ _ (c .before .before .before .drop-end .ensures) (c .before .before .drop-end2 .ensures) (c .if2 .left)
 
 pub forward-refusal-spec : {M : Type 1} → statement M
 forward-refusal-spec =

@@ -29,15 +29,20 @@ wide-requires-2 c κs = search needs
 
 same-type-requires : tie.Need-same-type-requires
 same-type-requires c κs =
-    let entry = c .before .before .before .before .before .before .before .before in
-    (entry .pre .0, typed-as (entry .args .text .now) (entry .args .scratch .now) (entry .args .c) _ (c .before .wide .ensures .0) (entry .pre .2), typed-as (entry .args .text .now) (entry .args .scratch .now) (entry .args .x) _ (c .wide2 .ensures .0) (entry .pre .1))
+    let entry = c .before .before .before .before .before .before .before .before in (
+      entry .pre .0,
+      typed-as (entry .args .text .now) (entry .args .scratch .now) (entry .args .c) _ (c .before .wide .ensures .0) (entry .pre .2),
+      typed-as (entry .args .text .now)
+          (entry .args .scratch .now) (entry .args .x) _ (c .wide2 .ensures .0) (entry .pre .1),
+    )
 
 returns-3 : tie.Need-returns-3
 returns-3 c =
     let entry = c .before .before .before .before .before .before .before .before .before in
     let text = entry .args .text .now in
     let scratch = entry .args .scratch .now in
-    joins-so text scratch (entry .args .x) (entry .args .c) (entry .pre .3) (entry .pre .4) (c .before .before .before .before .before .if1 .left) (c .before .before .before .if2 .left) (c .same-type .ensures ∙ λ j. sameType (plainIn text scratch (c .before .before .wide .ensures .0 j)) (plainIn text scratch (c .before .wide2 .ensures .0 j)))
+    joins-so text scratch (entry .args .x) (entry .args .c) (entry .pre .3) (entry .pre .4) (c .before .before .before .before .before .if1 .left) (c .before .before .before .if2 .left)
+    (c .same-type .ensures ∙ λ j. sameType (plainIn text scratch (c .before .before .wide .ensures .0 j)) (plainIn text scratch (c .before .wide2 .ensures .0 j)))
 
 pub may-join-spec : {M : Type 1} → statement M
 may-join-spec =

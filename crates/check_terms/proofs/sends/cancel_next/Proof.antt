@@ -36,7 +36,9 @@ returns-2 c =
     let entry = c .before .before .before .before .before .before .before in
     let text = entry .args .text .now in
     let scratch = entry .args .scratch .now in
-    goes text scratch _ (c .drop-end .ensures .fits scratch (entry .pre .1)) (gives-so text scratch (entry .args .h) (entry .args .c) _ (sees-so text scratch (entry .args .h) (entry .args .c) _ (f .given .0 .0) (c .before .before .before .before .find-end .ensures) (f .given .1)) _ (c .drop-end .ensures))
+    goes text scratch _ (c .drop-end .ensures .fits scratch (entry .pre .1))
+    (gives-so text scratch (entry .args .h) (entry .args .c) _ (sees-so text scratch (entry .args .h) (entry .args .c) _ (f .given .0 .0) (c .before .before .before .before .find-end .ensures)
+    (f .given .1)) _ (c .drop-end .ensures))
 
 pub cancel-next-spec : {M : Type 1} → statement M
 cancel-next-spec =

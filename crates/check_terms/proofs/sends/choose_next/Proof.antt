@@ -29,13 +29,15 @@ returns c =
     let text = entry .args .text .now in
     let scratch = entry .args .scratch .now in
     let h = entry .args .h in
-    stops text scratch 10 h refl (chooses-absent text scratch h (entry .args .c) (entry .args .l) (acts-not text scratch h (entry .args .c) _ (c .before .before .acting .ensures) (c .enum-told .given .1)))
+    stops text scratch 10 h refl (chooses-absent text scratch h (entry .args .c) (entry .args .l)
+    (acts-not text scratch h (entry .args .c) _ (c .before .before .acting .ensures) (c .enum-told .given .1)))
 
 chooses-over-requires : tie.Need-chooses-over-requires
 chooses-over-requires c κs =
     let f = c .before .f in
     let entry = c .before .before .before .before .before .before in
-    (entry .pre .0, (end-found (entry .args .text .now) (entry .args .scratch .now) _ (f .given .0 .0) (c .before .before .before .acting .ensures .fits) (f .given .1)) .0, (end-found (entry .args .text .now) (entry .args .scratch .now) _ (f .given .0 .0) (c .before .before .before .acting .ensures .fits) (f .given .1)) .1)
+    let end-found′ = end-found (entry .args .text .now) (entry .args .scratch .now) _ (f .given .0 .0) (c .before .before .before .acting .ensures .fits) (f .given .1) in
+    (entry .pre .0, end-found′ .0, end-found′ .1)
 
 enum-known-t : tie.Need-enum-known-t
 enum-known-t c = search needs
@@ -51,20 +53,36 @@ returns-2 c =
     let text = entry .args .text .now in
     let scratch = entry .args .scratch .now in
     let h = entry .args .h in
-    stops text scratch 11 h refl (chooses-not text scratch h (entry .args .c) (entry .args .l) (f .given .0 .0) (acts-so text scratch h (entry .args .c) _ (f .given .0 .0) (after-f .before .before .acting .ensures) (f .given .1)) _ (c .before .before .chooses-over .ensures) (c .enum-told2 .given .1))
+    stops text scratch 11 h refl (chooses-not text scratch h (entry .args .c) (entry .args .l) (f .given .0 .0)
+    (acts-so text scratch h (entry .args .c) _ (f .given .0 .0) (after-f .before .before .acting .ensures) (f .given .1)) _ (c .before .before .chooses-over .ensures) (c .enum-told2 .given .1))
 
 narrow-requires : tie.Need-narrow-requires
 narrow-requires c κs =
     let entry = c .before .before .before .before .before .before .before .before .before .before in
-    omega (arith, node-there (entry .args .text .now) (entry .args .scratch .now) (entry .pre .0) _ (found-type (entry .args .text .now) (entry .args .scratch .now) _ (c .before .t .given .0 .0) (c .before .before .before .chooses-over .ensures .type) (c .before .t .given .1)))
+    omega (
+      arith,
+      node-there (entry .args .text .now) (entry .args .scratch .now) (entry .pre .0) _
+          (found-type (entry .args .text .now) (entry .args .scratch .now) _ (c .before .t .given .0 .0) (c .before .before .before .chooses-over .ensures .type) (c .before .t .given .1)),
+    )
 
 retype-end-requires : tie.Need-retype-end-requires
 retype-end-requires c κs =
     let t = c .before .before .t in
     let entry = c .before .before .before .before .before .before .before .before .before .before .before in
     let text = entry .args .text .now in
-    let scratch = entry .args .scratch .now in
-    ((entry .pre .1 .many, omega (arith, node-there text scratch (entry .pre .0) _ (found-type text scratch _ (t .given .0 .0) (c .before .before .before .before .chooses-over .ensures .type) (t .given .1)), c .narrow .ensures)), bounded-ends text scratch (entry .args .h) (entry .pre .1))
+    let scratch = entry .args .scratch .now in (
+      (
+        entry .pre .1 .many,
+        omega (
+          arith,
+          node-there text scratch (entry .pre .0) _
+              (found-type text scratch _ (t .given .0 .0) (c .before .before .before .before .chooses-over .ensures .type) (t .given .1)),
+          c .narrow .ensures,
+        ),
+      ),
+      bounded-ends text scratch (entry .args .h)
+          (entry .pre .1),
+    )
 
 returns-3 : tie.Need-returns-3
 returns-3 c =
@@ -78,7 +96,9 @@ returns-3 c =
     let c-arg = entry .args .c in
     let scratch = entry .args .scratch .now in
     let d = (subst (λ j. Retypes text h c-arg j (c .retype-end .result)) (c .before .narrow .ensures) (c .retype-end .ensures)) in
-    goes text scratch _ (d .fits scratch (found-type text scratch _ (t .given .0 .0) (chooses-over .ensures .type) (t .given .1)) (entry .pre .1)) (chooses-so text scratch h c-arg (entry .args .l) (f .given .0 .0) (acts-so text scratch h c-arg _ (f .given .0 .0) (after-f .before .before .acting .ensures) (f .given .1)) _ (chooses-over .ensures) (t .given .0 .0) (t .given .1) _ d)
+    goes text scratch _ (d .fits scratch (found-type text scratch _ (t .given .0 .0) (chooses-over .ensures .type) (t .given .1)) (entry .pre .1))
+    (chooses-so text scratch h c-arg (entry .args .l) (f .given .0 .0) (acts-so text scratch h c-arg _ (f .given .0 .0) (after-f .before .before .acting .ensures) (f .given .1)) _
+    (chooses-over .ensures) (t .given .0 .0) (t .given .1) _ d)
 
 pub choose-next-spec : {M : Type 1} → statement M
 choose-next-spec =

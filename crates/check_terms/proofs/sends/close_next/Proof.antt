@@ -30,7 +30,8 @@ returns c =
     let text = entry .args .text .now in
     let scratch = entry .args .scratch .now in
     let h = entry .args .h in
-    stops text scratch 10 h refl (closes-absent text scratch h (entry .args .c) (entry .args .side) (entry .pre .2) (acts-not text scratch h (entry .args .c) _ (c .before .before .acting .ensures) (c .enum-told .given .1)))
+    stops text scratch 10 h refl (closes-absent text scratch h (entry .args .c) (entry .args .side) (entry .pre .2)
+    (acts-not text scratch h (entry .args .c) _ (c .before .before .acting .ensures) (c .enum-told .given .1)))
 
 returns-2 : tie.Need-returns-2
 returns-2 c =
@@ -40,7 +41,8 @@ returns-2 c =
     let text = entry .args .text .now in
     let scratch = entry .args .scratch .now in
     let h = entry .args .h in
-    stops text scratch 11 h refl (closes-other-side text scratch h (entry .args .c) (entry .args .side) (entry .pre .2) (f .given .0 .0) (acts-so text scratch h (entry .args .c) _ (f .given .0 .0) (acting .ensures) (f .given .1)) ((end-found text scratch _ (f .given .0 .0) (acting .ensures .fits) (f .given .1)) .1) (c .if1 .taken))
+    stops text scratch 11 h refl (closes-other-side text scratch h (entry .args .c) (entry .args .side) (entry .pre .2) (f .given .0 .0)
+    (acts-so text scratch h (entry .args .c) _ (f .given .0 .0) (acting .ensures) (f .given .1)) ((end-found text scratch _ (f .given .0 .0) (acting .ensures .fits) (f .given .1)) .1) (c .if1 .taken))
 
 wide-requires : tie.Need-wide-requires
 wide-requires c κs = search needs
@@ -51,8 +53,11 @@ is-unit-requires c κs =
     let f = after-f .f in
     let entry = after-f .before .before .before .before .before in
     let text = entry .args .text .now in
-    let scratch = entry .args .scratch .now in
-    (entry .pre .0 .area, node-there text scratch (entry .pre .0) _ (typed-as text scratch (f .given .0 .0) _ (c .wide .ensures .0) ((end-found text scratch _ (f .given .0 .0) (after-f .before .before .acting .ensures .fits) (f .given .1)) .0)))
+    let scratch = entry .args .scratch .now in (
+      entry .pre .0 .area,
+      node-there text scratch (entry .pre .0) _ (typed-as text scratch (f .given .0 .0) _ (c .wide .ensures .0)
+          ((end-found text scratch _ (f .given .0 .0) (after-f .before .before .acting .ensures .fits) (f .given .1)) .0)),
+    )
 
 drop-end-requires : tie.Need-drop-end-requires
 drop-end-requires c κs = c .before .before .before .before .before .before .before .before .before .before .before .pre .1 .many
@@ -66,7 +71,12 @@ returns-3 c =
     let entry = after-f .before .before .before .before .before in
     let text = entry .args .text .now in
     let scratch = entry .args .scratch .now in
-    goes text scratch _ (c .drop-end .ensures .fits scratch (entry .pre .1)) (closes-so text scratch (entry .args .h) (entry .args .c) (entry .args .side) (entry .pre .2) (f .given .0 .0) (acts-so text scratch (entry .args .h) (entry .args .c) _ (f .given .0 .0) (acting .ensures) (f .given .1)) ((end-found text scratch _ (f .given .0 .0) (acting .ensures .fits) (f .given .1)) .1) (c .before .before .before .before .if1 .left) (ap (λ i. atLeaf (shape (plainIn text scratch i))) (sym (wide .ensures .0)) ∙ sym (c .before .before .is-unit .ensures .says text (entry .pre .0) (typed-as text scratch (f .given .0 .0) _ (wide .ensures .0) ((end-found text scratch _ (f .given .0 .0) (acting .ensures .fits) (f .given .1)) .0))) ∙ c .before .if2 .taken) _ (c .drop-end .ensures))
+    let end-found′ = end-found text scratch _ (f .given .0 .0) (acting .ensures .fits) (f .given .1) in
+    goes text scratch _ (c .drop-end .ensures .fits scratch (entry .pre .1))
+    (closes-so text scratch (entry .args .h) (entry .args .c) (entry .args .side) (entry .pre .2) (f .given .0 .0)
+    (acts-so text scratch (entry .args .h) (entry .args .c) _ (f .given .0 .0) (acting .ensures) (f .given .1)) (end-found′ .1) (c .before .before .before .before .if1 .left)
+    (ap (λ i. atLeaf (shape (plainIn text scratch i))) (sym (wide .ensures .0)) ∙ sym
+    (c .before .before .is-unit .ensures .says text (entry .pre .0) (typed-as text scratch (f .given .0 .0) _ (wide .ensures .0) (end-found′ .0))) ∙ c .before .if2 .taken) _ (c .drop-end .ensures))
 
 returns-4 : tie.Need-returns-4
 returns-4 c =
@@ -77,7 +87,11 @@ returns-4 c =
     let text = entry .args .text .now in
     let scratch = entry .args .scratch .now in
     let h = entry .args .h in
-    stops text scratch 11 h refl (closes-not text scratch h (entry .args .c) (entry .args .side) (entry .pre .2) (f .given .0 .0) (acts-so text scratch h (entry .args .c) _ (f .given .0 .0) (acting .ensures) (f .given .1)) ((end-found text scratch _ (f .given .0 .0) (acting .ensures .fits) (f .given .1)) .1) (c .before .before .before .if1 .left) (ap (λ i. atLeaf (shape (plainIn text scratch i))) (sym (c .before .before .wide .ensures .0)) ∙ sym (c .before .is-unit .ensures .says text (entry .pre .0) (typed-as text scratch (f .given .0 .0) _ (c .before .before .wide .ensures .0) ((end-found text scratch _ (f .given .0 .0) (acting .ensures .fits) (f .given .1)) .0))) ∙ c .if2 .left))
+    let end-found′ = end-found text scratch _ (f .given .0 .0) (acting .ensures .fits) (f .given .1) in
+    stops text scratch 11 h refl (closes-not text scratch h (entry .args .c) (entry .args .side) (entry .pre .2) (f .given .0 .0)
+    (acts-so text scratch h (entry .args .c) _ (f .given .0 .0) (acting .ensures) (f .given .1)) (end-found′ .1) (c .before .before .before .if1 .left)
+    (ap (λ i. atLeaf (shape (plainIn text scratch i))) (sym (c .before .before .wide .ensures .0)) ∙ sym
+    (c .before .is-unit .ensures .says text (entry .pre .0) (typed-as text scratch (f .given .0 .0) _ (c .before .before .wide .ensures .0) (end-found′ .0))) ∙ c .if2 .left))
 
 pub close-next-spec : {M : Type 1} → statement M
 close-next-spec =

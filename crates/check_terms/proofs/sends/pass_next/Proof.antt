@@ -32,7 +32,8 @@ returns c =
     let text = entry .args .text .now in
     let scratch = entry .args .scratch .now in
     let h = entry .args .h in
-    stops text scratch 10 h refl (passes-absent text scratch h (entry .args .c) (entry .args .a) (acts-not text scratch h (entry .args .c) _ (c .before .before .acting .ensures) (c .enum-told .given .1)))
+    stops text scratch 10 h refl (passes-absent text scratch h (entry .args .c) (entry .args .a)
+    (acts-not text scratch h (entry .args .c) _ (c .before .before .acting .ensures) (c .enum-told .given .1)))
 
 find-end-requires : tie.Need-find-end-requires
 find-end-requires c κs = c .before .before .before .before .before .before .pre .1 .many
@@ -51,7 +52,9 @@ returns-2 c =
     let text = entry .args .text .now in
     let scratch = entry .args .scratch .now in
     let h = entry .args .h in
-    stops text scratch 10 h refl (passes-nothing text scratch h (entry .args .c) (entry .args .a) (f .given .0 .0) (acts-so text scratch h (entry .args .c) _ (f .given .0 .0) (after-f .before .before .acting .ensures) (f .given .1)) (sees-not text scratch h (entry .args .a) _ (c .before .before .find-end .ensures) (c .enum-told2 .given .1)))
+    stops text scratch 10 h refl (passes-nothing text scratch h (entry .args .c) (entry .args .a) (f .given .0 .0)
+    (acts-so text scratch h (entry .args .c) _ (f .given .0 .0) (after-f .before .before .acting .ensures) (f .given .1))
+    (sees-not text scratch h (entry .args .a) _ (c .before .before .find-end .ensures) (c .enum-told2 .given .1)))
 
 names-equal-requires : tie.Need-names-equal-requires
 names-equal-requires c κs = search needs
@@ -65,7 +68,9 @@ returns-3 c =
     let text = entry .args .text .now in
     let scratch = entry .args .scratch .now in
     let h = entry .args .h in
-    stops text scratch 11 h refl (passes-itself text scratch h (entry .args .c) (entry .args .a) (f .given .0 .0) (acts-so text scratch h (entry .args .c) _ (f .given .0 .0) (after-f .before .before .acting .ensures) (f .given .1)) (g .given .0 .0) (sees-so text scratch h (entry .args .a) _ (g .given .0 .0) (c .before .before .before .before .before .find-end .ensures) (g .given .1)) (sym (c .before .names-equal .ensures) ∙ c .if1 .taken))
+    stops text scratch 11 h refl (passes-itself text scratch h (entry .args .c) (entry .args .a) (f .given .0 .0)
+    (acts-so text scratch h (entry .args .c) _ (f .given .0 .0) (after-f .before .before .acting .ensures) (f .given .1)) (g .given .0 .0)
+    (sees-so text scratch h (entry .args .a) _ (g .given .0 .0) (c .before .before .before .before .before .find-end .ensures) (g .given .1)) (sym (c .before .names-equal .ensures) ∙ c .if1 .taken))
 
 passes-over-requires : tie.Need-passes-over-requires
 passes-over-requires c κs =
@@ -77,7 +82,9 @@ passes-over-requires c κs =
     let entry = after-f .before .before .before .before .before in
     let text = entry .args .text .now in
     let scratch = entry .args .scratch .now in
-    (entry .pre .0, (end-found text scratch _ (f .given .0 .0) (acting .ensures .fits) (f .given .1)) .0, (end-found text scratch _ (g .given .0 .0) (find-end .ensures .fits scratch (entry .pre .1)) (g .given .1)) .0, (end-found text scratch _ (f .given .0 .0) (acting .ensures .fits) (f .given .1)) .1, (end-found text scratch _ (g .given .0 .0) (find-end .ensures .fits scratch (entry .pre .1)) (g .given .1)) .1)
+    let end-found′′ = end-found text scratch _ (f .given .0 .0) (acting .ensures .fits) (f .given .1) in
+    let end-found′ = end-found text scratch _ (g .given .0 .0) (find-end .ensures .fits scratch (entry .pre .1)) (g .given .1) in
+    (entry .pre .0, end-found′′ .0, end-found′ .0, end-found′′ .1, end-found′ .1)
 
 enum-known-t : tie.Need-enum-known-t
 enum-known-t c = search needs
@@ -95,7 +102,10 @@ returns-4 c =
     let text = entry .args .text .now in
     let scratch = entry .args .scratch .now in
     let h = entry .args .h in
-    stops text scratch 11 h refl (passes-not text scratch h (entry .args .c) (entry .args .a) (f .given .0 .0) (acts-so text scratch h (entry .args .c) _ (f .given .0 .0) (after-f .before .before .acting .ensures) (f .given .1)) (g .given .0 .0) (sees-so text scratch h (entry .args .a) _ (g .given .0 .0) (after-g .before .before .find-end .ensures) (g .given .1)) (sym (c .before .before .before .before .names-equal .ensures) ∙ c .before .before .before .if1 .left) _ (c .before .before .passes-over .ensures) (c .enum-told3 .given .1))
+    stops text scratch 11 h refl (passes-not text scratch h (entry .args .c) (entry .args .a) (f .given .0 .0)
+    (acts-so text scratch h (entry .args .c) _ (f .given .0 .0) (after-f .before .before .acting .ensures) (f .given .1)) (g .given .0 .0)
+    (sees-so text scratch h (entry .args .a) _ (g .given .0 .0) (after-g .before .before .find-end .ensures) (g .given .1))
+    (sym (c .before .before .before .before .names-equal .ensures) ∙ c .before .before .before .if1 .left) _ (c .before .before .passes-over .ensures) (c .enum-told3 .given .1))
 
 drop-end-requires : tie.Need-drop-end-requires
 drop-end-requires c κs = c .before .before .before .before .before .before .before .before .before .before .before .before .before .before .before .before .pre .1 .many
@@ -104,7 +114,11 @@ narrow-requires : tie.Need-narrow-requires
 narrow-requires c κs =
     let t = c .before .before .t in
     let entry = c .before .before .before .before .before .before .before .before .before .before .before .before .before .before .before .before .before in
-    omega (arith, node-there (entry .args .text .now) (entry .args .scratch .now) (entry .pre .0) _ (found-type (entry .args .text .now) (entry .args .scratch .now) _ (t .given .0 .0) (c .before .before .before .before .passes-over .ensures .type) (t .given .1)))
+    omega (
+      arith,
+      node-there (entry .args .text .now) (entry .args .scratch .now) (entry .pre .0) _
+          (found-type (entry .args .text .now) (entry .args .scratch .now) _ (t .given .0 .0) (c .before .before .before .before .passes-over .ensures .type) (t .given .1)),
+    )
 
 retype-end-requires : tie.Need-retype-end-requires
 retype-end-requires c κs =
@@ -112,8 +126,18 @@ retype-end-requires c κs =
     let entry = c .before .before .before .before .before .before .before .before .before .before .before .before .before .before .before .before .before .before in
     let scratch = entry .args .scratch .now in
     let text = entry .args .text .now in
-    let u = c .before .drop-end .ensures .fits scratch (entry .pre .1) in
-    ((u .many, omega (arith, node-there text scratch (entry .pre .0) _ (found-type text scratch _ (t .given .0 .0) (c .before .before .before .before .before .passes-over .ensures .type) (t .given .1)), c .narrow .ensures)), bounded-ends text scratch _ u)
+    let u = c .before .drop-end .ensures .fits scratch (entry .pre .1) in (
+      (
+        u .many,
+        omega (
+          arith,
+          node-there text scratch (entry .pre .0) _ (found-type text scratch _ (t .given .0 .0) (c .before .before .before .before .before .passes-over .ensures .type)
+              (t .given .1)),
+          c .narrow .ensures,
+        ),
+      ),
+      bounded-ends text scratch _ u,
+    )
 
 returns-5 : tie.Need-returns-5
 returns-5 c =
@@ -132,7 +156,10 @@ returns-5 c =
     let scratch = entry .args .scratch .now in
     let h = entry .args .h in
     let d = (subst (λ j. Retypes text (drop-end .result) c-arg j (c .retype-end .result)) (c .before .narrow .ensures) (c .retype-end .ensures)) in
-    goes text scratch _ (d .fits scratch (found-type text scratch _ (t .given .0 .0) (passes-over .ensures .type) (t .given .1)) (drop-end .ensures .fits scratch (entry .pre .1))) (passes-so text scratch h c-arg (entry .args .a) (f .given .0 .0) (acts-so text scratch h c-arg _ (f .given .0 .0) (after-f .before .before .acting .ensures) (f .given .1)) (g .given .0 .0) (sees-so text scratch h (entry .args .a) _ (g .given .0 .0) (after-g .before .before .find-end .ensures) (g .given .1)) (sym (after-if1 .before .names-equal .ensures) ∙ after-if1 .if1 .left) _ (passes-over .ensures) (t .given .0 .0) (t .given .1) _ _ (drop-end .ensures) d)
+    goes text scratch _ (d .fits scratch (found-type text scratch _ (t .given .0 .0) (passes-over .ensures .type) (t .given .1)) (drop-end .ensures .fits scratch (entry .pre .1)))
+    (passes-so text scratch h c-arg (entry .args .a) (f .given .0 .0) (acts-so text scratch h c-arg _ (f .given .0 .0) (after-f .before .before .acting .ensures) (f .given .1)) (g .given .0 .0)
+    (sees-so text scratch h (entry .args .a) _ (g .given .0 .0) (after-g .before .before .find-end .ensures) (g .given .1)) (sym (after-if1 .before .names-equal .ensures) ∙ after-if1 .if1 .left) _
+    (passes-over .ensures) (t .given .0 .0) (t .given .1) _ _ (drop-end .ensures) d)
 
 pub pass-next-spec : {M : Type 1} → statement M
 pass-next-spec =

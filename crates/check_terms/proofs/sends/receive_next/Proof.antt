@@ -33,7 +33,8 @@ returns c =
     let text = entry .args .text .now in
     let scratch = entry .args .scratch .now in
     let h = entry .args .h in
-    stops text scratch 10 h refl (receives-absent text scratch h (entry .args .c) (entry .args .x) (acts-not text scratch h (entry .args .c) _ (c .before .before .acting .ensures) (c .enum-told .given .1)))
+    stops text scratch 10 h refl (receives-absent text scratch h (entry .args .c) (entry .args .x)
+    (acts-not text scratch h (entry .args .c) _ (c .before .before .acting .ensures) (c .enum-told .given .1)))
 
 takes-from-requires : tie.Need-takes-from-requires
 takes-from-requires c κs =
@@ -41,7 +42,8 @@ takes-from-requires c κs =
     let entry = c .before .before .before .before .before .before in
     let text = entry .args .text .now in
     let scratch = entry .args .scratch .now in
-    (entry .pre .0 .area, node-there text scratch (entry .pre .0) _ ((end-found text scratch _ (f .given .0 .0) (c .before .before .before .acting .ensures .fits) (f .given .1)) .0 .type), (end-found text scratch _ (f .given .0 .0) (c .before .before .before .acting .ensures .fits) (f .given .1)) .1)
+    let end-found′ = end-found text scratch _ (f .given .0 .0) (c .before .before .before .acting .ensures .fits) (f .given .1) in
+    (entry .pre .0 .area, node-there text scratch (entry .pre .0) _ (end-found′ .0 .type), end-found′ .1)
 
 enum-known-t : tie.Need-enum-known-t
 enum-known-t c = search needs
@@ -58,7 +60,9 @@ returns-2 c =
     let text = entry .args .text .now in
     let scratch = entry .args .scratch .now in
     let h = entry .args .h in
-    stops text scratch 11 h refl (receives-nothing text scratch h (entry .args .c) (entry .args .x) (f .given .0 .0) (acts-so text scratch h (entry .args .c) _ (f .given .0 .0) (acting .ensures) (f .given .1)) _ (c .before .before .takes-from .ensures .says text (entry .pre .0) ((end-found text scratch _ (f .given .0 .0) (acting .ensures .fits) (f .given .1)) .0)) (c .enum-told2 .given .1))
+    stops text scratch 11 h refl (receives-nothing text scratch h (entry .args .c) (entry .args .x) (f .given .0 .0)
+    (acts-so text scratch h (entry .args .c) _ (f .given .0 .0) (acting .ensures) (f .given .1)) _
+    (c .before .before .takes-from .ensures .says text (entry .pre .0) ((end-found text scratch _ (f .given .0 .0) (acting .ensures .fits) (f .given .1)) .0)) (c .enum-told2 .given .1))
 
 is-new-requires : tie.Need-is-new-requires
 is-new-requires c κs = c .before .before .before .before .before .before .before .before .before .before .pre .1 .many
@@ -73,7 +77,10 @@ returns-3 c =
     let text = entry .args .text .now in
     let scratch = entry .args .scratch .now in
     let h = entry .args .h in
-    stops text scratch 15 h refl (receives-known text scratch h (entry .args .c) (entry .args .x) (f .given .0 .0) (acts-so text scratch h (entry .args .c) _ (f .given .0 .0) (acting .ensures) (f .given .1)) _ (c .before .before .before .before .before .takes-from .ensures .says text (entry .pre .0) ((end-found text scratch _ (f .given .0 .0) (acting .ensures .fits) (f .given .1)) .0)) (t .given .0 .0) (t .given .0 .1 .0) (t .given .0 .1 .1 .0) (t .given .0 .1 .1 .1 .0) (t .given .1) (sym (c .before .is-new .ensures scratch) ∙ not-true _ (c .if1 .taken)))
+    stops text scratch 15 h refl (receives-known text scratch h (entry .args .c) (entry .args .x) (f .given .0 .0)
+    (acts-so text scratch h (entry .args .c) _ (f .given .0 .0) (acting .ensures) (f .given .1)) _
+    (c .before .before .before .before .before .takes-from .ensures .says text (entry .pre .0) ((end-found text scratch _ (f .given .0 .0) (acting .ensures .fits) (f .given .1)) .0)) (t .given .0 .0)
+    (t .given .0 .1 .0) (t .given .0 .1 .1 .0) (t .given .0 .1 .1 .1 .0) (t .given .1) (sym (c .before .is-new .ensures scratch) ∙ not-true _ (c .if1 .taken)))
 
 returns-4 : tie.Need-returns-4
 returns-4 c =
@@ -86,7 +93,11 @@ returns-4 c =
     let text = entry .args .text .now in
     let scratch = entry .args .scratch .now in
     let h = entry .args .h in
-    stops text scratch 15 h refl (receives-full text scratch h (entry .args .c) (entry .args .x) (f .given .0 .0) (acts-so text scratch h (entry .args .c) _ (f .given .0 .0) (acting .ensures) (f .given .1)) _ (after-t .before .before .takes-from .ensures .says text (entry .pre .0) ((end-found text scratch _ (f .given .0 .0) (acting .ensures .fits) (f .given .1)) .0)) (t .given .0 .0) (t .given .0 .1 .0) (t .given .0 .1 .1 .0) (t .given .0 .1 .1 .1 .0) (t .given .1) (sym (c .before .before .before .is-new .ensures scratch) ∙ not-false _ (c .before .before .if1 .left)) (omega (arith, c .if2 .taken)))
+    stops text scratch 15 h refl (receives-full text scratch h (entry .args .c) (entry .args .x) (f .given .0 .0)
+    (acts-so text scratch h (entry .args .c) _ (f .given .0 .0) (acting .ensures) (f .given .1)) _
+    (after-t .before .before .takes-from .ensures .says text (entry .pre .0) ((end-found text scratch _ (f .given .0 .0) (acting .ensures .fits) (f .given .1)) .0)) (t .given .0 .0)
+    (t .given .0 .1 .0) (t .given .0 .1 .1 .0) (t .given .0 .1 .1 .1 .0) (t .given .1) (sym (c .before .before .before .is-new .ensures scratch) ∙ not-false _ (c .before .before .if1 .left))
+    (omega (arith, c .if2 .taken)))
 
 narrow-requires : tie.Need-narrow-requires
 narrow-requires c κs =
@@ -96,7 +107,12 @@ narrow-requires c κs =
     let entry = after-f .before .before .before .before .before in
     let text = entry .args .text .now in
     let scratch = entry .args .scratch .now in
-    omega (arith, node-there text scratch (entry .pre .0) _ ((subst (passedIn text scratch) (after-t .t .given .1) ((after-t .before .before .takes-from .ensures .says text (entry .pre .0) ((end-found text scratch _ (f .given .0 .0) (after-f .before .before .acting .ensures .fits) (f .given .1)) .0)) .parts)) .1))
+    omega (
+      arith,
+      node-there text scratch (entry .pre .0) _ ((subst (passedIn text scratch) (after-t .t .given .1)
+          ((after-t .before .before .takes-from .ensures .says text (entry .pre .0)
+          ((end-found text scratch _ (f .given .0 .0) (after-f .before .before .acting .ensures .fits) (f .given .1)) .0)) .parts)) .1),
+    )
 
 retype-end-requires : tie.Need-retype-end-requires
 retype-end-requires c κs =
@@ -105,8 +121,20 @@ retype-end-requires c κs =
     let f = after-f .f in
     let entry = after-f .before .before .before .before .before in
     let text = entry .args .text .now in
-    let scratch = entry .args .scratch .now in
-    ((entry .pre .1 .many, omega (arith, node-there text scratch (entry .pre .0) _ ((subst (passedIn text scratch) (after-t .t .given .1) ((after-t .before .before .takes-from .ensures .says text (entry .pre .0) ((end-found text scratch _ (f .given .0 .0) (after-f .before .before .acting .ensures .fits) (f .given .1)) .0)) .parts)) .1), c .narrow .ensures)), bounded-ends text scratch (entry .args .h) (entry .pre .1))
+    let scratch = entry .args .scratch .now in (
+      (
+        entry .pre .1 .many,
+        omega (
+          arith,
+          node-there text scratch (entry .pre .0) _
+              ((subst (passedIn text scratch) (after-t .t .given .1) ((after-t .before .before .takes-from .ensures .says text (entry .pre .0)
+              ((end-found text scratch _ (f .given .0 .0) (after-f .before .before .acting .ensures .fits) (f .given .1)) .0)) .parts)) .1),
+          c .narrow .ensures,
+        ),
+      ),
+      bounded-ends text scratch (entry .args .h)
+          (entry .pre .1),
+    )
 
 narrow-requires-2 : tie.Need-narrow-requires-2
 narrow-requires-2 c κs = omega (arith, c .before .before .before .before .before .before .before .before .before .before .before .before .before .before .before .before .pre .2)
@@ -119,7 +147,12 @@ narrow-requires-3 c κs =
     let entry = after-f .before .before .before .before .before in
     let text = entry .args .text .now in
     let scratch = entry .args .scratch .now in
-    omega (arith, node-there text scratch (entry .pre .0) _ ((subst (passedIn text scratch) (after-t .t .given .1) ((after-t .before .before .takes-from .ensures .says text (entry .pre .0) ((end-found text scratch _ (f .given .0 .0) (after-f .before .before .acting .ensures .fits) (f .given .1)) .0)) .parts)) .0))
+    omega (
+      arith,
+      node-there text scratch (entry .pre .0) _ ((subst (passedIn text scratch) (after-t .t .given .1)
+          ((after-t .before .before .takes-from .ensures .says text (entry .pre .0)
+          ((end-found text scratch _ (f .given .0 .0) (after-f .before .before .acting .ensures .fits) (f .given .1)) .0)) .parts)) .0),
+    )
 
 bring-end-requires : tie.Need-bring-end-requires
 bring-end-requires c κs =
@@ -132,7 +165,23 @@ bring-end-requires c κs =
     let entry = after-f .before .before .before .before .before in
     let text = entry .args .text .now in
     let scratch = entry .args .scratch .now in
-    (omega (arith, entry .pre .1 .many, c .before .before .before .before .if2 .left, retyped-count text scratch (entry .args .h) (entry .args .c) _ _ (subst (λ j. Retypes text (entry .args .h) (entry .args .c) j (c .before .before .retype-end .result)) (c .before .before .before .narrow .ensures) (c .before .before .retype-end .ensures))), omega (arith, entry .pre .2, c .before .narrow2 .ensures), (subst (passedIn text scratch) (t .given .1) ((takes-from .ensures .says text (entry .pre .0) ((end-found text scratch _ (f .given .0 .0) (acting .ensures .fits) (f .given .1)) .0)) .parts)) .3, omega (arith, node-there text scratch (entry .pre .0) _ ((subst (passedIn text scratch) (t .given .1) ((takes-from .ensures .says text (entry .pre .0) ((end-found text scratch _ (f .given .0 .0) (acting .ensures .fits) (f .given .1)) .0)) .parts)) .0), c .narrow3 .ensures), omega arith)
+    let end-found′ = end-found text scratch _ (f .given .0 .0) (acting .ensures .fits) (f .given .1) in (
+      omega (
+        arith,
+        entry .pre .1 .many,
+        c .before .before .before .before .if2 .left,
+        retyped-count text scratch (entry .args .h) (entry .args .c) _ _
+            (subst (λ j. Retypes text (entry .args .h) (entry .args .c) j (c .before .before .retype-end .result)) (c .before .before .before .narrow .ensures) (c .before .before .retype-end .ensures)),
+      ),
+      omega (arith, entry .pre .2, c .before .narrow2 .ensures),
+      (subst (passedIn text scratch) (t .given .1) ((takes-from .ensures .says text (entry .pre .0) (end-found′ .0)) .parts)) .3,
+      omega (
+        arith,
+        node-there text scratch (entry .pre .0) _ ((subst (passedIn text scratch) (t .given .1) ((takes-from .ensures .says text (entry .pre .0) (end-found′ .0)) .parts)) .0),
+        c .narrow3 .ensures,
+      ),
+      omega arith,
+    )
 
 returns-5 : tie.Need-returns-5
 returns-5 c =
@@ -150,8 +199,14 @@ returns-5 c =
     let c-arg = entry .args .c in
     let scratch = entry .args .scratch .now in
     let d = (subst (λ j. Retypes text h c-arg j (retype-end .result)) (c .before .before .before .before .narrow .ensures) (retype-end .ensures)) in
-    let e = (subst (λ j. Brings (retype-end .result) (entry .args .x) (t .given .0 .1 .0) j 0 (c .bring-end .result)) (c .before .narrow3 .ensures) (subst (λ i. Brings (retype-end .result) i (t .given .0 .1 .0) (c .before .narrow3 .result) 0 (c .bring-end .result)) (c .before .before .narrow2 .ensures) (c .bring-end .ensures))) in
-    goes text scratch _ (e .fits text scratch ((subst (passedIn text scratch) (t .given .1) ((takes-from .ensures .says text (entry .pre .0) ((end-found text scratch _ (f .given .0 .0) (acting .ensures .fits) (f .given .1)) .0)) .parts)) .0) (d .fits scratch ((subst (passedIn text scratch) (t .given .1) ((takes-from .ensures .says text (entry .pre .0) ((end-found text scratch _ (f .given .0 .0) (acting .ensures .fits) (f .given .1)) .0)) .parts)) .1) (entry .pre .1))) (receives-so text scratch h c-arg (entry .args .x) (f .given .0 .0) (acts-so text scratch h c-arg _ (f .given .0 .0) (acting .ensures) (f .given .1)) _ (takes-from .ensures .says text (entry .pre .0) ((end-found text scratch _ (f .given .0 .0) (acting .ensures .fits) (f .given .1)) .0)) (t .given .0 .0) (t .given .0 .1 .0) (t .given .0 .1 .1 .0) (t .given .0 .1 .1 .1 .0) (t .given .1) (sym (after-if2 .before .before .before .is-new .ensures scratch) ∙ not-false _ (after-if2 .before .before .if1 .left)) (omega (arith, entry .pre .1 .many, after-if2 .if2 .left)) _ _ d e)
+    let e = (subst (λ j. Brings (retype-end .result) (entry .args .x) (t .given .0 .1 .0) j 0 (c .bring-end .result)) (c .before .narrow3 .ensures)
+    (subst (λ i. Brings (retype-end .result) i (t .given .0 .1 .0) (c .before .narrow3 .result) 0 (c .bring-end .result)) (c .before .before .narrow2 .ensures) (c .bring-end .ensures))) in
+    let end-found′ = end-found text scratch _ (f .given .0 .0) (acting .ensures .fits) (f .given .1) in
+    goes text scratch _ (e .fits text scratch ((subst (passedIn text scratch) (t .given .1) ((takes-from .ensures .says text (entry .pre .0) (end-found′ .0)) .parts)) .0)
+    (d .fits scratch ((subst (passedIn text scratch) (t .given .1) ((takes-from .ensures .says text (entry .pre .0) (end-found′ .0)) .parts)) .1) (entry .pre .1))) (receives-so text scratch h c-arg
+    (entry .args .x) (f .given .0 .0) (acts-so text scratch h c-arg _ (f .given .0 .0) (acting .ensures) (f .given .1)) _ (takes-from .ensures .says text (entry .pre .0) (end-found′ .0))
+    (t .given .0 .0) (t .given .0 .1 .0) (t .given .0 .1 .1 .0) (t .given .0 .1 .1 .1 .0) (t .given .1)
+    (sym (after-if2 .before .before .before .is-new .ensures scratch) ∙ not-false _ (after-if2 .before .before .if1 .left)) (omega (arith, entry .pre .1 .many, after-if2 .if2 .left)) _ _ d e)
 
 pub receive-next-spec : {M : Type 1} → statement M
 receive-next-spec =

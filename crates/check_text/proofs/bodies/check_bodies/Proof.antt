@@ -36,7 +36,8 @@ returns : tie.Need-returns Inv-loop μ-loop
 returns c =
     let loop = c .before .before .before .before .loop in
     let entry = c .before .before .before .before .before .before .before .before in
-    ap verdictOf (c .enum-told2 .given .1) ∙ checking-stops (entry .args .text .now) (entry .args .scratch .now) _ (loop .i) (loop .inv) (c .before .before .before .loop-test .taken) _ _ (sym (c .before .before .check-body .ensures) ∙ ap verdictOf (c .enum-told2 .given .1))
+    ap verdictOf (c .enum-told2 .given .1) ∙ checking-stops (entry .args .text .now) (entry .args .scratch .now) _ (loop .i) (loop .inv) (c .before .before .before .loop-test .taken) _ _
+    (sym (c .before .before .check-body .ensures) ∙ ap verdictOf (c .enum-told2 .given .1))
 
 add-i : tie.Need-add-i Inv-loop μ-loop
 add-i c = search needs
@@ -48,7 +49,8 @@ loop-again : tie.Need-loop-again Inv-loop μ-loop
 loop-again c =
     let loop = c .before .before .before .before .loop in
     let entry = c .before .before .before .before .before .before .before .before in
-    checking-on (entry .args .text .now) (entry .args .scratch .now) _ (loop .i) (loop .inv) (c .before .before .before .loop-test .taken) (sym (c .before .before .check-body .ensures) ∙ ap verdictOf (c .enum-told .given .1)) _ refl
+    checking-on (entry .args .text .now) (entry .args .scratch .now) _ (loop .i) (loop .inv) (c .before .before .before .loop-test .taken)
+    (sym (c .before .before .check-body .ensures) ∙ ap verdictOf (c .enum-told .given .1)) _ refl
 
 returns-2 : tie.Need-returns-2 Inv-loop μ-loop
 returns-2 c =

@@ -26,25 +26,41 @@ add-entry : tie.Need-add-entry
 add-entry c =
     let declared-process = c .before .before .before .declared-process in
     let entry = c .before .before .before .before .before .before in
-    omega (arith, (seventeenth-entry (entry .args .text .now) (entry .args .scratch .now) (asEntry (declared-process .result)) (declared-process .ensures .stands (entry .args .text .now) (entry .pre .0) (entry .pre .1)) (entry .pre .0) (ltb-true 16 (declared-process .result .provided + declared-process .result .used) (sym (c .before .before .has-seventeenth .ensures) ∙ c .before .if1 .taken))))
+    omega (
+      arith,
+      (seventeenth-entry (entry .args .text .now) (entry .args .scratch .now) (asEntry (declared-process .result))
+          (declared-process .ensures .stands (entry .args .text .now) (entry .pre .0) (entry .pre .1)) (entry .pre .0)
+          (ltb-true 16 (declared-process .result .provided + declared-process .result .used) (sym (c .before .before .has-seventeenth .ensures) ∙ c .before .if1 .taken))),
+    )
 
 entry-requires : tie.Need-entry-requires
 entry-requires c κs =
     let declared-process = c .before .before .before .declared-process in
-    let entry = c .before .before .before .before .before .before in
-    (entry .pre .0 .area, (seventeenth-entry (entry .args .text .now) (entry .args .scratch .now) (asEntry (declared-process .result)) (declared-process .ensures .stands (entry .args .text .now) (entry .pre .0) (entry .pre .1)) (entry .pre .0) (ltb-true 16 (declared-process .result .provided + declared-process .result .used) (sym (c .before .before .has-seventeenth .ensures) ∙ c .before .if1 .taken))))
+    let entry = c .before .before .before .before .before .before in (
+      entry .pre .0 .area,
+      (seventeenth-entry (entry .args .text .now) (entry .args .scratch .now) (asEntry (declared-process .result))
+          (declared-process .ensures .stands (entry .args .text .now) (entry .pre .0) (entry .pre .1)) (entry .pre .0)
+          (ltb-true 16 (declared-process .result .provided + declared-process .result .used) (sym (c .before .before .has-seventeenth .ensures) ∙ c .before .if1 .taken))),
+    )
 
 returns : tie.Need-returns
 returns c =
     let declared-process = c .before .before .before .before .declared-process in
     let entry = c .before .before .before .before .before .before .before in
-    body-named (entry .args .text .now) (entry .args .scratch .now) (entry .args .i) (declared-process .result) (declared-process .ensures) _ (c .entry .ensures) (ltb-true 16 (declared-process .result .provided + declared-process .result .used) (sym (c .before .before .before .has-seventeenth .ensures) ∙ c .before .before .if1 .taken))
+    body-named (entry .args .text .now) (entry .args .scratch .now) (entry .args .i) (declared-process .result) (declared-process .ensures) _ (c .entry .ensures)
+    (ltb-true 16 (declared-process .result .provided + declared-process .result .used) (sym (c .before .before .before .has-seventeenth .ensures) ∙ c .before .before .if1 .taken))
 
 signature-held-requires : tie.Need-signature-held-requires
 signature-held-requires c κs =
     let declared-process = c .before .before .declared-process in
     let entry = c .before .before .before .before .before in
-    (entry .pre .0, (declared-process .ensures .stands (entry .args .text .now) (entry .pre .0) (entry .pre .1)), declared-process .ensures .small, omega (arith, (ltb-false 16 (declared-process .result .provided + declared-process .result .used) (sym (c .before .has-seventeenth .ensures) ∙ c .if1 .left))), omega (arith, (ltb-false 16 (declared-process .result .provided + declared-process .result .used) (sym (c .before .has-seventeenth .ensures) ∙ c .if1 .left))))
+    let ltb-false′ = ltb-false 16 (declared-process .result .provided + declared-process .result .used) (sym (c .before .has-seventeenth .ensures) ∙ c .if1 .left) in (
+      entry .pre .0,
+      (declared-process .ensures .stands (entry .args .text .now) (entry .pre .0) (entry .pre .1)),
+      declared-process .ensures .small,
+      omega (arith, ltb-false′),
+      omega (arith, ltb-false′),
+    )
 
 check-process-requires : tie.Need-check-process-requires
 check-process-requires c κs =
@@ -55,7 +71,9 @@ returns-2 : tie.Need-returns-2
 returns-2 c =
     let declared-process = c .before .before .before .before .declared-process in
     let entry = c .before .before .before .before .before .before .before in
-    body-checked (entry .args .text .now) (entry .args .scratch .now) (entry .args .i) (declared-process .result) (declared-process .ensures) _ (ltb-false 16 (declared-process .result .provided + declared-process .result .used) (sym (c .before .before .before .has-seventeenth .ensures) ∙ c .before .before .if1 .left)) (c .before .signature-held .ensures) (c .check-process .ensures)
+    body-checked (entry .args .text .now) (entry .args .scratch .now) (entry .args .i) (declared-process .result) (declared-process .ensures) _
+    (ltb-false 16 (declared-process .result .provided + declared-process .result .used) (sym (c .before .before .before .has-seventeenth .ensures) ∙ c .before .before .if1 .left))
+    (c .before .signature-held .ensures) (c .check-process .ensures)
 
 pub check-body-spec : {M : Type 1} → statement M
 check-body-spec =

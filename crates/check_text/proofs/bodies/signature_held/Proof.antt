@@ -17,16 +17,28 @@ no-ends-requires c κs = search needs
 
 with-entries-requires : tie.Need-with-entries-requires
 with-entries-requires c κs =
-    let entry = c .before .before .before in
-    (entry .pre .0, nothing-fits (entry .args .text .now) (entry .args .scratch .now) _ (c .no-ends .ensures .0) (c .no-ends .ensures .1), omega (arith, c .no-ends .ensures .1, entry .pre .3), omega arith, omega (arith, entry .pre .2), entry .pre .1 .provides)
+    let entry = c .before .before .before in (
+      entry .pre .0,
+      nothing-fits (entry .args .text .now) (entry .args .scratch .now) _ (c .no-ends .ensures .0) (c .no-ends .ensures .1),
+      omega (arith, c .no-ends .ensures .1, entry .pre .3),
+      omega arith,
+      omega (arith, entry .pre .2),
+      entry .pre .1 .provides,
+    )
 
 add-with-entries : tie.Need-add-with-entries
 add-with-entries c = omega (arith, c .before .before .before .before .before .pre .2)
 
 with-entries-requires-2 : tie.Need-with-entries-requires-2
 with-entries-requires-2 c κs =
-    let entry = c .before .before .before .before .before in
-    (entry .pre .0, c .before .with-entries .ensures .fits, omega (arith, c .before .with-entries .ensures .count, c .before .before .no-ends .ensures .1, entry .pre .3, entry .pre .4), omega arith, entry .pre .2, entry .pre .1 .uses)
+    let entry = c .before .before .before .before .before in (
+      entry .pre .0,
+      c .before .with-entries .ensures .fits,
+      omega (arith, c .before .with-entries .ensures .count, c .before .before .no-ends .ensures .1, entry .pre .3, entry .pre .4),
+      omega arith,
+      entry .pre .2,
+      entry .pre .1 .uses,
+    )
 
 returns : tie.Need-returns
 returns c =

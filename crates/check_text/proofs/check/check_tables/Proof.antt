@@ -48,7 +48,8 @@ returns-2 c =
     let after-v = c .before .before .before .before .before in
     let v = after-v .v in
     let entry = after-v .before .before .before .before .before .before .before in
-    part-faulty (entry .args .text .now) (entry .args .part .now) (entry .pre) _ (after-v .before .before .script-verdict .ensures) (v .given .0 .0) (v .given .0 .1 .0) (v .given .1) _ (c .before .before .zero .ensures)
+    part-faulty (entry .args .text .now) (entry .args .part .now) (entry .pre) _ (after-v .before .before .script-verdict .ensures) (v .given .0 .0) (v .given .0 .1 .0) (v .given .1) _
+    (c .before .before .zero .ensures)
 
 pub check-tables-spec : {M : Type 1} → statement M
 check-tables-spec =

@@ -26,7 +26,8 @@ enum-told c = search needs
 returns : tie.Need-returns
 returns c =
     let entry = c .before .before .before .before .before in
-    offers-absent (entry .args .text .now) (entry .args .scratch .now) (entry .args .h) (entry .args .n) (acts-not (entry .args .text .now) (entry .args .scratch .now) (entry .args .h) (entry .args .n .first) _ (c .before .before .acting .ensures) (c .enum-told .given .1))
+    offers-absent (entry .args .text .now) (entry .args .scratch .now) (entry .args .h) (entry .args .n)
+    (acts-not (entry .args .text .now) (entry .args .scratch .now) (entry .args .h) (entry .args .n .first) _ (c .before .before .acting .ensures) (c .enum-told .given .1))
 
 wide-requires : tie.Need-wide-requires
 wide-requires c κs = search needs
@@ -36,8 +37,11 @@ choosing-requires c κs =
     let f = c .before .before .f in
     let entry = c .before .before .before .before .before .before .before in
     let text = entry .args .text .now in
-    let scratch = entry .args .scratch .now in
-    (entry .pre .0 .area, node-there text scratch (entry .pre .0) _ (typed-as text scratch (f .given .0 .0) _ (c .wide .ensures .0) ((end-found text scratch _ (f .given .0 .0) (c .before .before .before .before .acting .ensures .fits) (f .given .1)) .0)))
+    let scratch = entry .args .scratch .now in (
+      entry .pre .0 .area,
+      node-there text scratch (entry .pre .0) _ (typed-as text scratch (f .given .0 .0) _ (c .wide .ensures .0)
+          ((end-found text scratch _ (f .given .0 .0) (c .before .before .before .before .acting .ensures .fits) (f .given .1)) .0)),
+    )
 
 enum-known-t : tie.Need-enum-known-t
 enum-known-t c = search needs
@@ -54,7 +58,10 @@ returns-2 c =
     let entry = after-f .before .before .before .before .before in
     let text = entry .args .text .now in
     let scratch = entry .args .scratch .now in
-    offers-nothing text scratch (entry .args .h) (entry .args .n) (f .given .0 .0) (acts-so text scratch (entry .args .h) (entry .args .n .first) _ (f .given .0 .0) (acting .ensures) (f .given .1)) ((end-found text scratch _ (f .given .0 .0) (acting .ensures .fits) (f .given .1)) .1) _ (wide .ensures .0) _ (c .before .before .choosing .ensures .says text (entry .pre .0) (typed-as text scratch (f .given .0 .0) _ (wide .ensures .0) ((end-found text scratch _ (f .given .0 .0) (acting .ensures .fits) (f .given .1)) .0))) (c .enum-told2 .given .1)
+    let end-found′ = end-found text scratch _ (f .given .0 .0) (acting .ensures .fits) (f .given .1) in
+    offers-nothing text scratch (entry .args .h) (entry .args .n) (f .given .0 .0) (acts-so text scratch (entry .args .h) (entry .args .n .first) _ (f .given .0 .0) (acting .ensures) (f .given .1))
+    (end-found′ .1) _ (wide .ensures .0) _ (c .before .before .choosing .ensures .says text (entry .pre .0) (typed-as text scratch (f .given .0 .0) _ (wide .ensures .0) (end-found′ .0)))
+    (c .enum-told2 .given .1)
 
 returns-3 : tie.Need-returns-3
 returns-3 c =
@@ -67,7 +74,10 @@ returns-3 c =
     let entry = after-f .before .before .before .before .before in
     let text = entry .args .text .now in
     let scratch = entry .args .scratch .now in
-    offers-own-end text scratch (entry .args .h) (entry .args .n) (f .given .0 .0) (acts-so text scratch (entry .args .h) (entry .args .n .first) _ (f .given .0 .0) (acting .ensures) (f .given .1)) ((end-found text scratch _ (f .given .0 .0) (acting .ensures .fits) (f .given .1)) .1) _ (wide .ensures .0) _ (after-t .before .before .choosing .ensures .says text (entry .pre .0) (typed-as text scratch (f .given .0 .0) _ (wide .ensures .0) ((end-found text scratch _ (f .given .0 .0) (acting .ensures .fits) (f .given .1)) .0))) (t .given .0 .0) (t .given .0 .1 .0) (t .given .0 .1 .1 .0) (t .given .1) (c .if1 .taken)
+    let end-found′ = end-found text scratch _ (f .given .0 .0) (acting .ensures .fits) (f .given .1) in
+    offers-own-end text scratch (entry .args .h) (entry .args .n) (f .given .0 .0) (acts-so text scratch (entry .args .h) (entry .args .n .first) _ (f .given .0 .0) (acting .ensures) (f .given .1))
+    (end-found′ .1) _ (wide .ensures .0) _ (after-t .before .before .choosing .ensures .says text (entry .pre .0) (typed-as text scratch (f .given .0 .0) _ (wide .ensures .0) (end-found′ .0)))
+    (t .given .0 .0) (t .given .0 .1 .0) (t .given .0 .1 .1 .0) (t .given .1) (c .if1 .taken)
 
 labels-fit-requires : tie.Need-labels-fit-requires
 labels-fit-requires c κs =
@@ -80,7 +90,14 @@ labels-fit-requires c κs =
     let entry = after-f .before .before .before .before .before in
     let text = entry .args .text .now in
     let scratch = entry .args .scratch .now in
-    (entry .pre .0, labels-there text scratch (entry .args .h) (entry .args .n) (f .given .0 .0) (acts-so text scratch (entry .args .h) (entry .args .n .first) _ (f .given .0 .0) (acting .ensures) (f .given .1)) ((end-found text scratch _ (f .given .0 .0) (acting .ensures .fits) (f .given .1)) .1) _ (wide .ensures .0) _ (after-t .before .before .choosing .ensures .says text (entry .pre .0) (typed-as text scratch (f .given .0 .0) _ (wide .ensures .0) ((end-found text scratch _ (f .given .0 .0) (acting .ensures .fits) (f .given .1)) .0))) (t .given .0 .0) (t .given .0 .1 .0) (t .given .0 .1 .1 .0) (t .given .1), entry .pre .2)
+    let end-found′ = end-found text scratch _ (f .given .0 .0) (acting .ensures .fits) (f .given .1) in (
+      entry .pre .0,
+      labels-there text scratch (entry .args .h) (entry .args .n) (f .given .0 .0)
+          (acts-so text scratch (entry .args .h) (entry .args .n .first) _ (f .given .0 .0) (acting .ensures) (f .given .1)) (end-found′ .1) _ (wide .ensures .0) _
+          (after-t .before .before .choosing .ensures .says text (entry .pre .0) (typed-as text scratch (f .given .0 .0) _ (wide .ensures .0) (end-found′ .0))) (t .given .0 .0) (t .given .0 .1 .0)
+          (t .given .0 .1 .1 .0) (t .given .1),
+      entry .pre .2,
+    )
 
 returns-4 : tie.Need-returns-4
 returns-4 c =
@@ -93,7 +110,10 @@ returns-4 c =
     let entry = after-f .before .before .before .before .before in
     let text = entry .args .text .now in
     let scratch = entry .args .scratch .now in
-    offers-so text scratch (entry .args .h) (entry .args .n) (f .given .0 .0) (acts-so text scratch (entry .args .h) (entry .args .n .first) _ (f .given .0 .0) (acting .ensures) (f .given .1)) ((end-found text scratch _ (f .given .0 .0) (acting .ensures .fits) (f .given .1)) .1) _ (wide .ensures .0) _ (after-t .before .before .choosing .ensures .says text (entry .pre .0) (typed-as text scratch (f .given .0 .0) _ (wide .ensures .0) ((end-found text scratch _ (f .given .0 .0) (acting .ensures .fits) (f .given .1)) .0))) (t .given .0 .0) (t .given .0 .1 .0) (t .given .0 .1 .1 .0) (t .given .1) (c .before .before .if1 .left) (sym (c .before .labels-fit .ensures) ∙ c .if2 .taken)
+    let end-found′ = end-found text scratch _ (f .given .0 .0) (acting .ensures .fits) (f .given .1) in
+    offers-so text scratch (entry .args .h) (entry .args .n) (f .given .0 .0) (acts-so text scratch (entry .args .h) (entry .args .n .first) _ (f .given .0 .0) (acting .ensures) (f .given .1))
+    (end-found′ .1) _ (wide .ensures .0) _ (after-t .before .before .choosing .ensures .says text (entry .pre .0) (typed-as text scratch (f .given .0 .0) _ (wide .ensures .0) (end-found′ .0)))
+    (t .given .0 .0) (t .given .0 .1 .0) (t .given .0 .1 .1 .0) (t .given .1) (c .before .before .if1 .left) (sym (c .before .labels-fit .ensures) ∙ c .if2 .taken)
 
 returns-5 : tie.Need-returns-5
 returns-5 c =
@@ -106,7 +126,10 @@ returns-5 c =
     let entry = after-f .before .before .before .before .before in
     let text = entry .args .text .now in
     let scratch = entry .args .scratch .now in
-    offers-not text scratch (entry .args .h) (entry .args .n) (f .given .0 .0) (acts-so text scratch (entry .args .h) (entry .args .n .first) _ (f .given .0 .0) (acting .ensures) (f .given .1)) ((end-found text scratch _ (f .given .0 .0) (acting .ensures .fits) (f .given .1)) .1) _ (wide .ensures .0) _ (after-t .before .before .choosing .ensures .says text (entry .pre .0) (typed-as text scratch (f .given .0 .0) _ (wide .ensures .0) ((end-found text scratch _ (f .given .0 .0) (acting .ensures .fits) (f .given .1)) .0))) (t .given .0 .0) (t .given .0 .1 .0) (t .given .0 .1 .1 .0) (t .given .1) (c .before .before .if1 .left) (sym (c .before .labels-fit .ensures) ∙ c .if2 .left)
+    let end-found′ = end-found text scratch _ (f .given .0 .0) (acting .ensures .fits) (f .given .1) in
+    offers-not text scratch (entry .args .h) (entry .args .n) (f .given .0 .0) (acts-so text scratch (entry .args .h) (entry .args .n .first) _ (f .given .0 .0) (acting .ensures) (f .given .1))
+    (end-found′ .1) _ (wide .ensures .0) _ (after-t .before .before .choosing .ensures .says text (entry .pre .0) (typed-as text scratch (f .given .0 .0) _ (wide .ensures .0) (end-found′ .0)))
+    (t .given .0 .0) (t .given .0 .1 .0) (t .given .0 .1 .1 .0) (t .given .1) (c .before .before .if1 .left) (sym (c .before .labels-fit .ensures) ∙ c .if2 .left)
 
 pub labels-offered-spec : {M : Type 1} → statement M
 labels-offered-spec =

@@ -25,4 +25,6 @@ use Rattle.check_text.proofs.process.+check_branches+check_choice+check
 use Rattle.check_text.proofs.process.+check_branches+check_choice+check_ending+check_process+check_raise+check_receive+check_rest+check_spawn+check_term+check_try.Proof.CheckTry.{check-try-met}
 
 pub +check-branches+check-choice+check-ending+check-process+check-raise+check-receive+check-rest+check-spawn+check-term+check-try-spec : {M : Type 1} → statement M
-+check-branches+check-choice+check-ending+check-process+check-raise+check-receive+check-rest+check-spawn+check-term+check-try-spec = close μ-check-branches μ-check-choice μ-check-ending μ-check-process μ-check-raise μ-check-receive μ-check-rest μ-check-spawn μ-check-term μ-check-try check-branches-met check-choice-met check-ending-met check-process-met check-raise-met check-receive-met check-rest-met check-spawn-met check-term-met check-try-met
++check-branches+check-choice+check-ending+check-process+check-raise+check-receive+check-rest+check-spawn+check-term+check-try-spec = close μ-check-branches μ-check-choice μ-check-ending
+    μ-check-process μ-check-raise μ-check-receive μ-check-rest μ-check-spawn μ-check-term μ-check-try check-branches-met check-choice-met check-ending-met check-process-met check-raise-met
+    check-receive-met check-rest-met check-spawn-met check-term-met check-try-met

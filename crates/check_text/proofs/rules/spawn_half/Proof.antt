@@ -23,15 +23,22 @@ narrow-requires-2 c κs =
 
 bring-end-requires : tie.Need-bring-end-requires
 bring-end-requires c κs =
-    let entry = c .before .before .before .before .before .before in
-    (half-fits (entry .args .text .now) (entry .args .scratch .now) (entry .args .h) (entry .args .n) (entry .args .first) _ (c .before .before .before .keep .ensures) (entry .pre .1), omega (arith, entry .pre .0 .4, c .before .narrow .ensures), c .before .before .side-of .ensures .1, omega (arith, node-there (entry .args .text .now) (entry .args .scratch .now) (entry .pre .0 .0) _ (entry .pre .0 .3), c .narrow2 .ensures), omega arith)
+    let entry = c .before .before .before .before .before .before in (
+      half-fits (entry .args .text .now) (entry .args .scratch .now) (entry .args .h) (entry .args .n) (entry .args .first) _ (c .before .before .before .keep .ensures) (entry .pre .1),
+      omega (arith, entry .pre .0 .4, c .before .narrow .ensures),
+      c .before .before .side-of .ensures .1,
+      omega (arith, node-there (entry .args .text .now) (entry .args .scratch .now) (entry .pre .0 .0) _ (entry .pre .0 .3), c .narrow2 .ensures),
+      omega arith,
+    )
 
 returns : tie.Need-returns
 returns c =
     let side-of = c .before .before .before .side-of in
     let keep = c .before .before .before .before .keep in
     let entry = c .before .before .before .before .before .before .before in
-    half-so (entry .args .text .now) (entry .args .scratch .now) (entry .args .h) (entry .args .n) (entry .args .first) _ _ _ (keep .ensures) (side-of .ensures .0) (entry .pre .0 .3) (subst (λ j. Brings (keep .result) (entry .args .n .at) (side-of .result) j 0 (c .bring-end .result)) (c .before .narrow2 .ensures) (subst (λ i. Brings (keep .result) i (side-of .result) (c .before .narrow2 .result) 0 (c .bring-end .result)) (c .before .before .narrow .ensures) (c .bring-end .ensures)))
+    half-so (entry .args .text .now) (entry .args .scratch .now) (entry .args .h) (entry .args .n) (entry .args .first) _ _ _ (keep .ensures) (side-of .ensures .0) (entry .pre .0 .3)
+    (subst (λ j. Brings (keep .result) (entry .args .n .at) (side-of .result) j 0 (c .bring-end .result)) (c .before .narrow2 .ensures)
+    (subst (λ i. Brings (keep .result) i (side-of .result) (c .before .narrow2 .result) 0 (c .bring-end .result)) (c .before .before .narrow .ensures) (c .bring-end .ensures)))
 
 pub spawn-half-spec : {M : Type 1} → statement M
 spawn-half-spec =

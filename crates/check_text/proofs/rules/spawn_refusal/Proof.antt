@@ -20,7 +20,8 @@ divides-requires c κs =
 returns : tie.Need-returns
 returns c =
     let entry = c .before .before .before .before in
-    spawn-shared (entry .args .text .now) (entry .args .scratch .now) (entry .args .h) (entry .args .n) (sym (apart-so (entry .args .text .now) (entry .args .scratch .now) (entry .args .h) (entry .args .n) _ (c .before .divides .ensures)) ∙ (not-true _ (c .if1 .taken)))
+    spawn-shared (entry .args .text .now) (entry .args .scratch .now) (entry .args .h) (entry .args .n)
+    (sym (apart-so (entry .args .text .now) (entry .args .scratch .now) (entry .args .h) (entry .args .n) _ (c .before .divides .ensures)) ∙ (not-true _ (c .if1 .taken)))
 
 is-new-requires : tie.Need-is-new-requires
 is-new-requires c κs = c .before .before .before .before .pre .1 .many
@@ -29,7 +30,9 @@ returns-2 : tie.Need-returns-2
 returns-2 c =
     let entry = c .before .before .before .before .before .before in
     let scratch = entry .args .scratch .now in
-    spawn-known (entry .args .text .now) scratch (entry .args .h) (entry .args .n) (sym (apart-so (entry .args .text .now) scratch (entry .args .h) (entry .args .n) _ (c .before .before .before .divides .ensures)) ∙ (not-false _ (c .before .before .if1 .left))) (sym (c .before .is-new .ensures scratch) ∙ (not-true _ (c .if2 .taken)))
+    spawn-known (entry .args .text .now) scratch (entry .args .h) (entry .args .n)
+    (sym (apart-so (entry .args .text .now) scratch (entry .args .h) (entry .args .n) _ (c .before .before .before .divides .ensures)) ∙ (not-false _ (c .before .before .if1 .left)))
+    (sym (c .before .is-new .ensures scratch) ∙ (not-true _ (c .if2 .taken)))
 
 keep-requires : tie.Need-keep-requires
 keep-requires c κs =
@@ -41,7 +44,9 @@ returns-3 c =
     let after-if2 = c .before .before .before in
     let entry = after-if2 .before .before .before .before .before .before in
     let scratch = entry .args .scratch .now in
-    spawn-full (entry .args .text .now) scratch (entry .args .h) (entry .args .n) (sym (apart-so (entry .args .text .now) scratch (entry .args .h) (entry .args .n) _ (after-if2 .before .before .before .divides .ensures)) ∙ (not-false _ (after-if2 .before .before .if1 .left))) (sym (after-if2 .before .is-new .ensures scratch) ∙ (not-false _ (after-if2 .if2 .left))) _ (c .before .before .keep .ensures) (c .if3 .taken)
+    spawn-full (entry .args .text .now) scratch (entry .args .h) (entry .args .n)
+    (sym (apart-so (entry .args .text .now) scratch (entry .args .h) (entry .args .n) _ (after-if2 .before .before .before .divides .ensures)) ∙ (not-false _ (after-if2 .before .before .if1 .left)))
+    (sym (after-if2 .before .is-new .ensures scratch) ∙ (not-false _ (after-if2 .if2 .left))) _ (c .before .before .keep .ensures) (c .if3 .taken)
 
 keep-requires-2 : tie.Need-keep-requires-2
 keep-requires-2 c κs =
@@ -55,7 +60,10 @@ returns-4 c =
     let after-if1 = after-keep .before .before .before in
     let entry = after-if1 .before .before .before .before in
     let scratch = entry .args .scratch .now in
-    spawn-full-rest (entry .args .text .now) scratch (entry .args .h) (entry .args .n) (sym (apart-so (entry .args .text .now) scratch (entry .args .h) (entry .args .n) _ (after-if1 .before .divides .ensures)) ∙ (not-false _ (after-if1 .if1 .left))) (sym (after-keep .before .before .is-new .ensures scratch) ∙ (not-false _ (after-keep .before .if2 .left))) _ (keep .ensures) (omega (arith, keep .ensures .fits .many, c .before .before .before .if3 .left)) _ (c .before .before .keep2 .ensures) (c .if4 .taken)
+    spawn-full-rest (entry .args .text .now) scratch (entry .args .h) (entry .args .n)
+    (sym (apart-so (entry .args .text .now) scratch (entry .args .h) (entry .args .n) _ (after-if1 .before .divides .ensures)) ∙ (not-false _ (after-if1 .if1 .left)))
+    (sym (after-keep .before .before .is-new .ensures scratch) ∙ (not-false _ (after-keep .before .if2 .left))) _ (keep .ensures)
+    (omega (arith, keep .ensures .fits .many, c .before .before .before .if3 .left)) _ (c .before .before .keep2 .ensures) (c .if4 .taken)
 
 returns-5 : tie.Need-returns-5
 returns-5 c =
@@ -64,7 +72,10 @@ returns-5 c =
     let after-if1 = after-keep .before .before .before in
     let entry = after-if1 .before .before .before .before in
     let scratch = entry .args .scratch .now in
-    spawn-fine (entry .args .text .now) scratch (entry .args .h) (entry .args .n) (sym (apart-so (entry .args .text .now) scratch (entry .args .h) (entry .args .n) _ (after-if1 .before .divides .ensures)) ∙ (not-false _ (after-if1 .if1 .left))) (sym (after-keep .before .before .is-new .ensures scratch) ∙ (not-false _ (after-keep .before .if2 .left))) _ (keep .ensures) (omega (arith, keep .ensures .fits .many, c .before .before .before .if3 .left)) _ (c .before .before .keep2 .ensures) (omega (arith, c .before .before .keep2 .ensures .fits .many, c .if4 .left))
+    spawn-fine (entry .args .text .now) scratch (entry .args .h) (entry .args .n)
+    (sym (apart-so (entry .args .text .now) scratch (entry .args .h) (entry .args .n) _ (after-if1 .before .divides .ensures)) ∙ (not-false _ (after-if1 .if1 .left)))
+    (sym (after-keep .before .before .is-new .ensures scratch) ∙ (not-false _ (after-keep .before .if2 .left))) _ (keep .ensures)
+    (omega (arith, keep .ensures .fits .many, c .before .before .before .if3 .left)) _ (c .before .before .keep2 .ensures) (omega (arith, c .before .before .keep2 .ensures .fits .many, c .if4 .left))
 
 pub spawn-refusal-spec : {M : Type 1} → statement M
 spawn-refusal-spec =

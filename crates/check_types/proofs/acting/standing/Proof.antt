@@ -35,12 +35,14 @@ returns-2 : tie.Need-returns-2
 returns-2 c =
     let after-if1 = c .before .before .before .before .before in
     let entry = after-if1 .before .before .before .before .before in
-    stands-declared _ _ _ (after-if1 .before .before .type-node .ensures) _ (entry .pre .0) (entry .pre .1) (after-if1 .if1 .left) (c .before .before .before .before .find-type .ensures) _ _ (c .before .before .found .given .1) (c .declared-type .ensures)
+    stands-declared _ _ _ (after-if1 .before .before .type-node .ensures) _ (entry .pre .0) (entry .pre .1) (after-if1 .if1 .left) (c .before .before .before .before .find-type .ensures) _ _
+    (c .before .before .found .given .1) (c .declared-type .ensures)
 
 returns-3 : tie.Need-returns-3
 returns-3 c =
     let entry = c .before .before .before .before .before .before .before .before in
-    stands-undeclared _ _ _ (c .before .before .before .before .before .type-node .ensures) _ (entry .pre .0) (entry .pre .1) (c .before .before .before .if1 .left) (c .before .before .find-type .ensures) (c .enum-told .given .1)
+    stands-undeclared _ _ _ (c .before .before .before .before .before .type-node .ensures) _ (entry .pre .0) (entry .pre .1) (c .before .before .before .if1 .left)
+    (c .before .before .find-type .ensures) (c .enum-told .given .1)
 
 pub standing-spec : {M : Type 1} → statement M
 standing-spec =

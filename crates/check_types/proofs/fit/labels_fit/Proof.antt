@@ -28,10 +28,15 @@ times-requires c κs =
     (entry .pre .0, entry .pre .2)
 
 returns-2 : tie.Need-returns-2 Inv-loop μ-loop
-returns-2 c = fit-not _ _ _ _ _ _ _ _ (c .before .before .before .before .loop .inv) (c .before .before .before .loop-test .taken) _ (c .before .before .alternative .ensures) (c .before .times .ensures) (c .if2 .taken)
+returns-2 c = fit-not _ _ _ _ _ _ _ _ (c .before .before .before .before .loop .inv) (c .before .before .before .loop-test .taken) _ (c .before .before .alternative .ensures)
+    (c .before .times .ensures) (c .if2 .taken)
 
 sub-place : tie.Need-sub-place Inv-loop μ-loop
-sub-place c = omega (arith, fit-there _ _ _ _ _ _ _ _ (c .before .before .before .before .loop .inv) (c .before .before .before .loop-test .taken) (c .before .before .before .before .before .before .before .before .pre .0))
+sub-place c = omega (
+  arith,
+  fit-there _ _ _ _ _ _ _ _ (c .before .before .before .before .loop .inv) (c .before .before .before .loop-test .taken)
+      (c .before .before .before .before .before .before .before .before .pre .0),
+)
 
 sub-left : tie.Need-sub-left Inv-loop μ-loop
 sub-left c = omega arith
@@ -40,7 +45,8 @@ loop-less : tie.Need-loop-less Inv-loop μ-loop
 loop-less c = omega arith
 
 loop-again : tie.Need-loop-again Inv-loop μ-loop
-loop-again c = fit-on _ _ _ _ _ _ _ _ (c .before .before .before .before .loop .inv) (c .before .before .before .loop-test .taken) _ (c .before .before .alternative .ensures) (c .before .times .ensures) (c .if2 .left)
+loop-again c = fit-on _ _ _ _ _ _ _ _ (c .before .before .before .before .loop .inv) (c .before .before .before .loop-test .taken) _ (c .before .before .alternative .ensures)
+    (c .before .times .ensures) (c .if2 .left)
 
 returns-3 : tie.Need-returns-3 Inv-loop μ-loop
 returns-3 c = fit-end _ _ _ _ _ _ _ _ (c .before .loop .inv) (c .loop-test .left)

@@ -29,7 +29,11 @@ add-seen : tie.Need-add-seen Inv-loop μ-loop
 add-seen c = omega (arith, c .before .before .before .before .loop .inv .few)
 
 sub-place : tie.Need-sub-place Inv-loop μ-loop
-sub-place c = omega (arith, count-there _ _ _ _ _ _ _ _ (c .before .before .before .before .loop .inv) (c .before .before .before .loop-test .taken) (c .before .before .before .before .before .before .before .pre .0))
+sub-place c = omega (
+  arith,
+  count-there _ _ _ _ _ _ _ _ (c .before .before .before .before .loop .inv) (c .before .before .before .loop-test .taken)
+      (c .before .before .before .before .before .before .before .pre .0),
+)
 
 sub-left : tie.Need-sub-left Inv-loop μ-loop
 sub-left c = omega arith
@@ -38,7 +42,8 @@ loop-less : tie.Need-loop-less Inv-loop μ-loop
 loop-less c = omega arith
 
 loop-again : tie.Need-loop-again Inv-loop μ-loop
-loop-again c = let on = count-on _ _ _ _ _ _ _ _ (c .before .before .before .before .loop .inv) (c .before .before .before .loop-test .taken) _ (c .before .before .branch .ensures) (c .before .labels-equal .ensures) in ⊎-elim (λ o. on true (o .0 .taken) _ (o .1)) (λ o. on false (o .0 .left) _ (o .1)) (c .if1 .came)
+loop-again c = let on = count-on _ _ _ _ _ _ _ _ (c .before .before .before .before .loop .inv) (c .before .before .before .loop-test .taken) _ (c .before .before .branch .ensures)
+    (c .before .labels-equal .ensures) in ⊎-elim (λ o. on true (o .0 .taken) _ (o .1)) (λ o. on false (o .0 .left) _ (o .1)) (c .if1 .came)
 
 returns : tie.Need-returns Inv-loop μ-loop
 returns c = count-end _ _ _ _ _ _ _ _ (c .before .loop .inv) (c .loop-test .left)

@@ -7,6 +7,7 @@ use Rattle.interpreter.specs.Inside.{answers-accepted, answers-refused}
 use Rattle.interpreter.specs.Entries.{toReport}
 use Rattle.interpreter.specs.Reporting.{text-refused-report}
 use borrow.Author.Needs.{needs}
+use Rattle.notation.specs.Limits.{scratchWords}
 use Rattle.interpreter.proofs.entries.report.Statement.{statement}
 use Rattle.interpreter.proofs.entries.report.Tie as tie
 use Rattle.interpreter.proofs.entries.report.Reads as reads
@@ -35,7 +36,7 @@ part-report-in-end c =
     let check = c .before .before .before .before .before .check in
     let entry = c .before .before .before .before .before .before .before .before .before .before in
     let l : length (check .last .1 .0) ≡ length (entry .args .scratch .now) = search needs in
-    let h : 8192 ≤ length (check .last .1 .0) = omega (arith, l, scratch-enough (entry .args .text .now) (entry .args .scratch .now) (check .last .1 .0) _ (check .ensures) (c .before .enum-told .given .1)) in
+    let h : scratchWords ≤ length (check .last .1 .0) = omega (arith, l, scratch-enough (entry .args .text .now) (entry .args .scratch .now) (check .last .1 .0) _ (check .ensures) (c .before .enum-told .given .1)) in
     search needs
 
 report-in-requires : tie.Need-report-in-requires

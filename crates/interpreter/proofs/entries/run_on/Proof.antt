@@ -6,6 +6,7 @@ use Rattle.check_accepted.specs.Verdicts.{scratch-enough, text-accepted}
 use Rattle.interpreter.specs.Inside.{answers-accepted, answers-refused}
 use Rattle.interpreter.specs.Entries.{toRunOn}
 use borrow.Author.Needs.{needs}
+use Rattle.notation.specs.Limits.{scratchWords}
 use Rattle.interpreter.proofs.entries.run_on.Statement.{statement}
 use Rattle.interpreter.proofs.entries.run_on.Tie as tie
 use Rattle.interpreter.proofs.entries.run_on.Reads as reads
@@ -33,7 +34,7 @@ part-run-on-in-end c =
     let check = c .before .before .before .before .before .check in
     let entry = c .before .before .before .before .before .before .before .before .before .before in
     let l : length (check .last .1 .0) ≡ length (entry .args .scratch .now) = search needs in
-    let h : 8192 ≤ length (check .last .1 .0) = omega (arith, l, scratch-enough (entry .args .text .now) (entry .args .scratch .now) (check .last .1 .0) _ (check .ensures) (c .before .enum-told .given .1)) in
+    let h : scratchWords ≤ length (check .last .1 .0) = omega (arith, l, scratch-enough (entry .args .text .now) (entry .args .scratch .now) (check .last .1 .0) _ (check .ensures) (c .before .enum-told .given .1)) in
     search needs
 
 run-on-in-requires : tie.Need-run-on-in-requires

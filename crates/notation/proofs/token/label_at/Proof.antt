@@ -26,7 +26,14 @@ named-requires c κs = search needs
 
 returns : tie.Need-returns
 unfolding labelAt
-returns c = rw (← c .before .before .before .before .byte-at .ensures, ← c .before .before .before .is-letter .ensures, c .before .before .if1 .taken, ← c .before .name-end .ensures .0, ← c .named .ensures)
+returns c = rw (
+  ← c .before .before .before .before .byte-at .ensures,
+  ← c .before .before .before .is-letter .ensures,
+  c .before .before .if1 .taken,
+  ← c .before .name-end .ensures .0,
+  ←
+      c .named .ensures,
+)
 
 returns-2 : tie.Need-returns-2
 unfolding labelAt

@@ -32,14 +32,30 @@ add-t9 c = search needs
 
 returns-2 : tie.Need-returns-2
 unfolding markAt
-returns-2 c = rw (← c .before .before .before .before .before .part .ensures, ← c .before .before .before .before .symbol .ensures, le-ltb _ _ (c .before .before .before .if1 .left), ← c .before .before .part2 .ensures, ← c .before .symbol2 .ensures, lt-ltb _ _ (c .if2 .taken))
+returns-2 c = rw (
+  ← c .before .before .before .before .before .part .ensures,
+  ← c .before .before .before .before .symbol .ensures,
+  le-ltb _ _ (c .before .before .before .if1 .left),
+  ←
+      c .before .before .part2 .ensures,
+  ← c .before .symbol2 .ensures,
+  lt-ltb _ _ (c .if2 .taken),
+)
 
 add-t10 : tie.Need-add-t10
 add-t10 c = search needs
 
 returns-3 : tie.Need-returns-3
 unfolding markAt
-returns-3 c = rw (← c .before .before .before .before .before .part .ensures, ← c .before .before .before .before .symbol .ensures, le-ltb _ _ (c .before .before .before .if1 .left), ← c .before .before .part2 .ensures, ← c .before .symbol2 .ensures, le-ltb _ _ (c .if2 .left))
+returns-3 c = rw (
+  ← c .before .before .before .before .before .part .ensures,
+  ← c .before .before .before .before .symbol .ensures,
+  le-ltb _ _ (c .before .before .before .if1 .left),
+  ←
+      c .before .before .part2 .ensures,
+  ← c .before .symbol2 .ensures,
+  le-ltb _ _ (c .if2 .left),
+)
 
 pub mark-at-spec : {M : Type 1} → statement M
 mark-at-spec =

@@ -38,22 +38,29 @@ is-name-byte-requires-2 : tie.Need-is-name-byte-requires-2 Inv-loop μ-loop
 is-name-byte-requires-2 c κs = search needs
 
 returns-2 : tie.Need-returns-2 Inv-loop μ-loop
-returns-2 c = ap not (c .is-name-byte2 .ensures ∙ ap nameByte (c .before .before .before .byte-at .ensures)) ∙ matched-end (c .before .before .before .before .before .before .loop .inv) (negated _ true (ap not (sym (c .before .before .is-name-byte .ensures)) ∙ c .before .if2 .taken))
+returns-2 c = ap not (c .is-name-byte2 .ensures ∙ ap nameByte (c .before .before .before .byte-at .ensures)) ∙ matched-end (c .before .before .before .before .before .before .loop .inv)
+    (negated _ true (ap not (sym (c .before .before .is-name-byte .ensures)) ∙ c .before .if2 .taken))
 
 returns-3 : tie.Need-returns-3 Inv-loop μ-loop
-returns-3 c = matched-differ (c .before .before .before .before .before .before .loop .inv) (negated _ false (ap not (sym (c .before .before .is-name-byte .ensures)) ∙ c .before .if2 .left)) (λ e. c .if3 .taken (e ∙ sym (c .before .before .before .byte-at .ensures)))
+returns-3 c = matched-differ (c .before .before .before .before .before .before .loop .inv) (negated _ false (ap not (sym (c .before .before .is-name-byte .ensures)) ∙ c .before .if2 .left))
+    (λ e. c .if3 .taken (e ∙ sym (c .before .before .before .byte-at .ensures)))
 
 add-x : tie.Need-add-x Inv-loop μ-loop
 add-x c = search needs
 
 add-y : tie.Need-add-y Inv-loop μ-loop
-add-y c = omega (arith, matched-in (c .before .before .before .before .before .before .loop .inv) (negated _ false (ap not (sym (c .before .before .is-name-byte .ensures)) ∙ c .before .if2 .left)) (c .if3 .left ∙ c .before .before .before .byte-at .ensures))
+add-y c = omega (
+  arith,
+  matched-in (c .before .before .before .before .before .before .loop .inv) (negated _ false (ap not (sym (c .before .before .is-name-byte .ensures)) ∙ c .before .if2 .left))
+      (c .if3 .left ∙ c .before .before .before .byte-at .ensures),
+)
 
 loop-less : tie.Need-loop-less Inv-loop μ-loop
 loop-less c = search needs
 
 loop-again : tie.Need-loop-again Inv-loop μ-loop
-loop-again c = matched-next (c .before .before .before .before .before .before .loop .inv) (negated _ false (ap not (sym (c .before .before .is-name-byte .ensures)) ∙ c .before .if2 .left)) (c .if3 .left ∙ c .before .before .before .byte-at .ensures)
+loop-again c = matched-next (c .before .before .before .before .before .before .loop .inv) (negated _ false (ap not (sym (c .before .before .is-name-byte .ensures)) ∙ c .before .if2 .left))
+    (c .if3 .left ∙ c .before .before .before .byte-at .ensures)
 
 byte-at-requires-2 : tie.Need-byte-at-requires-2 Inv-loop μ-loop
 byte-at-requires-2 c κs = search needs

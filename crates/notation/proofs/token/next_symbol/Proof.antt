@@ -34,8 +34,16 @@ returns-5 c = (ap (λ k. beginning (getD (getD symbols k []) 0 0) (k + 1)) (sym 
 returns-6 : tie.Need-returns-6
 returns-6 c =
     let entry = c .before in
-    let k = entry .args .k in
-    (follows-none k (search needs) (rw (ne-eqb k 0 (c .match .rest .0 .0 .0 .0 .1), ne-eqb k 4 (c .match .rest .0 .0 .0 .1), ne-eqb k 6 (c .match .rest .0 .0 .1), ne-eqb k 7 (c .match .rest .0 .1), ne-eqb k 13 (c .match .rest .1))), search needs)
+    let k = entry .args .k in (
+      follows-none k (search needs) (rw (
+        ne-eqb k 0 (c .match .rest .0 .0 .0 .0 .1),
+        ne-eqb k 4 (c .match .rest .0 .0 .0 .1),
+        ne-eqb k 6 (c .match .rest .0 .0 .1),
+        ne-eqb k 7 (c .match .rest .0 .1),
+        ne-eqb k 13 (c .match .rest .1),
+      )),
+      search needs,
+    )
 
 pub next-symbol-spec : {M : Type 1} → statement M
 next-symbol-spec = tie.close (tie.spec returns returns-2 returns-3 returns-4 returns-5 returns-6)

@@ -24,7 +24,8 @@ unfolding symbols
 is-symbol-requires c κs = (search needs, refl)
 
 returns : tie.Need-returns Inv-loop μ-loop
-returns c = sought-hit (c .before .before .before .before .before .before .args .w .now) _ (c .before .before .before .before .loop .inv) (search needs) (sym (c .before .is-symbol .ensures) ∙ c .if1 .taken)
+returns c = sought-hit (c .before .before .before .before .before .before .args .w .now) _ (c .before .before .before .before .loop .inv) (search needs)
+    (sym (c .before .is-symbol .ensures) ∙ c .if1 .taken)
 
 next-symbol-requires : tie.Need-next-symbol-requires Inv-loop μ-loop
 next-symbol-requires c κs = search needs
@@ -33,7 +34,8 @@ loop-less : tie.Need-loop-less Inv-loop μ-loop
 loop-less c = omega (arith, c .next-symbol .ensures .1)
 
 loop-again : tie.Need-loop-again Inv-loop μ-loop
-loop-again c = sought-next (c .before .before .before .before .before .before .before .args .w .now) _ (c .before .before .before .before .before .loop .inv) _ (search needs) (sym (c .before .before .is-symbol .ensures) ∙ c .before .if1 .left) (c .next-symbol .ensures .0)
+loop-again c = sought-next (c .before .before .before .before .before .before .before .args .w .now) _ (c .before .before .before .before .before .loop .inv) _ (search needs)
+    (sym (c .before .before .is-symbol .ensures) ∙ c .before .if1 .left) (c .next-symbol .ensures .0)
 
 returns-2 : tie.Need-returns-2 Inv-loop μ-loop
 returns-2 c = sought-end (c .before .before .before .args .w .now) _ (c .before .loop .inv) (search needs)

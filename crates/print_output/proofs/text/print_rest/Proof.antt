@@ -3,9 +3,10 @@ use Prim.Native.Nat.{_≤_}
 use lib.ListN.{length}
 use lib.Seq.{length-take-le}
 use Rattle.read_tables.specs.Program.{programIn}
-use Rattle.print_pieces.specs.Pieces.{Going, turns}
+use Rattle.print_pieces.specs.Pieces.{pieceBytes, Going, turns}
 use Rattle.print_pieces.specs.Stages.{next-falls}
 use borrow.Author.Needs.{needs}
+use Rattle.notation.specs.Limits.{runWords}
 use Rattle.print_output.proofs.text.print_rest.Statement.{statement}
 use Rattle.print_output.proofs.text.print_rest.Tie as tie
 use Rattle.print_output.proofs.text.print_rest.Reads as reads
@@ -15,7 +16,7 @@ use Rattle.print_pieces.proofs.pieces.is_left.Reads as is-left-reads
 use Rattle.print_pieces.proofs.pieces.next_piece.Reads as next-piece-reads
 
 abbrev Inv-loop : tie.InvT-loop
-Inv-loop text scratch run₀ out₀ stage₀ run out stage = Going text scratch run stage × (length run ≡ length run₀) × (length out ≡ length out₀) × (6144 ≤ length run) × (8320 ≤ length out)
+Inv-loop text scratch run₀ out₀ stage₀ run out stage = Going text scratch run stage × (length run ≡ length run₀) × (length out ≡ length out₀) × (runWords ≤ length run) × (pieceBytes ≤ length out)
 
 abbrev μ-loop : tie.MeasureT-loop
 μ-loop text scratch run₀ out₀ stage₀ run out stage = turns (programIn text scratch) stage

@@ -39,7 +39,9 @@ refusal-requires-2 : tie.Need-refusal-requires-2
 refusal-requires-2 c κs = search needs
 
 returns-2 : tie.Need-returns-2
-returns-2 c = call-name-no _ _ _ _ (c .before .before .before .before .before .before .before .before .before .before .pre) (c .before .before .before .before .before .before .before .process-term .ensures) (c .before .before .before .before .before .term .given .1) (c .before .before .before .expect .ensures) (c .before .enum-told2 .given .1) (c .refusal2 .ensures)
+returns-2 c = call-name-no _ _ _ _ (c .before .before .before .before .before .before .before .before .before .before .pre)
+    (c .before .before .before .before .before .before .before .process-term .ensures) (c .before .before .before .before .before .term .given .1) (c .before .before .before .expect .ensures)
+    (c .before .enum-told2 .given .1) (c .refusal2 .ensures)
 
 name-list-requires : tie.Need-name-list-requires
 name-list-requires c κs = search needs
@@ -58,7 +60,8 @@ returns-3 c =
     let after-named = c .before .before .before .before .before in
     let after-term = after-named .before .before .before .before in
     let entry = after-term .before .before .before .before .before in
-    call-provided-no _ _ _ _ (entry .pre) (after-term .before .before .process-term .ensures) (after-term .term .given .1) (after-named .before .before .expect .ensures) (after-named .named .given .1) (c .before .before .before .name-list .ensures) (c .before .enum-told3 .given .1) (c .refusal3 .ensures)
+    call-provided-no _ _ _ _ (entry .pre) (after-term .before .before .process-term .ensures) (after-term .term .given .1) (after-named .before .before .expect .ensures)
+    (after-named .named .given .1) (c .before .before .before .name-list .ensures) (c .before .enum-told3 .given .1) (c .refusal3 .ensures)
 
 name-list-requires-2 : tie.Need-name-list-requires-2
 name-list-requires-2 c κs = search needs
@@ -78,7 +81,8 @@ returns-4 c =
     let after-named = after-provided .before .before .before .before in
     let after-term = after-named .before .before .before .before in
     let entry = after-term .before .before .before .before .before in
-    call-used-no _ _ _ _ (entry .pre) (after-term .before .before .process-term .ensures) (after-term .term .given .1) (after-named .before .before .expect .ensures) (after-named .named .given .1) (after-provided .before .before .name-list .ensures) (after-provided .provided .given .1) (c .before .before .before .name-list2 .ensures) (c .before .enum-told4 .given .1) (c .refusal4 .ensures)
+    call-used-no _ _ _ _ (entry .pre) (after-term .before .before .process-term .ensures) (after-term .term .given .1) (after-named .before .before .expect .ensures) (after-named .named .given .1)
+    (after-provided .before .before .name-list .ensures) (after-provided .provided .given .1) (c .before .before .before .name-list2 .ensures) (c .before .enum-told4 .given .1) (c .refusal4 .ensures)
 
 put-term-requires : tie.Need-put-term-requires
 put-term-requires c κs =
@@ -86,7 +90,16 @@ put-term-requires c κs =
     let after-named = after-provided .before .before .before .before in
     let after-term = after-named .before .before .before .before in
     let entry = after-term .before .before .before .before .before in
-    omega (arith, entry .pre, after-term .before .before .process-term .ensures .on _ _ (after-term .term .given .1), after-named .before .before .expect .ensures .on _ _ (after-named .named .given .1), after-provided .before .before .name-list .ensures .on _ _ (after-provided .provided .given .1), c .before .before .before .before .name-list2 .ensures .on _ _ (c .before .before .used .given .1))
+    omega (
+      arith,
+      entry .pre,
+      after-term .before .before .process-term .ensures .on _ _ (after-term .term .given .1),
+      after-named .before .before .expect .ensures .on _ _
+          (after-named .named .given .1),
+      after-provided .before .before .name-list .ensures .on _ _ (after-provided .provided .given .1),
+      c .before .before .before .before .name-list2 .ensures .on _ _
+          (c .before .before .used .given .1),
+    )
 
 same-length : tie.Need-same-length
 same-length c = search needs
@@ -98,7 +111,9 @@ returns-5 c =
     let after-named = after-provided .before .before .before .before in
     let after-term = after-named .before .before .before .before in
     let entry = after-term .before .before .before .before .before in
-    call-got _ _ _ _ (entry .pre) (after-term .before .before .process-term .ensures) (after-term .term .given .1) (after-named .before .before .expect .ensures) (after-named .named .given .1) (after-provided .before .before .name-list .ensures) (after-provided .provided .given .1) (after-used .before .before .name-list2 .ensures) (after-used .used .given .1) (c .before .before .put-term .ensures)
+    call-got _ _ _ _ (entry .pre) (after-term .before .before .process-term .ensures) (after-term .term .given .1) (after-named .before .before .expect .ensures) (after-named .named .given .1)
+    (after-provided .before .before .name-list .ensures) (after-provided .provided .given .1) (after-used .before .before .name-list2 .ensures) (after-used .used .given .1)
+    (c .before .before .put-term .ensures)
 
 pub read-call-spec : {M : Type 1} → statement M
 read-call-spec =

@@ -38,7 +38,9 @@ refusal-requires-2 : tie.Need-refusal-requires-2
 refusal-requires-2 c κs = search needs
 
 returns-2 : tie.Need-returns-2
-returns-2 c = fwd-provided-no _ _ _ _ (c .before .before .before .before .before .before .before .before .before .before .pre) (c .before .before .before .before .before .before .before .process-term .ensures) (c .before .before .before .before .before .term .given .1) (c .before .before .before .expect .ensures) (c .before .enum-told2 .given .1) (c .refusal2 .ensures)
+returns-2 c = fwd-provided-no _ _ _ _ (c .before .before .before .before .before .before .before .before .before .before .pre)
+    (c .before .before .before .before .before .before .before .process-term .ensures) (c .before .before .before .before .before .term .given .1) (c .before .before .before .expect .ensures)
+    (c .before .enum-told2 .given .1) (c .refusal2 .ensures)
 
 expect-requires-2 : tie.Need-expect-requires-2
 expect-requires-2 c κs = search needs
@@ -56,7 +58,8 @@ returns-3 : tie.Need-returns-3
 returns-3 c =
     let after-expect = c .before .before .before .before .before .before .before in
     let entry = after-expect .before .before .before .before .before .before .before in
-    fwd-used-no _ _ _ _ (entry .pre) (after-expect .before .before .before .before .process-term .ensures) (after-expect .before .before .term .given .1) (after-expect .expect .ensures) (c .before .before .before .before .before .provided .given .1) (c .before .before .before .expect2 .ensures) (c .before .enum-told3 .given .1) (c .refusal3 .ensures)
+    fwd-used-no _ _ _ _ (entry .pre) (after-expect .before .before .before .before .process-term .ensures) (after-expect .before .before .term .given .1) (after-expect .expect .ensures)
+    (c .before .before .before .before .before .provided .given .1) (c .before .before .before .expect2 .ensures) (c .before .enum-told3 .given .1) (c .refusal3 .ensures)
 
 put-term-requires : tie.Need-put-term-requires
 put-term-requires c κs =
@@ -67,8 +70,10 @@ put-term-requires c κs =
     let after-term = after-provided .before .before .before .before in
     let term = after-term .term in
     let process-term = after-term .before .before .process-term in
-    let entry = after-term .before .before .before .before .before in
-    (omega (arith, entry .pre, process-term .ensures .on _ _ (term .given .1), expect .ensures .on _ _ (provided .given .1), expect2 .ensures .on _ _ (c .before .before .used .given .1)), omega (arith, entry .pre, process-term .ensures .on _ _ (term .given .1), expect .ensures .on _ _ (provided .given .1), expect2 .ensures .on _ _ (c .before .before .used .given .1)))
+    let entry = after-term .before .before .before .before .before in (
+      omega (arith, entry .pre, process-term .ensures .on _ _ (term .given .1), expect .ensures .on _ _ (provided .given .1), expect2 .ensures .on _ _ (c .before .before .used .given .1)),
+      omega (arith, entry .pre, process-term .ensures .on _ _ (term .given .1), expect .ensures .on _ _ (provided .given .1), expect2 .ensures .on _ _ (c .before .before .used .given .1)),
+    )
 
 same-length : tie.Need-same-length
 same-length c = search needs
@@ -78,7 +83,8 @@ returns-4 c =
     let after-used = c .before .before .before .before .before in
     let after-expect = after-used .before .before .before .before .before .before in
     let entry = after-expect .before .before .before .before .before .before .before in
-    fwd-got _ _ _ _ (entry .pre) (after-expect .before .before .before .before .process-term .ensures) (after-expect .before .before .term .given .1) (after-expect .expect .ensures) (after-used .before .before .before .before .provided .given .1) (after-used .before .before .expect2 .ensures) (after-used .used .given .1) (c .before .before .put-term .ensures)
+    fwd-got _ _ _ _ (entry .pre) (after-expect .before .before .before .before .process-term .ensures) (after-expect .before .before .term .given .1) (after-expect .expect .ensures)
+    (after-used .before .before .before .before .provided .given .1) (after-used .before .before .expect2 .ensures) (after-used .used .given .1) (c .before .before .put-term .ensures)
 
 pub read-fwd-spec : {M : Type 1} → statement M
 read-fwd-spec =

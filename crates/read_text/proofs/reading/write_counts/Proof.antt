@@ -30,7 +30,10 @@ put-word-requires-7 : tie.Need-put-word-requires-7
 put-word-requires-7 c κs = search needs
 
 put-word-requires-8 : tie.Need-put-word-requires-8
-put-word-requires-8 c κs = omega (arith, c .before .before .before .before .before .before .before .before .before .before .before .before .before .before .before .before .before .before .before .before .before .before .before .before .before .before .before .before .before .before .pre)
+put-word-requires-8 c κs = omega (
+  arith,
+  c .before .before .before .before .before .before .before .before .before .before .before .before .before .before .before .before .before .before .before .before .before .before .before .before .before .before .before .before .before .before .pre,
+)
 
 same-length : tie.Need-same-length
 same-length c = search needs
@@ -41,7 +44,9 @@ returns c =
     let after-put-word7 = c .before .before .before .before .before .before in
     let after-put-word5 = after-put-word7 .before .before .before .before .before .before .before .before in
     let after-put-word3 = after-put-word5 .before .before .before .before .before .before .before .before in
-    after-put-word3 .before .before .before .before .before .before .before .before .put-word .ensures .words set-more after-put-word3 .before .before .before .before .put-word2 .ensures set-more after-put-word3 .put-word3 .ensures set-more after-put-word5 .before .before .before .before .put-word4 .ensures set-more after-put-word5 .put-word5 .ensures set-more after-put-word7 .before .before .before .before .put-word6 .ensures set-more after-put-word7 .put-word7 .ensures set-more c .before .before .put-word8 .ensures
+    after-put-word3 .before .before .before .before .before .before .before .before .put-word .ensures .words set-more after-put-word3 .before .before .before .before .put-word2 .ensures set-more
+    after-put-word3 .put-word3 .ensures set-more after-put-word5 .before .before .before .before .put-word4 .ensures set-more after-put-word5 .put-word5 .ensures set-more
+    after-put-word7 .before .before .before .before .put-word6 .ensures set-more after-put-word7 .put-word7 .ensures set-more c .before .before .put-word8 .ensures
 
 pub write-counts-spec : {M : Type 1} → statement M
 write-counts-spec =

@@ -29,13 +29,20 @@ returns c = exec-no _ _ _ _ (c .before .before .before .before .before .before .
 put-exec-requires : tie.Need-put-exec-requires
 put-exec-requires c κs =
     let entry = c .before .before .before .before .before .before .before in
-    omega (arith, entry .pre, c .before .before .before .before .declared-name .ensures .on _ _ (c .before .before .named .given .1), name-held kExec (entry .args .k .execs) execLimit (c .before .before .before .before .declared-name .ensures) (c .before .before .named .given .1))
+    omega (
+      arith,
+      entry .pre,
+      c .before .before .before .before .declared-name .ensures .on _ _ (c .before .before .named .given .1),
+      name-held kExec (entry .args .k .execs) execLimit
+          (c .before .before .before .before .declared-name .ensures) (c .before .before .named .given .1),
+    )
 
 same-length : tie.Need-same-length
 same-length c = search needs
 
 returns-2 : tie.Need-returns-2
-returns-2 c = exec-got _ _ _ _ (c .before .before .before .before .before .before .before .before .before .before .pre) (c .before .before .before .before .before .before .before .declared-name .ensures) (c .before .before .before .before .before .named .given .1) (c .before .before .put-exec .ensures)
+returns-2 c = exec-got _ _ _ _ (c .before .before .before .before .before .before .before .before .before .before .pre)
+    (c .before .before .before .before .before .before .before .declared-name .ensures) (c .before .before .before .before .before .named .given .1) (c .before .before .put-exec .ensures)
 
 pub declare-exec-spec : {M : Type 1} → statement M
 declare-exec-spec =

@@ -31,7 +31,16 @@ returns : tie.Need-returns
 returns c = proc-no _ _ _ _ (c .before .before .before .before .before .before .pre) (c .before .before .before .declared-name .ensures) (c .before .enum-told .given .1) (c .refusal .ensures)
 
 entry-list-requires : tie.Need-entry-list-requires
-entry-list-requires c κs = (omega (arith, c .before .before .before .before .before .before .before .pre, c .before .before .before .before .declared-name .ensures .on _ _ (c .before .before .named .given .1)), omega arith, omega arith)
+entry-list-requires c κs = (
+  omega (
+    arith,
+    c .before .before .before .before .before .before .before .pre,
+    c .before .before .before .before .declared-name .ensures .on _ _
+        (c .before .before .named .given .1),
+  ),
+  omega arith,
+  omega arith,
+)
 
 enum-known-provides : tie.Need-enum-known-provides
 enum-known-provides c = search needs
@@ -46,14 +55,24 @@ returns-2 : tie.Need-returns-2
 returns-2 c =
     let after-named = c .before .before .before .before .before .before .before in
     let entry = after-named .before .before .before .before .before in
-    proc-provides-no _ _ _ _ (entry .pre) (after-named .before .before .declared-name .ensures) (after-named .named .given .1) (c .before .before .before .before .entry-list .ensures) (c .enum-told2 .given .1)
+    proc-provides-no _ _ _ _ (entry .pre) (after-named .before .before .declared-name .ensures) (after-named .named .given .1) (c .before .before .before .before .entry-list .ensures)
+    (c .enum-told2 .given .1)
 
 entry-list-requires-2 : tie.Need-entry-list-requires-2
 entry-list-requires-2 c κs =
     let entry-list = c .before .before .before .before .before .before .entry-list in
     let after-named = c .before .before .before .before .before .before .before .before .before in
-    let entry = after-named .before .before .before .before .before in
-    (omega (arith, entry .pre, after-named .before .before .declared-name .ensures .on _ _ (after-named .named .given .1), entry-list .ensures .on _ _ (c .before .before .provides .given .1), entry-list .ensures .kept .long), omega arith, omega arith)
+    let entry = after-named .before .before .before .before .before in (
+      omega (
+        arith,
+        entry .pre,
+        after-named .before .before .declared-name .ensures .on _ _ (after-named .named .given .1),
+        entry-list .ensures .on _ _ (c .before .before .provides .given .1),
+        entry-list .ensures .kept .long,
+      ),
+      omega arith,
+      omega arith,
+    )
 
 enum-known-uses : tie.Need-enum-known-uses
 enum-known-uses c = search needs
@@ -62,14 +81,16 @@ enum-told-3 : tie.Need-enum-told-3
 enum-told-3 c = search needs
 
 same-length-2 : tie.Need-same-length-2
-same-length-2 c = c .before .before .before .before .entry-list2 .ensures .kept .long ∙ c .before .before .before .before .before .before .before .before .before .before .before .entry-list .ensures .kept .long
+same-length-2 c = c .before .before .before .before .entry-list2 .ensures .kept .long ∙
+    c .before .before .before .before .before .before .before .before .before .before .before .entry-list .ensures .kept .long
 
 returns-3 : tie.Need-returns-3
 returns-3 c =
     let after-provides = c .before .before .before .before .before .before .before in
     let after-named = after-provides .before .before .before .before .before .before .before in
     let entry = after-named .before .before .before .before .before in
-    proc-uses-no _ _ _ _ (entry .pre) (after-named .before .before .declared-name .ensures) (after-named .named .given .1) (after-provides .before .before .before .before .entry-list .ensures) (after-provides .provides .given .1) (c .before .before .before .before .entry-list2 .ensures) (c .enum-told3 .given .1)
+    proc-uses-no _ _ _ _ (entry .pre) (after-named .before .before .declared-name .ensures) (after-named .named .given .1) (after-provides .before .before .before .before .entry-list .ensures)
+    (after-provides .provides .given .1) (c .before .before .before .before .entry-list2 .ensures) (c .enum-told3 .given .1)
 
 expect-requires : tie.Need-expect-requires
 expect-requires c κs = search needs
@@ -84,7 +105,8 @@ refusal-requires-2 : tie.Need-refusal-requires-2
 refusal-requires-2 c κs = search needs
 
 same-length-3 : tie.Need-same-length-3
-same-length-3 c = c .before .before .before .before .before .before .before .before .before .entry-list2 .ensures .kept .long ∙ c .before .before .before .before .before .before .before .before .before .before .before .before .before .before .before .before .entry-list .ensures .kept .long
+same-length-3 c = c .before .before .before .before .before .before .before .before .before .entry-list2 .ensures .kept .long ∙
+    c .before .before .before .before .before .before .before .before .before .before .before .before .before .before .before .before .entry-list .ensures .kept .long
 
 returns-4 : tie.Need-returns-4
 returns-4 c =
@@ -92,7 +114,9 @@ returns-4 c =
     let after-provides = after-uses .before .before .before .before .before .before .before in
     let after-named = after-provides .before .before .before .before .before .before .before in
     let entry = after-named .before .before .before .before .before in
-    proc-equals-no _ _ _ _ (entry .pre) (after-named .before .before .declared-name .ensures) (after-named .named .given .1) (after-provides .before .before .before .before .entry-list .ensures) (after-provides .provides .given .1) (after-uses .before .before .before .before .entry-list2 .ensures) (after-uses .uses .given .1) (c .before .before .before .expect .ensures) (c .before .enum-told4 .given .1) (c .refusal2 .ensures)
+    proc-equals-no _ _ _ _ (entry .pre) (after-named .before .before .declared-name .ensures) (after-named .named .given .1) (after-provides .before .before .before .before .entry-list .ensures)
+    (after-provides .provides .given .1) (after-uses .before .before .before .before .entry-list2 .ensures) (after-uses .uses .given .1) (c .before .before .before .expect .ensures)
+    (c .before .enum-told4 .given .1) (c .refusal2 .ensures)
 
 read-process-requires : tie.Need-read-process-requires
 read-process-requires c κs =
@@ -102,7 +126,17 @@ read-process-requires c κs =
     let entry-list = after-provides .before .before .before .before .entry-list in
     let after-named = after-provides .before .before .before .before .before .before .before in
     let entry = after-named .before .before .before .before .before in
-    omega (arith, entry .pre, after-named .before .before .declared-name .ensures .on _ _ (after-named .named .given .1), entry-list .ensures .on _ _ (after-provides .provides .given .1), entry-list .ensures .kept .long, entry-list2 .ensures .on _ _ (after-uses .uses .given .1), entry-list2 .ensures .kept .long, c .before .before .before .before .expect .ensures .on _ _ (c .before .before .equals .given .1))
+    omega (
+      arith,
+      entry .pre,
+      after-named .before .before .declared-name .ensures .on _ _ (after-named .named .given .1),
+      entry-list .ensures .on _ _ (after-provides .provides .given .1),
+      entry-list .ensures .kept .long,
+      entry-list2 .ensures .on _ _ (after-uses .uses .given .1),
+      entry-list2 .ensures .kept .long,
+      c .before .before .before .before .expect .ensures .on _ _
+          (c .before .before .equals .given .1),
+    )
 
 enum-known-body : tie.Need-enum-known-body
 enum-known-body c = search needs
@@ -113,7 +147,8 @@ enum-told-5 c = search needs
 same-length-4 : tie.Need-same-length-4
 same-length-4 c =
     let after-entry-list2 = c .before .before .before .before .before .before .before .before .before .before .before .before .before .before .before in
-    c .before .before .before .before .read-process .ensures .kept .long ∙ after-entry-list2 .entry-list2 .ensures .kept .long ∙ after-entry-list2 .before .before .before .before .before .before .before .entry-list .ensures .kept .long
+    c .before .before .before .before .read-process .ensures .kept .long ∙ after-entry-list2 .entry-list2 .ensures .kept .long ∙
+    after-entry-list2 .before .before .before .before .before .before .before .entry-list .ensures .kept .long
 
 returns-5 : tie.Need-returns-5
 returns-5 c =
@@ -122,17 +157,29 @@ returns-5 c =
     let after-provides = after-uses .before .before .before .before .before .before .before in
     let after-named = after-provides .before .before .before .before .before .before .before in
     let entry = after-named .before .before .before .before .before in
-    proc-body-no _ _ _ _ (entry .pre) (after-named .before .before .declared-name .ensures) (after-named .named .given .1) (after-provides .before .before .before .before .entry-list .ensures) (after-provides .provides .given .1) (after-uses .before .before .before .before .entry-list2 .ensures) (after-uses .uses .given .1) (after-equals .before .before .expect .ensures) (after-equals .equals .given .1) (c .before .before .before .before .read-process .ensures) (c .enum-told5 .given .1)
+    proc-body-no _ _ _ _ (entry .pre) (after-named .before .before .declared-name .ensures) (after-named .named .given .1) (after-provides .before .before .before .before .entry-list .ensures)
+    (after-provides .provides .given .1) (after-uses .before .before .before .before .entry-list2 .ensures) (after-uses .uses .given .1) (after-equals .before .before .expect .ensures)
+    (after-equals .equals .given .1) (c .before .before .before .before .read-process .ensures) (c .enum-told5 .given .1)
 
 sub-t27 : tie.Need-sub-t27
 sub-t27 c =
     let after-uses = c .before .before .before .before .before .before .before .before .before .before .before .before .before .before in
-    omega (arith, after-uses .before .before .before .before .before .before .before .before .before .before .before .entry-list .ensures .on _ _ (after-uses .before .before .before .before .before .before .before .provides .given .1), after-uses .before .before .before .before .entry-list2 .ensures .on _ _ (after-uses .uses .given .1))
+    omega (
+      arith,
+      after-uses .before .before .before .before .before .before .before .before .before .before .before .entry-list .ensures .on _ _
+          (after-uses .before .before .before .before .before .before .before .provides .given .1),
+      after-uses .before .before .before .before .entry-list2 .ensures .on _ _ (after-uses .uses .given .1),
+    )
 
 sub-t28 : tie.Need-sub-t28
 sub-t28 c =
     let after-uses = c .before .before .before .before .before .before .before .before .before .before .before .before .before .before .before .before in
-    omega (arith, after-uses .before .before .before .before .before .before .before .before .before .before .before .entry-list .ensures .on _ _ (after-uses .before .before .before .before .before .before .before .provides .given .1), after-uses .before .before .before .before .entry-list2 .ensures .on _ _ (after-uses .uses .given .1))
+    omega (
+      arith,
+      after-uses .before .before .before .before .before .before .before .before .before .before .before .entry-list .ensures .on _ _
+          (after-uses .before .before .before .before .before .before .before .provides .given .1),
+      after-uses .before .before .before .before .entry-list2 .ensures .on _ _ (after-uses .uses .given .1),
+    )
 
 put-process-requires : tie.Need-put-process-requires
 put-process-requires c κs =
@@ -151,14 +198,43 @@ put-process-requires c κs =
     let after-named = after-provides .before .before .before .before .before .before .before in
     let named = after-named .named in
     let declared-name = after-named .before .before .declared-name in
-    let entry = after-named .before .before .before .before .before in
-    (omega (arith, entry .pre, declared-name .ensures .on _ _ (named .given .1), entry-list .ensures .on _ _ (provides .given .1), entry-list .ensures .kept .long, entry-list2 .ensures .on _ _ (uses .given .1), entry-list2 .ensures .kept .long, expect .ensures .on _ _ (equals .given .1), read-process .ensures .on _ _ (body .given .1), read-process .ensures .kept .long, name-held kProc (entry .args .k .processes) processLimit (declared-name .ensures) (named .given .1)), omega (arith, entry .pre, declared-name .ensures .on _ _ (named .given .1), entry-list .ensures .on _ _ (provides .given .1), entry-list .ensures .kept .long, entry-list2 .ensures .on _ _ (uses .given .1), entry-list2 .ensures .kept .long, expect .ensures .on _ _ (equals .given .1), read-process .ensures .on _ _ (body .given .1), read-process .ensures .kept .long))
+    let entry = after-named .before .before .before .before .before in (
+      omega (
+        arith,
+        entry .pre,
+        declared-name .ensures .on _ _ (named .given .1),
+        entry-list .ensures .on _ _ (provides .given .1),
+        entry-list .ensures .kept .long,
+        entry-list2 .ensures .on _ _
+            (uses .given .1),
+        entry-list2 .ensures .kept .long,
+        expect .ensures .on _ _ (equals .given .1),
+        read-process .ensures .on _ _ (body .given .1),
+        read-process .ensures .kept .long,
+        name-held kProc
+            (entry .args .k .processes) processLimit (declared-name .ensures) (named .given .1),
+      ),
+      omega (
+        arith,
+        entry .pre,
+        declared-name .ensures .on _ _ (named .given .1),
+        entry-list .ensures .on _ _
+            (provides .given .1),
+        entry-list .ensures .kept .long,
+        entry-list2 .ensures .on _ _ (uses .given .1),
+        entry-list2 .ensures .kept .long,
+        expect .ensures .on _ _ (equals .given .1),
+        read-process .ensures .on _ _ (body .given .1),
+        read-process .ensures .kept .long,
+      ),
+    )
 
 same-length-5 : tie.Need-same-length-5
 same-length-5 c =
     let after-read-process = c .before .before .before .before .before .before .before .before .before .before .before .before .before in
     let after-entry-list2 = after-read-process .before .before .before .before .before .before .before .before .before .before .before in
-    c .before .before .put-process .ensures .kept .long ∙ after-read-process .read-process .ensures .kept .long ∙ after-entry-list2 .entry-list2 .ensures .kept .long ∙ after-entry-list2 .before .before .before .before .before .before .before .entry-list .ensures .kept .long
+    c .before .before .put-process .ensures .kept .long ∙ after-read-process .read-process .ensures .kept .long ∙ after-entry-list2 .entry-list2 .ensures .kept .long ∙
+    after-entry-list2 .before .before .before .before .before .before .before .entry-list .ensures .kept .long
 
 returns-6 : tie.Need-returns-6
 returns-6 c =
@@ -168,7 +244,9 @@ returns-6 c =
     let after-provides = after-uses .before .before .before .before .before .before .before in
     let after-named = after-provides .before .before .before .before .before .before .before in
     let entry = after-named .before .before .before .before .before in
-    proc-got _ _ _ _ (entry .pre) (after-named .before .before .declared-name .ensures) (after-named .named .given .1) (after-provides .before .before .before .before .entry-list .ensures) (after-provides .provides .given .1) (after-uses .before .before .before .before .entry-list2 .ensures) (after-uses .uses .given .1) (after-equals .before .before .expect .ensures) (after-equals .equals .given .1) (after-body .before .before .before .before .read-process .ensures) (after-body .body .given .1) (c .before .before .put-process .ensures)
+    proc-got _ _ _ _ (entry .pre) (after-named .before .before .declared-name .ensures) (after-named .named .given .1) (after-provides .before .before .before .before .entry-list .ensures)
+    (after-provides .provides .given .1) (after-uses .before .before .before .before .entry-list2 .ensures) (after-uses .uses .given .1) (after-equals .before .before .expect .ensures)
+    (after-equals .equals .given .1) (after-body .before .before .before .before .read-process .ensures) (after-body .body .given .1) (c .before .before .put-process .ensures)
 
 pub declare-proc-spec : {M : Type 1} → statement M
 declare-proc-spec =

@@ -41,13 +41,21 @@ refusal-requires-2 : tie.Need-refusal-requires-2
 refusal-requires-2 c κs = search needs
 
 returns-2 : tie.Need-returns-2
-returns-2 c = type-equals-no _ _ _ _ (c .before .before .before .before .before .before .before .before .before .before .pre) (c .before .before .before .before .before .before .before .declared-name .ensures) (c .before .before .before .before .before .named .given .1) (c .before .before .before .expect .ensures) (c .before .enum-told2 .given .1) (c .refusal2 .ensures)
+returns-2 c = type-equals-no _ _ _ _ (c .before .before .before .before .before .before .before .before .before .before .pre)
+    (c .before .before .before .before .before .before .before .declared-name .ensures) (c .before .before .before .before .before .named .given .1) (c .before .before .before .expect .ensures)
+    (c .before .enum-told2 .given .1) (c .refusal2 .ensures)
 
 read-type-requires : tie.Need-read-type-requires
 read-type-requires c κs =
     let after-named = c .before .before .before .before .before .before in
     let entry = after-named .before .before .before .before .before in
-    omega (arith, entry .pre, after-named .before .before .declared-name .ensures .on _ _ (after-named .named .given .1), c .before .before .before .before .expect .ensures .on _ _ (c .before .before .equals .given .1))
+    omega (
+      arith,
+      entry .pre,
+      after-named .before .before .declared-name .ensures .on _ _ (after-named .named .given .1),
+      c .before .before .before .before .expect .ensures .on _ _
+          (c .before .before .equals .given .1),
+    )
 
 enum-known-typed : tie.Need-enum-known-typed
 enum-known-typed c = search needs
@@ -63,7 +71,8 @@ returns-3 c =
     let after-equals = c .before .before .before .before .before .before .before in
     let after-named = after-equals .before .before .before .before in
     let entry = after-named .before .before .before .before .before in
-    type-type-no _ _ _ _ (entry .pre) (after-named .before .before .declared-name .ensures) (after-named .named .given .1) (after-equals .before .before .expect .ensures) (after-equals .equals .given .1) (c .before .before .before .before .read-type .ensures) (c .enum-told3 .given .1)
+    type-type-no _ _ _ _ (entry .pre) (after-named .before .before .declared-name .ensures) (after-named .named .given .1) (after-equals .before .before .expect .ensures)
+    (after-equals .equals .given .1) (c .before .before .before .before .read-type .ensures) (c .enum-told3 .given .1)
 
 put-type-requires : tie.Need-put-type-requires
 put-type-requires c κs =
@@ -73,7 +82,16 @@ put-type-requires c κs =
     let named = after-named .named in
     let declared-name = after-named .before .before .declared-name in
     let entry = after-named .before .before .before .before .before in
-    omega (arith, entry .pre, declared-name .ensures .on _ _ (named .given .1), after-equals .before .before .expect .ensures .on _ _ (after-equals .equals .given .1), read-type .ensures .on _ _ (c .before .before .typed .given .1), read-type .ensures .kept .long, name-held kType (entry .args .k .types) typeLimit (declared-name .ensures) (named .given .1))
+    omega (
+      arith,
+      entry .pre,
+      declared-name .ensures .on _ _ (named .given .1),
+      after-equals .before .before .expect .ensures .on _ _ (after-equals .equals .given .1),
+      read-type .ensures .on _ _
+          (c .before .before .typed .given .1),
+      read-type .ensures .kept .long,
+      name-held kType (entry .args .k .types) typeLimit (declared-name .ensures) (named .given .1),
+    )
 
 same-length-2 : tie.Need-same-length-2
 same-length-2 c = search needs
@@ -84,7 +102,8 @@ returns-4 c =
     let after-equals = after-typed .before .before .before .before .before .before .before in
     let after-named = after-equals .before .before .before .before in
     let entry = after-named .before .before .before .before .before in
-    type-got _ _ _ _ (entry .pre) (after-named .before .before .declared-name .ensures) (after-named .named .given .1) (after-equals .before .before .expect .ensures) (after-equals .equals .given .1) (after-typed .before .before .before .before .read-type .ensures) (after-typed .typed .given .1) (c .before .before .put-type .ensures)
+    type-got _ _ _ _ (entry .pre) (after-named .before .before .declared-name .ensures) (after-named .named .given .1) (after-equals .before .before .expect .ensures) (after-equals .equals .given .1)
+    (after-typed .before .before .before .before .read-type .ensures) (after-typed .typed .given .1) (c .before .before .put-type .ensures)
 
 pub declare-type-spec : {M : Type 1} → statement M
 declare-type-spec =

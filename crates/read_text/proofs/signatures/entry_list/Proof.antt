@@ -45,7 +45,8 @@ returns-2 : tie.Need-returns-2
 returns-2 c =
     let after-opened = c .before .before .before .before .before .before .before in
     let entry = after-opened .before .before .before .before .before in
-    list-inner-no _ _ _ _ (entry .pre .0) _ _ _ (width-pos (entry .args .opens)) (after-opened .before .before .opening .ensures) (after-opened .opened .given .1) (c .before .before .before .before .entries-or-none .ensures) (c .enum-told2 .given .1)
+    list-inner-no _ _ _ _ (entry .pre .0) _ _ _ (width-pos (entry .args .opens)) (after-opened .before .before .opening .ensures) (after-opened .opened .given .1)
+    (c .before .before .before .before .entries-or-none .ensures) (c .enum-told2 .given .1)
 
 same-length-2 : tie.Need-same-length-2
 same-length-2 c = search needs
@@ -54,7 +55,8 @@ returns-3 : tie.Need-returns-3
 returns-3 c =
     let after-opened = c .before .before .before .before .before .before .before .before in
     let entry = after-opened .before .before .before .before .before in
-    list-got _ _ _ _ (entry .pre .0) _ _ _ (width-pos (entry .args .opens)) (after-opened .before .before .opening .ensures) (after-opened .opened .given .1) (c .before .before .before .before .before .entries-or-none .ensures) (c .before .inner .given .1)
+    list-got _ _ _ _ (entry .pre .0) _ _ _ (width-pos (entry .args .opens)) (after-opened .before .before .opening .ensures) (after-opened .opened .given .1)
+    (c .before .before .before .before .before .entries-or-none .ensures) (c .before .inner .given .1)
 
 pub entry-list-spec : {M : Type 1} → statement M
 entry-list-spec =

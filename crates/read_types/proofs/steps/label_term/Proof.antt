@@ -25,11 +25,13 @@ returns c = limit-no (c .before .before .expect .ensures) 0 0 (λ _. ltb (c .bef
 
 returns-2 : tie.Need-returns-2
 unfolding labelTerm
-returns-2 c = limit-kept (c .before .before .before .before .expect .ensures) 0 0 (λ _. ltb (c .before .before .before .before .before .before .args .n) labelLimit) (λ d. d) (c .before .before .taken .given .1) (lt-ltb _ _ (c .if1 .taken)) (c .before .before .before .before .expect .ensures .on _ _ (c .before .before .taken .given .1))
+returns-2 c = limit-kept (c .before .before .before .before .expect .ensures) 0 0 (λ _. ltb (c .before .before .before .before .before .before .args .n) labelLimit) (λ d. d)
+    (c .before .before .taken .given .1) (lt-ltb _ _ (c .if1 .taken)) (c .before .before .before .before .expect .ensures .on _ _ (c .before .before .taken .given .1))
 
 returns-3 : tie.Need-returns-3
 unfolding labelTerm
-returns-3 c = limit-passed (c .before .before .before .before .expect .ensures) 0 0 (λ _. ltb (c .before .before .before .before .before .before .args .n) labelLimit) (λ d. d) (c .before .before .taken .given .1) (le-ltb _ _ (c .if1 .left))
+returns-3 c = limit-passed (c .before .before .before .before .expect .ensures) 0 0 (λ _. ltb (c .before .before .before .before .before .before .args .n) labelLimit) (λ d. d)
+    (c .before .before .taken .given .1) (le-ltb _ _ (c .if1 .left))
 
 pub label-term-spec : {M : Type 1} → statement M
 label-term-spec =

@@ -30,7 +30,8 @@ unfolding typeTerm
 returns-2 c =
     let taken = c .before .before .before .before .taken in
     let expect = c .before .before .before .before .before .before .expect in
-    limit-kept (expect .ensures) 1 0 mayType withType (taken .given .1) (lt-ltb _ _ (c .before .if1 .taken)) (let o = expect .ensures .on _ _ (taken .given .1) in (o .0, o .1, o .2, omega arith, omega arith, omega arith, omega arith))
+    limit-kept (expect .ensures) 1 0 mayType withType (taken .given .1) (lt-ltb _ _ (c .before .if1 .taken))
+    (let o = expect .ensures .on _ _ (taken .given .1) in (o .0, o .1, o .2, omega arith, omega arith, omega arith, omega arith))
 
 returns-3 : tie.Need-returns-3
 unfolding typeTerm

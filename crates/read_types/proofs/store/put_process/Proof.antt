@@ -51,7 +51,8 @@ returns : tie.Need-returns
 unfolding putProcess
 returns c =
     let after-put-word2 = c .before .before .before .before .before .before .before .before .before .before .before .before .before in
-    put-one (after-put-word2 .before .before .before .before .put-word .ensures) put-more after-put-word2 .put-word2 .ensures put-more c .before .before .before .before .before .before .before .put-word3 .ensures put-more c .before .before .before .put-word4 .ensures
+    put-one (after-put-word2 .before .before .before .before .put-word .ensures) put-more after-put-word2 .put-word2 .ensures put-more
+    c .before .before .before .before .before .before .before .put-word3 .ensures put-more c .before .before .before .put-word4 .ensures
 
 pub put-process-spec : {M : Type 1} → statement M
 put-process-spec =

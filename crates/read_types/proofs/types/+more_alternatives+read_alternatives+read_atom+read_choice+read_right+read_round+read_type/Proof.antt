@@ -19,4 +19,5 @@ use Rattle.read_types.proofs.types.+more_alternatives+read_alternatives
 use Rattle.read_types.proofs.types.+more_alternatives+read_alternatives+read_atom+read_choice+read_right+read_round+read_type.Proof.ReadType.{read-type-met}
 
 pub +more-alternatives+read-alternatives+read-atom+read-choice+read-right+read-round+read-type-spec : {M : Type 1} → statement M
-+more-alternatives+read-alternatives+read-atom+read-choice+read-right+read-round+read-type-spec = close μ-more-alternatives μ-read-alternatives μ-read-atom μ-read-choice μ-read-right μ-read-round μ-read-type more-alternatives-met read-alternatives-met read-atom-met read-choice-met read-right-met read-round-met read-type-met
++more-alternatives+read-alternatives+read-atom+read-choice+read-right+read-round+read-type-spec = close μ-more-alternatives μ-read-alternatives μ-read-atom μ-read-choice μ-read-right μ-read-round
+    μ-read-type more-alternatives-met read-alternatives-met read-atom-met read-choice-met read-right-met read-round-met read-type-met

@@ -35,7 +35,8 @@ enum-told-2 c = search needs
 
 returns-2 : tie.Need-returns-2
 unfolding choiceOpening
-returns-2 c = second-no (c .before .before .before .before .before .before .type-term .ensures) 2 1 (opening _ kBraceOpen) (c .before .before .before .before .mark .given .1) (c .before .before .opening .ensures) (c .enum-told2 .given .1)
+returns-2 c = second-no (c .before .before .before .before .before .before .type-term .ensures) 2 1 (opening _ kBraceOpen) (c .before .before .before .before .mark .given .1)
+    (c .before .before .opening .ensures) (c .enum-told2 .given .1)
 
 returns-3 : tie.Need-returns-3
 unfolding choiceOpening

@@ -34,7 +34,8 @@ same-length : tie.Need-same-length
 same-length c = search needs
 
 returns-2 : tie.Need-returns-2
-returns-2 c = name-got _ _ _ _ (c .before .before .before .before .before .before .before .before .before .before .pre) (c .before .before .before .before .before .before .before .type-term .ensures) (c .before .before .before .before .before .taken .given .1) (c .before .before .put-node .ensures)
+returns-2 c = name-got _ _ _ _ (c .before .before .before .before .before .before .before .before .before .before .pre) (c .before .before .before .before .before .before .before .type-term .ensures)
+    (c .before .before .before .before .before .taken .given .1) (c .before .before .put-node .ensures)
 
 pub name-type-spec : {M : Type 1} → statement M
 name-type-spec =

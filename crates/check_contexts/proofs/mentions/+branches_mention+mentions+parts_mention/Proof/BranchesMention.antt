@@ -12,7 +12,8 @@ use Rattle.check_contexts.proofs.mentions.mentions.Reads as mentions
 use Rattle.check_contexts.proofs.mentions.+branches_mention+mentions+parts_mention.Lts-branches_mention as branches-mention-lts
 use Rattle.check_contexts.proofs.mentions.+branches_mention+mentions+parts_mention.Proof.Measures.{branches-mention-at, branches-mention-below, mentions-below}
 
-pub branches-mention-met : {M : Type 1} (t : ℕ) → branches-mention-lts.Closed (branch-reads.Asked, branch-reads.Learnt, mentions-below t, mentions.Post, branches-mention-below t, branches-mention.Post) (branches-mention-at t) branches-mention.Post M
+pub branches-mention-met : {M : Type 1} (t : ℕ) → branches-mention-lts.Closed
+    (branch-reads.Asked, branch-reads.Learnt, mentions-below t, mentions.Post, branches-mention-below t, branches-mention.Post) (branches-mention-at t) branches-mention.Post M
 branches-mention-met t =
     branches-mention-lts.spec (branch-reads.Asked, branch-reads.Learnt, mentions-below t, mentions.Post, branches-mention-below t, branches-mention.Post) (branches-mention-at t) branches-mention.Post
     -- returns
@@ -28,9 +29,12 @@ branches-mention-met t =
     let f = (c .branch .ensures .says _ _ _ (some-branch _ _ _ _ _ (c .before .if1 .left) (entry .pre .1 .1))) in
     (omega (arith, entry .pre .0, weight-part _ _ (f .smaller), f .past), (entry .pre .1 .0, f .process)))
     -- returns-2
-    (λ c. branch-so _ _ _ _ _ _ _ (c .before .before .before .if1 .left) (c .before .before .branch .ensures .says _ _ _ (some-branch _ _ _ _ _ (c .before .before .before .if1 .left) (c .before .before .before .before .before .before .pre .1 .1))) _ (sym (c .before .mentions .ensures) ∙ c .if2 .taken))
+    (λ c. branch-so _ _ _ _ _ _ _ (c .before .before .before .if1 .left)
+    (c .before .before .branch .ensures .says _ _ _ (some-branch _ _ _ _ _ (c .before .before .before .if1 .left) (c .before .before .before .before .before .before .pre .1 .1))) _
+    (sym (c .before .mentions .ensures) ∙ c .if2 .taken))
     -- sub-branches-mention
-    (λ c. let f = (c .before .before .branch .ensures .says _ _ _ (some-branch _ _ _ _ _ (c .before .before .before .if1 .left) (c .before .before .before .before .before .before .pre .1 .1))) in omega (arith, f .past))
+    (λ c. let f = (c .before .before .branch .ensures .says _ _ _ (some-branch _ _ _ _ _ (c .before .before .before .if1 .left) (c .before .before .before .before .before .before .pre .1 .1))) in
+    omega (arith, f .past))
     -- sub-branches-mention-2
     (λ c. search needs)
     -- branches-mention-requires
@@ -39,4 +43,6 @@ branches-mention-met t =
     let f = (c .before .before .branch .ensures .says _ _ _ (some-branch _ _ _ _ _ (c .before .before .before .if1 .left) (entry .pre .1 .1))) in
     (omega (arith, entry .pre .0, f .past), (entry .pre .1 .0, f .rest)))
     -- returns-3
-    (λ c. rest-so _ _ _ _ _ _ _ (c .before .before .before .before .if1 .left) (c .before .before .before .branch .ensures .says _ _ _ (some-branch _ _ _ _ _ (c .before .before .before .before .if1 .left) (c .before .before .before .before .before .before .before .pre .1 .1))) _ (sym (c .before .before .mentions .ensures) ∙ c .before .if2 .left) (c .branches-mention .ensures))
+    (λ c. rest-so _ _ _ _ _ _ _ (c .before .before .before .before .if1 .left)
+    (c .before .before .before .branch .ensures .says _ _ _ (some-branch _ _ _ _ _ (c .before .before .before .before .if1 .left)
+    (c .before .before .before .before .before .before .before .pre .1 .1))) _ (sym (c .before .before .mentions .ensures) ∙ c .before .if2 .left) (c .branches-mention .ensures))

@@ -14,9 +14,20 @@ use Rattle.check_contexts.proofs.mentions.parts_mention.Reads as parts-
 use Rattle.check_contexts.proofs.mentions.+branches_mention+mentions+parts_mention.Lts-parts_mention as parts-mention-lts
 use Rattle.check_contexts.proofs.mentions.+branches_mention+mentions+parts_mention.Proof.Measures.{branches-mention-below, mentions-below, parts-mention-at}
 
-pub parts-mention-met : {M : Type 1} (t : ℕ) → parts-mention-lts.Closed (branches-mention-below t, branches-mention.Post, has-no-part-reads.Asked, has-no-part-reads.Learnt, has-halves-reads.Asked, has-halves-reads.Learnt, mentions-below t, mentions.Post) (parts-mention-at t) parts-mention.Post M
+pub parts-mention-met : {M : Type 1} (t : ℕ) → parts-mention-lts.Closed
+    (branches-mention-below t, branches-mention.Post, has-no-part-reads.Asked, has-no-part-reads.Learnt, has-halves-reads.Asked, has-halves-reads.Learnt, mentions-below t, mentions.Post)
+    (parts-mention-at t) parts-mention.Post M
 parts-mention-met t =
-    parts-mention-lts.spec (branches-mention-below t, branches-mention.Post, has-no-part-reads.Asked, has-no-part-reads.Learnt, has-halves-reads.Asked, has-halves-reads.Learnt, mentions-below t, mentions.Post) (parts-mention-at t) parts-mention.Post
+    parts-mention-lts.spec (
+      branches-mention-below t,
+      branches-mention.Post,
+      has-no-part-reads.Asked,
+      has-no-part-reads.Learnt,
+      has-halves-reads.Asked,
+      has-halves-reads.Learnt,
+      mentions-below t,
+      mentions.Post,
+    ) (parts-mention-at t) parts-mention.Post
     -- branches-mention-requires
     (λ c κs.
     let entry = c .before .before .before .before in
@@ -38,11 +49,13 @@ parts-mention-met t =
     -- returns-3
     (λ c.
     let after-if2 = c .before .before .before .before in
-    parts-first _ _ _ _ (after-if2 .before .before .if1 .left) (sym (after-if2 .before .has-no-part .ensures) ∙ after-if2 .if2 .left) (sym (c .before .before .before .has-halves .ensures) ∙ c .before .before .if3 .taken) (sym (c .before .mentions .ensures) ∙ c .if4 .taken))
+    parts-first _ _ _ _ (after-if2 .before .before .if1 .left) (sym (after-if2 .before .has-no-part .ensures) ∙ after-if2 .if2 .left)
+    (sym (c .before .before .before .has-halves .ensures) ∙ c .before .before .if3 .taken) (sym (c .before .mentions .ensures) ∙ c .if4 .taken))
     -- mentions-requires-2
     (λ c κs.
     let entry = c .before .before .before .before .before .before .before .before in
     let f = entry .pre .1 .1 .last (c .before .before .before .before .if1 .left) (sym (c .before .before .before .has-no-part .ensures) ∙ c .before .before .if2 .left) in
     (omega (arith, entry .pre .0, weight-part _ _ (f .0)), (entry .pre .1 .0, f .1)))
     -- returns-4
-    (λ c. parts-last _ _ _ _ (c .before .before .before .before .before .if1 .left) (sym (c .before .before .before .before .has-no-part .ensures) ∙ c .before .before .before .if2 .left) (⊎-elim (λ o. inl (sym (o .1 .ensures) ∙ o .2 .left)) (λ o. inr (sym (c .before .before .has-halves .ensures) ∙ o .left)) (c .before .if3 .came)) (c .mentions2 .ensures))
+    (λ c. parts-last _ _ _ _ (c .before .before .before .before .before .if1 .left) (sym (c .before .before .before .before .has-no-part .ensures) ∙ c .before .before .before .if2 .left)
+    (⊎-elim (λ o. inl (sym (o .1 .ensures) ∙ o .2 .left)) (λ o. inr (sym (c .before .before .has-halves .ensures) ∙ o .left)) (c .before .if3 .came)) (c .mentions2 .ensures))

@@ -18,13 +18,21 @@ use Rattle.check_text.proofs.process.check_choice.Reads as check-choice
 use Rattle.check_text.proofs.process.+check_branches+check_choice+check_ending+check_process+check_raise+check_receive+check_rest+check_spawn+check_term+check_try.Lts-check_choice as check-choice-lts
 use Rattle.check_text.proofs.process.+check_branches+check_choice+check_ending+check_process+check_raise+check_receive+check_rest+check_spawn+check_term+check_try.Proof.Measures.{check-branches-below, check-choice-at}
 
-pub check-choice-met : {M : Type 1} (t : ℕ) → check-choice-lts.Closed (labels-offered-reads.Asked, labels-offered-reads.Learnt, check-branches-below t, check-branches.Post) (check-choice-at t) check-choice.Post M
+pub check-choice-met : {M : Type 1} (t : ℕ) → check-choice-lts.Closed (labels-offered-reads.Asked, labels-offered-reads.Learnt, check-branches-below t, check-branches.Post) (check-choice-at t)
+    check-choice.Post M
 check-choice-met t =
     check-choice-lts.spec (labels-offered-reads.Asked, labels-offered-reads.Learnt, check-branches-below t, check-branches.Post) (check-choice-at t) check-choice.Post
     -- labels-offered-requires
     (λ c κs.
-    let entry = c .before .before in
-    ((entry .pre .1 .0), (entry .pre .1 .1), ((entry .args .p), ((choose-at (entry .args .text .now) (entry .args .scratch .now) (entry .args .p) (entry .args .n) (entry .pre .1 .2)) (entry .pre .1 .3)) .0)))
+    let entry = c .before .before in (
+      (entry .pre .1 .0),
+      (entry .pre .1 .1),
+      (
+        (entry .args .p),
+        ((choose-at (entry .args .text .now) (entry .args .scratch .now) (entry .args .p) (entry .args .n) (entry .pre .1 .2))
+            (entry .pre .1 .3)) .0,
+      ),
+    ))
     -- enum-known-o
     (λ c. search needs)
     -- returns
@@ -33,7 +41,10 @@ check-choice-met t =
     let text = entry .args .text .now in
     let scratch = entry .args .scratch .now in
     let n = entry .args .n in
-    (sym (((choose-at text scratch (entry .args .p) n (entry .pre .1 .2)) (entry .pre .1 .3)) .1 (entry .args .link) (contextIn text scratch (entry .args .h)) ∙ ap (λ o. choosing-with (n .at) o (λ r. checkBranches (programIn text scratch) (contextIn text scratch (entry .args .h)) (entry .args .link) (n .at) (nameAt text (n .first)) r (branchesIn text scratch (n .second) (n .third)))) (sym (c .before .before .before .labels-offered .ensures .is) ∙ ap (offerOf text scratch) (c .before .o .given .1)))))
+    let contextIn′ = contextIn text scratch (entry .args .h) in
+    (sym (((choose-at text scratch (entry .args .p) n (entry .pre .1 .2)) (entry .pre .1 .3)) .1 (entry .args .link) contextIn′ ∙
+    ap (λ o. choosing-with (n .at) o (λ r. checkBranches (programIn text scratch) contextIn′ (entry .args .link) (n .at) (nameAt text (n .first)) r (branchesIn text scratch (n .second) (n .third))))
+    (sym (c .before .before .before .labels-offered .ensures .is) ∙ ap (offerOf text scratch) (c .before .o .given .1)))))
     -- enum-known-o-2
     (λ c. search needs)
     -- check-branches-requires
@@ -41,11 +52,17 @@ check-choice-met t =
     let entry = c .before .before .before .before .before .before in
     let text = entry .args .text .now in
     let scratch = entry .args .scratch .now in
-    (omega (arith, entry .pre .0, ((choose-at text scratch (entry .args .p) (entry .args .n) (entry .pre .1 .2)) (entry .pre .1 .3)) .0 .within, entry .pre .1 .0 .within), ((entry .pre .1 .0), (entry .pre .1 .1), subst (listed text scratch) (c .before .o2 .given .1) (c .before .before .before .labels-offered .ensures .labels), ((choose-at text scratch (entry .args .p) (entry .args .n) (entry .pre .1 .2)) (entry .pre .1 .3)) .0)))
+    let choose-at′ = choose-at text scratch (entry .args .p) (entry .args .n) (entry .pre .1 .2) in (
+      omega (arith, entry .pre .0, (choose-at′ (entry .pre .1 .3)) .0 .within, entry .pre .1 .0 .within),
+      ((entry .pre .1 .0), (entry .pre .1 .1), subst (listed text scratch) (c .before .o2 .given .1) (c .before .before .before .labels-offered .ensures .labels), (choose-at′ (entry .pre .1 .3)) .0),
+    ))
     -- returns-2
     (λ c.
     let entry = c .before .before .before .before .before .before .before in
     let text = entry .args .text .now in
     let scratch = entry .args .scratch .now in
     let n = entry .args .n in
-    c .check-branches .ensures ∙ (sym (((choose-at text scratch (entry .args .p) n (entry .pre .1 .2)) (entry .pre .1 .3)) .1 (entry .args .link) (contextIn text scratch (entry .args .h)) ∙ ap (λ o. choosing-with (n .at) o (λ r. checkBranches (programIn text scratch) (contextIn text scratch (entry .args .h)) (entry .args .link) (n .at) (nameAt text (n .first)) r (branchesIn text scratch (n .second) (n .third)))) (sym (c .before .before .before .before .labels-offered .ensures .is) ∙ ap (offerOf text scratch) (c .before .before .o2 .given .1)))))
+    let contextIn′ = contextIn text scratch (entry .args .h) in
+    c .check-branches .ensures ∙ (sym (((choose-at text scratch (entry .args .p) n (entry .pre .1 .2)) (entry .pre .1 .3)) .1 (entry .args .link) contextIn′ ∙
+    ap (λ o. choosing-with (n .at) o (λ r. checkBranches (programIn text scratch) contextIn′ (entry .args .link) (n .at) (nameAt text (n .first)) r (branchesIn text scratch (n .second) (n .third))))
+    (sym (c .before .before .before .before .labels-offered .ensures .is) ∙ ap (offerOf text scratch) (c .before .before .o2 .given .1)))))

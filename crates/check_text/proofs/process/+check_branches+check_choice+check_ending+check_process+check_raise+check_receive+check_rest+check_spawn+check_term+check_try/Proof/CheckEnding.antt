@@ -17,9 +17,19 @@ use Rattle.check_text.proofs.process.check_try.Reads as check-try
 use Rattle.check_text.proofs.process.+check_branches+check_choice+check_ending+check_process+check_raise+check_receive+check_rest+check_spawn+check_term+check_try.Lts-check_ending as check-ending-lts
 use Rattle.check_text.proofs.process.+check_branches+check_choice+check_ending+check_process+check_raise+check_receive+check_rest+check_spawn+check_term+check_try.Proof.Measures.{check-ending-at, check-raise-below, check-try-below}
 
-pub check-ending-met : {M : Type 1} (t : ℕ) → check-ending-lts.Closed (ending-refusal-reads.Asked, ending-refusal-reads.Learnt, ended-reads.Asked, ended-reads.Learnt, check-raise-below t, check-raise.Post, check-try-below t, check-try.Post) (check-ending-at t) check-ending.Post M
+pub check-ending-met : {M : Type 1} (t : ℕ) → check-ending-lts.Closed (
+  ending-refusal-reads.Asked,
+  ending-refusal-reads.Learnt,
+  ended-reads.Asked,
+  ended-reads.Learnt,
+  check-raise-below t,
+  check-raise.Post,
+  check-try-below t,
+  check-try.Post,
+) (check-ending-at t) check-ending.Post M
 check-ending-met t =
-    check-ending-lts.spec (ending-refusal-reads.Asked, ending-refusal-reads.Learnt, ended-reads.Asked, ended-reads.Learnt, check-raise-below t, check-raise.Post, check-try-below t, check-try.Post) (check-ending-at t) check-ending.Post
+    check-ending-lts.spec (ending-refusal-reads.Asked, ending-refusal-reads.Learnt, ended-reads.Asked, ended-reads.Learnt, check-raise-below t, check-raise.Post, check-try-below t, check-try.Post)
+    (check-ending-at t) check-ending.Post
     -- ending-refusal-requires
     (λ c κs.
     let entry = c .before .before .before .before in
@@ -40,7 +50,8 @@ check-ending-met t =
     let n = entry .args .n in
     let node = entry .pre .1 .2 in
     let ends = end-at text scratch p n node (entry .pre .1 .3) (omega (arith, c .before .before .if1 .taken)) in
-    ends-so text scratch n (contextIn text scratch (entry .args .h)) _ (c .before .ending-refusal .ensures) (c .ended .ensures) (ends .1 (entry .args .link) (contextIn text scratch (entry .args .h))))
+    let contextIn′ = contextIn text scratch (entry .args .h) in
+    ends-so text scratch n contextIn′ _ (c .before .ending-refusal .ensures) (c .ended .ensures) (ends .1 (entry .args .link) contextIn′))
     -- check-raise-requires
     (λ c κs.
     let entry = c .before .before .before .before .before .before in

@@ -17,16 +17,25 @@ check-process-met t =
     -- returns
     (λ c.
     let entry = c .before .before .before .before .before in
-    empty-fine (entry .args .text .now) (entry .args .scratch .now) (entry .args .h) (entry .args .link) (entry .args .p) (entry .pre .1 .0) (entry .pre .1 .2) (c .before .before .if1 .taken) (c .if2 .taken))
+    empty-fine (entry .args .text .now) (entry .args .scratch .now) (entry .args .h) (entry .args .link) (entry .args .p) (entry .pre .1 .0) (entry .pre .1 .2) (c .before .before .if1 .taken)
+    (c .if2 .taken))
     -- returns-2
     (λ c.
     let entry = c .before .before .before .before .before in
-    empty-left (entry .args .text .now) (entry .args .scratch .now) (entry .args .h) (entry .args .link) (entry .args .p) (entry .pre .1 .0) (entry .pre .1 .2) (c .before .before .if1 .taken) (c .if2 .left))
+    empty-left (entry .args .text .now) (entry .args .scratch .now) (entry .args .h) (entry .args .link) (entry .args .p) (entry .pre .1 .0) (entry .pre .1 .2) (c .before .before .if1 .taken)
+    (c .if2 .left))
     -- term-node-requires
     (λ c κs. ((c .before .before .before .pre .1 .0) .area, c .if1 .left))
     -- check-term-requires
     (λ c κs.
-    let entry = c .before .before .before .before in
-    (omega (arith, entry .pre .0, weight-at (entry .args .p) (c .before .if1 .left)), ((entry .pre .1 .0), (entry .pre .1 .1), node-in (entry .args .text .now) (entry .args .scratch .now) (entry .args .p) _ (entry .pre .1 .0) (entry .pre .1 .2) (c .before .if1 .left) (c .term-node .ensures))))
+    let entry = c .before .before .before .before in (
+      omega (arith, entry .pre .0, weight-at (entry .args .p) (c .before .if1 .left)),
+      (
+        (entry .pre .1 .0),
+        (entry .pre .1 .1),
+        node-in (entry .args .text .now) (entry .args .scratch .now) (entry .args .p) _ (entry .pre .1 .0) (entry .pre .1 .2) (c .before .if1 .left)
+            (c .term-node .ensures),
+      ),
+    ))
     -- returns-3
     (λ c. c .check-term .ensures)

@@ -23,18 +23,23 @@ check-raise-met t =
     (λ c κs.
     let entry = c .before .before .before in
     let p = entry .args .p in
-    (omega (arith, entry .pre .0, weight-part p _ (((raise-at (entry .args .text .now) (entry .args .scratch .now) p (entry .args .n) (entry .pre .1 .2)) (entry .pre .1 .3)) .0 .0)), ((entry .pre .1 .0), (entry .pre .1 .1), ((raise-at (entry .args .text .now) (entry .args .scratch .now) p (entry .args .n) (entry .pre .1 .2)) (entry .pre .1 .3)) .0 .1)))
+    let raise-at′ = raise-at (entry .args .text .now) (entry .args .scratch .now) p (entry .args .n) (entry .pre .1 .2) in
+    (omega (arith, entry .pre .0, weight-part p _ ((raise-at′ (entry .pre .1 .3)) .0 .0)), ((entry .pre .1 .0), (entry .pre .1 .1), (raise-at′ (entry .pre .1 .3)) .0 .1)))
     -- returns
     (λ c.
     let entry = c .before .before .before .before in
     let text = entry .args .text .now in
     let scratch = entry .args .scratch .now in
     let n = entry .args .n in
-    c .check-process .ensures ∙ sym (((raise-at text scratch (entry .args .p) n (entry .pre .1 .2)) (entry .pre .1 .3)) .1 (entry .args .link) (contextIn text scratch (entry .args .h)) ∙ ap (λ b. demand 14 (n .at) b (check (programIn text scratch) (contextIn text scratch (entry .args .h)) false (processIn text scratch (n .third)))) (c .before .if1 .taken)))
+    let contextIn′ = contextIn text scratch (entry .args .h) in
+    c .check-process .ensures ∙ sym (((raise-at text scratch (entry .args .p) n (entry .pre .1 .2)) (entry .pre .1 .3)) .1 (entry .args .link) contextIn′ ∙
+    ap (λ b. demand 14 (n .at) b (check (programIn text scratch) contextIn′ false (processIn text scratch (n .third)))) (c .before .if1 .taken)))
     -- returns-2
     (λ c.
     let entry = c .before .before .before in
     let text = entry .args .text .now in
     let scratch = entry .args .scratch .now in
     let n = entry .args .n in
-    sym (((raise-at text scratch (entry .args .p) n (entry .pre .1 .2)) (entry .pre .1 .3)) .1 (entry .args .link) (contextIn text scratch (entry .args .h)) ∙ ap (λ b. demand 14 (n .at) b (check (programIn text scratch) (contextIn text scratch (entry .args .h)) false (processIn text scratch (n .third)))) (c .if1 .left)))
+    let contextIn′ = contextIn text scratch (entry .args .h) in
+    sym (((raise-at text scratch (entry .args .p) n (entry .pre .1 .2)) (entry .pre .1 .3)) .1 (entry .args .link) contextIn′ ∙
+    ap (λ b. demand 14 (n .at) b (check (programIn text scratch) contextIn′ false (processIn text scratch (n .third)))) (c .if1 .left)))

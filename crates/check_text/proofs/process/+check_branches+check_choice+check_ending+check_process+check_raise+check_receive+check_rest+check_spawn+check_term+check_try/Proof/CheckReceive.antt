@@ -16,7 +16,8 @@ use Rattle.check_text.proofs.process.check_rest.Reads as check-rest
 use Rattle.check_text.proofs.process.+check_branches+check_choice+check_ending+check_process+check_raise+check_receive+check_rest+check_spawn+check_term+check_try.Lts-check_receive as check-receive-lts
 use Rattle.check_text.proofs.process.+check_branches+check_choice+check_ending+check_process+check_raise+check_receive+check_rest+check_spawn+check_term+check_try.Proof.Measures.{check-choice-below, check-receive-at, check-rest-below}
 
-pub check-receive-met : {M : Type 1} (t : ℕ) → check-receive-lts.Closed (check-choice-below t, check-choice.Post, receive-one-reads.Asked, receive-one-reads.Learnt, check-rest-below t, check-rest.Post) (check-receive-at t) check-receive.Post M
+pub check-receive-met : {M : Type 1} (t : ℕ) → check-receive-lts.Closed
+    (check-choice-below t, check-choice.Post, receive-one-reads.Asked, receive-one-reads.Learnt, check-rest-below t, check-rest.Post) (check-receive-at t) check-receive.Post M
 check-receive-met t =
     check-receive-lts.spec (check-choice-below t, check-choice.Post, receive-one-reads.Asked, receive-one-reads.Learnt, check-rest-below t, check-rest.Post) (check-receive-at t) check-receive.Post
     -- check-choice-requires

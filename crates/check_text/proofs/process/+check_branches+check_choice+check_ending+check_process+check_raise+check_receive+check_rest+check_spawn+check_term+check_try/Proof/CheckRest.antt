@@ -26,7 +26,8 @@ check-rest-met t =
     let entry = c .before .before .before .before .before .before in
     let text = entry .args .text .now in
     let scratch = entry .args .scratch .now in
-    rest-on text scratch (entry .args .x) (entry .args .at) (λ J. check (programIn text scratch) J (entry .args .link) (processIn text scratch (entry .args .rest))) (c .before .before .if1 .taken) (c .check-process .ensures))
+    rest-on text scratch (entry .args .x) (entry .args .at) (λ J. check (programIn text scratch) J (entry .args .link) (processIn text scratch (entry .args .rest))) (c .before .before .if1 .taken)
+    (c .check-process .ensures))
     -- returns-2
     (λ c.
     let entry = c .before .before .before .before in

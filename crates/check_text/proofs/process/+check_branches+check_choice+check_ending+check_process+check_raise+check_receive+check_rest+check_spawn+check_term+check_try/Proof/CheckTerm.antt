@@ -19,9 +19,35 @@ use Rattle.check_text.proofs.process.check_term.Reads as check-term
 use Rattle.check_text.proofs.process.+check_branches+check_choice+check_ending+check_process+check_raise+check_receive+check_rest+check_spawn+check_term+check_try.Lts-check_term as check-term-lts
 use Rattle.check_text.proofs.process.+check_branches+check_choice+check_ending+check_process+check_raise+check_receive+check_rest+check_spawn+check_term+check_try.Proof.Measures.{check-ending-below, check-receive-below, check-rest-below, check-spawn-below, check-term-at}
 
-pub check-term-met : {M : Type 1} (t : ℕ) → check-term-lts.Closed (cancel-next-reads.Asked, cancel-next-reads.Learnt, check-rest-below t, check-rest.Post, check-spawn-below t, check-spawn.Post, send-next-reads.Asked, send-next-reads.Learnt, check-receive-below t, check-receive.Post, check-ending-below t, check-ending.Post) (check-term-at t) check-term.Post M
+pub check-term-met : {M : Type 1} (t : ℕ) → check-term-lts.Closed (
+  cancel-next-reads.Asked,
+  cancel-next-reads.Learnt,
+  check-rest-below t,
+  check-rest.Post,
+  check-spawn-below t,
+  check-spawn.Post,
+  send-next-reads.Asked,
+  send-next-reads.Learnt,
+  check-receive-below t,
+  check-receive.Post,
+  check-ending-below t,
+  check-ending.Post,
+) (check-term-at t) check-term.Post M
 check-term-met t =
-    check-term-lts.spec (cancel-next-reads.Asked, cancel-next-reads.Learnt, check-rest-below t, check-rest.Post, check-spawn-below t, check-spawn.Post, send-next-reads.Asked, send-next-reads.Learnt, check-receive-below t, check-receive.Post, check-ending-below t, check-ending.Post) (check-term-at t) check-term.Post
+    check-term-lts.spec (
+      cancel-next-reads.Asked,
+      cancel-next-reads.Learnt,
+      check-rest-below t,
+      check-rest.Post,
+      check-spawn-below t,
+      check-spawn.Post,
+      send-next-reads.Asked,
+      send-next-reads.Learnt,
+      check-receive-below t,
+      check-receive.Post,
+      check-ending-below t,
+      check-ending.Post,
+    ) (check-term-at t) check-term.Post
     -- cancel-next-requires
     (λ c κs. ((c .before .before .before .pre .1 .0), (c .before .before .before .pre .1 .1)))
     -- check-rest-requires

@@ -12,9 +12,20 @@ use Rattle.check_types.proofs.equality.same_type.Reads as same-type
 use Rattle.check_types.proofs.equality.+same_alternatives+same_type.Lts-same_alternatives as same-alternatives-lts
 use Rattle.check_types.proofs.equality.+same_alternatives+same_type.Proof.Measures.{same-alternatives-at, same-alternatives-below, same-type-below}
 
-pub same-alternatives-met : {M : Type 1} (t : ℕ) → same-alternatives-lts.Closed (alternative-reads.Asked, alternative-reads.Learnt, labels-equal-reads.Asked, labels-equal-reads.Learnt, same-type-below t, same-type.Post, same-alternatives-below t, same-alternatives.Post) (same-alternatives-at t) same-alternatives.Post M
+pub same-alternatives-met : {M : Type 1} (t : ℕ) → same-alternatives-lts.Closed
+    (alternative-reads.Asked, alternative-reads.Learnt, labels-equal-reads.Asked, labels-equal-reads.Learnt, same-type-below t, same-type.Post, same-alternatives-below t, same-alternatives.Post)
+    (same-alternatives-at t) same-alternatives.Post M
 same-alternatives-met t =
-    same-alternatives-lts.spec (alternative-reads.Asked, alternative-reads.Learnt, labels-equal-reads.Asked, labels-equal-reads.Learnt, same-type-below t, same-type.Post, same-alternatives-below t, same-alternatives.Post) (same-alternatives-at t) same-alternatives.Post
+    same-alternatives-lts.spec (
+      alternative-reads.Asked,
+      alternative-reads.Learnt,
+      labels-equal-reads.Asked,
+      labels-equal-reads.Learnt,
+      same-type-below t,
+      same-type.Post,
+      same-alternatives-below t,
+      same-alternatives.Post,
+    ) (same-alternatives-at t) same-alternatives.Post
     -- returns
     (λ c. none-here _ _ _ _ (c .before .before .before .args .d) (c .before .before .before .args .m) (c .if1 .taken))
     -- returns-2
@@ -31,18 +42,28 @@ same-alternatives-met t =
     (λ c.
     let after-if2 = c .before .before .before .before in
     let entry = after-if2 .before .before .before .before in
-    stopped _ (c .before .labels-equal .ensures) (c .if3 .taken) ∙ sym (same-first _ _ (first-in _ _ _ _ _ (entry .pre .1 .1 .1) (after-if2 .before .if1 .left) _ (c .before .before .before .alternative .ensures)) (first-in _ _ _ _ _ (entry .pre .1 .2 .1) (after-if2 .if2 .left) _ (c .before .before .alternative2 .ensures))))
+    stopped _ (c .before .labels-equal .ensures) (c .if3 .taken) ∙ sym (same-first _ _
+    (first-in _ _ _ _ _ (entry .pre .1 .1 .1) (after-if2 .before .if1 .left) _ (c .before .before .before .alternative .ensures))
+    (first-in _ _ _ _ _ (entry .pre .1 .2 .1) (after-if2 .if2 .left) _ (c .before .before .alternative2 .ensures))))
     -- same-type-requires
     (λ c κs.
     let after-if2 = c .before .before .before .before in
     let entry = after-if2 .before .before .before .before in
-    let f = first-in _ _ _ _ _ (entry .pre .1 .1 .1) (after-if2 .before .if1 .left) _ (c .before .before .before .alternative .ensures) in
-    (omega (arith, entry .pre .0, sizes-first _ _ f), (entry .pre .1 .0, f .type, (first-in _ _ _ _ _ (entry .pre .1 .2 .1) (after-if2 .if2 .left) _ (c .before .before .alternative2 .ensures)) .type)))
+    let f = first-in _ _ _ _ _ (entry .pre .1 .1 .1) (after-if2 .before .if1 .left) _ (c .before .before .before .alternative .ensures) in (
+      omega (arith, entry .pre .0, sizes-first _ _ f),
+      (
+        entry .pre .1 .0,
+        f .type,
+        (first-in _ _ _ _ _ (entry .pre .1 .2 .1) (after-if2 .if2 .left) _ (c .before .before .alternative2 .ensures)) .type,
+      ),
+    ))
     -- returns-4
     (λ c.
     let after-if2 = c .before .before .before .before .before .before in
     let entry = after-if2 .before .before .before .before in
-    gone-on (c .before .before .before .labels-equal .ensures) (c .before .before .if3 .left) (stopped _ (c .before .same-type .ensures) (c .if4 .taken)) ∙ sym (same-first _ _ (first-in _ _ _ _ _ (entry .pre .1 .1 .1) (after-if2 .before .if1 .left) _ (c .before .before .before .before .before .alternative .ensures)) (first-in _ _ _ _ _ (entry .pre .1 .2 .1) (after-if2 .if2 .left) _ (c .before .before .before .before .alternative2 .ensures))))
+    gone-on (c .before .before .before .labels-equal .ensures) (c .before .before .if3 .left) (stopped _ (c .before .same-type .ensures) (c .if4 .taken)) ∙ sym
+    (same-first _ _ (first-in _ _ _ _ _ (entry .pre .1 .1 .1) (after-if2 .before .if1 .left) _ (c .before .before .before .before .before .alternative .ensures))
+    (first-in _ _ _ _ _ (entry .pre .1 .2 .1) (after-if2 .if2 .left) _ (c .before .before .before .before .alternative2 .ensures))))
     -- sub-same-alternatives
     (λ c.
     let after-if1 = c .before .before .before .before .before .before .before in
@@ -60,11 +81,19 @@ same-alternatives-met t =
     (λ c κs.
     let after-if2 = c .before .before .before .before .before .before in
     let entry = after-if2 .before .before .before .before in
-    let f = first-in _ _ _ _ _ (entry .pre .1 .1 .1) (after-if2 .before .if1 .left) _ (c .before .before .before .before .before .alternative .ensures) in
-    (omega (arith, entry .pre .0, sizes-first _ _ f), (entry .pre .1 .0, (_, f .rest), (_, (first-in _ _ _ _ _ (entry .pre .1 .2 .1) (after-if2 .if2 .left) _ (c .before .before .before .before .alternative2 .ensures)) .rest))))
+    let f = first-in _ _ _ _ _ (entry .pre .1 .1 .1) (after-if2 .before .if1 .left) _ (c .before .before .before .before .before .alternative .ensures) in (
+      omega (arith, entry .pre .0, sizes-first _ _ f),
+      (
+        entry .pre .1 .0,
+        (_, f .rest),
+        (_, (first-in _ _ _ _ _ (entry .pre .1 .2 .1) (after-if2 .if2 .left) _ (c .before .before .before .before .alternative2 .ensures)) .rest),
+      ),
+    ))
     -- returns-5
     (λ c.
     let after-if3 = c .before .before .before in
     let after-if2 = after-if3 .before .before .before .before in
     let entry = after-if2 .before .before .before .before in
-    gone-on (after-if3 .before .labels-equal .ensures) (after-if3 .if3 .left) (gone-on (c .before .before .same-type .ensures) (c .before .if4 .left) (c .same-alternatives .ensures)) ∙ sym (same-first _ _ (first-in _ _ _ _ _ (entry .pre .1 .1 .1) (after-if2 .before .if1 .left) _ (after-if3 .before .before .before .alternative .ensures)) (first-in _ _ _ _ _ (entry .pre .1 .2 .1) (after-if2 .if2 .left) _ (after-if3 .before .before .alternative2 .ensures))))
+    gone-on (after-if3 .before .labels-equal .ensures) (after-if3 .if3 .left) (gone-on (c .before .before .same-type .ensures) (c .before .if4 .left) (c .same-alternatives .ensures)) ∙ sym
+    (same-first _ _ (first-in _ _ _ _ _ (entry .pre .1 .1 .1) (after-if2 .before .if1 .left) _ (after-if3 .before .before .before .alternative .ensures))
+    (first-in _ _ _ _ _ (entry .pre .1 .2 .1) (after-if2 .if2 .left) _ (after-if3 .before .before .alternative2 .ensures))))

@@ -11,9 +11,12 @@ use Rattle.read_text.proofs.processes.read_process.Reads as read-proces
 use Rattle.read_types.proofs.steps.refusal.Reads as refusal-reads
 use Rattle.read_text.proofs.processes.+more_branches+read_bracketed+read_branches+read_cancel+read_handler+read_parts+read_process+read_raise+read_recv+read_rest+read_send+read_sent+read_spawn+read_try+receive_label+receive_one.Proof.Measures.{read-bracketed-at, read-process-below}
 
-pub read-bracketed-met : {M : Type 1} (t : ℕ) → read-bracketed-lts.Closed (opening-reads.Asked, opening-reads.Learnt, refusal-reads.Asked, refusal-reads.Learnt, read-process-below t, read-process.Post, closing-reads.Asked, closing-reads.Learnt) (read-bracketed-at t) read-bracketed.Post M
+pub read-bracketed-met : {M : Type 1} (t : ℕ) → read-bracketed-lts.Closed
+    (opening-reads.Asked, opening-reads.Learnt, refusal-reads.Asked, refusal-reads.Learnt, read-process-below t, read-process.Post, closing-reads.Asked, closing-reads.Learnt) (read-bracketed-at t)
+    read-bracketed.Post M
 read-bracketed-met t =
-    read-bracketed-lts.spec (opening-reads.Asked, opening-reads.Learnt, refusal-reads.Asked, refusal-reads.Learnt, read-process-below t, read-process.Post, closing-reads.Asked, closing-reads.Learnt) (read-bracketed-at t) read-bracketed.Post
+    read-bracketed-lts.spec (opening-reads.Asked, opening-reads.Learnt, refusal-reads.Asked, refusal-reads.Learnt, read-process-below t, read-process.Post, closing-reads.Asked, closing-reads.Learnt)
+    (read-bracketed-at t) read-bracketed.Post
     -- opening-requires
     (λ c κs. search needs)
     -- enum-known-opened

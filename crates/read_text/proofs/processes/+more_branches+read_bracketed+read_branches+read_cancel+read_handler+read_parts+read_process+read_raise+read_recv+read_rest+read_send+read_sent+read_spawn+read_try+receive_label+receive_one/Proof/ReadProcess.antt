@@ -19,9 +19,55 @@ use Rattle.read_text.proofs.processes.read_try.Reads as read-try
 use Rattle.read_types.proofs.steps.term_head.Reads as term-head-reads
 use Rattle.read_text.proofs.processes.+more_branches+read_bracketed+read_branches+read_cancel+read_handler+read_parts+read_process+read_raise+read_recv+read_rest+read_send+read_sent+read_spawn+read_try+receive_label+receive_one.Proof.Measures.{read-cancel-below, read-process-at, read-raise-below, read-recv-below, read-send-below, read-spawn-below, read-try-below}
 
-pub read-process-met : {M : Type 1} (t : ℕ) → read-process-lts.Closed (next-token-reads.Asked, next-token-reads.Learnt, term-head-reads.Asked, term-head-reads.Learnt, read-send-below t, read-send.Post, read-recv-below t, read-recv.Post, read-fwd-reads.Asked, read-fwd-reads.Learnt, read-call-reads.Asked, read-call-reads.Learnt, read-cancel-below t, read-cancel.Post, read-raise-below t, read-raise.Post, read-try-below t, read-try.Post, read-spawn-below t, read-spawn.Post, lasting-reads.Asked, lasting-reads.Learnt) (read-process-at t) read-process.Post M
+pub read-process-met : {M : Type 1} (t : ℕ) → read-process-lts.Closed (
+  next-token-reads.Asked,
+  next-token-reads.Learnt,
+  term-head-reads.Asked,
+  term-head-reads.Learnt,
+  read-send-below t,
+  read-send.Post,
+  read-recv-below t,
+  read-recv.Post,
+  read-fwd-reads.Asked,
+  read-fwd-reads.Learnt,
+  read-call-reads.Asked,
+  read-call-reads.Learnt,
+  read-cancel-below t,
+  read-cancel.Post,
+  read-raise-below t,
+  read-raise.Post,
+  read-try-below t,
+  read-try.Post,
+  read-spawn-below t,
+  read-spawn.Post,
+  lasting-reads.Asked,
+  lasting-reads.Learnt,
+) (read-process-at t) read-process.Post M
 read-process-met t =
-    read-process-lts.spec (next-token-reads.Asked, next-token-reads.Learnt, term-head-reads.Asked, term-head-reads.Learnt, read-send-below t, read-send.Post, read-recv-below t, read-recv.Post, read-fwd-reads.Asked, read-fwd-reads.Learnt, read-call-reads.Asked, read-call-reads.Learnt, read-cancel-below t, read-cancel.Post, read-raise-below t, read-raise.Post, read-try-below t, read-try.Post, read-spawn-below t, read-spawn.Post, lasting-reads.Asked, lasting-reads.Learnt) (read-process-at t) read-process.Post
+    read-process-lts.spec (
+      next-token-reads.Asked,
+      next-token-reads.Learnt,
+      term-head-reads.Asked,
+      term-head-reads.Learnt,
+      read-send-below t,
+      read-send.Post,
+      read-recv-below t,
+      read-recv.Post,
+      read-fwd-reads.Asked,
+      read-fwd-reads.Learnt,
+      read-call-reads.Asked,
+      read-call-reads.Learnt,
+      read-cancel-below t,
+      read-cancel.Post,
+      read-raise-below t,
+      read-raise.Post,
+      read-try-below t,
+      read-try.Post,
+      read-spawn-below t,
+      read-spawn.Post,
+      lasting-reads.Asked,
+      lasting-reads.Learnt,
+    ) (read-process-at t) read-process.Post
     -- next-token-requires
     (λ c κs. search needs)
     -- term-head-requires
@@ -83,7 +129,8 @@ read-process-met t =
     let after-term-head = c .before .before .before .before .before .before in
     let next-token = after-term-head .before .next-token in
     let entry = after-term-head .before .before .before .before in
-    process-as _ _ _ _ (entry .pre .1) (next-token .result) (next-token .ensures .0) (next-token .ensures .1) _ (sym (after-term-head .term-head .ensures) ∙ c .before .before .before .before .enum-told .given .1) (c .before .before .read-send .ensures))
+    process-as _ _ _ _ (entry .pre .1) (next-token .result) (next-token .ensures .0) (next-token .ensures .1) _
+    (sym (after-term-head .term-head .ensures) ∙ c .before .before .before .before .enum-told .given .1) (c .before .before .read-send .ensures))
     -- same-length-2
     (λ c. search needs)
     -- returns-2
@@ -91,7 +138,8 @@ read-process-met t =
     let after-term-head = c .before .before .before .before .before .before in
     let next-token = after-term-head .before .next-token in
     let entry = after-term-head .before .before .before .before in
-    process-as _ _ _ _ (entry .pre .1) (next-token .result) (next-token .ensures .0) (next-token .ensures .1) _ (sym (after-term-head .term-head .ensures) ∙ c .before .before .before .before .enum-told2 .given .1) (c .before .before .read-recv .ensures))
+    process-as _ _ _ _ (entry .pre .1) (next-token .result) (next-token .ensures .0) (next-token .ensures .1) _
+    (sym (after-term-head .term-head .ensures) ∙ c .before .before .before .before .enum-told2 .given .1) (c .before .before .read-recv .ensures))
     -- same-length-3
     (λ c. search needs)
     -- returns-3
@@ -99,7 +147,8 @@ read-process-met t =
     let after-term-head = c .before .before .before .before .before .before in
     let next-token = after-term-head .before .next-token in
     let entry = after-term-head .before .before .before .before in
-    process-as _ _ _ _ (entry .pre .1) (next-token .result) (next-token .ensures .0) (next-token .ensures .1) _ (sym (after-term-head .term-head .ensures) ∙ c .before .before .before .before .enum-told3 .given .1) (c .before .before .read-fwd .ensures))
+    process-as _ _ _ _ (entry .pre .1) (next-token .result) (next-token .ensures .0) (next-token .ensures .1) _
+    (sym (after-term-head .term-head .ensures) ∙ c .before .before .before .before .enum-told3 .given .1) (c .before .before .read-fwd .ensures))
     -- same-length-4
     (λ c. search needs)
     -- returns-4
@@ -107,7 +156,8 @@ read-process-met t =
     let after-term-head = c .before .before .before .before .before .before in
     let next-token = after-term-head .before .next-token in
     let entry = after-term-head .before .before .before .before in
-    process-as _ _ _ _ (entry .pre .1) (next-token .result) (next-token .ensures .0) (next-token .ensures .1) _ (sym (after-term-head .term-head .ensures) ∙ c .before .before .before .before .enum-told4 .given .1) (c .before .before .read-call .ensures))
+    process-as _ _ _ _ (entry .pre .1) (next-token .result) (next-token .ensures .0) (next-token .ensures .1) _
+    (sym (after-term-head .term-head .ensures) ∙ c .before .before .before .before .enum-told4 .given .1) (c .before .before .read-call .ensures))
     -- same-length-5
     (λ c. search needs)
     -- returns-5
@@ -115,7 +165,8 @@ read-process-met t =
     let after-term-head = c .before .before .before .before .before .before in
     let next-token = after-term-head .before .next-token in
     let entry = after-term-head .before .before .before .before in
-    process-as _ _ _ _ (entry .pre .1) (next-token .result) (next-token .ensures .0) (next-token .ensures .1) _ (sym (after-term-head .term-head .ensures) ∙ c .before .before .before .before .enum-told5 .given .1) (c .before .before .read-cancel .ensures))
+    process-as _ _ _ _ (entry .pre .1) (next-token .result) (next-token .ensures .0) (next-token .ensures .1) _
+    (sym (after-term-head .term-head .ensures) ∙ c .before .before .before .before .enum-told5 .given .1) (c .before .before .read-cancel .ensures))
     -- same-length-6
     (λ c. search needs)
     -- returns-6
@@ -123,7 +174,8 @@ read-process-met t =
     let after-term-head = c .before .before .before .before .before .before in
     let next-token = after-term-head .before .next-token in
     let entry = after-term-head .before .before .before .before in
-    process-as _ _ _ _ (entry .pre .1) (next-token .result) (next-token .ensures .0) (next-token .ensures .1) _ (sym (after-term-head .term-head .ensures) ∙ c .before .before .before .before .enum-told6 .given .1) (c .before .before .read-raise .ensures))
+    process-as _ _ _ _ (entry .pre .1) (next-token .result) (next-token .ensures .0) (next-token .ensures .1) _
+    (sym (after-term-head .term-head .ensures) ∙ c .before .before .before .before .enum-told6 .given .1) (c .before .before .read-raise .ensures))
     -- same-length-7
     (λ c. search needs)
     -- returns-7
@@ -131,7 +183,8 @@ read-process-met t =
     let after-term-head = c .before .before .before .before .before .before in
     let next-token = after-term-head .before .next-token in
     let entry = after-term-head .before .before .before .before in
-    process-as _ _ _ _ (entry .pre .1) (next-token .result) (next-token .ensures .0) (next-token .ensures .1) _ (sym (after-term-head .term-head .ensures) ∙ c .before .before .before .before .enum-told7 .given .1) (c .before .before .read-try .ensures))
+    process-as _ _ _ _ (entry .pre .1) (next-token .result) (next-token .ensures .0) (next-token .ensures .1) _
+    (sym (after-term-head .term-head .ensures) ∙ c .before .before .before .before .enum-told7 .given .1) (c .before .before .read-try .ensures))
     -- same-length-8
     (λ c. search needs)
     -- returns-8
@@ -139,9 +192,11 @@ read-process-met t =
     let after-term-head = c .before .before .before .before .before .before in
     let next-token = after-term-head .before .next-token in
     let entry = after-term-head .before .before .before .before in
-    process-as _ _ _ _ (entry .pre .1) (next-token .result) (next-token .ensures .0) (next-token .ensures .1) _ (sym (after-term-head .term-head .ensures) ∙ c .before .before .before .before .enum-told8 .given .1) (c .before .before .read-spawn .ensures))
+    process-as _ _ _ _ (entry .pre .1) (next-token .result) (next-token .ensures .0) (next-token .ensures .1) _
+    (sym (after-term-head .term-head .ensures) ∙ c .before .before .before .before .enum-told8 .given .1) (c .before .before .read-spawn .ensures))
     -- returns-9
     (λ c.
     let next-token = c .before .before .before .before .before .next-token in
     let entry = c .before .before .before .before .before .before .before .before in
-    rw (c .lasting .ensures) (process-empty _ _ _ _ (entry .pre .1) (next-token .result) (next-token .ensures .0) (next-token .ensures .1) (sym (c .before .before .before .before .term-head .ensures) ∙ c .before .before .enum-told9 .given .1)))
+    rw (c .lasting .ensures) (process-empty _ _ _ _ (entry .pre .1) (next-token .result) (next-token .ensures .0) (next-token .ensures .1)
+    (sym (c .before .before .before .before .term-head .ensures) ∙ c .before .before .enum-told9 .given .1)))

@@ -12,9 +12,31 @@ use Rattle.read_text.proofs.processes.+more_branches+read_bracketed+rea
 use Rattle.read_types.proofs.steps.refusal.Reads as refusal-reads
 use Rattle.read_text.proofs.processes.+more_branches+read_bracketed+read_branches+read_cancel+read_handler+read_parts+read_process+read_raise+read_recv+read_rest+read_send+read_sent+read_spawn+read_try+receive_label+receive_one.Proof.Measures.{read-handler-below, read-recv-at}
 
-pub read-recv-met : {M : Type 1} (t : ℕ) → read-recv-lts.Closed (process-term-reads.Asked, process-term-reads.Learnt, refusal-reads.Asked, refusal-reads.Learnt, expect-reads.Asked, expect-reads.Learnt, opening-reads.Asked, opening-reads.Learnt, read-handler-below t, read-handler.Post) (read-recv-at t) read-recv.Post M
+pub read-recv-met : {M : Type 1} (t : ℕ) → read-recv-lts.Closed (
+  process-term-reads.Asked,
+  process-term-reads.Learnt,
+  refusal-reads.Asked,
+  refusal-reads.Learnt,
+  expect-reads.Asked,
+  expect-reads.Learnt,
+  opening-reads.Asked,
+  opening-reads.Learnt,
+  read-handler-below t,
+  read-handler.Post,
+) (read-recv-at t) read-recv.Post M
 read-recv-met t =
-    read-recv-lts.spec (process-term-reads.Asked, process-term-reads.Learnt, refusal-reads.Asked, refusal-reads.Learnt, expect-reads.Asked, expect-reads.Learnt, opening-reads.Asked, opening-reads.Learnt, read-handler-below t, read-handler.Post) (read-recv-at t) read-recv.Post
+    read-recv-lts.spec (
+      process-term-reads.Asked,
+      process-term-reads.Learnt,
+      refusal-reads.Asked,
+      refusal-reads.Learnt,
+      expect-reads.Asked,
+      expect-reads.Learnt,
+      opening-reads.Asked,
+      opening-reads.Learnt,
+      read-handler-below t,
+      read-handler.Post,
+    ) (read-recv-at t) read-recv.Post
     -- process-term-requires
     (λ c κs. search needs)
     -- enum-known-term
@@ -34,7 +56,9 @@ read-recv-met t =
     -- refusal-requires-2
     (λ c κs. search needs)
     -- returns-2
-    (λ c. recv-name-no _ _ _ _ (c .before .before .before .before .before .before .before .before .before .before .pre .1) (c .before .before .before .before .before .before .before .process-term .ensures) (c .before .before .before .before .before .term .given .1) (c .before .before .before .expect .ensures) (c .before .enum-told2 .given .1) (c .refusal2 .ensures))
+    (λ c. recv-name-no _ _ _ _ (c .before .before .before .before .before .before .before .before .before .before .pre .1)
+    (c .before .before .before .before .before .before .before .process-term .ensures) (c .before .before .before .before .before .term .given .1) (c .before .before .before .expect .ensures)
+    (c .before .enum-told2 .given .1) (c .refusal2 .ensures))
     -- opening-requires
     (λ c κs. search needs)
     -- enum-known-opened
@@ -48,7 +72,8 @@ read-recv-met t =
     let after-named = c .before .before .before .before .before in
     let after-term = after-named .before .before .before .before in
     let entry = after-term .before .before .before .before .before in
-    recv-open-no _ _ _ _ (entry .pre .1) (after-term .before .before .process-term .ensures) (after-term .term .given .1) (after-named .before .before .expect .ensures) (after-named .named .given .1) (c .before .before .before .opening .ensures) (c .before .enum-told3 .given .1) (c .refusal3 .ensures))
+    recv-open-no _ _ _ _ (entry .pre .1) (after-term .before .before .process-term .ensures) (after-term .term .given .1) (after-named .before .before .expect .ensures) (after-named .named .given .1)
+    (c .before .before .before .opening .ensures) (c .before .enum-told3 .given .1) (c .refusal3 .ensures))
     -- read-handler-requires
     (λ c κs.
     let opening = c .before .before .before .before .opening in
@@ -58,8 +83,10 @@ read-recv-met t =
     let after-term = after-named .before .before .before .before in
     let term = after-term .term in
     let process-term = after-term .before .before .process-term in
-    let entry = after-term .before .before .before .before .before in
-    (omega (arith, entry .pre, process-term .ensures .on _ _ (term .given .1), expect .ensures .on _ _ (named .given .1), opening .ensures .on _ _ (c .before .before .opened .given .1)), omega (arith, entry .pre, process-term .ensures .on _ _ (term .given .1), expect .ensures .on _ _ (named .given .1), opening .ensures .on _ _ (c .before .before .opened .given .1))))
+    let entry = after-term .before .before .before .before .before in (
+      omega (arith, entry .pre, process-term .ensures .on _ _ (term .given .1), expect .ensures .on _ _ (named .given .1), opening .ensures .on _ _ (c .before .before .opened .given .1)),
+      omega (arith, entry .pre, process-term .ensures .on _ _ (term .given .1), expect .ensures .on _ _ (named .given .1), opening .ensures .on _ _ (c .before .before .opened .given .1)),
+    ))
     -- enum-known-inner
     (λ c. search needs)
     -- enum-told-4
@@ -72,7 +99,9 @@ read-recv-met t =
     let after-named = after-opened .before .before .before .before in
     let after-term = after-named .before .before .before .before in
     let entry = after-term .before .before .before .before .before in
-    recv-handler-no _ _ _ _ (entry .pre .1) (after-term .before .before .process-term .ensures) (after-term .term .given .1) (after-named .before .before .expect .ensures) (after-named .named .given .1) (after-opened .before .before .opening .ensures) (after-opened .opened .given .1) (c .before .before .before .before .read-handler .ensures) (c .enum-told4 .given .1))
+    recv-handler-no _ _ _ _ (entry .pre .1) (after-term .before .before .process-term .ensures) (after-term .term .given .1) (after-named .before .before .expect .ensures)
+    (after-named .named .given .1) (after-opened .before .before .opening .ensures) (after-opened .opened .given .1) (c .before .before .before .before .read-handler .ensures)
+    (c .enum-told4 .given .1))
     -- expect-requires-2
     (λ c κs. search needs)
     -- enum-known-closed
@@ -90,7 +119,9 @@ read-recv-met t =
     let after-named = after-opened .before .before .before .before in
     let after-term = after-named .before .before .before .before in
     let entry = after-term .before .before .before .before .before in
-    recv-close-no _ _ _ _ (entry .pre .1) (after-term .before .before .process-term .ensures) (after-term .term .given .1) (after-named .before .before .expect .ensures) (after-named .named .given .1) (after-opened .before .before .opening .ensures) (after-opened .opened .given .1) (after-inner .before .before .before .before .read-handler .ensures) (after-inner .inner .given .1) (c .before .before .before .expect2 .ensures) (c .before .enum-told5 .given .1) (c .refusal4 .ensures))
+    recv-close-no _ _ _ _ (entry .pre .1) (after-term .before .before .process-term .ensures) (after-term .term .given .1) (after-named .before .before .expect .ensures)
+    (after-named .named .given .1) (after-opened .before .before .opening .ensures) (after-opened .opened .given .1) (after-inner .before .before .before .before .read-handler .ensures)
+    (after-inner .inner .given .1) (c .before .before .before .expect2 .ensures) (c .before .enum-told5 .given .1) (c .refusal4 .ensures))
     -- same-length-3
     (λ c. search needs)
     -- returns-6
@@ -100,4 +131,6 @@ read-recv-met t =
     let after-named = after-opened .before .before .before .before in
     let after-term = after-named .before .before .before .before in
     let entry = after-term .before .before .before .before .before in
-    recv-got _ _ _ _ (entry .pre .1) (after-term .before .before .process-term .ensures) (after-term .term .given .1) (after-named .before .before .expect .ensures) (after-named .named .given .1) (after-opened .before .before .opening .ensures) (after-opened .opened .given .1) (after-inner .before .before .before .before .read-handler .ensures) (after-inner .inner .given .1) (c .before .before .before .expect2 .ensures) (c .before .closed .given .1))
+    recv-got _ _ _ _ (entry .pre .1) (after-term .before .before .process-term .ensures) (after-term .term .given .1) (after-named .before .before .expect .ensures) (after-named .named .given .1)
+    (after-opened .before .before .opening .ensures) (after-opened .opened .given .1) (after-inner .before .before .before .before .read-handler .ensures) (after-inner .inner .given .1)
+    (c .before .before .before .expect2 .ensures) (c .before .closed .given .1))

@@ -12,9 +12,31 @@ use Rattle.read_text.proofs.processes.+more_branches+read_bracketed+rea
 use Rattle.read_types.proofs.steps.refusal.Reads as refusal-reads
 use Rattle.read_text.proofs.processes.+more_branches+read_bracketed+read_branches+read_cancel+read_handler+read_parts+read_process+read_raise+read_recv+read_rest+read_send+read_sent+read_spawn+read_try+receive_label+receive_one.Proof.Measures.{read-process-below, read-rest-at}
 
-pub read-rest-met : {M : Type 1} (t : ℕ) → read-rest-lts.Closed (next-token-reads.Asked, next-token-reads.Learnt, expect-reads.Asked, expect-reads.Learnt, refusal-reads.Asked, refusal-reads.Learnt, read-process-below t, read-process.Post, lasting-reads.Asked, lasting-reads.Learnt) (read-rest-at t) read-rest.Post M
+pub read-rest-met : {M : Type 1} (t : ℕ) → read-rest-lts.Closed (
+  next-token-reads.Asked,
+  next-token-reads.Learnt,
+  expect-reads.Asked,
+  expect-reads.Learnt,
+  refusal-reads.Asked,
+  refusal-reads.Learnt,
+  read-process-below t,
+  read-process.Post,
+  lasting-reads.Asked,
+  lasting-reads.Learnt,
+) (read-rest-at t) read-rest.Post M
 read-rest-met t =
-    read-rest-lts.spec (next-token-reads.Asked, next-token-reads.Learnt, expect-reads.Asked, expect-reads.Learnt, refusal-reads.Asked, refusal-reads.Learnt, read-process-below t, read-process.Post, lasting-reads.Asked, lasting-reads.Learnt) (read-rest-at t) read-rest.Post
+    read-rest-lts.spec (
+      next-token-reads.Asked,
+      next-token-reads.Learnt,
+      expect-reads.Asked,
+      expect-reads.Learnt,
+      refusal-reads.Asked,
+      refusal-reads.Learnt,
+      read-process-below t,
+      read-process.Post,
+      lasting-reads.Asked,
+      lasting-reads.Learnt,
+    ) (read-rest-at t) read-rest.Post
     -- next-token-requires
     (λ c κs. search needs)
     -- expect-requires
@@ -30,7 +52,8 @@ read-rest-met t =
     let after-if1 = c .before .before .before .before in
     let next-token = after-if1 .before .before .next-token in
     let entry = after-if1 .before .before .before .before .before in
-    rest-mark-no _ _ _ _ (entry .pre .1) (next-token .result) (next-token .ensures .0) (next-token .ensures .1) (after-if1 .if1 .taken) (c .before .before .before .expect .ensures) (c .before .enum-told .given .1) (c .refusal .ensures))
+    rest-mark-no _ _ _ _ (entry .pre .1) (next-token .result) (next-token .ensures .0) (next-token .ensures .1) (after-if1 .if1 .taken) (c .before .before .before .expect .ensures)
+    (c .before .enum-told .given .1) (c .refusal .ensures))
     -- read-process-requires
     (λ c κs.
     let expect = c .before .before .before .before .expect in
@@ -44,7 +67,8 @@ read-rest-met t =
     let after-if1 = after-mark .before .before .before in
     let next-token = after-if1 .before .before .next-token in
     let entry = after-if1 .before .before .before .before .before in
-    rest-process _ _ _ _ (entry .pre .1) (next-token .result) (next-token .ensures .0) (next-token .ensures .1) (after-if1 .if1 .taken) (after-mark .before .before .expect .ensures) (after-mark .mark .given .1) (c .before .before .read-process .ensures))
+    rest-process _ _ _ _ (entry .pre .1) (next-token .result) (next-token .ensures .0) (next-token .ensures .1) (after-if1 .if1 .taken) (after-mark .before .before .expect .ensures)
+    (after-mark .mark .given .1) (c .before .before .read-process .ensures))
     -- add-lasting
     (λ c. omega (arith, c .before .before .before .next-token .ensures .1 .starts, c .before .before .before .before .before .before .pre))
     -- lasting-requires

@@ -12,9 +12,31 @@ use Rattle.read_types.proofs.types.read_type.Reads as read-type-reads
 use Rattle.read_types.proofs.steps.refusal.Reads as refusal-reads
 use Rattle.read_text.proofs.processes.+more_branches+read_bracketed+read_branches+read_cancel+read_handler+read_parts+read_process+read_raise+read_recv+read_rest+read_send+read_sent+read_spawn+read_try+receive_label+receive_one.Proof.Measures.{read-parts-below, read-spawn-at}
 
-pub read-spawn-met : {M : Type 1} (t : ℕ) → read-spawn-lts.Closed (name-colon-reads.Asked, name-colon-reads.Learnt, refusal-reads.Asked, refusal-reads.Learnt, read-type-reads.Asked, read-type-reads.Learnt, expect-reads.Asked, expect-reads.Learnt, read-parts-below t, read-parts.Post) (read-spawn-at t) read-spawn.Post M
+pub read-spawn-met : {M : Type 1} (t : ℕ) → read-spawn-lts.Closed (
+  name-colon-reads.Asked,
+  name-colon-reads.Learnt,
+  refusal-reads.Asked,
+  refusal-reads.Learnt,
+  read-type-reads.Asked,
+  read-type-reads.Learnt,
+  expect-reads.Asked,
+  expect-reads.Learnt,
+  read-parts-below t,
+  read-parts.Post,
+) (read-spawn-at t) read-spawn.Post M
 read-spawn-met t =
-    read-spawn-lts.spec (name-colon-reads.Asked, name-colon-reads.Learnt, refusal-reads.Asked, refusal-reads.Learnt, read-type-reads.Asked, read-type-reads.Learnt, expect-reads.Asked, expect-reads.Learnt, read-parts-below t, read-parts.Post) (read-spawn-at t) read-spawn.Post
+    read-spawn-lts.spec (
+      name-colon-reads.Asked,
+      name-colon-reads.Learnt,
+      refusal-reads.Asked,
+      refusal-reads.Learnt,
+      read-type-reads.Asked,
+      read-type-reads.Learnt,
+      expect-reads.Asked,
+      expect-reads.Learnt,
+      read-parts-below t,
+      read-parts.Post,
+    ) (read-spawn-at t) read-spawn.Post
     -- name-colon-requires
     (λ c κs. search needs)
     -- enum-known-named
@@ -37,7 +59,8 @@ read-spawn-met t =
     (λ c.
     let after-named = c .before .before .before .before .before .before .before in
     let entry = after-named .before .before .before .before .before in
-    spawn-type-no _ _ _ _ (entry .pre .1) (after-named .before .before .name-colon .ensures) (after-named .named .given .1) (c .before .before .before .before .read-type .ensures) (c .enum-told2 .given .1))
+    spawn-type-no _ _ _ _ (entry .pre .1) (after-named .before .before .name-colon .ensures) (after-named .named .given .1) (c .before .before .before .before .read-type .ensures)
+    (c .enum-told2 .given .1))
     -- expect-requires
     (λ c κs. search needs)
     -- enum-known-arrow
@@ -53,7 +76,8 @@ read-spawn-met t =
     let after-typed = c .before .before .before .before .before in
     let after-named = after-typed .before .before .before .before .before .before .before in
     let entry = after-named .before .before .before .before .before in
-    spawn-arrow-no _ _ _ _ (entry .pre .1) (after-named .before .before .name-colon .ensures) (after-named .named .given .1) (after-typed .before .before .before .before .read-type .ensures) (after-typed .typed .given .1) (c .before .before .before .expect .ensures) (c .before .enum-told3 .given .1) (c .refusal2 .ensures))
+    spawn-arrow-no _ _ _ _ (entry .pre .1) (after-named .before .before .name-colon .ensures) (after-named .named .given .1) (after-typed .before .before .before .before .read-type .ensures)
+    (after-typed .typed .given .1) (c .before .before .before .expect .ensures) (c .before .enum-told3 .given .1) (c .refusal2 .ensures))
     -- read-parts-requires
     (λ c κs.
     let expect = c .before .before .before .before .expect in
@@ -63,8 +87,25 @@ read-spawn-met t =
     let after-named = after-typed .before .before .before .before .before .before .before in
     let named = after-named .named in
     let name-colon = after-named .before .before .name-colon in
-    let entry = after-named .before .before .before .before .before in
-    (omega (arith, entry .pre, name-colon .ensures .on _ _ (named .given .1), read-type .ensures .on _ _ (typed .given .1), expect .ensures .on _ _ (c .before .before .arrow .given .1), read-type .ensures .kept .long), omega (arith, entry .pre, name-colon .ensures .on _ _ (named .given .1), read-type .ensures .on _ _ (typed .given .1), expect .ensures .on _ _ (c .before .before .arrow .given .1), read-type .ensures .kept .long)))
+    let entry = after-named .before .before .before .before .before in (
+      omega (
+        arith,
+        entry .pre,
+        name-colon .ensures .on _ _ (named .given .1),
+        read-type .ensures .on _ _ (typed .given .1),
+        expect .ensures .on _ _ (c .before .before .arrow .given .1),
+        read-type .ensures .kept .long,
+      ),
+      omega (
+        arith,
+        entry .pre,
+        name-colon .ensures .on _ _ (named .given .1),
+        read-type .ensures .on _ _ (typed .given .1),
+        expect .ensures .on _ _
+            (c .before .before .arrow .given .1),
+        read-type .ensures .kept .long,
+      ),
+    ))
     -- same-length-3
     (λ c. search needs)
     -- returns-4
@@ -73,4 +114,5 @@ read-spawn-met t =
     let after-typed = after-arrow .before .before .before .before in
     let after-named = after-typed .before .before .before .before .before .before .before in
     let entry = after-named .before .before .before .before .before in
-    spawn-got _ _ _ _ (entry .pre .1) (after-named .before .before .name-colon .ensures) (after-named .named .given .1) (after-typed .before .before .before .before .read-type .ensures) (after-typed .typed .given .1) (after-arrow .before .before .expect .ensures) (after-arrow .arrow .given .1) (c .before .before .read-parts .ensures))
+    spawn-got _ _ _ _ (entry .pre .1) (after-named .before .before .name-colon .ensures) (after-named .named .given .1) (after-typed .before .before .before .before .read-type .ensures)
+    (after-typed .typed .given .1) (after-arrow .before .before .expect .ensures) (after-arrow .arrow .given .1) (c .before .before .read-parts .ensures))

@@ -9,7 +9,8 @@ use Rattle.read_text.proofs.processes.receive_label.Reads as receive-la
 use Rattle.read_text.proofs.processes.+more_branches+read_bracketed+read_branches+read_cancel+read_handler+read_parts+read_process+read_raise+read_recv+read_rest+read_send+read_sent+read_spawn+read_try+receive_label+receive_one.Lts-receive_label as receive-label-lts
 use Rattle.read_text.proofs.processes.+more_branches+read_bracketed+read_branches+read_cancel+read_handler+read_parts+read_process+read_raise+read_recv+read_rest+read_send+read_sent+read_spawn+read_try+receive_label+receive_one.Proof.Measures.{read-branches-below, receive-label-at}
 
-pub receive-label-met : {M : Type 1} (t : ℕ) → receive-label-lts.Closed (read-branches-below t, read-branches.Post, put-term-reads.Asked, put-term-reads.Learnt) (receive-label-at t) receive-label.Post M
+pub receive-label-met : {M : Type 1} (t : ℕ) → receive-label-lts.Closed (read-branches-below t, read-branches.Post, put-term-reads.Asked, put-term-reads.Learnt) (receive-label-at t)
+    receive-label.Post M
 receive-label-met t =
     receive-label-lts.spec (read-branches-below t, read-branches.Post, put-term-reads.Asked, put-term-reads.Learnt) (receive-label-at t) receive-label.Post
     -- read-branches-requires
@@ -27,12 +28,15 @@ receive-label-met t =
     -- put-term-requires
     (λ c κs.
     let read-branches = c .before .before .before .before .before .before .read-branches in
-    let entry = c .before .before .before .before .before .before .before .before .before .before in
-    (omega (arith, entry .pre, read-branches .ensures .on _ _ (c .before .before .inner .given .1), read-branches .ensures .kept .long), omega (arith, entry .pre, read-branches .ensures .on _ _ (c .before .before .inner .given .1), read-branches .ensures .kept .long)))
+    let entry = c .before .before .before .before .before .before .before .before .before .before in (
+      omega (arith, entry .pre, read-branches .ensures .on _ _ (c .before .before .inner .given .1), read-branches .ensures .kept .long),
+      omega (arith, entry .pre, read-branches .ensures .on _ _ (c .before .before .inner .given .1), read-branches .ensures .kept .long),
+    ))
     -- same-length-2
     (λ c. search needs)
     -- returns-2
     (λ c.
     let after-inner = c .before .before .before .before .before in
     let entry = after-inner .before .before .before .before .before .before .before .before in
-    labels-got _ _ _ _ (entry .pre .1 .0 .0) (entry .pre .1 .0 .1) _ _ (entry .pre .1 .1 .0) (entry .pre .1 .1 .1) (after-inner .before .before .before .before .read-branches .ensures) (after-inner .inner .given .1) (c .before .before .put-term .ensures))
+    labels-got _ _ _ _ (entry .pre .1 .0 .0) (entry .pre .1 .0 .1) _ _ (entry .pre .1 .1 .0) (entry .pre .1 .1 .1) (after-inner .before .before .before .before .read-branches .ensures)
+    (after-inner .inner .given .1) (c .before .before .put-term .ensures))

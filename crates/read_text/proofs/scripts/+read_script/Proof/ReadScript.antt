@@ -10,9 +10,27 @@ use Rattle.read_text.proofs.scripts.read_script.Reads as read-script
 use Rattle.read_text.proofs.scripts.+read_script.Lts-read_script as read-script-lts
 use Rattle.read_text.proofs.scripts.+read_script.Proof.Measures.{read-script-at, read-script-below}
 
-pub read-script-met : {M : Type 1} (t : ℕ) → read-script-lts.Closed (kind-at-reads.Asked, kind-at-reads.Learnt, declaration-head-reads.Asked, declaration-head-reads.Learnt, declare-reads.Asked, declare-reads.Learnt, read-script-below t, read-script.Post) (read-script-at t) read-script.Post M
+pub read-script-met : {M : Type 1} (t : ℕ) → read-script-lts.Closed (
+  kind-at-reads.Asked,
+  kind-at-reads.Learnt,
+  declaration-head-reads.Asked,
+  declaration-head-reads.Learnt,
+  declare-reads.Asked,
+  declare-reads.Learnt,
+  read-script-below t,
+  read-script.Post,
+) (read-script-at t) read-script.Post M
 read-script-met t =
-    read-script-lts.spec (kind-at-reads.Asked, kind-at-reads.Learnt, declaration-head-reads.Asked, declaration-head-reads.Learnt, declare-reads.Asked, declare-reads.Learnt, read-script-below t, read-script.Post) (read-script-at t) read-script.Post
+    read-script-lts.spec (
+      kind-at-reads.Asked,
+      kind-at-reads.Learnt,
+      declaration-head-reads.Asked,
+      declaration-head-reads.Learnt,
+      declare-reads.Asked,
+      declare-reads.Learnt,
+      read-script-below t,
+      read-script.Post,
+    ) (read-script-at t) read-script.Post
     -- kind-at-requires
     (λ c κs. search needs)
     -- returns
@@ -31,7 +49,8 @@ read-script-met t =
     (λ c.
     let after-if1 = c .before .before .before .before .before .before .before in
     let entry = after-if1 .before .before .before .before in
-    script-no _ _ _ _ (entry .pre .1 .0) (entry .pre .1 .1) (after-if1 .before .kind-at .ensures) (after-if1 .if1 .left) (c .before .before .before .before .before .declaration-head .ensures) (c .before .before .before .before .declare .ensures) (c .enum-told .given .1))
+    script-no _ _ _ _ (entry .pre .1 .0) (entry .pre .1 .1) (after-if1 .before .kind-at .ensures) (after-if1 .if1 .left) (c .before .before .before .before .before .declaration-head .ensures)
+    (c .before .before .before .before .declare .ensures) (c .enum-told .given .1))
     -- read-script-requires
     (λ c κs.
     let entry = c .before .before .before .before .before .before .before .before .before .before .before .before .before in
@@ -45,4 +64,5 @@ read-script-met t =
     let after-declare = c .before .before .before .before .before .before .before .before .before in
     let after-if1 = after-declare .before .before .before in
     let entry = after-if1 .before .before .before .before in
-    script-more _ _ _ _ (entry .pre .1 .0) (entry .pre .1 .1) (after-if1 .before .kind-at .ensures) (after-if1 .if1 .left) (after-declare .before .declaration-head .ensures) (after-declare .declare .ensures) (c .before .before .before .before .before .one .given .1) (c .before .before .read-script .ensures))
+    script-more _ _ _ _ (entry .pre .1 .0) (entry .pre .1 .1) (after-if1 .before .kind-at .ensures) (after-if1 .if1 .left) (after-declare .before .declaration-head .ensures)
+    (after-declare .declare .ensures) (c .before .before .before .before .before .one .given .1) (c .before .before .read-script .ensures))

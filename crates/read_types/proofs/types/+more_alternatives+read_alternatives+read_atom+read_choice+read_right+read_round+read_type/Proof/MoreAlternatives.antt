@@ -13,9 +13,20 @@ use Rattle.read_types.proofs.types.read_alternatives.Reads as read-alte
 use Rattle.read_types.proofs.steps.refusal.Reads as refusal-reads
 use Rattle.read_types.proofs.types.+more_alternatives+read_alternatives+read_atom+read_choice+read_right+read_round+read_type.Proof.Measures.{more-alternatives-at, read-alternatives-below}
 
-pub more-alternatives-met : {M : Type 1} (t : ℕ) → more-alternatives-lts.Closed (kind-at-reads.Asked, kind-at-reads.Learnt, expect-reads.Asked, expect-reads.Learnt, refusal-reads.Asked, refusal-reads.Learnt, read-alternatives-below t, read-alternatives.Post) (more-alternatives-at t) more-alternatives.Post M
+pub more-alternatives-met : {M : Type 1} (t : ℕ) → more-alternatives-lts.Closed
+    (kind-at-reads.Asked, kind-at-reads.Learnt, expect-reads.Asked, expect-reads.Learnt, refusal-reads.Asked, refusal-reads.Learnt, read-alternatives-below t, read-alternatives.Post)
+    (more-alternatives-at t) more-alternatives.Post M
 more-alternatives-met t =
-    more-alternatives-lts.spec (kind-at-reads.Asked, kind-at-reads.Learnt, expect-reads.Asked, expect-reads.Learnt, refusal-reads.Asked, refusal-reads.Learnt, read-alternatives-below t, read-alternatives.Post) (more-alternatives-at t) more-alternatives.Post
+    more-alternatives-lts.spec (
+      kind-at-reads.Asked,
+      kind-at-reads.Learnt,
+      expect-reads.Asked,
+      expect-reads.Learnt,
+      refusal-reads.Asked,
+      refusal-reads.Learnt,
+      read-alternatives-below t,
+      read-alternatives.Post,
+    ) (more-alternatives-at t) more-alternatives.Post
     -- kind-at-requires
     (λ c κs. search needs)
     -- expect-requires
@@ -30,7 +41,8 @@ more-alternatives-met t =
     (λ c.
     let after-if1 = c .before .before .before .before in
     let entry = after-if1 .before .before .before .before in
-    more-comma-no _ _ _ _ (entry .pre .1 .0) _ (entry .pre .1 .1) (eq-eqb _ _ (sym (after-if1 .before .kind-at .ensures) ∙ after-if1 .if1 .taken)) (c .before .before .before .expect .ensures) (c .before .enum-told .given .1) (c .refusal .ensures))
+    more-comma-no _ _ _ _ (entry .pre .1 .0) _ (entry .pre .1 .1) (eq-eqb _ _ (sym (after-if1 .before .kind-at .ensures) ∙ after-if1 .if1 .taken)) (c .before .before .before .expect .ensures)
+    (c .before .enum-told .given .1) (c .refusal .ensures))
     -- read-alternatives-requires
     (λ c κs.
     let expect = c .before .before .before .before .expect in
@@ -42,6 +54,7 @@ more-alternatives-met t =
     (λ c.
     let after-expect = c .before .before .before .before .before .before .before in
     let entry = after-expect .before .before .before .before .before in
-    more-list _ _ _ _ (entry .pre .1 .0) _ (entry .pre .1 .1) (eq-eqb _ _ (sym (after-expect .before .before .kind-at .ensures) ∙ after-expect .before .if1 .taken)) (after-expect .expect .ensures) (c .before .before .before .before .before .comma .given .1) (c .before .before .read-alternatives .ensures))
+    more-list _ _ _ _ (entry .pre .1 .0) _ (entry .pre .1 .1) (eq-eqb _ _ (sym (after-expect .before .before .kind-at .ensures) ∙ after-expect .before .if1 .taken)) (after-expect .expect .ensures)
+    (c .before .before .before .before .before .comma .given .1) (c .before .before .read-alternatives .ensures))
     -- returns-3
     (λ c. more-none _ _ _ _ (c .before .before .before .before .pre .1 .0) _ (c .before .before .before .before .pre .1 .1) (ne-eqb _ _ (λ e. c .if1 .left (c .before .kind-at .ensures ∙ e))))

@@ -13,9 +13,31 @@ use Rattle.read_types.proofs.types.read_type.Reads as read-type
 use Rattle.read_types.proofs.steps.refusal.Reads as refusal-reads
 use Rattle.read_types.proofs.types.+more_alternatives+read_alternatives+read_atom+read_choice+read_right+read_round+read_type.Proof.Measures.{more-alternatives-below, read-alternatives-at, read-type-below}
 
-pub read-alternatives-met : {M : Type 1} (t : ℕ) → read-alternatives-lts.Closed (label-colon-reads.Asked, label-colon-reads.Learnt, refusal-reads.Asked, refusal-reads.Learnt, read-type-below t, read-type.Post, more-alternatives-below t, more-alternatives.Post, put-alternative-reads.Asked, put-alternative-reads.Learnt) (read-alternatives-at t) read-alternatives.Post M
+pub read-alternatives-met : {M : Type 1} (t : ℕ) → read-alternatives-lts.Closed (
+  label-colon-reads.Asked,
+  label-colon-reads.Learnt,
+  refusal-reads.Asked,
+  refusal-reads.Learnt,
+  read-type-below t,
+  read-type.Post,
+  more-alternatives-below t,
+  more-alternatives.Post,
+  put-alternative-reads.Asked,
+  put-alternative-reads.Learnt,
+) (read-alternatives-at t) read-alternatives.Post M
 read-alternatives-met t =
-    read-alternatives-lts.spec (label-colon-reads.Asked, label-colon-reads.Learnt, refusal-reads.Asked, refusal-reads.Learnt, read-type-below t, read-type.Post, more-alternatives-below t, more-alternatives.Post, put-alternative-reads.Asked, put-alternative-reads.Learnt) (read-alternatives-at t) read-alternatives.Post
+    read-alternatives-lts.spec (
+      label-colon-reads.Asked,
+      label-colon-reads.Learnt,
+      refusal-reads.Asked,
+      refusal-reads.Learnt,
+      read-type-below t,
+      read-type.Post,
+      more-alternatives-below t,
+      more-alternatives.Post,
+      put-alternative-reads.Asked,
+      put-alternative-reads.Learnt,
+    ) (read-alternatives-at t) read-alternatives.Post
     -- label-colon-requires
     (λ c κs. search needs)
     -- enum-known-labelled
@@ -25,11 +47,14 @@ read-alternatives-met t =
     -- refusal-requires
     (λ c κs. search needs)
     -- returns
-    (λ c. alternatives-no _ _ _ _ (c .before .before .before .before .before .before .pre .1) _ (c .before .before .before .label-colon .ensures) (c .before .enum-told .given .1) (c .refusal .ensures))
+    (λ c. alternatives-no _ _ _ _ (c .before .before .before .before .before .before .pre .1) _ (c .before .before .before .label-colon .ensures) (c .before .enum-told .given .1)
+    (c .refusal .ensures))
     -- read-type-requires
     (λ c κs.
-    let entry = c .before .before .before .before .before .before .before in
-    (omega (arith, entry .pre, c .before .before .before .before .label-colon .ensures .on _ _ (c .before .before .labelled .given .1)), omega (arith, entry .pre, c .before .before .before .before .label-colon .ensures .on _ _ (c .before .before .labelled .given .1))))
+    let entry = c .before .before .before .before .before .before .before in (
+      omega (arith, entry .pre, c .before .before .before .before .label-colon .ensures .on _ _ (c .before .before .labelled .given .1)),
+      omega (arith, entry .pre, c .before .before .before .before .label-colon .ensures .on _ _ (c .before .before .labelled .given .1)),
+    ))
     -- enum-known-typed
     (λ c. search needs)
     -- enum-told-2
@@ -40,7 +65,8 @@ read-alternatives-met t =
     (λ c.
     let after-labelled = c .before .before .before .before .before .before .before in
     let entry = after-labelled .before .before .before .before .before in
-    alternatives-type-no _ _ _ _ (entry .pre .1) _ (after-labelled .before .before .label-colon .ensures) (after-labelled .labelled .given .1) (c .before .before .before .before .read-type .ensures) (c .enum-told2 .given .1))
+    alternatives-type-no _ _ _ _ (entry .pre .1) _ (after-labelled .before .before .label-colon .ensures) (after-labelled .labelled .given .1) (c .before .before .before .before .read-type .ensures)
+    (c .enum-told2 .given .1))
     -- add-more-alternatives
     (λ c.
     let after-labelled = c .before .before .before .before .before .before .before .before .before in
@@ -51,8 +77,25 @@ read-alternatives-met t =
     let after-labelled = c .before .before .before .before .before .before .before .before .before in
     let labelled = after-labelled .labelled in
     let label-colon = after-labelled .before .before .label-colon in
-    let entry = after-labelled .before .before .before .before .before in
-    (omega (arith, entry .pre, label-colon .ensures .on _ _ (labelled .given .1), read-type .ensures .on _ _ (c .before .before .typed .given .1), read-type .ensures .kept .long, label-few _ _ _ (label-colon .ensures) (labelled .given .1)), omega (arith, entry .pre, label-colon .ensures .on _ _ (labelled .given .1), read-type .ensures .on _ _ (c .before .before .typed .given .1), read-type .ensures .kept .long, label-few _ _ _ (label-colon .ensures) (labelled .given .1))))
+    let entry = after-labelled .before .before .before .before .before in (
+      omega (
+        arith,
+        entry .pre,
+        label-colon .ensures .on _ _ (labelled .given .1),
+        read-type .ensures .on _ _ (c .before .before .typed .given .1),
+        read-type .ensures .kept .long,
+        label-few _ _ _
+            (label-colon .ensures) (labelled .given .1),
+      ),
+      omega (
+        arith,
+        entry .pre,
+        label-colon .ensures .on _ _ (labelled .given .1),
+        read-type .ensures .on _ _ (c .before .before .typed .given .1),
+        read-type .ensures .kept .long,
+        label-few _ _ _ (label-colon .ensures) (labelled .given .1),
+      ),
+    ))
     -- enum-known-rest
     (λ c. search needs)
     -- enum-told-3
@@ -64,7 +107,8 @@ read-alternatives-met t =
     let after-typed = c .before .before .before .before .before .before .before in
     let after-labelled = after-typed .before .before .before .before .before .before .before in
     let entry = after-labelled .before .before .before .before .before in
-    alternatives-more-no _ _ _ _ (entry .pre .1) _ (after-labelled .before .before .label-colon .ensures) (after-labelled .labelled .given .1) (after-typed .before .before .before .before .read-type .ensures) (after-typed .typed .given .1) (c .before .before .before .before .more-alternatives .ensures) (c .enum-told3 .given .1))
+    alternatives-more-no _ _ _ _ (entry .pre .1) _ (after-labelled .before .before .label-colon .ensures) (after-labelled .labelled .given .1)
+    (after-typed .before .before .before .before .read-type .ensures) (after-typed .typed .given .1) (c .before .before .before .before .more-alternatives .ensures) (c .enum-told3 .given .1))
     -- put-alternative-requires
     (λ c κs.
     let more-alternatives = c .before .before .before .before .before .before .more-alternatives in
@@ -72,13 +116,24 @@ read-alternatives-met t =
     let read-type = after-typed .before .before .before .before .read-type in
     let after-labelled = after-typed .before .before .before .before .before .before .before in
     let entry = after-labelled .before .before .before .before .before in
-    omega (arith, entry .pre, after-labelled .before .before .label-colon .ensures .on _ _ (after-labelled .labelled .given .1), read-type .ensures .on _ _ (after-typed .typed .given .1), read-type .ensures .kept .long, more-alternatives .ensures .on _ _ (c .before .before .rest .given .1), more-alternatives .ensures .kept .long))
+    omega (
+      arith,
+      entry .pre,
+      after-labelled .before .before .label-colon .ensures .on _ _ (after-labelled .labelled .given .1),
+      read-type .ensures .on _ _ (after-typed .typed .given .1),
+      read-type .ensures .kept .long,
+      more-alternatives .ensures .on _ _ (c .before .before .rest .given .1),
+      more-alternatives .ensures .kept .long,
+    ))
     -- same-length-3
-    (λ c. c .before .before .put-alternative .ensures .kept .long ∙ c .before .before .before .before .before .before .before .before .before .more-alternatives .ensures .kept .long ∙ c .before .before .before .before .before .before .before .before .before .before .before .before .before .before .before .before .read-type .ensures .kept .long)
+    (λ c. c .before .before .put-alternative .ensures .kept .long ∙ c .before .before .before .before .before .before .before .before .before .more-alternatives .ensures .kept .long ∙
+    c .before .before .before .before .before .before .before .before .before .before .before .before .before .before .before .before .read-type .ensures .kept .long)
     -- returns-4
     (λ c.
     let after-rest = c .before .before .before .before .before in
     let after-typed = after-rest .before .before .before .before .before .before .before in
     let after-labelled = after-typed .before .before .before .before .before .before .before in
     let entry = after-labelled .before .before .before .before .before in
-    alternatives-got _ _ _ _ (entry .pre .1) _ (after-labelled .before .before .label-colon .ensures) (after-labelled .labelled .given .1) (after-typed .before .before .before .before .read-type .ensures) (after-typed .typed .given .1) (after-rest .before .before .before .before .more-alternatives .ensures) (after-rest .rest .given .1) (c .before .before .put-alternative .ensures))
+    alternatives-got _ _ _ _ (entry .pre .1) _ (after-labelled .before .before .label-colon .ensures) (after-labelled .labelled .given .1)
+    (after-typed .before .before .before .before .read-type .ensures) (after-typed .typed .given .1) (after-rest .before .before .before .before .more-alternatives .ensures)
+    (after-rest .rest .given .1) (c .before .before .put-alternative .ensures))

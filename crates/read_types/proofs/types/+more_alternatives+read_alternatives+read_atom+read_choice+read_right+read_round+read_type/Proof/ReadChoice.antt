@@ -12,9 +12,31 @@ use Rattle.read_types.proofs.types.+more_alternatives+read_alternatives
 use Rattle.read_types.proofs.steps.refusal.Reads as refusal-reads
 use Rattle.read_types.proofs.types.+more_alternatives+read_alternatives+read_atom+read_choice+read_right+read_round+read_type.Proof.Measures.{read-alternatives-below, read-choice-at}
 
-pub read-choice-met : {M : Type 1} (t : ℕ) → read-choice-lts.Closed (choice-opening-reads.Asked, choice-opening-reads.Learnt, refusal-reads.Asked, refusal-reads.Learnt, read-alternatives-below t, read-alternatives.Post, expect-reads.Asked, expect-reads.Learnt, put-node-reads.Asked, put-node-reads.Learnt) (read-choice-at t) read-choice.Post M
+pub read-choice-met : {M : Type 1} (t : ℕ) → read-choice-lts.Closed (
+  choice-opening-reads.Asked,
+  choice-opening-reads.Learnt,
+  refusal-reads.Asked,
+  refusal-reads.Learnt,
+  read-alternatives-below t,
+  read-alternatives.Post,
+  expect-reads.Asked,
+  expect-reads.Learnt,
+  put-node-reads.Asked,
+  put-node-reads.Learnt,
+) (read-choice-at t) read-choice.Post M
 read-choice-met t =
-    read-choice-lts.spec (choice-opening-reads.Asked, choice-opening-reads.Learnt, refusal-reads.Asked, refusal-reads.Learnt, read-alternatives-below t, read-alternatives.Post, expect-reads.Asked, expect-reads.Learnt, put-node-reads.Asked, put-node-reads.Learnt) (read-choice-at t) read-choice.Post
+    read-choice-lts.spec (
+      choice-opening-reads.Asked,
+      choice-opening-reads.Learnt,
+      refusal-reads.Asked,
+      refusal-reads.Learnt,
+      read-alternatives-below t,
+      read-alternatives.Post,
+      expect-reads.Asked,
+      expect-reads.Learnt,
+      put-node-reads.Asked,
+      put-node-reads.Learnt,
+    ) (read-choice-at t) read-choice.Post
     -- choice-opening-requires
     (λ c κs. search needs)
     -- enum-known-opened
@@ -29,8 +51,10 @@ read-choice-met t =
     choice-no _ _ _ _ (entry .pre .1 .0) _ (entry .pre .1 .1 .0) (entry .pre .1 .1 .1) (c .before .before .before .choice-opening .ensures) (c .before .enum-told .given .1) (c .refusal .ensures))
     -- read-alternatives-requires
     (λ c κs.
-    let entry = c .before .before .before .before .before .before .before in
-    (omega (arith, entry .pre, c .before .before .before .before .choice-opening .ensures .on _ _ (c .before .before .opened .given .1)), omega (arith, entry .pre, c .before .before .before .before .choice-opening .ensures .on _ _ (c .before .before .opened .given .1))))
+    let entry = c .before .before .before .before .before .before .before in (
+      omega (arith, entry .pre, c .before .before .before .before .choice-opening .ensures .on _ _ (c .before .before .opened .given .1)),
+      omega (arith, entry .pre, c .before .before .before .before .choice-opening .ensures .on _ _ (c .before .before .opened .given .1)),
+    ))
     -- enum-known-inner
     (λ c. search needs)
     -- enum-told-2
@@ -41,7 +65,8 @@ read-choice-met t =
     (λ c.
     let after-opened = c .before .before .before .before .before .before .before in
     let entry = after-opened .before .before .before .before .before in
-    choice-list-no _ _ _ _ (entry .pre .1 .0) _ (entry .pre .1 .1 .0) (entry .pre .1 .1 .1) (after-opened .before .before .choice-opening .ensures) (after-opened .opened .given .1) (c .before .before .before .before .read-alternatives .ensures) (c .enum-told2 .given .1))
+    choice-list-no _ _ _ _ (entry .pre .1 .0) _ (entry .pre .1 .1 .0) (entry .pre .1 .1 .1) (after-opened .before .before .choice-opening .ensures) (after-opened .opened .given .1)
+    (c .before .before .before .before .read-alternatives .ensures) (c .enum-told2 .given .1))
     -- expect-requires
     (λ c κs. search needs)
     -- enum-known-closed
@@ -57,7 +82,9 @@ read-choice-met t =
     let after-inner = c .before .before .before .before .before in
     let after-opened = after-inner .before .before .before .before .before .before .before in
     let entry = after-opened .before .before .before .before .before in
-    choice-close-no _ _ _ _ (entry .pre .1 .0) _ (entry .pre .1 .1 .0) (entry .pre .1 .1 .1) (after-opened .before .before .choice-opening .ensures) (after-opened .opened .given .1) (after-inner .before .before .before .before .read-alternatives .ensures) (after-inner .inner .given .1) (c .before .before .before .expect .ensures) (c .before .enum-told3 .given .1) (c .refusal2 .ensures))
+    choice-close-no _ _ _ _ (entry .pre .1 .0) _ (entry .pre .1 .1 .0) (entry .pre .1 .1 .1) (after-opened .before .before .choice-opening .ensures) (after-opened .opened .given .1)
+    (after-inner .before .before .before .before .read-alternatives .ensures) (after-inner .inner .given .1) (c .before .before .before .expect .ensures) (c .before .enum-told3 .given .1)
+    (c .refusal2 .ensures))
     -- sub-t18
     (λ c. omega (arith, c .before .before .before .before .before .before .before .before .before .before .before .before .before .before .before .before .before .before .pre))
     -- put-node-requires
@@ -69,8 +96,25 @@ read-choice-met t =
     let after-opened = after-inner .before .before .before .before .before .before .before in
     let opened = after-opened .opened in
     let choice-opening = after-opened .before .before .choice-opening in
-    let entry = after-opened .before .before .before .before .before in
-    (omega (arith, entry .pre, choice-opening .ensures .on _ _ (opened .given .1), read-alternatives .ensures .on _ _ (inner .given .1), read-alternatives .ensures .kept .long, expect .ensures .on _ _ (c .before .before .closed .given .1)), omega (arith, entry .pre, choice-opening .ensures .on _ _ (opened .given .1), read-alternatives .ensures .on _ _ (inner .given .1), read-alternatives .ensures .kept .long, expect .ensures .on _ _ (c .before .before .closed .given .1))))
+    let entry = after-opened .before .before .before .before .before in (
+      omega (
+        arith,
+        entry .pre,
+        choice-opening .ensures .on _ _ (opened .given .1),
+        read-alternatives .ensures .on _ _ (inner .given .1),
+        read-alternatives .ensures .kept .long,
+        expect .ensures .on _
+            _ (c .before .before .closed .given .1),
+      ),
+      omega (
+        arith,
+        entry .pre,
+        choice-opening .ensures .on _ _ (opened .given .1),
+        read-alternatives .ensures .on _ _ (inner .given .1),
+        read-alternatives .ensures .kept .long,
+        expect .ensures .on _ _ (c .before .before .closed .given .1),
+      ),
+    ))
     -- same-length-3
     (λ c. search needs)
     -- returns-4
@@ -79,4 +123,6 @@ read-choice-met t =
     let after-inner = after-closed .before .before .before .before in
     let after-opened = after-inner .before .before .before .before .before .before .before in
     let entry = after-opened .before .before .before .before .before in
-    choice-got _ _ _ _ (entry .pre .1 .0) _ (entry .pre .1 .1 .0) (entry .pre .1 .1 .1) (after-opened .before .before .choice-opening .ensures) (after-opened .opened .given .1) (after-inner .before .before .before .before .read-alternatives .ensures) (after-inner .inner .given .1) (after-closed .before .before .expect .ensures) (after-closed .closed .given .1) (c .before .before .put-node .ensures))
+    choice-got _ _ _ _ (entry .pre .1 .0) _ (entry .pre .1 .1 .0) (entry .pre .1 .1 .1) (after-opened .before .before .choice-opening .ensures) (after-opened .opened .given .1)
+    (after-inner .before .before .before .before .read-alternatives .ensures) (after-inner .inner .given .1) (after-closed .before .before .expect .ensures) (after-closed .closed .given .1)
+    (c .before .before .put-node .ensures))
