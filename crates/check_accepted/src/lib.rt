@@ -1,1 +1,1 @@
-// Accepted: no code; specs/ has what holds of the tables of an accepted text.
+// No code: specs/ has the theory.

@@ -1,4 +1,3 @@
-// Contexts: what a process holds, by name; what a process mentions; what each half of a process takes.
 pub mod halves;
 pub mod held;
 pub mod mentions;

@@ -1,4 +1,3 @@
-// Declared: refusals 6 to 9, over the tables of a text that was read.
 pub mod bare;
 pub mod execs;
 pub mod faults;

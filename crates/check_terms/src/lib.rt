@@ -1,4 +1,3 @@
-// Terms: what the typing rules ask of one term, and what is held after it.
 pub mod acting;
 pub mod calls;
 pub mod forwards;

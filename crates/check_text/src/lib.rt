@@ -1,4 +1,3 @@
-// Checker: refusals 10 to 15, and the check of a whole text.
 pub mod bodies;
 pub mod check;
 pub mod choices;

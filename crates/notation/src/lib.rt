@@ -1,4 +1,3 @@
-// The notation of scripts: its limits, and the values that its reading passes on.
 pub mod kinds;
 pub mod reading;
 pub mod script;

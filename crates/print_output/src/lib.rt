@@ -1,2 +1,1 @@
-// Output: a text's pieces written to standard output.
 pub mod text;

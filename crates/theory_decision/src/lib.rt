@@ -1,1 +1,1 @@
-// Decision: no code; specs/ decides whether a configuration is well formed.
+// No code: specs/ has the theory.

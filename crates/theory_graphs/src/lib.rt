@@ -1,1 +1,1 @@
-// Graphs of joints: no code; the laws of forests stand in specs/.
+// No code: specs/ has the theory.

@@ -1,1 +1,1 @@
-// Preservation: no code; specs/ proves that start gives a well-formed configuration and each step keeps it.
+// No code: specs/ has the theory.

@@ -1,1 +1,1 @@
-// Progress: no code; specs/ proves that while a process is left some step is open.
+// No code: specs/ has the theory.
