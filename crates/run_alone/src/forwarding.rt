@@ -118,7 +118,7 @@ fn join(
 }
 
 // Whether a far end was given up.
-pub(crate) fn is_given_up(f: Far) -> bool
+pub fn is_given_up(f: Far) -> bool
     ensures { λ r. ⌜ r ≡ isGivenUp f ⌝ }
 {
     match f {

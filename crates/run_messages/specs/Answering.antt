@@ -7,14 +7,14 @@ use native.Mathlib.Omega.{arith}
 use Rattle.notation.specs.Token.{nameAt}
 use Rattle.notation.specs.Reader.{nameIn}
 use Rattle.notation.specs.declared.reading.TermNode.{TermNode}
-use Rattle.calculus.specs.Configuration.{folding, process, Config, Holder, replaced}
+use Rattle.calculus.specs.Configuration.{Config, Holder, replaced, foldsUp}
 use Rattle.calculus.specs.Configuration as calculus
 use Rattle.calculus.specs.Steps.{Outcome, notOpen, turnOf, send, receiving, receive}
 use Rattle.calculus.specs.declared.answers.Seen.the-variants.{Nothing}
 use Rattle.read_tables.specs.Decode.{processIn}
 use Rattle.read_tables.specs.Program.{plainIn, programIn}
 use Rattle.read_tables.specs.Roots.{ProcessIn}
-use Rattle.run_words.specs.Raw.{rawIn, linkOf}
+use Rattle.run_words.specs.Raw.{rawIn}
 use Rattle.run_words.specs.DecodeLaws.{FarAs, atProcess, atOutside, givenUp}
 use Rattle.run_words.specs.declared.records.End.{End as EndWords}
 use Rattle.run_words.specs.declared.records.Held.{Held}
@@ -90,7 +90,7 @@ module _ (s w old : List ℕ) (i : ℕ) (p : ProcessWords) (c : ℕ) (e : EndWor
 
   receives-up : {F : calculus.Far} {new : List ℕ} {h : Held} → FarAs (nameAt s) (plainIn s w) (processIn s w) (rawIn old) far.GivenUp F → Drops s (p .held) c h → Becomes s w old new (replaced i (processAs s w (folded p h)) (configIn s w old))
       → Carries s w old new (Carried Nothing) (receiving (programIn s w) (configIn s w old) i (processAs s w p) (nameAt s c) F)
-  receives-up {new = new} givenUp d b = record { is = (refl, subst (λ l. Becomes s w old new (replaced i (process folding l (linkOf (p .link))) (configIn s w old))) (d .is w) b) }
+  receives-up {new = new} givenUp d b = record { is = (refl, subst (λ l. Becomes s w old new (replaced i (foldsUp (processAs s w p) l) (configIn s w old))) (d .is w) b) }
 
   pub receives-nothing : {new : List ℕ} {h : Held} → far.GivenUp ≡ farRaw s w old e → Drops s (p .held) c h → Becomes s w old new (replaced i (processAs s w (folded p h)) (configIn s w old)) → Carries s w old new (Carried Nothing) (receivingBy s w old i p c e)
   receives-nothing f d b = receives-up (far-as s w old e far.GivenUp f) d b

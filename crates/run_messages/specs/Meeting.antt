@@ -3,26 +3,27 @@ use Prim.Native.Nat.{ℕ, zero, suc, _+_, _≤_}
 use mathlib.Core.Path.{_≡_, refl, sym, _∙_, ap, subst}
 use mathlib.Core.List.{List}
 use mathlib.Core.Bool.{Bool, true, false, cond}
+use mathlib.Core.Option.{Option}
 use native.Mathlib.Omega.{arith}
 use Rattle.notation.specs.Bytes.{same}
 use Rattle.notation.specs.Token.{nameAt}
-use Rattle.notation.specs.Reader.{nameIn}
+use Rattle.notation.specs.Reader.{nameIn, labelIn}
 use Rattle.notation.specs.declared.reading.TermNode.{TermNode}
 use Rattle.calculus.specs.Named.{lookup}
 use Rattle.calculus.specs.Program.{Program}
-use Rattle.calculus.specs.Configuration.{End, Process, process, running, Config, Holder}
+use Rattle.calculus.specs.Configuration.{Process, goesOn, Config, Holder}
 use Rattle.calculus.specs.Configuration as calculus
-use Rattle.calculus.specs.Steps.{Outcome, notOpen, Message, onClose, onChannel, onLabel, Turn, sends, receives, alone, turnOf, bothTo, meeting, sending, send, answering, afterReceive, afterMessage, passedEnd, takesClose, takesChannel, takesLabel}
+use Rattle.calculus.specs.Steps.{Outcome, notOpen, Message, onClose, onChannel, onLabel, Turn, sends, receives, alone, turnOf, bothTo, meeting, sending, send, answering, afterReceive, passedEnd, takesClose, takesChannel, takesLabel}
 use Rattle.read_tables.specs.Decode.{processIn}
 use Rattle.read_tables.specs.Program.{plainIn, programIn}
 use Rattle.read_tables.specs.Roots.{branchesIn}
-use Rattle.run_words.specs.Raw.{rawIn, linkOf}
+use Rattle.run_words.specs.Raw.{rawIn}
 use Rattle.run_words.specs.DecodeLaws.{FarAs, givenUp}
 use Rattle.run_words.specs.declared.records.End.{End as EndWords}
 use Rattle.run_words.specs.declared.records.Held.{Held}
 use Rattle.run_words.specs.declared.records.Process.{Process as ProcessWords}
 use Rattle.run_words.specs.declared.records.Far.the-variants as far
-use Rattle.check_contexts.specs.Held.{endFound, Sees}
+use Rattle.check_contexts.specs.Held.{channelsOf, Sees}
 use Rattle.check_contexts.specs.declared.held.Lookup.{Lookup}
 use Rattle.check_contexts.specs.declared.held.Lookup.the-variants as lookups
 use Rattle.run_alone.specs.declared.outcome.Outcome.{Outcome as OutcomeWords}
@@ -33,26 +34,26 @@ use Rattle.run_alone.specs.Run.{configIn, doingAs, processAs, Carries}
 use Rattle.run_alone.specs.Changes.{running-as}
 use Rattle.run_alone.specs.Parting.{endAs, held-none, held-some}
 use Rattle.run_alone.specs.Forwarding.{farRaw, farOf, far-as}
-use Rattle.run_messages.specs.Messages.{message, messageBy, SendNode, TypeAfter, SentHeld, turnBy, heard, Heard}
+use Rattle.run_messages.specs.Messages.{message, messageBy, SendNode, SentHeld, turnBy, heard, Heard}
 use Rattle.run_messages.specs.Sending.{unheardBy, outBy}
 use Rattle.run_messages.specs.Receiving.{bothBy}
 
 -- a process that receives on the channel of the message, whatever its name for it
-abbrev pub metBy : Program → Config → ℕ → Process → Process → Message → End → Holder → Turn → Outcome
-metBy p C i q q′ m e h (sends c m′ P) = notOpen
-metBy p C i q q′ m e h (receives c v) = bothTo C i q′ (h .place) (afterReceive p m v (h .name) e (passedEnd m (q .held)) (h .process))
-metBy p C i q q′ m e h alone = notOpen
+abbrev pub metBy : Program → Config → ℕ → Process → Process → Message → Holder → Turn → Outcome
+metBy p C i q q′ m h (sends c m′ P) = notOpen
+metBy p C i q q′ m h (receives c v) = bothTo C i q′ (h .place) (afterReceive p m v (h .name) (passedEnd m (q .held)) (h .process))
+metBy p C i q q′ m h alone = notOpen
 
-module _ (p : Program) (C : Config) (i : ℕ) (q q′ : Process) (m : Message) (e : End) (h : Holder) where
-  pub meeting-heard : (T : Turn) → meeting p C i q q′ m e h T ≡ metBy p C i q q′ m e h (heard (h .name) T)
+module _ (p : Program) (C : Config) (i : ℕ) (q q′ : Process) (m : Message) (h : Holder) where
+  pub meeting-heard : (T : Turn) → meeting p C i q q′ m h T ≡ metBy p C i q q′ m h (heard (h .name) T)
   meeting-heard (sends c m′ P) = go (same (c .name) (h .name))
     where
-      go : (b : Bool) → notOpen ≡ metBy p C i q q′ m e h (cond b (sends c m′ P) alone)
+      go : (b : Bool) → notOpen ≡ metBy p C i q q′ m h (cond b (sends c m′ P) alone)
       go true = refl
       go false = refl
   meeting-heard (receives c v) = go (same (c .name) (h .name))
     where
-      go : (b : Bool) → cond b (bothTo C i q′ (h .place) (afterReceive p m v (h .name) e (passedEnd m (q .held)) (h .process))) notOpen ≡ metBy p C i q q′ m e h (cond b (receives c v) alone)
+      go : (b : Bool) → cond b (bothTo C i q′ (h .place) (afterReceive p m v (h .name) (passedEnd m (q .held)) (h .process))) notOpen ≡ metBy p C i q q′ m h (cond b (receives c v) alone)
       go true = refl
       go false = refl
   meeting-heard alone = refl
@@ -77,9 +78,9 @@ answering-heard p C h (receives c v) = go (same (c .name) (h .name))
 answering-heard p C h alone = refl
 
 -- ── by the kinds of the two nodes
-module _ (s w : List ℕ) (C : Config) (i : ℕ) (q q′ : Process) (e : End) (h : Holder) (n t : TermNode) where
+module _ (s w : List ℕ) (C : Config) (i : ℕ) (q q′ : Process) (h : Holder) (n t : TermNode) where
   abbrev metKinds : ℕ → ℕ → Outcome
-  metKinds k l = metBy (programIn s w) C i q q′ (messageBy s (n .second) k) e h (turnBy s w t l)
+  metKinds k l = metBy (programIn s w) C i q q′ (messageBy s (n .second) k) h (turnBy s w t l)
 
   -- a recv of another kind
   pub met-other : (k l : ℕ) → 1 ≤ k → k ≤ 3 → (l ≡ k + 5 → ⊥) → metKinds k l ≡ notOpen
@@ -104,19 +105,6 @@ module _ (s w : List ℕ) (C : Config) (i : ℕ) (q q′ : Process) (e : End) (h
   met-other (suc (suc (suc k))) (suc (suc (suc (suc (suc (suc (suc (suc zero)))))))) a b z = let y : k ≡ 0 = omega arith in absurd (z (omega arith))
   met-other k (suc (suc (suc (suc (suc (suc (suc (suc (suc l))))))))) a b z = refl
 
-  -- the recv of the same kind
-  pub met-close : metKinds 1 6 ≡ bothTo C i q′ (h .place) (takesClose (onClose (processIn s w (t .third))) (h .name) (h .process))
-  unfolding afterReceive
-  met-close = refl
-
-  pub met-channel : metKinds 2 7 ≡ bothTo C i q′ (h .place) (takesChannel (onChannel (nameIn s (t .second)) (processIn s w (t .third))) (h .name) (afterMessage (programIn s w) (messageBy s (n .second) 2) (e .type)) (lookup (nameAt s (n .second)) (q .held)) (h .process))
-  unfolding afterReceive
-  met-channel = refl
-
-  pub met-label : metKinds 3 8 ≡ bothTo C i q′ (h .place) (takesLabel (onLabel (branchesIn s w (t .second) (t .third))) (h .name) (afterMessage (programIn s w) (messageBy s (n .second) 3) (e .type)) (nameAt s (n .second + 1)) (h .process))
-  unfolding afterReceive
-  met-label = refl
-
 -- ── what the sender's step comes to, by where the far end is
 module _ (s w old : List ℕ) (sent : Sending) where
   abbrev pub sendingBy : Outcome
@@ -126,20 +114,20 @@ module _ (s w old : List ℕ) (sent : Sending) where
   holderBy to = record { place = to .place; process = processAs s w (to .process); name = nameAt s (to .name) }
 
   abbrev pub heardBy : Receiver → Outcome
-  heardBy to = metBy (programIn s w) (configIn s w old) (sent .place) (processAs s w (sent .before)) (processAs s w (sent .after)) (message s (sent .term)) (endAs s w (sent .over)) (holderBy to) (turnBy s w (to .term) (to .term .kind))
+  heardBy to = metBy (programIn s w) (configIn s w old) (sent .place) (processAs s w (sent .before)) (processAs s w (sent .after)) (message s (sent .term)) (holderBy to) (turnBy s w (to .term) (to .term .kind))
 
   abbrev kindsBy : Receiver → ℕ → ℕ → Outcome
-  kindsBy to k l = metBy (programIn s w) (configIn s w old) (sent .place) (processAs s w (sent .before)) (processAs s w (sent .after)) (messageBy s (sent .term .second) k) (endAs s w (sent .over)) (holderBy to) (turnBy s w (to .term) l)
+  kindsBy to k l = metBy (programIn s w) (configIn s w old) (sent .place) (processAs s w (sent .before)) (processAs s w (sent .after)) (messageBy s (sent .term .second) k) (holderBy to) (turnBy s w (to .term) l)
 
   module _ (to : Receiver) (f : farOf s w old (sent .over) ≡ calculus.atProcess (holderBy to)) (g : Heard s w (to .name) (doingAs s w (to .process .kind) (to .process .pointer)) (to .term)) where
     meets-as : sendingBy ≡ heardBy to
     meets-as =
         ap (sending (programIn s w) (configIn s w old) (sent .place) (processAs s w (sent .before)) (processAs s w (sent .after)) (message s (sent .term)) (endAs s w (sent .over))) f
-        ∙ meeting-heard (programIn s w) (configIn s w old) (sent .place) (processAs s w (sent .before)) (processAs s w (sent .after)) (message s (sent .term)) (endAs s w (sent .over)) (holderBy to) (turnOf (doingAs s w (to .process .kind) (to .process .pointer)))
-        ∙ ap (metBy (programIn s w) (configIn s w old) (sent .place) (processAs s w (sent .before)) (processAs s w (sent .after)) (message s (sent .term)) (endAs s w (sent .over)) (holderBy to)) (g .is)
+        ∙ meeting-heard (programIn s w) (configIn s w old) (sent .place) (processAs s w (sent .before)) (processAs s w (sent .after)) (message s (sent .term)) (holderBy to) (turnOf (doingAs s w (to .process .kind) (to .process .pointer)))
+        ∙ ap (metBy (programIn s w) (configIn s w old) (sent .place) (processAs s w (sent .before)) (processAs s w (sent .after)) (message s (sent .term)) (holderBy to)) (g .is)
 
     pub meets-other : SendNode (sent .term) → (to .term .kind ≡ sent .term .kind + 5 → ⊥) → Carries s w old old NotOpen sendingBy
-    meets-other a z = subst (Carries s w old old NotOpen) (sym (meets-as ∙ met-other s w (configIn s w old) (sent .place) (processAs s w (sent .before)) (processAs s w (sent .after)) (endAs s w (sent .over)) (holderBy to) (sent .term) (to .term) (sent .term .kind) (to .term .kind) (a .low) (a .high) z)) (record { is = (refl, refl) })
+    meets-other a z = subst (Carries s w old old NotOpen) (sym (meets-as ∙ met-other s w (configIn s w old) (sent .place) (processAs s w (sent .before)) (processAs s w (sent .after)) (holderBy to) (sent .term) (to .term) (sent .term .kind) (to .term .kind) (a .low) (a .high) z)) (record { is = (refl, refl) })
 
     pub meets : {new : List ℕ} {o : OutcomeWords} → Carries s w old new o (heardBy to) → Carries s w old new o sendingBy
     meets {new} {o} c = subst (Carries s w old new o) (sym meets-as) c
@@ -149,25 +137,20 @@ module _ (s w old : List ℕ) (sent : Sending) where
     kinds : (k l : ℕ) → sent .term .kind ≡ k → to .term .kind ≡ l → Carries s w old new o (kindsBy to k l) → Carries s w old new o (heardBy to)
     kinds k l a b c = subst (λ m. Carries s w old new o (kindsBy to m (to .term .kind))) (sym a) (subst (λ m. Carries s w old new o (kindsBy to k m)) (sym b) c)
 
-    pub hears-kind-close : sent .term .kind ≡ 1 → to .term .kind ≡ 6 → Carries s w old new o (bothBy s w old (sent .place) (sent .after) (to .place) (to .process) (to .name) (takesClose (onClose (processIn s w (to .term .third))) (nameAt s (to .name)) (processAs s w (to .process)))) → Carries s w old new o (heardBy to)
+    pub hears-kind-close : sent .term .kind ≡ 1 → to .term .kind ≡ 6 → Carries s w old new o (bothBy s w old sent to (takesClose (onClose (processIn s w (to .term .third))) (nameAt s (to .name)) (processAs s w (to .process)))) → Carries s w old new o (heardBy to)
     unfolding afterReceive
     hears-kind-close a b c = kinds 1 6 a b c
 
-    module _ (u : TypeAfter s w (afterMessage (programIn s w) (message s (sent .term)) (plainIn s w (sent .over .node))) (sent .node)) where
-      pub hears-kind-channel : {f : Lookup} → sent .term .kind ≡ 2 → to .term .kind ≡ 7 → Sees s (sent .before .held) (sent .term .second) f
-          → Carries s w old new o (bothBy s w old (sent .place) (sent .after) (to .place) (to .process) (to .name) (takesChannel (onChannel (nameIn s (to .term .second)) (processIn s w (to .term .third))) (nameAt s (to .name)) (plainIn s w (sent .node)) (endFound s w f) (processAs s w (to .process)))) → Carries s w old new o (heardBy to)
-      unfolding afterReceive
-      hears-kind-channel {f} a b g c =
-          kinds 2 7 a b
-          (subst (λ d. Carries s w old new o (bothBy s w old (sent .place) (sent .after) (to .place) (to .process) (to .name) (takesChannel (onChannel (nameIn s (to .term .second)) (processIn s w (to .term .third))) (nameAt s (to .name)) (afterMessage (programIn s w) (messageBy s (sent .term .second) 2) (plainIn s w (sent .over .node))) d (processAs s w (to .process))))) (sym (g .is w))
-          (subst (λ A. Carries s w old new o (bothBy s w old (sent .place) (sent .after) (to .place) (to .process) (to .name) (takesChannel (onChannel (nameIn s (to .term .second)) (processIn s w (to .term .third))) (nameAt s (to .name)) A (endFound s w f) (processAs s w (to .process))))) (u .is ∙ ap (λ k. afterMessage (programIn s w) (messageBy s (sent .term .second) k) (plainIn s w (sent .over .node))) a) c))
+    pub hears-kind-channel : sent .term .kind ≡ 2 → to .term .kind ≡ 7
+        → Carries s w old new o (bothBy s w old sent to (takesChannel (programIn s w) (nameIn s (sent .term .second)) (onChannel (nameIn s (to .term .second)) (processIn s w (to .term .third))) (nameAt s (to .name)) (lookup (nameAt s (sent .term .second)) (channelsOf s w (sent .before .held))) (processAs s w (to .process))))
+        → Carries s w old new o (heardBy to)
+    unfolding afterReceive
+    hears-kind-channel a b c = kinds 2 7 a b c
 
-      pub hears-kind-label : sent .term .kind ≡ 3 → to .term .kind ≡ 8
-          → Carries s w old new o (bothBy s w old (sent .place) (sent .after) (to .place) (to .process) (to .name) (takesLabel (onLabel (branchesIn s w (to .term .second) (to .term .third))) (nameAt s (to .name)) (plainIn s w (sent .node)) (nameAt s (sent .term .second + 1)) (processAs s w (to .process)))) → Carries s w old new o (heardBy to)
-      unfolding afterReceive
-      hears-kind-label a b c =
-          kinds 3 8 a b
-          (subst (λ A. Carries s w old new o (bothBy s w old (sent .place) (sent .after) (to .place) (to .process) (to .name) (takesLabel (onLabel (branchesIn s w (to .term .second) (to .term .third))) (nameAt s (to .name)) A (nameAt s (sent .term .second + 1)) (processAs s w (to .process))))) (u .is ∙ ap (λ k. afterMessage (programIn s w) (messageBy s (sent .term .second) k) (plainIn s w (sent .over .node))) a) c)
+    pub hears-kind-label : sent .term .kind ≡ 3 → to .term .kind ≡ 8
+        → Carries s w old new o (bothBy s w old sent to (takesLabel (programIn s w) (labelIn s (sent .term .second)) (onLabel (branchesIn s w (to .term .second) (to .term .third))) (nameAt s (to .name)) (processAs s w (to .process)))) → Carries s w old new o (heardBy to)
+    unfolding afterReceive
+    hears-kind-label a b c = kinds 3 8 a b c
 
   -- the outside; nobody
   pub sends-out : {new : List ℕ} {o : OutcomeWords} (number : ℕ) → farOf s w old (sent .over) ≡ calculus.atOutside number → Carries s w old new o (outBy s w old sent number) → Carries s w old new o sendingBy
@@ -189,10 +172,10 @@ module _ (s w old : List ℕ) (i : ℕ) (p : ProcessWords) (n : TermNode) {f : L
   unfolding send
   sends-nothing q = held-none a _ q
 
-  pub sends-on : {e : EndWords} {node : ℕ} {h : Held} {new : List ℕ} {o : OutcomeWords} → f ≡ lookups.Found e → TypeAfter s w (afterMessage (programIn s w) (message s n) (plainIn s w (e .node))) node → SentHeld s w (p .held) n node h
-      → Carries s w old new o (sendingBy s w old (record { place = i; before = p; after = running-as (n .third) (p .link) h; term = n; over = e; node = node })) → Carries s w old new o (sendBy s w old i p n)
+  pub sends-on : {e : EndWords} {h : Held} {new : List ℕ} {o : OutcomeWords} → f ≡ lookups.Found e → SentHeld s w (p .held) n h
+      → Carries s w old new o (sendingBy s w old (record { place = i; before = p; after = running-as (n .third) (p .link) h; term = n; over = e })) → Carries s w old new o (sendBy s w old i p n)
   unfolding send
-  sends-on {e} {new = new} {o = o} q u g c =
+  sends-on {e} {new = new} {o = o} q g c =
       held-some a _ q
-      (subst (λ l. Carries s w old new o (sending (programIn s w) (configIn s w old) i (processAs s w p) (process (running (processIn s w (n .third))) l (linkOf (p .link))) (message s n) (endAs s w e) (farOf s w old e)))
-      (g .is (endAs s w e) (u .is)) c)
+      (subst (λ l. Carries s w old new o (sending (programIn s w) (configIn s w old) i (processAs s w p) (goesOn (processAs s w p) (processIn s w (n .third)) l) (message s n) (endAs s w e) (farOf s w old e)))
+      (g .is) c)

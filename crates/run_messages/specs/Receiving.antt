@@ -8,31 +8,30 @@ use native.Mathlib.Omega.{arith}
 use lib.ListN.{length, length-set, set}
 use Rattle.notation.specs.Bytes.{same}
 use Rattle.notation.specs.Token.{nameAt}
-use Rattle.notation.specs.Reader.{nameIn}
+use Rattle.notation.specs.Reader.{nameIn, labelIn}
 use Rattle.notation.specs.Tree.{Name, Proc}
 use Rattle.notation.specs.declared.reading.Found.{Found}
 use Rattle.notation.specs.declared.reading.Found.the-variants as found
 use Rattle.notation.specs.Tables.{Area}
-use Rattle.calculus.specs.Configuration.{End, Process, process, running, Config, config, replaced}
-use Rattle.calculus.specs.Steps.{Outcome, onClose, onChannel, onLabel, bothTo, branchOf, bound, takesClose, takesChannel, takesLabel}
-use Rattle.calculus.specs.Configuration.{retypedEnd}
-use Rattle.read_tables.specs.Access.{BranchOf, node-there, branch-there}
+use Rattle.calculus.specs.Configuration.{End, end, Process, Config, replaced, goesOn}
+use Rattle.calculus.specs.Steps.{Outcome, onClose, onChannel, onLabel, bothTo, branchOf, bound, onward, passedType, takesClose, takesChannel, takesLabel}
+use Rattle.calculus.specs.Named.{lookup}
+use Rattle.calculus.specs.Types.{standing, passing}
+use Rattle.read_tables.specs.Access.{BranchOf, branch-there}
 use Rattle.read_tables.specs.Decode.{processIn}
-use Rattle.read_tables.specs.Program.{plainIn}
-use Rattle.read_tables.specs.Roots.{TypeIn, ProcessIn, BranchesIn, branchesIn, FirstBranch}
+use Rattle.read_tables.specs.Program.{plainIn, programIn}
+use Rattle.read_tables.specs.Roots.{ProcessIn, BranchesIn, branchesIn, FirstBranch}
 use Rattle.read_tables.specs.Search.{placeOf}
 use Rattle.read_tables.specs.Whole.{Tables}
 use Rattle.read_tables.specs.declared.access.Labelled.{Labelled}
-use Rattle.run_words.specs.Raw.{rawIn, linkOf, BoundedEnd, Bounded}
-use Rattle.run_words.specs.Values.{Changed, endIn, heldIn}
+use Rattle.run_words.specs.Raw.{rawIn, sideOf, Bounded}
+use Rattle.run_words.specs.Values.{Changed, endIn}
 use Rattle.run_words.specs.Values as values
-use Rattle.run_words.specs.Lists.{All}
-use Rattle.run_words.specs.ListLaws.{all-weaken}
 use Rattle.run_words.specs.Operations as raw
 use Rattle.run_words.specs.declared.records.End.{End as EndWords}
 use Rattle.run_words.specs.declared.records.Held.{Held}
 use Rattle.run_words.specs.declared.records.Process.{Process as ProcessWords}
-use Rattle.check_contexts.specs.Held.{channelsOf, EndIn, HeldIn, endFound, FoundIn, Drops, Retypes, Brings}
+use Rattle.check_contexts.specs.Held.{channelsOf, EndIn, HeldIn, endFound, FoundIn, Sees, Drops, Brings}
 use Rattle.check_contexts.specs.Halves.{append-nil}
 use Rattle.check_contexts.specs.declared.held.Lookup.{Lookup}
 use Rattle.check_contexts.specs.declared.held.Lookup.the-variants as lookups
@@ -41,10 +40,8 @@ use Rattle.run_alone.specs.declared.outcome.Outcome.the-variants.{NotOpen}
 use Rattle.run_messages.specs.declared.messages.Receiver.{Receiver}
 use Rattle.run_messages.specs.declared.messages.Sending.{Sending}
 use Rattle.run_alone.specs.Run.{configIn, processAs, RunOf, ProcessOf, StandsAt, Becomes, Carries}
-use Rattle.run_messages.specs.Messages.{partsBy}
+use Rattle.run_messages.specs.Messages.{partsBy, messageBy, TypeAfter, MovesOn}
 use Rattle.run_alone.specs.Changes.{then, stored, running-as, places-after, places-in}
-use Rattle.run_alone.specs.Making.{channels-many}
-use Rattle.calculus.specs.Named.{changed}
 
 -- a process that receives stands at its place, and the numbers of its term are those of the text
 pub record ReceiverIn (s w ws : List ℕ) (to : Receiver) : Type 0 where
@@ -54,14 +51,9 @@ pub record ReceiverIn (s w ws : List ℕ) (to : Receiver) : Type 0 where
 pub parts-at : {s w ws : List ℕ} {to : Receiver} → ReceiverIn s w ws to → {k : ℕ} → to .term .kind ≡ k → partsBy s w (to .term) k
 parts-at {s} {w} {to = to} r e = subst (partsBy s w (to .term)) e (r .parts)
 
--- what retyping an end asks for
-pub may-retype : {s w ws : List ℕ} {to : Receiver} {node : ℕ} → Tables s w → TypeIn s w node → ReceiverIn s w ws to → ((to .process .held .count ≤ 16) × (node < 512)) × All BoundedEnd (heldIn (to .process .held))
-may-retype {s} {w} {to = to} {node} t a r =
-    let h = r .stands .is .held in ((h .many, node-there s w t node a), all-weaken (EndIn s w) BoundedEnd (λ e b. b .bounds) (heldIn (to .process .held)) (h .each))
-
 -- ── two processes change
 abbrev pub bothSet : Config → ℕ → Process → ℕ → Process → Config
-bothSet C i P j Q = config (set (set (C .processes) i P) j Q) (C .outside) (C .given)
+bothSet C i P j Q = replaced j Q (replaced i P C)
 
 module _ (s w old mid : List ℕ) (t : RunOf s w old) (i j : ℕ) (q r : ProcessWords) (o : ProcessOf s w (length (rawIn old .processes)) q) (u : ProcessOf s w (length (rawIn old .processes)) r)
     (c : Changed old mid (raw.onProcesses (λ l. set l i (values.processIn q)) (rawIn old))) (b : Bounded (rawIn mid)) where
@@ -77,28 +69,32 @@ module _ (s w old mid : List ℕ) (t : RunOf s w old) (i j : ℕ) (q r : Process
   pub both-set : (new : List ℕ) → Changed mid new (raw.onProcesses (λ l. set l j (values.processIn r)) (rawIn mid)) → Bounded (rawIn new) → Becomes s w old new (bothSet (configIn s w old) i (processAs s w q) j (processAs s w r))
   both-set new d k = then (replaced j (processAs s w r)) first-set (stored s w mid new (first-set .run) j r second-of d k)
 
--- ── with an end more, if one was found
-abbrev pub FoundBounded : Lookup → Type 0
-FoundBounded (lookups.Found e) = BoundedEnd (endIn e) × (e .side < 2)
-FoundBounded lookups.Nothing = 0 ≤ 0
+-- ── with the end that was passed, if it was found and the receiver's own was
+pub record BringsOver (s w : List ℕ) (h : Held) (own passed : Lookup) (at : ℕ) (r : Held) : Type 0 where
+  pub is : channelsOf s w r ≡ channelsOf s w h ++ bound (programIn s w) (nameAt s at) (endFound s w own) (endFound s w passed)
+  pub fits : HeldIn s w r
 
-pub record BringsFound (h : Held) (f : Lookup) (at : ℕ) (r : Held) : Type 0 where
-  pub is : (s w : List ℕ) → channelsOf s w r ≡ channelsOf s w h ++ bound (nameAt s at) (endFound s w f)
-  pub fits : (s w : List ℕ) → FoundIn s w f → HeldIn s w h → HeldIn s w r
+module _ (s w : List ℕ) (h : Held) (t : HeldIn s w h) (own passed : Lookup) (at : ℕ) where
+  brings-none : bound (programIn s w) (nameAt s at) (endFound s w own) (endFound s w passed) ≡ [] → BringsOver s w h own passed at h
+  brings-none e = record { is = sym (ap (λ l. channelsOf s w h ++ l) e ∙ append-nil (channelsOf s w h)); fits = t }
 
-module _ (h : Held) (f : Lookup) (at : ℕ) where
-  pub brings-found : (d : EndWords) (r : Held) → f ≡ lookups.Found d → Brings h at (d .side) (d .node) (d .channel) r → BringsFound h f at r
-  brings-found d r e b = subst (λ x. BringsFound h x at r) (sym e) (record { is = λ s w. b .is s w; fits = λ s w o. b .fits s w (o .0 .type) })
+  pub brings-unheld : own ≡ lookups.Nothing → BringsOver s w h own passed at h
+  brings-unheld e = brings-none (ap (λ (f : Lookup). bound (programIn s w) (nameAt s at) (endFound s w f) (endFound s w passed)) e)
 
-  pub brings-nothing : f ≡ lookups.Nothing → BringsFound h f at h
-  brings-nothing e = subst (λ x. BringsFound h x at h) (sym e) (record { is = λ s w. sym (append-nil (channelsOf s w h)); fits = λ s w o u. u })
+  module _ {e : EndWords} (z : own ≡ lookups.Found e) where
+    pub brings-nothing : passed ≡ lookups.Nothing → BringsOver s w h own passed at h
+    brings-nothing y = brings-none λ j. bound (programIn s w) (nameAt s at) (endFound s w (z j)) (endFound s w (y j))
 
-pub found-bounded : (s w : List ℕ) (f : Lookup) → FoundIn s w f → FoundBounded f
-found-bounded s w (lookups.Found e) o = (o .0 .bounds, o .1)
-found-bounded s w lookups.Nothing o = omega arith
+    pub brings-over : {d : EndWords} {node : ℕ} {r : Held} → passed ≡ lookups.Found d → TypeAfter s w (passedType (plainIn s w (d .node)) (passing (standing (programIn s w .types) (plainIn s w (e .node))))) node → Brings h at (d .side) node (d .channel) r
+        → BringsOver s w h own passed at r
+    brings-over {d} y u b = record {
+      is = b .is s w ∙ ap (λ A. channelsOf s w h ++ ((nameAt s at, end (sideOf (d .side)) (d .channel) A) ∷ [])) (u .is)
+          ∙ sym λ j. channelsOf s w h ++ bound (programIn s w) (nameAt s at) (endFound s w (z j)) (endFound s w (y j));
+      fits = b .fits s w (u .type) t;
+    }
 
-pub found-there : {f : Lookup} {d : EndWords} → f ≡ lookups.Found d → FoundBounded f → BoundedEnd (endIn d) × (d .side < 2)
-found-there e o = subst FoundBounded e o
+pub found-in : {s w : List ℕ} {f : Lookup} {d : EndWords} → f ≡ lookups.Found d → FoundIn s w f → EndIn s w (endIn d) × (d .side < 2)
+found-in {s} {w} e o = subst (FoundIn s w) e o
 
 -- ── the branch of a label: a search that has come to n branches before the place e
 pub record BranchIs (s w : List ℕ) (at e n : ℕ) (r : Found) : Type 0 where
@@ -153,43 +149,37 @@ module _ (s w : List ℕ) (at e₀ n₀ : ℕ) where
 abbrev pub bothOn : List ℕ → List ℕ → List ℕ → Sending → Receiver → ℕ → Held → Outcome
 bothOn s w old sent to pointer held = bothTo (configIn s w old) (sent .place) (processAs s w (sent .after)) (to .place) (some (processAs s w (running-as pointer (to .process .link) held)))
 
-module _ (s w old : List ℕ) (i : ℕ) (q : ProcessWords) (j : ℕ) (r : ProcessWords) (x : ℕ) where
+module _ (s w old : List ℕ) (sent : Sending) (to : Receiver) where
   abbrev pub bothBy : Option Process → Outcome
-  bothBy o = bothTo (configIn s w old) i (processAs s w q) j o
+  bothBy o = bothTo (configIn s w old) (sent .place) (processAs s w (sent .after)) (to .place) o
 
-  module _ {new : List ℕ} {o : OutcomeWords} (h : Held) (pointer : ℕ) (b : Carries s w old new o (bothBy (some (processAs s w (running-as pointer (r .link) h))))) where
+  abbrev receiver : Process
+  receiver = processAs s w (to .process)
+
+  -- the message of the sender's node, were it of the kind k
+  abbrev over : ℕ → List (Name × End)
+  over k = onward (programIn s w) (messageBy s (sent .term .second) k) (nameAt s (to .name)) (channelsOf s w (to .process .held))
+
+  module _ {new : List ℕ} {o : OutcomeWords} (h : Held) (pointer : ℕ) (b : Carries s w old new o (bothOn s w old sent to pointer h)) where
     -- the receiver has the channels of l
-    with-held : (l : _) → channelsOf s w h ≡ l → Carries s w old new o (bothBy (some (process (running (processIn s w pointer)) l (linkOf (r .link)))))
-    with-held l e = subst (λ m. Carries s w old new o (bothBy (some (process (running (processIn s w pointer)) m (linkOf (r .link)))))) e b
+    with-held : (l : _) → channelsOf s w h ≡ l → Carries s w old new o (bothBy (some (goesOn receiver (processIn s w pointer) l)))
+    with-held l e = subst (λ m. Carries s w old new o (bothBy (some (goesOn receiver (processIn s w pointer) m)))) e b
 
-    pub hears-close : Drops s (r .held) x h → Carries s w old new o (bothBy (takesClose (onClose (processIn s w pointer)) (nameAt s x) (processAs s w r)))
+    pub hears-close : Drops s (to .process .held) (to .name) h → Carries s w old new o (bothBy (takesClose (onClose (processIn s w pointer)) (nameAt s (to .name)) receiver))
     hears-close d = with-held _ (d .is w)
 
-    pub hears-channel : (node name : ℕ) (f : Lookup) (m : Held) → Retypes s (r .held) x node m → BringsFound m f name h
-        → Carries s w old new o (bothBy (takesChannel (onChannel (nameIn s name) (processIn s w pointer)) (nameAt s x) (plainIn s w node) (endFound s w f) (processAs s w r)))
-    hears-channel node name f m c d = with-held _ (d .is s w ∙ ap (λ l. l ++ bound (nameAt s name) (endFound s w f)) (c .is w))
+    pub hears-channel : {name : ℕ} {f g : Lookup} {m : Held} → sent .term .kind ≡ 2 → Sees s (sent .before .held) (sent .term .second) f → Sees s (to .process .held) (to .name) g
+        → MovesOn s w (to .process .held) (sent .term) (to .name) m → BringsOver s w m g f name h
+        → Carries s w old new o (bothBy (takesChannel (programIn s w) (nameIn s (sent .term .second)) (onChannel (nameIn s name) (processIn s w pointer)) (nameAt s (to .name)) (lookup (nameAt s (sent .term .second)) (channelsOf s w (sent .before .held))) receiver))
+    hears-channel {name} z f g c d =
+        with-held _ (d .is ∙ λ j. (c .is ∙ ap over z) j ++ bound (programIn s w) (nameAt s name) (sym (g .is w) j) (sym (f .is w) j))
 
-    pub hears-label : (node at e n : ℕ) (k : Found) → BranchIs s w at e n k → k ≡ found.At pointer → Retypes s (r .held) x node h
-        → Carries s w old new o (bothBy (takesLabel (onLabel (branchesIn s w e n)) (nameAt s x) (plainIn s w node) (nameAt s (at + 1)) (processAs s w r)))
-    hears-label node at e n k f z c =
-        subst (λ p. Carries s w old new o (bothBy (Option·map (λ P. process (running P) (retypedEnd (nameAt s x) (plainIn s w node) (channelsOf s w (r .held))) (linkOf (r .link))) p)))
-        (sym (f .is ∙ ap (λ y. Option·map (λ x. processIn s w x) (placeOf y)) z)) (with-held _ (c .is w))
+    pub hears-label : {e n : ℕ} {k : Found} → sent .term .kind ≡ 3 → BranchIs s w (sent .term .second) e n k → k ≡ found.At pointer → MovesOn s w (to .process .held) (sent .term) (to .name) h
+        → Carries s w old new o (bothBy (takesLabel (programIn s w) (labelIn s (sent .term .second)) (onLabel (branchesIn s w e n)) (nameAt s (to .name)) receiver))
+    hears-label y f z c =
+        subst (λ p. Carries s w old new o (bothBy (Option·map (λ P. goesOn receiver P (over 3)) p))) (sym (f .is ∙ ap (λ y. Option·map (λ x. processIn s w x) (placeOf y)) z)) (with-held _ (c .is ∙ ap over y))
 
-  pub hears-nothing : (node at e n : ℕ) (k : Found) → BranchIs s w at e n k → k ≡ found.Nothing
-      → Carries s w old old NotOpen (bothBy (takesLabel (onLabel (branchesIn s w e n)) (nameAt s x) (plainIn s w node) (nameAt s (at + 1)) (processAs s w r)))
-  hears-nothing node at e n k f z =
-      subst (λ o. Carries s w old old NotOpen (bothBy (Option·map (λ P. process (running P) (retypedEnd (nameAt s x) (plainIn s w node) (channelsOf s w (r .held))) (linkOf (r .link))) o)))
-      (sym (f .is ∙ ap (λ y. Option·map (λ x. processIn s w x) (placeOf y)) z)) (record { is = (refl, refl) })
-
--- as many are held as before
-changed-many : (n : Name) (f : End → End) (l : List (Name × End)) → length (changed n f l) ≡ length l
-unfolding changed
-changed-many n f [] = refl
-changed-many n f (e ∷ l) = go (same n (e .0)) (changed-many n f l)
-  where
-    go : (b : Bool) → length (changed n f l) ≡ length l → length (cond b ((e .0, f (e .1)) ∷ l) (e ∷ changed n f l)) ≡ suc (length l)
-    go true h = refl
-    go false h = ap suc h
-
-pub retyped-count : (s w : List ℕ) (h : Held) (at node : ℕ) (r : Held) → Retypes s h at node r → r .count ≡ h .count
-retyped-count s w h at node r c = sym (channels-many s w r) ∙ ap length (c .is w) ∙ changed-many (nameAt s at) _ (channelsOf s w h) ∙ channels-many s w h
+  pub hears-nothing : {e n : ℕ} {k : Found} → BranchIs s w (sent .term .second) e n k → k ≡ found.Nothing
+      → Carries s w old old NotOpen (bothBy (takesLabel (programIn s w) (labelIn s (sent .term .second)) (onLabel (branchesIn s w e n)) (nameAt s (to .name)) receiver))
+  hears-nothing f z =
+      subst (λ o. Carries s w old old NotOpen (bothBy (Option·map (λ P. goesOn receiver P (over 3)) o))) (sym (f .is ∙ ap (λ y. Option·map (λ x. processIn s w x) (placeOf y)) z)) (record { is = (refl, refl) })

@@ -3,18 +3,21 @@ use Prim.Native.Nat.{ℕ, zero, suc, _+_, _≤_, _<_}
 use mathlib.Core.Path.{_≡_, refl, sym, _∙_, ap, subst}
 use mathlib.Core.List.{List, [], _∷_, _++_}
 use mathlib.Core.Bool.{Bool, true, false, cond}
-use mathlib.Core.Option.{some}
+use mathlib.Core.Option.{Option, some}
 use native.Mathlib.Omega.{arith}
 use borrow.Author.Tests.{lt-ltb, le-ltb}
 use lib.Dec.{eqb}
 use lib.ListN.{length, set, getElem?}
 use Rattle.notation.specs.Limits.{outsideNumbers}
 use Rattle.notation.specs.Token.{nameAt}
+use Rattle.notation.specs.Reader.{nameIn}
 use Rattle.notation.specs.Tables.{termNode}
 use Rattle.notation.specs.declared.reading.TermNode.{TermNode}
-use Rattle.calculus.specs.Configuration.{End, Config, config, replaced}
+use Rattle.calculus.specs.Configuration.{End, Outside, Config, replaced, withOutside, withGiven, oneMoreGiven, outsideOf, retypedOutside}
 use Rattle.calculus.specs.Configuration as calculus
-use Rattle.calculus.specs.Steps.{Outcome, lacking, unheard, toOutside, passedOut, isGivenUp, parting, afterMessage}
+use Rattle.calculus.specs.Steps.{Outcome, lacking, unheard, toOutside, passedOut, newOutside, outsideOnward, passedType, isGivenUp, parting, afterMessage}
+use Rattle.calculus.specs.Types.{standing, passing}
+use Rattle.theory_ends.specs.Onward.{outside-onward-is}
 use Rattle.calculus.specs.declared.answers.Seen.the-variants.{Nothing, Label, Close, Passed}
 use Rattle.read_tables.specs.Decode.{processIn}
 use Rattle.read_tables.specs.Program.{plainIn, programIn}
@@ -22,7 +25,10 @@ use Rattle.read_tables.specs.Roots.{TypeIn}
 use Rattle.run_words.specs.Raw.{RawProcess, RawOutside, RawConfig, rawIn, sideOf, Bounded}
 use Rattle.run_words.specs.Values.{Changed, outsideIn}
 use Rattle.run_words.specs.Operations as raw
-use Rattle.run_words.specs.DecodeLaws.{FarAs, atProcess, atOutside, givenUp, decoded-far-outside}
+use Rattle.run_words.specs.DecodeLaws.{FarAs, atProcess, atOutside, givenUp, decoded-outside, decoded-far-outside}
+use Rattle.run_words.specs.Decode.{decodedOutside}
+use Rattle.run_words.specs.ListLaws.{all-at}
+use Rattle.run_words.specs.SearchLaws.{far-outside}
 use Rattle.run_words.specs.declared.records.End.{End as EndWords}
 use Rattle.run_words.specs.declared.records.Outside.{Outside as OutsideWords}
 use Rattle.run_words.specs.declared.records.Far.{Far}
@@ -39,14 +45,21 @@ use Rattle.run_alone.specs.Changes.{then, let-go, retyped, passed-out, given}
 use Rattle.run_alone.specs.Parting.{endAs, held-none, held-some}
 use Rattle.run_alone.specs.Forwarding.{farRaw, farOf, far-as}
 use Rattle.run_alone.specs.Forwarding as forwarding
-use Rattle.run_messages.specs.Messages.{message, SendNode, TypeAfter}
+use Rattle.run_messages.specs.Messages.{message, messageBy, SendNode, TypeAfter}
 
--- a send under way: the process stands at its place, and what it will be and the type that the channel will have are those of the text
+-- a send under way: the process stands at its place, and what it will be is of the text
 pub record SendingIn (s w ws : List ℕ) (sent : Sending) : Type 0 where
   pub stands : StandsAt s w ws (sent .place) (sent .before)
   pub after : ProcessOf s w (length (rawIn ws .processes)) (sent .after)
-  pub type : TypeAfter s w (afterMessage (programIn s w) (message s (sent .term)) (plainIn s w (sent .over .node))) (sent .node)
   pub node : SendNode (sent .term)
+
+-- the outside's own channel over a channel place
+abbrev pub outsideAs : List ℕ → List ℕ → OutsideWords → Outside
+outsideAs s w o = decodedOutside (nameAt s) (plainIn s w) (processIn s w) (outsideIn o)
+
+pub record OutsideIn (s w ws : List ℕ) (channel : ℕ) (o : OutsideWords) : Type 0 where
+  pub there : outsideOf channel (configIn s w ws .outside) ≡ some (outsideAs s w o)
+  pub type : TypeIn s w (o .node)
 
 module _ (s w old : List ℕ) (sent : Sending) where
   abbrev withKind : ℕ → TermNode
@@ -86,24 +99,33 @@ module _ (s w old : List ℕ) (sent : Sending) where
     module _ (mid : List ℕ) (b : Becomes s w old mid (replaced (sent .place) (processAs s w (sent .after)) (configIn s w old))) where
       pub out-close : (new : List ℕ) → sent .term .kind ≡ 1 → Changed mid new (raw.onOutside (raw.letGo (sent .over .channel)) (rawIn mid)) → Bounded (rawIn new) → Carries s w old new (Carried (Close number)) outBy
       out-close new z c k = subst (λ m. Carries s w old new (Carried (Close number)) (outAt m)) (sym z)
-          (record { is = (refl, then (λ (D : Config). config (D .processes) (calculus.letGo (sent .over .channel) (D .outside)) (D .given)) b (let-go s w mid new (b .run) (sent .over .channel) c k)) })
+          (record { is = (refl, then (λ (D : Config). withOutside (calculus.letGo (sent .over .channel) (D .outside)) D) b (let-go s w mid new (b .run) (sent .over .channel) c k)) })
 
-      module _ (u : TypeAfter s w (afterMessage (programIn s w) (message s (sent .term)) (plainIn s w (sent .over .node))) (sent .node)) where
-        pub out-retyped : (new : List ℕ) → Changed mid new (raw.onOutside (raw.changedOutside (sent .over .channel) (raw.retyped (sent .node))) (rawIn mid)) → Bounded (rawIn new)
-            → Becomes s w old new (config (set (configIn s w old .processes) (sent .place) (processAs s w (sent .after))) (calculus.retypedOutside (sent .over .channel) (afterMessage (programIn s w) (message s (sent .term)) (plainIn s w (sent .over .node))) (configIn s w old .outside)) (configIn s w old .given))
-        out-retyped new c k = subst (λ A. Becomes s w old new (config (set (configIn s w old .processes) (sent .place) (processAs s w (sent .after))) (calculus.retypedOutside (sent .over .channel) A (configIn s w old .outside)) (configIn s w old .given))) (u .is)
-            (then (λ (D : Config). config (D .processes) (calculus.retypedOutside (sent .over .channel) (plainIn s w (sent .node)) (D .outside)) (D .given)) b (retyped s w mid new (b .run) (sent .over .channel) (sent .node) (u .type) c k))
+    -- it moves on from its own type
+    module _ (mid : List ℕ) (b : Becomes s w old mid (replaced (sent .place) (processAs s w (sent .after)) (configIn s w old))) {o : OutsideWords} (a : OutsideIn s w old (sent .over .channel) o)
+        {node : ℕ} (u : TypeAfter s w (afterMessage (programIn s w) (message s (sent .term)) (plainIn s w (o .node))) node) where
+      abbrev overAt : ℕ → Config
+      overAt k = withOutside (outsideOnward (programIn s w) (messageBy s (sent .term .second) k) (sent .over .channel) (configIn s w old .outside)) (replaced (sent .place) (processAs s w (sent .after)) (configIn s w old))
 
-        abbrev OutLabel : List ℕ → ℕ → Type 0
-        OutLabel new k = Becomes s w old new (config (set (configIn s w old .processes) (sent .place) (processAs s w (sent .after))) (calculus.retypedOutside (sent .over .channel) (afterMessage (programIn s w) (message s (withKind k)) (plainIn s w (sent .over .node))) (configIn s w old .outside)) (configIn s w old .given))
+      pub out-moved : (new : List ℕ) → Changed mid new (raw.onOutside (raw.changedOutside (sent .over .channel) (raw.retyped node)) (rawIn mid)) → Bounded (rawIn new) → Becomes s w old new (overAt (sent .term .kind))
+      out-moved new c k =
+          subst (λ l. Becomes s w old new (withOutside l (replaced (sent .place) (processAs s w (sent .after)) (configIn s w old))))
+          (ap (λ A. retypedOutside (sent .over .channel) A (configIn s w old .outside)) (u .is) ∙ sym (outside-onward-is (programIn s w) (message s (sent .term)) (sent .over .channel) (configIn s w old .outside) (a .there)))
+          (then (λ (D : Config). withOutside (retypedOutside (sent .over .channel) (plainIn s w node) (D .outside)) D) b (retyped s w mid new (b .run) (sent .over .channel) node (u .type) c k))
 
-        pub out-label : (new : List ℕ) → sent .term .kind ≡ 3 → Changed mid new (raw.onOutside (raw.changedOutside (sent .over .channel) (raw.retyped (sent .node))) (rawIn mid)) → Bounded (rawIn new) → Carries s w old new (Carried (Label number (sent .term .second))) outBy
-        out-label new z c k = subst (λ m. Carries s w old new (Carried (Label number (sent .term .second))) (outAt m)) (sym z) (record { is = (refl, subst (OutLabel new) z (out-retyped new c k)) })
+      pub out-label : (new : List ℕ) → sent .term .kind ≡ 3 → Changed mid new (raw.onOutside (raw.changedOutside (sent .over .channel) (raw.retyped node)) (rawIn mid)) → Bounded (rawIn new) → Carries s w old new (Carried (Label number (sent .term .second))) outBy
+      out-label new z c k = subst (λ m. Carries s w old new (Carried (Label number (sent .term .second))) (outAt m)) (sym z) (record { is = (refl, subst (λ k. Becomes s w old new (overAt k)) z (out-moved new c k)) })
 
 -- the node of a far end at the outside says its number
 module _ (s w old : List ℕ) (e : EndWords) (k : ℕ) (o : OutsideWords) where
   pub out-number : far.Outside k ≡ farRaw s w old e → getElem? (rawIn old .outside) k ≡ some (outsideIn o) → farOf s w old e ≡ calculus.atOutside (o .number)
   out-number f g = decoded-far-outside (nameAt s) (plainIn s w) (processIn s w) (rawIn old) (e .channel) (sideOf (e .side)) (plainIn s w (e .node)) k (sym f) g
+
+  pub outside-own : RunOf s w old → far.Outside k ≡ farRaw s w old e → getElem? (rawIn old .outside) k ≡ some (outsideIn o) → OutsideIn s w old (e .channel) o
+  outside-own t f g = record {
+    there = decoded-outside (nameAt s) (plainIn s w) (processIn s w) (e .channel) (rawIn old .outside) k (far-outside (rawIn old) (e .channel) (sideOf (e .side)) k (sym f) .2) g;
+    type = all-at _ (rawIn old .outside) k (t .outside) g;
+  }
 
 -- what is given up, in numbers and in the calculus
 pub given-up-so : (s w old : List ℕ) (d : EndWords) (f : Far) → f ≡ farRaw s w old d → forwarding.isGivenUp f ≡ isGivenUp (farOf s w old d)
@@ -117,39 +139,51 @@ given-up-so s w old d f e = go f (far-as s w old d f e)
 -- ── a channel is passed out
 -- the outside's channels and the numbers given, once the end d was passed out; the outside lets go at once of one that was given up
 abbrev pub numbered : Config → End → Bool → Config
-numbered C d gone = config (C .processes) (C .outside ++ cond gone [] (record { number = C .given; channel = d .channel; type = d .type } ∷ [])) (suc (C .given))
+numbered C d gone = oneMoreGiven (withOutside (C .outside ++ cond gone [] (record { number = C .given; channel = d .channel; type = d .type } ∷ [])) C)
 
 module _ (s w old : List ℕ) (t : RunOf s w old) (m : ℕ) (e : m ≡ rawIn old .given) (d : EndWords) where
   module _ (mid : List ℕ) (k : ℕ) (y : k ≡ m + 1) (c : Changed old mid (raw.withGiven (rawIn old) k)) (b : Bounded (rawIn mid)) where
-    pub one-given : Becomes s w old mid (config (configIn s w old .processes) (configIn s w old .outside) (suc (configIn s w old .given)))
+    pub one-given : Becomes s w old mid (oneMoreGiven (configIn s w old))
     one-given =
         let z : k ≡ suc (rawIn old .given) = omega (arith, e) in
-        subst (λ n. Becomes s w old mid (config (configIn s w old .processes) (configIn s w old .outside) n)) z (given s w old mid t k c b)
+        subst (λ n. Becomes s w old mid (withGiven n (configIn s w old))) z (given s w old mid t k c b)
 
     pub few-outside : length (rawIn old .outside) < 32 → length (rawIn mid .outside) < 32
     few-outside h = subst (λ (C : RawConfig). length (C .outside) < 32) (sym (c .is)) h
 
     pub numbered-gone : (gone : Bool) → gone ≡ true → Becomes s w old mid (numbered (configIn s w old) (endAs s w d) gone)
     numbered-gone gone z = subst (λ g. Becomes s w old mid (numbered (configIn s w old) (endAs s w d) g)) (sym z)
-        (subst (λ l. Becomes s w old mid (config (configIn s w old .processes) l (suc (configIn s w old .given)))) (sym (append-nil (configIn s w old .outside))) one-given)
+        (subst (λ l. Becomes s w old mid (oneMoreGiven (withOutside l (configIn s w old)))) (sym (append-nil (configIn s w old .outside))) one-given)
 
     pub numbered-out : (new : List ℕ) (gone : Bool) → gone ≡ false → TypeIn s w (d .node) → Changed mid new (raw.onOutside (λ l. l ++ (outsideIn (record { number = m; node = d .node; channel = d .channel }) ∷ [])) (rawIn mid)) → Bounded (rawIn new)
         → Becomes s w old new (numbered (configIn s w old) (endAs s w d) gone)
     numbered-out new gone z u f k = subst (λ g. Becomes s w old new (numbered (configIn s w old) (endAs s w d) g)) (sym z)
-        (subst (λ n. Becomes s w old new (config (configIn s w old .processes) (configIn s w old .outside ++ (record { number = n; channel = d .channel; type = plainIn s w (d .node) } ∷ [])) (suc (configIn s w old .given)))) e
-        (then (λ (D : Config). config (D .processes) (D .outside ++ (record { number = m; channel = d .channel; type = plainIn s w (d .node) } ∷ [])) (D .given)) one-given (passed-out s w mid new (one-given .run) (record { number = m; node = d .node; channel = d .channel }) u f k)))
+        (subst (λ n. Becomes s w old new (oneMoreGiven (withOutside (configIn s w old .outside ++ (record { number = n; channel = d .channel; type = plainIn s w (d .node) } ∷ [])) (configIn s w old)))) e
+        (then (λ (D : Config). withOutside (D .outside ++ (record { number = m; channel = d .channel; type = plainIn s w (d .node) } ∷ [])) D) one-given (passed-out s w mid new (one-given .run) (record { number = m; node = d .node; channel = d .channel }) u f k)))
 
 module _ (s w old : List ℕ) (sent : Sending) (number : ℕ) where
   abbrev pub passedBy : EndWords → Bool → Outcome
-  passedBy d gone = passedOut (configIn s w old) (sent .place) (processAs s w (sent .after)) number (sent .over .channel) (afterMessage (programIn s w) (message s (sent .term)) (plainIn s w (sent .over .node))) (endAs s w d) gone
+  passedBy d gone = passedOut (programIn s w) (configIn s w old) (sent .place) (processAs s w (sent .after)) (nameIn s (sent .term .second)) (endAs s w (sent .over)) number (endAs s w d) gone
 
-  abbrev PassedAt : ℕ → EndWords → Bool → Outcome
-  PassedAt k d gone = passedOut (configIn s w old) (sent .place) (processAs s w (sent .after)) number (sent .over .channel) (afterMessage (programIn s w) (message s (withKind s w old sent k)) (plainIn s w (sent .over .node))) (endAs s w d) gone
+  -- the end d, once it came over the outside's own channel o, is that of x
+  module _ {o : OutsideWords} (a : OutsideIn s w old (sent .over .channel) o) (d : EndWords) {node : ℕ} (v : TypeAfter s w (passedType (plainIn s w (d .node)) (passing (standing (programIn s w .types) (plainIn s w (o .node))))) node) where
+    abbrev pub cameOver : EndWords
+    cameOver = record { name = d .name; side = d .side; node = node; channel = d .channel }
 
-  pub passes-numbered : (mid new : List ℕ) (d : EndWords) (gone : Bool) (m : ℕ) → m ≡ rawIn old .given
-      → Becomes s w old mid (config (set (configIn s w old .processes) (sent .place) (processAs s w (sent .after))) (calculus.retypedOutside (sent .over .channel) (afterMessage (programIn s w) (message s (sent .term)) (plainIn s w (sent .over .node))) (configIn s w old .outside)) (configIn s w old .given))
-      → Becomes s w mid new (numbered (configIn s w mid) (endAs s w d) gone) → Carries s w old new (Carried (Passed number m gone)) (passedBy d gone)
-  passes-numbered mid new d gone m z a b = record { is = (ap (λ k. Carried (Passed number k gone)) z, then (λ (D : Config). numbered D (endAs s w d) gone) a b) }
+    new-outside : (next : ℕ) → newOutside (programIn s w) next (outsideOf (sent .over .channel) (configIn s w old .outside)) (endAs s w d) ≡ record { number = next; channel = d .channel; type = plainIn s w node } ∷ []
+    new-outside next = ap (λ (b : Option Outside). newOutside (programIn s w) next b (endAs s w d)) (a .there) ∙ ap (λ A. record { number = next; channel = d .channel; type = A } ∷ []) (sym (v .is))
+
+    pub passes-numbered : (mid new : List ℕ) (gone : Bool) (m : ℕ) → sent .term .kind ≡ 2 → m ≡ rawIn old .given
+        → Becomes s w old mid (withOutside (outsideOnward (programIn s w) (message s (sent .term)) (sent .over .channel) (configIn s w old .outside)) (replaced (sent .place) (processAs s w (sent .after)) (configIn s w old)))
+        → Becomes s w mid new (numbered (configIn s w mid) (endAs s w cameOver) gone) → Carries s w old new (Carried (Passed number m gone)) (passedBy d gone)
+    passes-numbered mid new gone m y z b c = record {
+      is = (
+        ap (λ k. Carried (Passed number k gone)) z,
+        subst (λ l. Becomes s w old new (oneMoreGiven (withOutside l (replaced (sent .place) (processAs s w (sent .after)) (configIn s w old)))))
+            (λ j. outsideOnward (programIn s w) (messageBy s (sent .term .second) (y j)) (sent .over .channel) (configIn s w old .outside) ++ cond gone [] (sym (new-outside (rawIn old .given)) j))
+            (then (λ (D : Config). numbered D (endAs s w cameOver) gone) b c),
+      );
+    }
 
   module _ {f : Lookup} (z : sent .term .kind ≡ 2) (a : Sees s (sent .before .held) (sent .term .second) f) where
     pub passes-none : f ≡ lookups.Nothing → Carries s w old old NotOpen (outBy s w old sent number)
@@ -157,7 +191,7 @@ module _ (s w old : List ℕ) (sent : Sending) (number : ℕ) where
 
     module _ {d : EndWords} (y : f ≡ lookups.Found d) where
       abbrev orLacking : Bool → Outcome
-      orLacking b = cond b (PassedAt 2 d (isGivenUp (farOf s w old d))) lacking
+      orLacking b = cond b (passedBy d (isGivenUp (farOf s w old d))) lacking
 
       pub passes-lacking : 32 ≤ rawIn old .given → Carries s w old old Lacking (outBy s w old sent number)
       passes-lacking h = subst (λ k. Carries s w old old Lacking (outAt s w old sent number k)) (sym z)
@@ -166,7 +200,7 @@ module _ (s w old : List ℕ) (sent : Sending) (number : ℕ) where
       pub passes-out : {new : List ℕ} {r : OutcomeWords} (x : Far) (gone : Bool) → rawIn old .given < 32 → x ≡ farRaw s w old d → gone ≡ forwarding.isGivenUp x → Carries s w old new r (passedBy d gone) → Carries s w old new r (outBy s w old sent number)
       passes-out {new} {r} x gone h v g c = subst (λ k. Carries s w old new r (outAt s w old sent number k)) (sym z)
           (held-some a _ y (subst (λ b. Carries s w old new r (orLacking b)) (sym (lt-ltb (rawIn old .given) outsideNumbers h))
-          (subst (λ b. Carries s w old new r (PassedAt 2 d b)) (g ∙ given-up-so s w old d x v) (subst (λ k. Carries s w old new r (PassedAt k d gone)) z c))))
+          (subst (λ b. Carries s w old new r (passedBy d b)) (g ∙ given-up-so s w old d x v) c)))
 
 -- a process stored and a type changed leave the numbers given, and how many channels the outside has
 changed-length : (k : ℕ) (f : RawOutside → RawOutside) (l : List RawOutside) → length (raw.changedOutside k f l) ≡ length l

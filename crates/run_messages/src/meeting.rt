@@ -13,7 +13,6 @@ ghost use Rattle.run_messages.specs.Receiving.{ReceiverIn};
 ghost use Rattle.run_messages.specs.Meeting.{sendingBy, heardBy, sendBy};
 use crate::messages::Receiver;
 use crate::messages::Sending;
-use crate::messages::after_message;
 use crate::messages::after_send;
 use crate::messages::turn_on;
 use crate::receiving::hear_channel;
@@ -89,9 +88,9 @@ fn send_out(text: &[u8], scratch: &[u32], run: &mut [u32], sent: Sending, k: usi
     let o = outside_at(run, k);
     let n = sent.term;
     if n.kind == 2 {
-        return pass_out(text, scratch, run, sent, o.number);
+        return pass_out(text, scratch, run, sent, o);
     }
-    send_shown(text, scratch, run, sent, o.number)
+    send_shown(text, scratch, run, sent, o)
 }
 
 // The process has sent; who is at the far end?
@@ -131,14 +130,11 @@ pub fn send(
     let Lookup::Found(e) = f else {
         return Outcome::NotOpen;
     };
-    let node = after_message(text, scratch, n, e.node as usize);
-    let held = after_send(text, scratch, h, n, node as u32);
-    let after = Process {
-        kind: 0,
-        pointer: n.third as u32,
-        link: p.link,
-        held,
-    };
+    let held = after_send(text, scratch, h, n);
+    let mut after = p;
+    after.kind = 0;
+    after.pointer = n.third as u32;
+    after.held = held;
     deliver(
         text,
         scratch,
@@ -149,7 +145,6 @@ pub fn send(
             after,
             term: n,
             over: e,
-            node: node as u32,
         },
     )
 }

@@ -5,19 +5,20 @@ ghost use lib.ListN.{length};
 ghost use Rattle.read_tables.specs.Roots.{ProcessIn, BranchesIn};
 ghost use Rattle.read_tables.specs.Whole.{Tables};
 ghost use Rattle.run_words.specs.Raw.{rawIn};
-ghost use Rattle.check_contexts.specs.Held.{HeldIn};
+ghost use Rattle.check_contexts.specs.Held.{HeldIn, FoundIn};
 ghost use Rattle.run_alone.specs.Run.{configIn, processAs, RunOf, ProcessOf, Becomes, Carries};
 ghost use Rattle.run_messages.specs.Sending.{SendingIn};
-ghost use Rattle.run_messages.specs.Receiving.{ReceiverIn, bothSet, bothOn, FoundBounded, BringsFound, BranchIs};
+ghost use Rattle.run_messages.specs.Receiving.{ReceiverIn, bothSet, bothOn, BringsOver, BranchIs};
 ghost use Rattle.run_messages.specs.Meeting.{heardBy};
 use crate::messages::Receiver;
 use crate::messages::Sending;
+use crate::messages::came_over;
+use crate::messages::move_on;
 use calculus::answers::Seen;
 use check_contexts::held::Lookup;
 use check_contexts::held::bring_end;
 use check_contexts::held::drop_end;
 use check_contexts::held::find_end;
-use check_contexts::held::retype_end;
 use check_types::acting::labels_equal;
 use notation::reading::Found;
 use read_tables::access::branch;
@@ -102,16 +103,22 @@ pub fn hear_close(
     go_on(text, scratch, run, sent, to, t.third, held)
 }
 
-// With an end more under the name at `at`, if one was found.
-fn bring_found(h: Held, f: Lookup, at: u32) -> Held
-    requires { ⌜ (h .count < 16) × (at < 8192) ⌝ }
-    requires { ⌜ FoundBounded f ⌝ }
-    ensures { λ r. ⌜ BringsFound h f at r ⌝ }
+// With the end that was passed, if it was found and the receiver's own was: under the name at `at`, and of the type that its own lets over.
+fn bring_over(text: &[u8], scratch: &[u32], h: Held, own: Lookup, passed: Lookup, at: u32) -> Held
+    requires { ⌜ Tables (now text) (now scratch) ⌝ }
+    requires { ⌜ HeldIn (now text) (now scratch) h × (h .count < 16) × (at < 8192) ⌝ }
+    requires { ⌜ FoundIn (now text) (now scratch) own ⌝ }
+    requires { ⌜ FoundIn (now text) (now scratch) passed ⌝ }
+    ensures { λ r. ⌜ BringsOver (now (text .entry)) (now (scratch .entry)) h own passed at r ⌝ }
 {
-    match f {
-        Lookup::Found(d) => return bring_end(h, at, d.side, d.node, d.channel),
-        Lookup::Nothing => return h,
-    }
+    let Lookup::Found(e) = own else {
+        return h;
+    };
+    let Lookup::Found(d) = passed else {
+        return h;
+    };
+    let node = came_over(text, scratch, e.node as usize, d.node as usize);
+    bring_end(h, at, d.side, node as u32, d.channel)
 }
 
 // The receiver takes the channel that was passed.
@@ -135,8 +142,9 @@ pub fn hear_channel(
     let r = to.process;
     let t = to.term;
     let h = r.held;
-    let m = retype_end(text, h, to.name, sent.node);
-    let held = bring_found(m, f, t.second as u32);
+    let own = find_end(text, h, to.name);
+    let m = move_on(text, scratch, h, n, to.name);
+    let held = bring_over(text, scratch, m, own, f, t.second as u32);
     go_on(text, scratch, run, sent, to, t.third, held)
 }
 
@@ -181,6 +189,6 @@ pub fn hear_label(
     };
     let r = to.process;
     let h = r.held;
-    let held = retype_end(text, h, to.name, sent.node);
+    let held = move_on(text, scratch, h, n, to.name);
     go_on(text, scratch, run, sent, to, pointer, held)
 }

@@ -7,8 +7,10 @@ ghost use Rattle.run_alone.specs.Run.{configIn, RunOf, Becomes, Carries};
 ghost use Rattle.check_contexts.specs.Held.{EndIn};
 ghost use Rattle.run_words.specs.Values.{endIn};
 ghost use Rattle.run_alone.specs.Parting.{endAs};
-ghost use Rattle.run_messages.specs.Sending.{SendingIn, unheardBy, outBy, numbered, passedBy};
+ghost use Rattle.run_messages.specs.Sending.{SendingIn, OutsideIn, unheardBy, outBy, numbered, passedBy};
 use crate::messages::Sending;
+use crate::messages::after_message;
+use crate::messages::came_over;
 use calculus::answers::Seen;
 use check_contexts::held::Lookup;
 use check_contexts::held::find_end;
@@ -50,18 +52,19 @@ pub fn send_unheard(text: &[u8], scratch: &[u32], run: &mut [u32], sent: Sending
     Outcome::Carried(Seen::Nothing)
 }
 
-// A close or a label goes to the outside, which knows the channel by a number.
+// A close or a label goes to the outside, over its channel o.
 pub fn send_shown(
     text: &[u8],
     scratch: &[u32],
     run: &mut [u32],
     sent: Sending,
-    number: u32,
+    o: Outside,
 ) -> Outcome
     requires { ⌜ RunOf (now text) (now scratch) (now run) ⌝ }
     requires { ⌜ SendingIn (now text) (now scratch) (now run) sent ⌝ }
+    requires { ⌜ OutsideIn (now text) (now scratch) (now run) (sent .over .channel) o ⌝ }
     requires { ⌜ (sent .term .kind ≡ 2 → ⊥) ⌝ }
-    ensures { λ r. ⌜ Carries (now (text .entry)) (now (scratch .entry)) (now (run .entry)) (now (run .exit)) r (outBy (now (text .entry)) (now (scratch .entry)) (now (run .entry)) sent number) ⌝ }
+    ensures { λ r. ⌜ Carries (now (text .entry)) (now (scratch .entry)) (now (run .entry)) (now (run .exit)) r (outBy (now (text .entry)) (now (scratch .entry)) (now (run .entry)) sent (o .number)) ⌝ }
 {
     let n = sent.term;
     let q = sent.after;
@@ -69,10 +72,11 @@ pub fn send_shown(
     store(run, sent.place, q);
     if n.kind == 1 {
         let_go(run, e.channel);
-        return Outcome::Carried(Seen::Close(number));
+        return Outcome::Carried(Seen::Close(o.number));
     }
-    retype_outside(run, e.channel, sent.node);
-    Outcome::Carried(Seen::Label(number, n.second as u32))
+    let node = after_message(text, scratch, n, o.node as usize);
+    retype_outside(run, e.channel, node as u32);
+    Outcome::Carried(Seen::Label(o.number, n.second as u32))
 }
 
 // The end d is passed out under the number m, the next one; the outside lets go at once of one that was given up.
@@ -96,13 +100,13 @@ fn number_out(text: &[u8], scratch: &[u32], run: &mut [u32], m: u32, d: End, gon
     );
 }
 
-// The end d is passed out under the number m, over a channel that the outside knows by a number.
+// The end d is passed out under the number m, over the outside's channel o, which says the type that it then has.
 fn pass_numbered(
     text: &[u8],
     scratch: &[u32],
     run: &mut [u32],
     sent: Sending,
-    number: u32,
+    o: Outside,
     m: u32,
     d: End,
     gone: bool,
@@ -110,30 +114,31 @@ fn pass_numbered(
     requires { ⌜ RunOf (now text) (now scratch) (now run) ⌝ }
     requires { ⌜ SendingIn (now text) (now scratch) (now run) sent ⌝ }
     requires { ⌜ (m ≡ rawIn (now run) .given) × (m < 32) × (length (rawIn (now run) .outside) < 32) ⌝ }
+    requires { ⌜ OutsideIn (now text) (now scratch) (now run) (sent .over .channel) o × (sent .term .kind ≡ 2) ⌝ }
     requires { ⌜ EndIn (now text) (now scratch) (endIn d) ⌝ }
-    ensures { λ r. ⌜ Carries (now (text .entry)) (now (scratch .entry)) (now (run .entry)) (now (run .exit)) r (passedBy (now (text .entry)) (now (scratch .entry)) (now (run .entry)) sent number d gone) ⌝ }
+    ensures { λ r. ⌜ Carries (now (text .entry)) (now (scratch .entry)) (now (run .entry)) (now (run .exit)) r (passedBy (now (text .entry)) (now (scratch .entry)) (now (run .entry)) sent (o .number) d gone) ⌝ }
 {
+    let n = sent.term;
     let q = sent.after;
     let e = sent.over;
+    let left = after_message(text, scratch, n, o.node as usize);
+    let what = came_over(text, scratch, o.node as usize, d.node as usize);
+    let mut out = d;
+    out.node = what as u32;
     store(run, sent.place, q);
-    retype_outside(run, e.channel, sent.node);
-    number_out(text, scratch, run, m, d, gone);
-    Outcome::Carried(Seen::Passed(number, m, gone))
+    retype_outside(run, e.channel, left as u32);
+    number_out(text, scratch, run, m, out, gone);
+    Outcome::Carried(Seen::Passed(o.number, m, gone))
 }
 
 // "a channel passed out takes the next outside number".
-pub fn pass_out(
-    text: &[u8],
-    scratch: &[u32],
-    run: &mut [u32],
-    sent: Sending,
-    number: u32,
-) -> Outcome
+pub fn pass_out(text: &[u8], scratch: &[u32], run: &mut [u32], sent: Sending, o: Outside) -> Outcome
     requires { ⌜ RunOf (now text) (now scratch) (now run) ⌝ }
     requires { ⌜ SendingIn (now text) (now scratch) (now run) sent ⌝ }
+    requires { ⌜ OutsideIn (now text) (now scratch) (now run) (sent .over .channel) o ⌝ }
     requires { ⌜ length (rawIn (now run) .outside) ≤ rawIn (now run) .given ⌝ }
     requires { ⌜ sent .term .kind ≡ 2 ⌝ }
-    ensures { λ r. ⌜ Carries (now (text .entry)) (now (scratch .entry)) (now (run .entry)) (now (run .exit)) r (outBy (now (text .entry)) (now (scratch .entry)) (now (run .entry)) sent number) ⌝ }
+    ensures { λ r. ⌜ Carries (now (text .entry)) (now (scratch .entry)) (now (run .entry)) (now (run .exit)) r (outBy (now (text .entry)) (now (scratch .entry)) (now (run .entry)) sent (o .number)) ⌝ }
 {
     let n = sent.term;
     let p = sent.before;
@@ -148,5 +153,5 @@ pub fn pass_out(
     }
     let far = far_end(run, d.channel, d.side);
     let gone = is_given_up(far);
-    pass_numbered(text, scratch, run, sent, number, m, d, gone)
+    pass_numbered(text, scratch, run, sent, o, m, d, gone)
 }

@@ -1,6 +1,6 @@
 use mathlib.Core.Path.{sym}
 use Rattle.run_messages.specs.Meeting.{sends-out}
-use Rattle.run_messages.specs.Sending.{out-number}
+use Rattle.run_messages.specs.Sending.{out-number, outside-own}
 use Rattle.run_alone.specs.Parting.{outside-there-below}
 use Rattle.run_messages.specs.Room.{outside-few}
 use borrow.Author.Needs.{needs}
@@ -15,7 +15,7 @@ outside-at-requires c κs =
 pass-out-requires : tie.Need-pass-out-requires
 pass-out-requires c κs =
     let s = c .before .before .before .before .before .before .before .before .before in
-    (s .pre .0, (s .pre .1 .0, (outside-few (s .args .text .now) (s .args .scratch .now) (s .args .run .now) (s .pre .1 .1 .0), c .before .if1 .taken)))
+    (s .pre .0, (s .pre .1 .0, (outside-own (s .args .text .now) (s .args .scratch .now) (s .args .run .now) (s .args .sent .over) (s .args .k) _ (s .pre .0) (sym (s .pre .1 .1 .1)) (c .before .before .before .before .outside-at .ensures .0), (outside-few (s .args .text .now) (s .args .scratch .now) (s .args .run .now) (s .pre .1 .1 .0), c .before .if1 .taken))))
 
 same-length : tie.Need-same-length
 same-length c = search needs
@@ -28,7 +28,7 @@ returns c =
 send-shown-requires : tie.Need-send-shown-requires
 send-shown-requires c κs =
     let s = c .before .before .before .before .before .before .before .before .before in
-    (s .pre .0, (s .pre .1 .0, c .before .if1 .left))
+    (s .pre .0, (s .pre .1 .0, (outside-own (s .args .text .now) (s .args .scratch .now) (s .args .run .now) (s .args .sent .over) (s .args .k) _ (s .pre .0) (sym (s .pre .1 .1 .1)) (c .before .before .before .before .outside-at .ensures .0), c .before .if1 .left)))
 
 same-length-2 : tie.Need-same-length-2
 same-length-2 c = search needs
