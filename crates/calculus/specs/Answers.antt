@@ -1,4 +1,4 @@
--- Document 01's number and values for each case of the answers: the refusal's number, 0 where there is none, and what is given, in this order.
+-- The scope's number and values for each case of the answers: the refusal's number, 0 where there is none, and what is given, in this order.
 use Prim.Native.Nat.{ℕ}
 use mathlib.Core.List.{List, [], _∷_}
 use mathlib.Core.Bool.{Bool, true, false}

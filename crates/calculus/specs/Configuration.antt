@@ -26,7 +26,7 @@ ofType A e = record { side = e .side; channel = e .channel; type = A }
 abbrev pub ofChannel : ℕ → End → End
 ofChannel k e = record { side = e .side; channel = k; type = e .type }
 
--- what a process does: it runs a term; it folds up (document 01's term: "cancels one held channel a step, oldest first, then is empty"); it waits as a handler
+-- what a process does: it runs a term; it folds up (the scope's term: "cancels one held channel a step, oldest first, then is empty"); it waits as a handler
 pub data Doing : Type 0 where
   running : Proc → Doing
   folding : Doing
@@ -50,7 +50,7 @@ outsideOfType A o = record { number = o .number; channel = o .channel; type = A 
 abbrev pub outsideOfChannel : ℕ → Outside → Outside
 outsideOfChannel k o = record { number = o .number; channel = k; type = o .type }
 
--- the outside's channels stand in rising number; a place (document 01's term) is a position in the list of processes, from 0
+-- the outside's channels stand in rising number; a place (the scope's term) is a position in the list of processes, from 0
 pub record Config : Type 0 where
   pub processes : List Process
   pub outside : List Outside
@@ -170,7 +170,7 @@ abbrev pub freeFrom : List ℕ → ℕ → ℕ → Option ℕ
 freeFrom busy k zero = none
 freeFrom busy k (suc n) = let r = freeFrom busy (suc k) n in cond (among k busy) r (some k)
 
--- Document 01 leaves open which free channel place a new channel takes: here the lowest.
+-- The scope leaves open which free channel place a new channel takes: here the lowest.
 unfoldable pub freshChannel : Config → Option ℕ
 freshChannel C = freeFrom (channelsHeld C) 0 channelPlaces
 

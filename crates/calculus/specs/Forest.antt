@@ -7,7 +7,7 @@ use Rattle.notation.specs.Tree.{Name}
 use Rattle.calculus.specs.Types.{Side, provided, used}
 use Rattle.calculus.specs.Configuration.{End, Process, Config, Holder, Far, atProcess, atOutside, givenUp, farEnd}
 
--- a joint (document 01's term), by the places of the two processes that it joins
+-- a joint (the scope's term), by the places of the two processes that it joins
 abbrev pub Joint : Type 0
 Joint = ℕ × ℕ
 

@@ -1,4 +1,4 @@
--- The starred cases of document 01, computed from the rules.
+-- The starred cases of the scope, computed from the rules.
 use Prim.Native.Nat.{ℕ}
 use mathlib.Core.Path.{_≡_, refl}
 use mathlib.Core.List.{List, [], _∷_, _++_, map}
@@ -28,7 +28,7 @@ starred =
     ∷ record { text = []; output = [] }
     ∷ []
 
--- the program prints for each of them what document 01 says
+-- the program prints for each of them what the scope says
 pub starred-cases : map (λ (c : Case). printed (c .text)) starred ≡ map (λ (c : Case). c .output) starred
 unfolding printed
 starred-cases = refl

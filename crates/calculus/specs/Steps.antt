@@ -1,4 +1,4 @@
--- The step at a place: "Which rule applies is decided by the term's kind". One definition for each rule of document 01.
+-- The step at a place: "Which rule applies is decided by the term's kind". One definition for each rule of the scope.
 use Prim.Native.Nat.{ℕ, suc}
 use mathlib.Core.List.{List, [], _∷_, _++_}
 use mathlib.Core.Bool.{Bool, true, false, cond, _&&_}

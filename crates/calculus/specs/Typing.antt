@@ -1,4 +1,4 @@
--- The typing rules of document 01, one constructor for each, in its order and words.
+-- The typing rules of the scope, one constructor for each, in its order and words.
 -- `Typed p G link P`: with the channels of G held, oldest first, and with a link to a handler or none, P is typed in the program p.
 use Prim.Native.Nat.{ℕ, suc, _≤_, _<_}
 use mathlib.Core.Path.{_≡_}

@@ -1,5 +1,6 @@
 // Which names a process mentions: "A name bound anew inside a half is no mention of a held one."
 use crate::names::in_call;
+use notation::kinds;
 use notation::reading::TermNode;
 use notation::script::Script;
 use notation::token::names_equal;
@@ -21,19 +22,19 @@ fn has_first_name(kind: usize) -> bool
     if kind == 0 {
         return false;
     }
-    if kind == 5 {
+    if kind == kinds::SPAWN {
         return false;
     }
-    kind <= 9
+    kind <= kinds::FWD
 }
 
 fn has_second_name(kind: usize) -> bool
     ensures { λ r. ⌜ r ≡ hasSecondName kind ⌝ }
 {
-    if kind == 2 {
+    if kind == kinds::SEND_CHANNEL {
         return true;
     }
-    kind == 9
+    kind == kinds::FWD
 }
 
 // The first name of a node, if it has one, is the name at `at`; and likewise the second.
@@ -60,7 +61,7 @@ fn acts_on(text: &[u8], n: TermNode, at: usize) -> bool
     requires { ⌜ CallsFine (now text) n ⌝ }
     ensures { λ r. ⌜ r ≡ actsOn (now (text .entry)) n (nameAt (now (text .entry)) at) ⌝ }
 {
-    if n.kind == 10 {
+    if n.kind == kinds::CALL {
         return in_call(text, n.second, at);
     }
     if acts_first(text, n, at) {
@@ -73,10 +74,10 @@ fn acts_on(text: &[u8], n: TermNode, at: usize) -> bool
 fn binds_anew(text: &[u8], n: TermNode, at: usize) -> bool
     ensures { λ r. ⌜ r ≡ bindsAnew (now (text .entry)) n (nameAt (now (text .entry)) at) ⌝ }
 {
-    if n.kind == 5 {
+    if n.kind == kinds::SPAWN {
         return names_equal(text, at, n.at);
     }
-    if n.kind == 7 {
+    if n.kind == kinds::RECV_CHANNEL {
         return names_equal(text, at, n.second);
     }
     false
@@ -86,19 +87,19 @@ fn binds_anew(text: &[u8], n: TermNode, at: usize) -> bool
 fn has_halves(kind: usize) -> bool
     ensures { λ r. ⌜ r ≡ hasHalves kind ⌝ }
 {
-    if kind == 5 {
+    if kind == kinds::SPAWN {
         return true;
     }
-    kind == 12
+    kind == kinds::TRY
 }
 
 fn has_no_part(kind: usize) -> bool
     ensures { λ r. ⌜ r ≡ hasNoPart kind ⌝ }
 {
-    if kind == 9 {
+    if kind == kinds::FWD {
         return true;
     }
-    kind == 10
+    kind == kinds::CALL
 }
 
 // The process at the pointer p mentions the name at `at`.
@@ -126,7 +127,7 @@ fn parts_mention(text: &[u8], scratch: &[u32], p: usize, n: TermNode, at: usize)
     requires { ⌜ PartsIn (now text) (now scratch) p n ⌝ }
     ensures { λ r. ⌜ r ≡ partsMention (now (text .entry)) (now (scratch .entry)) n (nameAt (now (text .entry)) at) ⌝ }
 {
-    if n.kind == 8 {
+    if n.kind == kinds::RECV_LABEL {
         return branches_mention(text, scratch, p, n.second, n.third, at);
     }
     if has_no_part(n.kind) {

@@ -11,6 +11,7 @@ use Rattle.read_tables.specs.Decode.{tallyIn, numbered, alternativeAt, branchAt
 use Rattle.read_tables.specs.Roots.{AlternativesIn, alternativesIn, FirstAlternative, first-alternative, BranchesIn, branchesIn, FirstBranch, first-branch}
 use Rattle.read_tables.specs.Whole.{EntriesIn, FirstEntry, first-entry, Tables}
 use Rattle.notation.specs.Reader.{nameIn, labelIn}
+use Rattle.notation.specs.Tables.{branchRoom}
 
 -- what f says of n numbers from i on, joined
 abbrev pub fold : {A B : Type 0} → (A → B → B) → B → (ℕ → A) → ℕ → ℕ → B
@@ -109,7 +110,7 @@ module _ (s w : List ℕ) where
       alternative-first k h o = o .says s i (n - (k + 1)) (alternative-on i k e n h a)
 
     module _ (p e n : ℕ) (a : BranchesIn s w p e n) where
-      pub branches-fit : (n ≤ e) × (e ≤ 1640)
+      pub branches-fit : (n ≤ e) × (e ≤ branchRoom)
       branches-fit = let b = t .within in let c = a .within in (branches-past p n e a, omega arith)
 
       pub branch-first : (k : ℕ) → k < n → {r : Labelled} → BranchOf w (e - k) r → FirstBranch s w p (e - k) (n - (k + 1)) (r .at) (r .number)

@@ -10,6 +10,7 @@ use Rattle.notation.specs.Bytes.{same}
 use Rattle.notation.specs.Token.{nameAt}
 use Rattle.notation.specs.Tree.{Name, Located}
 use Rattle.notation.specs.Reader.{nameIn, labelIn}
+use Rattle.notation.specs.Tables.{branchRoom}
 use Rattle.calculus.specs.Declarations.{repeats}
 use Rattle.calculus.specs.Named.{any}
 use Rattle.theory_derivations.specs.Equality.{same-cases}
@@ -37,7 +38,7 @@ Fits Types n = n ≤ 64
 Fits Processes n = n ≤ 64
 Fits (Entries i) n = 0 < n → i + n ≤ 512
 Fits (Alternatives e) n = (n ≤ e) × (e ≤ 512)
-Fits (Branches e) n = (n ≤ e) × (e ≤ 1640)
+Fits (Branches e) n = (n ≤ e) × (e ≤ branchRoom)
 
 -- the name k of a list stands at r
 pub record StandsAt (w : List ℕ) (names : Names) (k : ℕ) (r : Place) : Type 0 where
@@ -147,7 +148,7 @@ module _ (k : ℕ) {names : Names} (f : Fits names (k + 1)) where
   pub fits-alternatives : {e : ℕ} → names ≡ Alternatives e → (k ≤ e) × (1 ≤ e - k) × (e - k ≤ 512)
   fits-alternatives {e} q = let (a, b) = fits-as (Alternatives e) q in (omega arith, omega arith, omega arith)
 
-  pub fits-branches : {e : ℕ} → names ≡ Branches e → (k ≤ e) × (1 ≤ e - k) × (e - k ≤ 1640)
+  pub fits-branches : {e : ℕ} → names ≡ Branches e → (k ≤ e) × (1 ≤ e - k) × (e - k ≤ branchRoom)
   fits-branches {e} q = let (a, b) = fits-as (Branches e) q in (omega arith, omega arith, omega arith)
 
 -- a list that fits has fewer names too

@@ -1,6 +1,7 @@
 // Refusal 8: a type that is defined as a bare name.
 use crate::lowest::Lowest;
 use crate::lowest::lowered;
+use notation::kinds;
 use read_tables::access::declared_type;
 use read_tables::access::type_count;
 use read_tables::access::type_node;
@@ -17,7 +18,7 @@ fn bare_name(text: &[u8], scratch: &[u32], i: usize, low: Lowest) -> Lowest
 {
     let t = declared_type(scratch, i);
     let n = type_node(scratch, t.number);
-    if n.kind == 1 {
+    if n.kind == kinds::NAMED {
         return lowered(low, n.second);
     }
     low

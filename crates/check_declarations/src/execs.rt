@@ -4,6 +4,7 @@ use crate::lowest::lowered;
 use crate::reach::has_other;
 use crate::reach::reach;
 use notation::reading::Found;
+use notation::script::Script;
 use read_tables::access::declared_process;
 use read_tables::access::entry;
 use read_tables::access::exec_at;
@@ -22,7 +23,13 @@ ghost use Rattle.check_declarations.specs.Lowest.{Lowered, least};
 ghost use Rattle.check_declarations.specs.Reach.{marked, anyBelow, Reaches};
 
 // One of the n signature entries from the place i on has @, -o or &, or a marked name.
-fn entries_other(text: &[u8], scratch: &[u32], marks: [bool; 64], i: usize, n: usize) -> bool
+fn entries_other(
+    text: &[u8],
+    scratch: &[u32],
+    marks: [bool; Script::TYPES],
+    i: usize,
+    n: usize,
+) -> bool
     requires { ⌜ Tables (now text) (now scratch) × EntriesIn (now text) (now scratch) i n ⌝ }
     ensures { λ r. ⌜ r ≡ anyBelow (entryOther (now (text .entry)) (now (scratch .entry)) (marked (now (text .entry)) (now (scratch .entry)) marks) i) n ⌝ }
 {
@@ -38,7 +45,7 @@ fn entries_other(text: &[u8], scratch: &[u32], marks: [bool; 64], i: usize, n: u
 }
 
 // The process whose name is at `at` keeps the rule, if there is one.
-fn keeps_rule(text: &[u8], scratch: &[u32], marks: [bool; 64], at: usize) -> bool
+fn keeps_rule(text: &[u8], scratch: &[u32], marks: [bool; Script::TYPES], at: usize) -> bool
     requires { ⌜ Tables (now text) (now scratch) × Reaches (now text) (now scratch) marks ⌝ }
     ensures { λ r. ⌜ r ≡ keepsRule (programIn (now (text .entry)) (now (scratch .entry))) (lookup (nameAt (now (text .entry)) at) (programIn (now (text .entry)) (now (scratch .entry)) .processes)) ⌝ }
 {
@@ -55,7 +62,13 @@ fn keeps_rule(text: &[u8], scratch: &[u32], marks: [bool; 64], at: usize) -> boo
 }
 
 // The exec i where its process breaks the rule.
-fn wrong_exec(text: &[u8], scratch: &[u32], marks: [bool; 64], i: usize, low: Lowest) -> Lowest
+fn wrong_exec(
+    text: &[u8],
+    scratch: &[u32],
+    marks: [bool; Script::TYPES],
+    i: usize,
+    low: Lowest,
+) -> Lowest
     requires { ⌜ Tables (now text) (now scratch) × Reaches (now text) (now scratch) marks × (i < 16) ⌝ }
     ensures { λ r. ⌜ Lowered low (breakingAt (programIn (now (text .entry)) (now (scratch .entry))) (execIn (now (text .entry)) (now (scratch .entry))) i) r ⌝ }
 {

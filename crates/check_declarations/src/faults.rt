@@ -3,6 +3,7 @@ use crate::lowest::Lowest;
 use crate::lowest::lowered;
 use crate::names::Names;
 use crate::names::repeated_names;
+use notation::kinds;
 use notation::reading::Found;
 use read_tables::access::alternative;
 use read_tables::access::type_node;
@@ -85,13 +86,13 @@ pub(crate) fn type_faults(text: &[u8], scratch: &[u32], pass: Pass, i: usize, lo
     ensures { λ r. ⌜ Lowered low (faultsIn (now (text .entry)) (now (scratch .entry)) pass i) r ⌝ }
 {
     let n = type_node(scratch, i);
-    if n.kind == 0 {
+    if n.kind == kinds::UNIT {
         return low;
     }
-    if n.kind == 1 {
+    if n.kind == kinds::NAMED {
         return name_faults(text, scratch, pass, n.second, low);
     }
-    if n.kind < 5 {
+    if n.kind < kinds::PLUS {
         let l = type_faults(text, scratch, pass, n.first, low);
         return type_faults(text, scratch, pass, n.second, l);
     }

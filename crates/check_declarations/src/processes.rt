@@ -5,7 +5,9 @@ use crate::faults::type_faults;
 use crate::faults::undefined_process;
 use crate::lowest::Lowest;
 use crate::names::Names;
+use notation::kinds;
 use notation::reading::TermNode;
+use notation::script::Script;
 use read_tables::access::branch;
 use read_tables::access::term_node;
 ghost use mathlib.Core.Path.{_≡_};
@@ -29,19 +31,19 @@ pub enum Parts {
 fn parts_of(kind: usize) -> Parts
     ensures { λ r. ⌜ r ≡ partsOf kind ⌝ }
 {
-    if kind == 5 {
+    if kind == kinds::SPAWN {
         return Parts::Both;
     }
-    if kind == 8 {
+    if kind == kinds::RECV_LABEL {
         return Parts::Branches;
     }
-    if kind == 9 {
+    if kind == kinds::FWD {
         return Parts::Leaf;
     }
-    if kind == 10 {
+    if kind == kinds::CALL {
         return Parts::Leaf;
     }
-    if kind == 12 {
+    if kind == kinds::TRY {
         return Parts::Both;
     }
     Parts::Third
@@ -63,14 +65,14 @@ fn node_faults(text: &[u8], scratch: &[u32], pass: Pass, n: TermNode, low: Lowes
     requires { ⌜ Tables (now text) (now scratch) × ((p : ℕ) × (p < 1024) × ProcessIn (now text) (now scratch) p × TermOf (now scratch) p n) ⌝ }
     ensures { λ r. ⌜ Lowered low (nodeFaults (now (text .entry)) (now (scratch .entry)) pass n) r ⌝ }
 {
-    if n.kind == 5 {
+    if n.kind == kinds::SPAWN {
         return type_faults(text, scratch, pass, n.first, low);
     }
-    if n.kind == 8 {
+    if n.kind == kinds::RECV_LABEL {
         let list = Names::Branches(n.second);
         return list_faults(text, scratch, pass, list, n.third, low);
     }
-    if n.kind == 10 {
+    if n.kind == kinds::CALL {
         return call_faults(text, scratch, pass, n.first, low);
     }
     low
@@ -87,7 +89,7 @@ pub(crate) fn process_faults(
     requires { ⌜ Tables (now text) (now scratch) × ProcessIn (now text) (now scratch) p ⌝ }
     ensures { λ r. ⌜ Lowered low (processFaultsIn (now (text .entry)) (now (scratch .entry)) pass p) r ⌝ }
 {
-    if 1024 <= p {
+    if Script::PROCESS_TERMS <= p {
         return low;
     }
     let n = term_node(scratch, p);

@@ -1,4 +1,6 @@
 // Which types reach @, -o or &, through names as well: a mark for each declared type.
+use notation::kinds;
+use notation::script::Script;
 use notation::token::names_equal;
 use read_tables::access::alternative;
 use read_tables::access::declared_type;
@@ -17,7 +19,13 @@ ghost use Rattle.read_tables.specs.Whole.{Tables};
 ghost use Rattle.check_declarations.specs.Reach.{isMarked, marked, Next, Reaches};
 
 // The type i is marked, and its name is the one at `at`.
-fn marked_so(text: &[u8], scratch: &[u32], marks: [bool; 64], i: usize, at: usize) -> bool
+fn marked_so(
+    text: &[u8],
+    scratch: &[u32],
+    marks: [bool; Script::TYPES],
+    i: usize,
+    at: usize,
+) -> bool
     requires { ⌜ Tables (now text) (now scratch) × (i < 64) ⌝ }
     ensures { λ r. ⌜ r ≡ isMarked (now (text .entry)) (now (scratch .entry)) marks (nameAt (now (text .entry)) at) i ⌝ }
 {
@@ -30,7 +38,7 @@ fn marked_so(text: &[u8], scratch: &[u32], marks: [bool; 64], i: usize, at: usiz
 }
 
 // A marked type has the name at `at`.
-fn is_marked(text: &[u8], scratch: &[u32], marks: [bool; 64], at: usize) -> bool
+fn is_marked(text: &[u8], scratch: &[u32], marks: [bool; Script::TYPES], at: usize) -> bool
     requires { ⌜ Tables (now text) (now scratch) ⌝ }
     ensures { λ r. ⌜ r ≡ any (same (nameAt (now (text .entry)) at)) (marked (now (text .entry)) (now (scratch .entry)) marks) ⌝ }
 {
@@ -46,24 +54,24 @@ fn is_marked(text: &[u8], scratch: &[u32], marks: [bool; 64], at: usize) -> bool
 }
 
 // The type i has @, -o or &, or a marked name.
-pub fn has_other(text: &[u8], scratch: &[u32], marks: [bool; 64], i: usize) -> bool
+pub fn has_other(text: &[u8], scratch: &[u32], marks: [bool; Script::TYPES], i: usize) -> bool
     requires { ⌜ Tables (now text) (now scratch) × TypeIn (now text) (now scratch) i ⌝ }
     ensures { λ r. ⌜ r ≡ hasOther (marked (now (text .entry)) (now (scratch .entry)) marks) (plainIn (now (text .entry)) (now (scratch .entry)) i) ⌝ }
 {
     let n = type_node(scratch, i);
-    if n.kind == 0 {
+    if n.kind == kinds::UNIT {
         return false;
     }
-    if n.kind == 1 {
+    if n.kind == kinds::NAMED {
         return is_marked(text, scratch, marks, n.second);
     }
-    if n.kind == 2 {
+    if n.kind == kinds::TENSOR {
         if has_other(text, scratch, marks, n.first) {
             return true;
         }
         return has_other(text, scratch, marks, n.second);
     }
-    if n.kind != 5 {
+    if n.kind != kinds::PLUS {
         return true;
     }
     let e = n.first;
@@ -80,7 +88,7 @@ pub fn has_other(text: &[u8], scratch: &[u32], marks: [bool; 64], i: usize) -> b
 }
 
 // The marks after one round: of each type whose definition has @, -o or &, or a marked name.
-fn next_marks(text: &[u8], scratch: &[u32], marks: [bool; 64]) -> [bool; 64]
+fn next_marks(text: &[u8], scratch: &[u32], marks: [bool; Script::TYPES]) -> [bool; Script::TYPES]
     requires { ⌜ Tables (now text) (now scratch) ⌝ }
     ensures { λ r. ⌜ Next (now (text .entry)) (now (scratch .entry)) marks r ⌝ }
 {
@@ -96,12 +104,12 @@ fn next_marks(text: &[u8], scratch: &[u32], marks: [bool; 64]) -> [bool; 64]
 }
 
 // The marks after as many rounds as there are types.
-pub fn reach(text: &[u8], scratch: &[u32]) -> [bool; 64]
+pub fn reach(text: &[u8], scratch: &[u32]) -> [bool; Script::TYPES]
     requires { ⌜ Tables (now text) (now scratch) ⌝ }
     ensures { λ r. ⌜ Reaches (now (text .entry)) (now (scratch .entry)) r ⌝ }
 {
     let n = type_count(scratch);
-    let mut marks = [false; 64];
+    let mut marks = [false; Script::TYPES];
     let mut k: usize = 0;
     while k < n {
         let next = next_marks(text, scratch, marks);

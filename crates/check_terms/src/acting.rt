@@ -8,6 +8,7 @@ use check_types::acting::standing;
 use check_types::equality::same_type;
 use check_types::messages::Choosing;
 use check_types::messages::Passing;
+use notation::kinds;
 use notation::reading::Found;
 use notation::words::narrow;
 use notation::words::wide;
@@ -48,7 +49,7 @@ pub fn is_unit(scratch: &[u32], i: usize) -> bool
     ensures { λ r. ⌜ UnitOf (now (scratch .entry)) i r ⌝ }
 {
     let n = type_node(scratch, i);
-    n.kind == 0
+    n.kind == kinds::UNIT
 }
 
 // The type of the channel c after the channel a has gone over it, if it may.

@@ -43,7 +43,7 @@ unfoldable pub sendStep : List ℕ → List ℕ → TermNode → Context → Ste
 sendStep s w n G =
     cond (eqb (n .kind) 1) (closes (programIn s w) provided (nameAt s (n .first)) G)
     (cond (eqb (n .kind) 2) (passes (programIn s w) (nameAt s (n .first)) (nameAt s (n .second)) G)
-    (cond (eqb (n .kind) 3) (chooses (programIn s w) (nameAt s (n .first)) (nameAt s (n .second + 1)) G) (givesUp (nameAt s (n .first)) G)))
+    (chooses (programIn s w) (nameAt s (n .first)) (nameAt s (n .second + 1)) G))
 
 unfoldable pub receiveStep : List ℕ → List ℕ → TermNode → Context → Step
 receiveStep s w n G =
@@ -122,17 +122,25 @@ module _ (s w : List ℕ) (p : ℕ) (n : TermNode) (t : NodeIn s w p n) where
   abbrev Sends : ℕ → Type 0
   Sends k = Part (n .third) × ((link : Bool) → Over link (sendStep s w (node k)))
 
-  sends : (k : ℕ) → Said k → 1 ≤ k → k ≤ 4 → Sends k
+  sends : (k : ℕ) → Said k → 1 ≤ k → k ≤ 3 → Sends k
   unfolding sendStep
   sends zero e l h = absurd e
   sends (suc zero) (f, e) l h = (f, λ link G. ap (check P G link) e ∙ check-send-unit P G link (n .at) _ _)
   sends (suc (suc zero)) (f, e) l h = (f, λ link G. ap (check P G link) e ∙ check-send-channel P G link (n .at) _ _ _)
   sends (suc (suc (suc zero))) (f, e) l h = (f, λ link G. ap (check P G link) e ∙ check-send-label P G link (n .at) _ _ _)
-  sends (suc (suc (suc (suc zero)))) (f, e) l h = (f, λ link G. ap (check P G link) e ∙ check-cancel P G link (n .at) _ _)
-  sends (suc (suc (suc (suc (suc k))))) e l h = absurd (omega (arith, h))
+  sends (suc (suc (suc (suc k)))) e l h = absurd (omega (arith, h))
 
-  pub send-at : 1 ≤ n .kind → n .kind ≤ 4 → Sends (n .kind)
+  pub send-at : 1 ≤ n .kind → n .kind ≤ 3 → Sends (n .kind)
   send-at = sends (n .kind) (t .says)
+
+  abbrev Cancels : Type 0
+  Cancels = Part (n .third) × ((link : Bool) → Over link (givesUp (nameAt s (n .first))))
+
+  cancels : Said 4 → Cancels
+  cancels (f, e) = (f, λ link G. ap (check P G link) e ∙ check-cancel P G link (n .at) _ _)
+
+  pub cancel-at : n .kind ≡ 4 → Cancels
+  cancel-at z = cancels (said 4 z)
 
   abbrev Receives : ℕ → Type 0
   Receives k = Part (n .third) × (k ≡ 7 → n .second < textLimit) × ((link : Bool) → Over link (receiveStep s w (node k)))

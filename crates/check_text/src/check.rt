@@ -27,7 +27,7 @@ fn check_tables(text: &[u8], part: &mut [u32]) -> Verdict
     requires { ⌜ TablesOf (now text) (now part) ⌝ }
     ensures { λ r. ⌜ PartChecked (now (text .entry)) r (now (part .exit)) ⌝ }
 {
-    let v = script_verdict(text, &part[0..8192]);
+    let v = script_verdict(text, &part[0..Script::SCRATCH_WORDS]);
     let Verdict::Refused(n, i) = v else {
         return Verdict::Fine;
     };
@@ -42,5 +42,5 @@ pub fn check(text: &[u8], scratch: &mut [u32]) -> Verdict
     if scratch.len() < Script::SCRATCH_WORDS {
         return Verdict::Refused(1, 0);
     }
-    check_part(text, &mut scratch[0..8192])
+    check_part(text, &mut scratch[0..Script::SCRATCH_WORDS])
 }

@@ -12,7 +12,9 @@ use check_contexts::halves::divides;
 use check_contexts::halves::keep;
 use check_contexts::held::retype_end;
 use check_terms::next::Next;
+use check_terms::sends::cancel_next;
 use check_types::acting::labelled;
+use notation::kinds;
 use notation::reading::Found;
 use notation::reading::TermNode;
 use notation::script::Script;
@@ -59,31 +61,52 @@ fn check_term(text: &[u8], scratch: &[u32], h: Held, link: bool, p: usize, n: Te
 {
     let kind = n.kind;
     match kind {
-        0..=4 => {
+        0..=kinds::SEND_LABEL => {
             let x = send_next(text, scratch, h, n);
             return check_rest(text, scratch, x, link, p, n.at, n.third);
         }
-        6..=7 => {
-            let x = receive_one(text, scratch, h, n);
+        kinds::CANCEL => {
+            let x = cancel_next(text, scratch, h, n.first);
             return check_rest(text, scratch, x, link, p, n.at, n.third);
         }
-        9..=10 => {
-            let x = ending_refusal(text, scratch, h, n);
-            return ended(n.at, x);
-        }
-        5 => {
-            return check_spawn(text, scratch, h, link, p, n);
-        }
-        8 => {
-            return check_choice(text, scratch, h, link, p, n);
-        }
-        11 => {
-            return check_raise(text, scratch, h, link, p, n);
-        }
-        _ => {
-            return check_try(text, scratch, h, link, p, n);
-        }
+        kinds::SPAWN => return check_spawn(text, scratch, h, link, p, n),
+        kinds::RECV_UNIT..=kinds::RECV_LABEL => return check_receive(text, scratch, h, link, p, n),
+        kinds::FWD.. => return check_ending(text, scratch, h, link, p, n),
     }
+}
+
+// A receive: of a close or a channel, after which one process follows, or of labels, which have branches.
+fn check_receive(
+    text: &[u8],
+    scratch: &[u32],
+    h: Held,
+    link: bool,
+    p: usize,
+    n: TermNode,
+) -> Verdict
+    requires { ⌜ Tables (now text) (now scratch) × HeldIn (now text) (now scratch) h × NodeIn (now text) (now scratch) p n × (6 ≤ n .kind) × (n .kind ≤ 8) ⌝ }
+    ensures { λ r. ⌜ verdictOf r ≡ check (programIn (now (text .entry)) (now (scratch .entry))) (contextIn (now (text .entry)) (now (scratch .entry)) h) link (processIn (now (text .entry)) (now (scratch .entry)) p) ⌝ }
+{
+    if n.kind == kinds::RECV_LABEL {
+        return check_choice(text, scratch, h, link, p, n);
+    }
+    let x = receive_one(text, scratch, h, n);
+    check_rest(text, scratch, x, link, p, n.at, n.third)
+}
+
+// A term that ends its process.
+fn check_ending(text: &[u8], scratch: &[u32], h: Held, link: bool, p: usize, n: TermNode) -> Verdict
+    requires { ⌜ Tables (now text) (now scratch) × HeldIn (now text) (now scratch) h × NodeIn (now text) (now scratch) p n × (9 ≤ n .kind) ⌝ }
+    ensures { λ r. ⌜ verdictOf r ≡ check (programIn (now (text .entry)) (now (scratch .entry))) (contextIn (now (text .entry)) (now (scratch .entry)) h) link (processIn (now (text .entry)) (now (scratch .entry)) p) ⌝ }
+{
+    if n.kind <= kinds::CALL {
+        let x = ending_refusal(text, scratch, h, n);
+        return ended(n.at, x);
+    }
+    if n.kind == kinds::RAISE {
+        return check_raise(text, scratch, h, link, p, n);
+    }
+    check_try(text, scratch, h, link, p, n)
 }
 
 fn ended(at: usize, refusal: u32) -> Verdict

@@ -7,12 +7,12 @@ use check_contexts::held::bring_end;
 use check_terms::calls::call_refusal;
 use check_terms::forwards::forward_refusal;
 use check_terms::next::Next;
-use check_terms::sends::cancel_next;
 use check_terms::sends::choose_next;
 use check_terms::sends::close_next;
 use check_terms::sends::is_new;
 use check_terms::sends::pass_next;
 use check_terms::sends::receive_next;
+use notation::kinds;
 use notation::reading::TermNode;
 use notation::script::Script;
 use notation::words::narrow;
@@ -29,21 +29,18 @@ ghost use Rattle.check_terms.specs.Next.{contextIn, Goes};
 ghost use Rattle.check_terms.specs.Endings.{numberOf};
 ghost use Rattle.check_text.specs.Nodes.{sendStep, receiveStep, endStep, spawnStep, SpawnHalf};
 
-// A send, or a cancel: what is held after it.
+// A send: what is held after it.
 pub(crate) fn send_next(text: &[u8], scratch: &[u32], h: Held, n: TermNode) -> Next
     requires { ⌜ Tables (now text) (now scratch) × HeldIn (now text) (now scratch) h ⌝ }
     ensures { λ r. ⌜ Goes (now (text .entry)) (now (scratch .entry)) r (sendStep (now (text .entry)) (now (scratch .entry)) n (contextIn (now (text .entry)) (now (scratch .entry)) h)) ⌝ }
 {
-    if n.kind == 1 {
+    if n.kind == kinds::SEND_UNIT {
         return close_next(text, scratch, h, n.first, 0);
     }
-    if n.kind == 2 {
+    if n.kind == kinds::SEND_CHANNEL {
         return pass_next(text, scratch, h, n.first, n.second);
     }
-    if n.kind == 3 {
-        return choose_next(text, scratch, h, n.first, n.second);
-    }
-    cancel_next(text, scratch, h, n.first)
+    choose_next(text, scratch, h, n.first, n.second)
 }
 
 // A receive of a close or of a channel.
@@ -51,7 +48,7 @@ pub(crate) fn receive_one(text: &[u8], scratch: &[u32], h: Held, n: TermNode) ->
     requires { ⌜ Tables (now text) (now scratch) × HeldIn (now text) (now scratch) h × (n .kind ≡ 7 → n .second < 8192) × (6 ≤ n .kind) × (n .kind ≤ 7) ⌝ }
     ensures { λ r. ⌜ Goes (now (text .entry)) (now (scratch .entry)) r (receiveStep (now (text .entry)) (now (scratch .entry)) n (contextIn (now (text .entry)) (now (scratch .entry)) h)) ⌝ }
 {
-    if n.kind == 6 {
+    if n.kind == kinds::RECV_UNIT {
         return close_next(text, scratch, h, n.first, 1);
     }
     receive_next(text, scratch, h, n.first, n.second)
@@ -63,7 +60,7 @@ pub(crate) fn ending_refusal(text: &[u8], scratch: &[u32], h: Held, n: TermNode)
     requires { ⌜ ((n .kind ≡ 9 → ⊥) → CallAt (now text) (n .second) (argumentsAt (now text) (n .second) .0) (argumentsAt (now text) (n .second) .1)) ⌝ }
     ensures { λ r. ⌜ r ≡ numberOf (endStep (now (text .entry)) (now (scratch .entry)) n (contextIn (now (text .entry)) (now (scratch .entry)) h)) ⌝ }
 {
-    if n.kind == 9 {
+    if n.kind == kinds::FWD {
         return forward_refusal(text, scratch, h, n.first, n.second);
     }
     call_refusal(text, scratch, h, n.first, n.second)

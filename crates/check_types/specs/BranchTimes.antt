@@ -7,7 +7,7 @@ use native.Mathlib.Omega.{arith}
 use Rattle.notation.specs.Bytes.{same}
 use Rattle.notation.specs.Token.{nameAt}
 use Rattle.calculus.specs.Typing.{times, labelNames}
-use Rattle.notation.specs.Tables.{Area}
+use Rattle.notation.specs.Tables.{Area, branchRoom}
 use Rattle.read_tables.specs.declared.access.Labelled.{Labelled}
 use Rattle.read_tables.specs.Access.{BranchOf, branch-there}
 use Rattle.read_tables.specs.Roots.{BranchesIn, branchesIn, FirstBranch}
@@ -34,7 +34,7 @@ module _ (s w : List ℕ) (at d₀ m₀ : ℕ) where
     left : BranchesIn s w (c .owner) d (suc (m - 1))
     left = subst (BranchesIn s w (c .owner) d) more (c .there)
 
-    pub count-there : Tables s w → Area w × (1 ≤ d) × (d ≤ 1640)
+    pub count-there : Tables s w → Area w × (1 ≤ d) × (d ≤ branchRoom)
     count-there t = let (l, u) = branch-there s w t (c .owner) d (m - 1) left in (t .area, l, u)
 
     sums : (p : Bool) (k′ x : ℕ) → timesIn d m ≡ cond p (suc x) x → k′ ≡ cond p (k + 1) k → (k′ + (m - 1) ≤ m₀) × (timesIn d₀ m₀ ≡ k′ + x)

@@ -1,6 +1,7 @@
 // What a type lets a process do.
 use crate::messages::Choosing;
 use crate::messages::Passing;
+use notation::kinds;
 use notation::reading::Found;
 use notation::token::names_equal;
 use read_tables::access::alternative;
@@ -23,7 +24,7 @@ pub fn standing(text: &[u8], scratch: &[u32], i: usize) -> usize
     ensures { λ r. ⌜ StandsFor (now (text .entry)) (now (scratch .entry)) i r ⌝ }
 {
     let n = type_node(scratch, i);
-    if n.kind != 1 {
+    if n.kind != kinds::NAMED {
         return i;
     }
     let found = find_type(text, scratch, n.second);
@@ -44,9 +45,9 @@ pub fn passing(scratch: &[u32], i: usize) -> Passing
     let n = type_node(scratch, i);
     let kind = n.kind;
     match kind {
-        2 => Passing::Passes(0, 1, n.first, n.second),
-        3 => Passing::Passes(1, 0, n.first, n.second),
-        4 => Passing::Passes(1, 1, n.first, n.second),
+        kinds::TENSOR => Passing::Passes(0, 1, n.first, n.second),
+        kinds::PAR => Passing::Passes(1, 0, n.first, n.second),
+        kinds::LOLLI => Passing::Passes(1, 1, n.first, n.second),
         _ => Passing::Nothing,
     }
 }
@@ -59,8 +60,8 @@ pub fn choosing(scratch: &[u32], i: usize) -> Choosing
     let n = type_node(scratch, i);
     let kind = n.kind;
     match kind {
-        5 => Choosing::Chooses(0, n.first, n.second),
-        6 => Choosing::Chooses(1, n.first, n.second),
+        kinds::PLUS => Choosing::Chooses(0, n.first, n.second),
+        kinds::WITH => Choosing::Chooses(1, n.first, n.second),
         _ => Choosing::Nothing,
     }
 }

@@ -1,5 +1,6 @@
 // Types compared: "part by part, down to names".
 use crate::acting::labels_equal;
+use notation::kinds;
 use notation::token::names_equal;
 use read_tables::access::alternative;
 use read_tables::access::type_node;
@@ -23,9 +24,9 @@ pub fn same_type(text: &[u8], scratch: &[u32], a: usize, b: usize) -> bool
         return false;
     }
     match kind {
-        0 => true,
-        1 => names_equal(text, x.second, y.second),
-        2..=4 => {
+        kinds::UNIT => true,
+        kinds::NAMED => names_equal(text, x.second, y.second),
+        kinds::TENSOR..=kinds::LOLLI => {
             if !same_type(text, scratch, x.first, y.first) {
                 return false;
             }

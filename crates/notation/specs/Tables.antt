@@ -38,21 +38,53 @@ termsAt = 1952
 abbrev pub branchesAt : ℕ
 branchesAt = 4000
 
+-- how many branches there is room for, which no text passes, since a branch takes five bytes at least; the words of all tables
+abbrev pub branchRoom : ℕ
+branchRoom = 1640
+
+abbrev pub tableWords : ℕ
+tableWords = 5640
+
+-- a word that holds several numbers: by what each is told from the next, and the unit of one that follows two others
+abbrev pub offsetRadix : ℕ
+offsetRadix = 8192
+
+abbrev pub typeKindRadix : ℕ
+typeKindRadix = 8
+
+abbrev pub typeFirstRadix : ℕ
+typeFirstRadix = 1024
+
+abbrev pub typeSecondUnit : ℕ
+typeSecondUnit = 8192
+
+abbrev pub termKindRadix : ℕ
+termKindRadix = 16
+
+abbrev pub termFirstUnit : ℕ
+termFirstUnit = 131072
+
+abbrev pub pointerRadix : ℕ
+pointerRadix = 16384
+
+abbrev pub providedRadix : ℕ
+providedRadix = 1024
+
 -- ── one entry of each table
 -- a type node: its kind, and two numbers below 1,024 and 524,288
 unfoldable pub typeWord : TypeNode → ℕ
-typeWord n = n .kind + 8 * n .first + 8192 * n .second
+typeWord n = n .kind + typeKindRadix * n .first + typeSecondUnit * n .second
 
 -- a process node: its kind, its offset and three numbers, in two words
 unfoldable pub termWord : TermNode → ℕ
-termWord n = n .kind + 16 * n .at + 131072 * n .first
+termWord n = n .kind + termKindRadix * n .at + termFirstUnit * n .first
 
 unfoldable pub termWord′ : TermNode → ℕ
-termWord′ n = n .second + 16384 * n .third
+termWord′ n = n .second + pointerRadix * n .third
 
 -- a name or label with what belongs to it
 unfoldable pub pairWord : ℕ → ℕ → ℕ
-pairWord at n = at + 8192 * n
+pairWord at n = at + offsetRadix * n
 
 unfoldable pub putNode : List ℕ → ℕ → TypeNode → List ℕ
 putNode w i n = set w (nodesAt + i) (typeWord n)
@@ -74,7 +106,7 @@ putType w i at n = set (set w (typesAt + 2 * i) at) (typesAt + 2 * i + 1) n
 
 unfoldable pub putProcess : List ℕ → ℕ → ProcessEntry → List ℕ
 putProcess w i p =
-    set (set (set (set w (processesAt + 4 * i) (p .at)) (processesAt + 4 * i + 1) (p .first)) (processesAt + 4 * i + 2) (p .provided + 1024 * p .used)) (processesAt + 4 * i + 3) (p .body)
+    set (set (set (set w (processesAt + 4 * i) (p .at)) (processesAt + 4 * i + 1) (p .first)) (processesAt + 4 * i + 2) (p .provided + providedRadix * p .used)) (processesAt + 4 * i + 3) (p .body)
 
 unfoldable pub putExec : List ℕ → ℕ → ℕ → List ℕ
 putExec w i at = set w (execsAt + i) at
@@ -263,4 +295,4 @@ tables s = tablesRead (readText s)
 
 -- the words of the tables' area are there
 abbrev pub Area : List ℕ → Type 0
-Area w = 5640 ≤ length w
+Area w = tableWords ≤ length w

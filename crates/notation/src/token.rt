@@ -143,10 +143,10 @@ fn within(low: u8, high: u8, b: u8) -> bool
 fn is_letter(b: u8) -> bool
     ensures { λ r. ⌜ r ≡ letter b ⌝ }
 {
-    if within(65, 90, b) {
+    if within(b'A', b'Z', b) {
         return true;
     }
-    within(97, 122, b)
+    within(b'a', b'z', b)
 }
 
 fn is_name_byte(b: u8) -> bool
@@ -155,7 +155,7 @@ fn is_name_byte(b: u8) -> bool
     if is_letter(b) {
         return true;
     }
-    if within(48, 57, b) {
+    if within(b'0', b'9', b) {
         return true;
     }
     b == b'_'
@@ -245,32 +245,32 @@ fn first_symbol(b: u8) -> usize
     ensures { λ r. ⌜ r ≡ beginning b 0 ⌝ }
 {
     match b {
-        b't' => 0,
-        b'p' => 1,
-        b'e' => 2,
-        b's' => 3,
-        b'r' => 4,
-        b'f' => 5,
-        b'c' => 6,
-        b'-' => 11,
-        b'<' => 12,
-        b'=' => 13,
-        b'(' => 14,
-        b')' => 15,
-        b'[' => 16,
-        b']' => 17,
-        b'{' => 18,
-        b'}' => 19,
-        b':' => 20,
-        b',' => 21,
-        b';' => 22,
-        b'|' => 24,
-        b'1' => 25,
-        b'*' => 26,
-        b'@' => 27,
-        b'+' => 28,
-        b'&' => 29,
-        _ => 30,
+        b't' => Token::TYPE,
+        b'p' => Token::PROC,
+        b'e' => Token::EXEC,
+        b's' => Token::SEND,
+        b'r' => Token::RECV,
+        b'f' => Token::FWD,
+        b'c' => Token::CALL,
+        b'-' => Token::LOLLI,
+        b'<' => Token::FROM,
+        b'=' => Token::THEN,
+        b'(' => Token::ROUND_OPEN,
+        b')' => Token::ROUND_CLOSE,
+        b'[' => Token::SQUARE_OPEN,
+        b']' => Token::SQUARE_CLOSE,
+        b'{' => Token::BRACE_OPEN,
+        b'}' => Token::BRACE_CLOSE,
+        b':' => Token::COLON,
+        b',' => Token::COMMA,
+        b';' => Token::SEMICOLON,
+        b'|' => Token::BAR,
+        b'1' => Token::ONE,
+        b'*' => Token::STAR,
+        b'@' => Token::AT,
+        b'+' => Token::PLUS,
+        b'&' => Token::WITH,
+        _ => Token::NAME,
     }
 }
 
@@ -281,12 +281,12 @@ fn next_symbol(k: usize) -> usize
     ensures { λ r. ⌜ k < r ⌝ }
 {
     match k {
-        0 => 9,
-        4 => 8,
-        6 => 7,
-        7 => 10,
-        13 => 23,
-        _ => 30,
+        Token::TYPE => Token::TRY,
+        Token::RECV => Token::RAISE,
+        Token::CALL => Token::CANCEL,
+        Token::CANCEL => Token::CATCH,
+        Token::THEN => Token::EQUALS,
+        _ => Token::NAME,
     }
 }
 
@@ -297,7 +297,7 @@ fn symbol_from(w: &[u8], from: usize) -> usize
 {
     let table = SYMBOLS;
     let mut k = from;
-    while k < 30 {
+    while k < Token::NAME {
         if is_symbol(w, &table, k) {
             return k;
         }
@@ -311,7 +311,7 @@ fn symbol(w: &[u8]) -> usize
     ensures { λ r. ⌜ r ≡ symbol (now (w .entry)) ⌝ }
 {
     let k = first_symbol(byte_at(w, 0));
-    if k < 30 {
+    if k < Token::NAME {
         return symbol_from(w, k);
     }
     k
@@ -411,7 +411,7 @@ fn mark_at(text: &[u8], i: usize) -> Token
     ensures { λ r. ⌜ r ≡ markAt (now (text .entry)) i ⌝ }
 {
     let k = symbol(part(text, i, 2));
-    if k < 14 {
+    if k < Token::ROUND_OPEN {
         return Token {
             kind: k,
             start: i,
@@ -419,7 +419,7 @@ fn mark_at(text: &[u8], i: usize) -> Token
         };
     }
     let m = symbol(part(text, i, 1));
-    if m < 30 {
+    if m < Token::NAME {
         return Token {
             kind: m,
             start: i,

@@ -6,7 +6,7 @@ use native.Mathlib.Omega.{arith}
 use Rattle.notation.specs.Limits.{textLimit, typeTermLimit, processTermLimit}
 use Rattle.notation.specs.Token.{nameAt}
 use Rattle.notation.specs.Reader.{nameIn}
-use Rattle.notation.specs.Tables.{processEntry}
+use Rattle.notation.specs.Tables.{processEntry, branchRoom}
 use Rattle.notation.specs.declared.reading.TypeNode.{TypeNode}
 use Rattle.notation.specs.declared.reading.TermNode.{TermNode}
 use Rattle.notation.specs.declared.reading.ProcessEntry.{ProcessEntry}
@@ -131,7 +131,7 @@ module _ (s w : List ℕ) (t : Tables s w) where
       let d = a .within in
       (omega arith, omega arith)
 
-  pub branch-there : (p e n : ℕ) → BranchesIn s w p e (suc n) → (1 ≤ e) × (e ≤ 1640)
+  pub branch-there : (p e n : ℕ) → BranchesIn s w p e (suc n) → (1 ≤ e) × (e ≤ branchRoom)
   branch-there p e n a =
       let b = t .within in
       let c = first-branch s w p e n a .past in

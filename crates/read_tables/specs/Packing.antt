@@ -5,7 +5,7 @@ use mathlib.Core.List.{List}
 use native.Mathlib.Omega.{arith}
 use lib.ListN.{length, getD, set, length-set}
 use lib.Seq.{getD-set-same, getD-set-other}
-use Rattle.notation.specs.Tables.{typesAt, processesAt, execsAt, entriesAt, nodesAt, alternativesAt, termsAt, branchesAt, typeNode, termNode, typeWord, termWord, termWord′, pairWord, putNode, putAlternative, putTerm, putBranch, putEntry, putType, putProcess, putExec, processEntry}
+use Rattle.notation.specs.Tables.{typesAt, processesAt, execsAt, entriesAt, nodesAt, alternativesAt, termsAt, branchesAt, typeNode, termNode, typeWord, termWord, termWord′, pairWord, putNode, putAlternative, putTerm, putBranch, putEntry, putType, putProcess, putExec, processEntry, branchRoom, offsetRadix}
 use Rattle.notation.specs.declared.reading.TypeNode.{TypeNode}
 use Rattle.notation.specs.Tables.{Area}
 use Rattle.read_tables.specs.Decode.{typeNodeOf, termNodeOf, pairOf, nodeAt, alternativeAt, termAt, branchAt, entryAt, typeAt, execAt, processEntryOf, processAt}
@@ -59,7 +59,7 @@ pub alternative-put : (w : List ℕ) (i at n : ℕ) → Area w → i < 512 → a
 unfolding alternativeAt putAlternative
 alternative-put w i at n h l a = ap pairOf (getD-set-same w (alternativesAt + i) _ 0 (omega arith)) ∙ pair-word at n a
 
-pub branch-put : (w : List ℕ) (i at n : ℕ) → Area w → i < 1640 → at < 8192 → branchAt (putBranch w i at n) i ≡ (at, n)
+pub branch-put : (w : List ℕ) (i at n : ℕ) → Area w → i < branchRoom → at < offsetRadix → branchAt (putBranch w i at n) i ≡ (at, n)
 unfolding branchAt putBranch
 branch-put w i at n h l a = ap pairOf (getD-set-same w (branchesAt + i) _ 0 (omega arith)) ∙ pair-word at n a
 

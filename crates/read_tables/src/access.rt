@@ -1,11 +1,28 @@
 // The entries of the tables, by value.
 use notation::reading::TermNode;
 use notation::reading::TypeNode;
+use notation::tables::ALTERNATIVES_AT;
+use notation::tables::BRANCHES_AT;
+use notation::tables::ENTRIES_AT;
+use notation::tables::EXECS_AT;
+use notation::tables::NODES_AT;
+use notation::tables::OFFSET_RADIX;
+use notation::tables::POINTER_RADIX;
+use notation::tables::PROCESSES_AT;
+use notation::tables::PROVIDED_RADIX;
+use notation::tables::TERM_FIRST_UNIT;
+use notation::tables::TERM_KIND_RADIX;
+use notation::tables::TERMS_AT;
+use notation::tables::TYPE_FIRST_RADIX;
+use notation::tables::TYPE_KIND_RADIX;
+use notation::tables::TYPE_SECOND_UNIT;
+use notation::tables::TYPES_AT;
 use notation::words::wide;
 ghost use mathlib.Core.Path.{_≡_};
 ghost use Prim.Native.Nat.{ℕ, _+_, _-_, _<_, _≤_};
 ghost use lib.ListN.{length, getD};
-ghost use Rattle.notation.specs.Tables.{Area};
+ghost use Rattle.notation.specs.Tables.{Area, branchRoom};
+ghost use Rattle.notation.specs.Limits.{execLimit, processTermLimit, typeTermLimit, processLimit, typeLimit};
 ghost use Rattle.read_tables.specs.Access.{Holds, NodeOf, TermOf, AlternativeOf, BranchOf, EntryOf, TypeOf, SignatureOf, ExecOf};
 ghost use Rattle.read_tables.specs.Decode.{tallyIn, pairOf};
 
@@ -36,29 +53,29 @@ fn two_words(scratch: &[u32], i: usize) -> Two
 
 // The type node i.
 pub fn type_node(scratch: &[u32], i: usize) -> TypeNode
-    requires { ⌜ Area (now scratch) × (i < 512) ⌝ }
+    requires { ⌜ Area (now scratch) × (i < typeTermLimit) ⌝ }
     ensures { λ r. ⌜ NodeOf (now (scratch .entry)) i r ⌝ }
 {
-    let x = word(scratch, 928 + i);
+    let x = word(scratch, NODES_AT + i);
     TypeNode {
-        kind: x % 8,
-        first: x / 8 % 1024,
-        second: x / 8192,
+        kind: x % TYPE_KIND_RADIX,
+        first: x / TYPE_KIND_RADIX % TYPE_FIRST_RADIX,
+        second: x / TYPE_SECOND_UNIT,
     }
 }
 
 // The process node i.
 pub fn term_node(scratch: &[u32], i: usize) -> TermNode
-    requires { ⌜ Area (now scratch) × (i < 1024) ⌝ }
+    requires { ⌜ Area (now scratch) × (i < processTermLimit) ⌝ }
     ensures { λ r. ⌜ TermOf (now (scratch .entry)) i r ⌝ }
 {
-    let w = two_words(scratch, 1952 + 2 * i);
+    let w = two_words(scratch, TERMS_AT + 2 * i);
     TermNode {
-        kind: w.first % 16,
-        at: w.first / 16 % 8192,
-        first: w.first / 131072,
-        second: w.second % 16384,
-        third: w.second / 16384,
+        kind: w.first % TERM_KIND_RADIX,
+        at: w.first / TERM_KIND_RADIX % OFFSET_RADIX,
+        first: w.first / TERM_FIRST_UNIT,
+        second: w.second % POINTER_RADIX,
+        third: w.second / POINTER_RADIX,
     }
 }
 
@@ -74,33 +91,33 @@ fn pair(scratch: &[u32], i: usize) -> Labelled
 {
     let x = word(scratch, i);
     Labelled {
-        at: x % 8192,
-        number: x / 8192,
+        at: x % OFFSET_RADIX,
+        number: x / OFFSET_RADIX,
     }
 }
 
 // The first of the alternatives before the place e.
 pub fn alternative(scratch: &[u32], e: usize) -> Labelled
-    requires { ⌜ Area (now scratch) × (1 ≤ e) × (e ≤ 512) ⌝ }
+    requires { ⌜ Area (now scratch) × (1 ≤ e) × (e ≤ typeTermLimit) ⌝ }
     ensures { λ r. ⌜ AlternativeOf (now (scratch .entry)) e r ⌝ }
 {
-    pair(scratch, 1440 + (e - 1))
+    pair(scratch, ALTERNATIVES_AT + (e - 1))
 }
 
 // The first of the branches before the place e.
 pub fn branch(scratch: &[u32], e: usize) -> Labelled
-    requires { ⌜ Area (now scratch) × (1 ≤ e) × (e ≤ 1640) ⌝ }
+    requires { ⌜ Area (now scratch) × (1 ≤ e) × (e ≤ branchRoom) ⌝ }
     ensures { λ r. ⌜ BranchOf (now (scratch .entry)) e r ⌝ }
 {
-    pair(scratch, 4000 + (e - 1))
+    pair(scratch, BRANCHES_AT + (e - 1))
 }
 
 // The signature entry at the place i.
 pub fn entry(scratch: &[u32], i: usize) -> Labelled
-    requires { ⌜ Area (now scratch) × (i < 512) ⌝ }
+    requires { ⌜ Area (now scratch) × (i < typeTermLimit) ⌝ }
     ensures { λ r. ⌜ EntryOf (now (scratch .entry)) i r ⌝ }
 {
-    pair(scratch, 416 + i)
+    pair(scratch, ENTRIES_AT + i)
 }
 
 // How many types, processes and execs are declared, and how many type nodes and process nodes there are.
@@ -141,10 +158,10 @@ pub fn term_count(scratch: &[u32]) -> usize
 
 // The type i: where its name stands, and the node of its definition.
 pub fn declared_type(scratch: &[u32], i: usize) -> Labelled
-    requires { ⌜ Area (now scratch) × (i < 64) ⌝ }
+    requires { ⌜ Area (now scratch) × (i < typeLimit) ⌝ }
     ensures { λ r. ⌜ TypeOf (now (scratch .entry)) i r ⌝ }
 {
-    let w = two_words(scratch, 16 + 2 * i);
+    let w = two_words(scratch, TYPES_AT + 2 * i);
     Labelled {
         at: w.first,
         number: w.second,
@@ -162,24 +179,24 @@ pub struct Declared {
 
 // The process i.
 pub fn declared_process(scratch: &[u32], i: usize) -> Declared
-    requires { ⌜ Area (now scratch) × (i < 64) ⌝ }
+    requires { ⌜ Area (now scratch) × (i < processLimit) ⌝ }
     ensures { λ r. ⌜ SignatureOf (now (scratch .entry)) i r ⌝ }
 {
-    let named = two_words(scratch, 144 + 4 * i);
-    let counted = two_words(scratch, 144 + 4 * i + 2);
+    let named = two_words(scratch, PROCESSES_AT + 4 * i);
+    let counted = two_words(scratch, PROCESSES_AT + 4 * i + 2);
     Declared {
         at: named.first,
         first: named.second,
-        provided: counted.first % 1024,
-        used: counted.first / 1024,
+        provided: counted.first % PROVIDED_RADIX,
+        used: counted.first / PROVIDED_RADIX,
         body: counted.second,
     }
 }
 
 // Where the name of the exec i stands.
 pub fn exec_at(scratch: &[u32], i: usize) -> usize
-    requires { ⌜ Area (now scratch) × (i < 16) ⌝ }
+    requires { ⌜ Area (now scratch) × (i < execLimit) ⌝ }
     ensures { λ r. ⌜ ExecOf (now (scratch .entry)) i r ⌝ }
 {
-    word(scratch, 400 + i)
+    word(scratch, EXECS_AT + i)
 }

@@ -7,7 +7,7 @@ use Rattle.notation.specs.Limits.{scratchWords}
 use Rattle.notation.specs.Tree.{Declaration}
 use Rattle.notation.specs.Reader.{Result, got, refused}
 use Rattle.notation.specs.Scripts.{readText}
-use Rattle.notation.specs.Tables.{afterScript, nothing, tables}
+use Rattle.notation.specs.Tables.{afterScript, nothing, tables, branchRoom}
 use Rattle.notation.specs.declared.reading.Cursor.{Cursor}
 use Rattle.notation.specs.declared.reading.Tally.{Tally}
 use Rattle.notation.specs.declared.script.Script.{Script}
@@ -24,7 +24,7 @@ Within k =
     × (k .nodes ≤ 512)
     × (k .alternatives ≤ 512)
     × (k .terms ≤ 1024)
-    × (k .branches ≤ 1640)
+    × (k .branches ≤ branchRoom)
 
 abbrev pub FitsTables : List ℕ → Type 0
 FitsTables s = (ds : List Declaration) (d : Cursor) → readText s ≡ got ds d → Within (afterScript ds nothing)

@@ -1,8 +1,10 @@
 // The reading of processes: "A process holds branches and a branch holds a process".
+use notation::kinds;
 use notation::reading::Cursor;
 use notation::reading::Taken;
 use notation::reading::Tally;
 use notation::reading::TermNode;
+use notation::script::Script;
 use notation::token::Payload;
 use notation::token::TermHead;
 use notation::token::Token;
@@ -97,28 +99,28 @@ fn sent_node(k: Tally, at: usize, i: usize, j: usize, head: Payload) -> TermNode
     let third = k.last;
     match head {
         Payload::Unit => TermNode {
-            kind: 1,
+            kind: kinds::SEND_UNIT,
             at,
             first: i,
             second: 0,
             third,
         },
         Payload::Channel => TermNode {
-            kind: 2,
+            kind: kinds::SEND_CHANNEL,
             at,
             first: i,
             second: j,
             third,
         },
         Payload::Label => TermNode {
-            kind: 3,
+            kind: kinds::SEND_LABEL,
             at,
             first: i,
             second: j,
             third,
         },
         Payload::Other => TermNode {
-            kind: 1,
+            kind: kinds::SEND_UNIT,
             at,
             first: i,
             second: 0,
@@ -136,28 +138,28 @@ fn received_node(k: Tally, at: usize, i: usize, j: usize, head: Payload) -> Term
     let third = k.last;
     match head {
         Payload::Unit => TermNode {
-            kind: 6,
+            kind: kinds::RECV_UNIT,
             at,
             first: i,
             second: 0,
             third,
         },
         Payload::Channel => TermNode {
-            kind: 7,
+            kind: kinds::RECV_CHANNEL,
             at,
             first: i,
             second: j,
             third,
         },
         Payload::Label => TermNode {
-            kind: 6,
+            kind: kinds::RECV_UNIT,
             at,
             first: i,
             second: 0,
             third,
         },
         Payload::Other => TermNode {
-            kind: 6,
+            kind: kinds::RECV_UNIT,
             at,
             first: i,
             second: 0,
@@ -259,7 +261,7 @@ fn read_call(text: &[u8], scratch: &mut [u32], c: Cursor, k: Tally) -> Out
         scratch,
         k,
         TermNode {
-            kind: 10,
+            kind: kinds::CALL,
             at,
             first: i,
             second: bracket,
@@ -290,7 +292,7 @@ fn read_fwd(text: &[u8], scratch: &mut [u32], c: Cursor, k: Tally) -> Out
         scratch,
         k,
         TermNode {
-            kind: 9,
+            kind: kinds::FWD,
             at,
             first: i,
             second: j,
@@ -317,7 +319,7 @@ pub(crate) fn read_process(text: &[u8], scratch: &mut [u32], c: Cursor, k: Tally
         TermHead::Raise => read_raise(text, scratch, c, k),
         TermHead::Try => read_try(text, scratch, c, k),
         TermHead::Spawn => read_spawn(text, scratch, c, k),
-        TermHead::Empty => Out::Got(c, lasting(k, 1024 + t.start)),
+        TermHead::Empty => Out::Got(c, lasting(k, Script::PROCESS_TERMS + t.start)),
     }
 }
 
@@ -335,7 +337,7 @@ fn read_rest(text: &[u8], scratch: &mut [u32], c: Cursor, k: Tally) -> Out
         };
         return read_process(text, scratch, d, k);
     }
-    Out::Got(c, lasting(k, 1024 + t.start))
+    Out::Got(c, lasting(k, Script::PROCESS_TERMS + t.start))
 }
 
 // send c (), send c a, send c 'l
@@ -405,7 +407,7 @@ fn read_cancel(text: &[u8], scratch: &mut [u32], c: Cursor, k: Tally) -> Out
         scratch,
         l,
         TermNode {
-            kind: 4,
+            kind: kinds::CANCEL,
             at,
             first: i,
             second: 0,
@@ -433,7 +435,7 @@ fn read_raise(text: &[u8], scratch: &mut [u32], c: Cursor, k: Tally) -> Out
         scratch,
         l,
         TermNode {
-            kind: 11,
+            kind: kinds::RAISE,
             at,
             first: 0,
             second: 0,
@@ -539,7 +541,7 @@ fn receive_label(text: &[u8], scratch: &mut [u32], c: Cursor, k: Tally, at: usiz
         scratch,
         l,
         TermNode {
-            kind: 8,
+            kind: kinds::RECV_LABEL,
             at,
             first: i,
             second,
@@ -626,7 +628,7 @@ fn read_try(text: &[u8], scratch: &mut [u32], c: Cursor, k: Tally) -> Out
         scratch,
         m,
         TermNode {
-            kind: 12,
+            kind: kinds::TRY,
             at,
             first: 0,
             second,
@@ -677,7 +679,7 @@ fn read_parts(text: &[u8], scratch: &mut [u32], c: Cursor, k: Tally, i: usize) -
         scratch,
         m,
         TermNode {
-            kind: 5,
+            kind: kinds::SPAWN,
             at: i,
             first,
             second,

@@ -24,7 +24,7 @@ pub fn zero(part: &mut [u32])
     ensures { λ r. ⌜ now (part .exit) ≡ zeros ⌝ }
 {
     let mut k: usize = 0;
-    while k < 8192 {
+    while k < Script::SCRATCH_WORDS {
         part[k] = 0;
         k += 1;
     }
@@ -96,5 +96,5 @@ pub fn read(text: &[u8], scratch: &mut [u32]) -> Reading
     if scratch.len() < Script::SCRATCH_WORDS {
         return Reading::Refused(1, 0);
     }
-    fill(text, &mut scratch[0..8192])
+    fill(text, &mut scratch[0..Script::SCRATCH_WORDS])
 }

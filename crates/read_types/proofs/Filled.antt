@@ -10,6 +10,7 @@ use Rattle.notation.specs.declared.reading.Cursor.{Cursor}
 use Rattle.notation.specs.declared.reading.Tally.{Tally}
 use Rattle.notation.specs.declared.reading.Taken.{Taken}
 use Rattle.notation.specs.declared.reading.Taken.the-variants.{Refused}
+use Rattle.notation.specs.Tables.{tableWords}
 use Rattle.read_types.specs.declared.steps.Out.{Out}
 use Rattle.read_types.specs.declared.steps.Out.the-variants.{Got, Not}
 use Rattle.read_types.specs.Filling.{Kept, WordPut, Put, pastArea, Stepped, asOut, Form, Made, Meets}
@@ -43,9 +44,9 @@ drop-set (suc n) (x ∷ w) zero a l = refl
 drop-set (suc n) (x ∷ w) (suc i) a l = drop-set n w i a (le-of-suc-le-suc l)
 
 -- a word of the tables is set
-pub kept-set : (w : List ℕ) (i a : ℕ) → i < 5640 → Kept w (set w i a)
+pub kept-set : (w : List ℕ) (i a : ℕ) → i < tableWords → Kept w (set w i a)
 unfolding pastArea
-kept-set w i a l = record { long = length-set w i a; past = drop-set 5640 w i a l }
+kept-set w i a l = record { long = length-set w i a; past = drop-set tableWords w i a l }
 
 -- the words that puts leave, one after another
 infixl 30 _set-more_

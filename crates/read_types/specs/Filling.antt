@@ -10,7 +10,7 @@ use Rattle.notation.specs.Token.{tokenAt, width, kColon, kRoundClose, kBraceOpe
 use Rattle.notation.specs.Tree.{Located, Ty, unit, named, tensor, par, lolli, plus, with, Alternatives, alternative}
 use Rattle.notation.specs.Reader.{Result, got, refused, take, fault, expect, opening, typeTerm, closed, thenToken, nameIn}
 use Rattle.notation.specs.Types.{readType, readAtom, readAlternatives, labelTerm, rightBy, roundBy, choiceBy, moreBy}
-use Rattle.notation.specs.Tables.{afterType, afterAlternatives, writeType, writeAlternatives, moreNodes, putInfix, Area}
+use Rattle.notation.specs.Tables.{afterType, afterAlternatives, writeType, writeAlternatives, moreNodes, putInfix, Area, offsetRadix, pointerRadix, tableWords}
 use Rattle.notation.specs.declared.reading.Tally.{Tally}
 use Rattle.notation.specs.declared.reading.TypeNode.{TypeNode}
 use Rattle.notation.specs.declared.reading.TermNode.{TermNode}
@@ -75,7 +75,7 @@ choiceOpening s k c = thenToken (typeTerm s k c) (opening s kBraceOpen)
 -- ── the tables
 -- what is past the tables' area
 unfoldable pub pastArea : List ℕ → List ℕ
-pastArea w = drop 5640 w
+pastArea w = drop tableWords w
 
 -- v has as many words as w, and past the tables' area the same ones
 pub record Kept (w v : List ℕ) : Type 0 where
@@ -99,11 +99,11 @@ Fits n = (n .kind < 8) × (n .first < 1024) × (n .second < 524288)
 
 -- what fits a process node's two words
 abbrev pub FitsTerm : TermNode → Type 0
-FitsTerm n = (n .kind < 16) × (n .at < 8192) × (n .first < 32768) × (n .second < 16384) × (n .third < 262144)
+FitsTerm n = (n .kind < 16) × (n .at < offsetRadix) × (n .first < 32768) × (n .second < pointerRadix) × (n .third < 262144)
 
 -- what fits a process's four words
 abbrev pub FitsEntry : ProcessEntry → Type 0
-FitsEntry p = (p .at < 8192) × (p .first ≤ 512) × (p .provided ≤ 512) × (p .used ≤ 512) × (p .body ≤ 9216)
+FitsEntry p = (p .at < offsetRadix) × (p .first ≤ typeTermLimit) × (p .provided ≤ typeTermLimit) × (p .used ≤ typeTermLimit) × (p .body ≤ processTermLimit + textLimit)
 
 -- there is room for what the text can still bring
 abbrev pub Room : List ℕ → List ℕ → Cursor → Tally → Type 0

@@ -3,15 +3,31 @@ use notation::reading::ProcessEntry;
 use notation::reading::Tally;
 use notation::reading::TermNode;
 use notation::reading::TypeNode;
+use notation::tables::ALTERNATIVES_AT;
+use notation::tables::BRANCHES_AT;
+use notation::tables::ENTRIES_AT;
+use notation::tables::EXECS_AT;
+use notation::tables::NODES_AT;
+use notation::tables::OFFSET_RADIX;
+use notation::tables::POINTER_RADIX;
+use notation::tables::PROCESSES_AT;
+use notation::tables::PROVIDED_RADIX;
+use notation::tables::TERM_FIRST_UNIT;
+use notation::tables::TERM_KIND_RADIX;
+use notation::tables::TERMS_AT;
+use notation::tables::TYPE_KIND_RADIX;
+use notation::tables::TYPE_SECOND_UNIT;
+use notation::tables::TYPES_AT;
 ghost use mathlib.Core.Path.{_≡_};
 ghost use Prim.Native.Nat.{_<_};
-ghost use Rattle.notation.specs.Tables.{moreNodes, moreAlternatives, moreTerms, moreBranches, pairWord, putNode, putAlternative, putTerm, putBranch, putEntry, putType, putProcess, putExec, moreEntries, moreTypes, moreProcesses, moreExecs, lasting};
+ghost use Rattle.notation.specs.Tables.{moreNodes, moreAlternatives, moreTerms, moreBranches, pairWord, putNode, putAlternative, putTerm, putBranch, putEntry, putType, putProcess, putExec, moreEntries, moreTypes, moreProcesses, moreExecs, lasting, branchRoom, offsetRadix, pointerRadix, tableWords};
 ghost use Rattle.read_types.specs.Filling.{WordPut, Put, Fits, FitsTerm, FitsEntry};
 ghost use Rattle.notation.specs.Tables.{Area};
+ghost use Rattle.notation.specs.Limits.{execLimit, labelLimit, processLimit, processTermLimit, typeLimit, typeTermLimit};
 
 // The word at i is n.
 pub fn put_word(scratch: &mut [u32], i: usize, n: usize)
-    requires { ⌜ Area (now scratch) × (i < 5640) × (n < 4294967296) ⌝ }
+    requires { ⌜ Area (now scratch) × (i < tableWords) × (n < 4294967296) ⌝ }
     ensures { λ r. ⌜ WordPut (now (scratch .entry)) i n (now (scratch .exit)) ⌝ }
 {
     scratch[i] = n as u32;
@@ -19,22 +35,22 @@ pub fn put_word(scratch: &mut [u32], i: usize, n: usize)
 
 // The word at i is a name or label with the number that belongs to it.
 fn put_pair(scratch: &mut [u32], i: usize, at: usize, n: usize)
-    requires { ⌜ Area (now scratch) × (i < 5640) × (at < 8192) × (n < 16384) ⌝ }
+    requires { ⌜ Area (now scratch) × (i < tableWords) × (at < offsetRadix) × (n < pointerRadix) ⌝ }
     ensures { λ r. ⌜ WordPut (now (scratch .entry)) i (pairWord at n) (now (scratch .exit)) ⌝ }
 {
-    put_word(scratch, i, at + 8192 * n);
+    put_word(scratch, i, at + OFFSET_RADIX * n);
 }
 
 // Appends a type node.
 pub fn put_node(scratch: &mut [u32], k: Tally, n: TypeNode) -> Tally
-    requires { ⌜ Area (now scratch) × (k .nodes < 512) ⌝ }
+    requires { ⌜ Area (now scratch) × (k .nodes < typeTermLimit) ⌝ }
     requires { ⌜ Fits n ⌝ }
     ensures { λ r. ⌜ Put (now (scratch .entry)) (putNode (now (scratch .entry)) (k .nodes) n) (moreNodes k) r (now (scratch .exit)) ⌝ }
 {
     put_word(
         scratch,
-        928 + k.nodes,
-        n.kind + 8 * n.first + 8192 * n.second,
+        NODES_AT + k.nodes,
+        n.kind + TYPE_KIND_RADIX * n.first + TYPE_SECOND_UNIT * n.second,
     );
     let mut l = k;
     l.nodes = k.nodes + 1;
@@ -44,10 +60,10 @@ pub fn put_node(scratch: &mut [u32], k: Tally, n: TypeNode) -> Tally
 
 // Appends an alternative: the label at `at` with a type's node.
 pub fn put_alternative(scratch: &mut [u32], k: Tally, at: usize, node: usize) -> Tally
-    requires { ⌜ Area (now scratch) × (k .alternatives < 512) × (k .last < 16) × (at < 8192) × (node < 512) ⌝ }
+    requires { ⌜ Area (now scratch) × (k .alternatives < typeTermLimit) × (k .last < labelLimit) × (at < offsetRadix) × (node < typeTermLimit) ⌝ }
     ensures { λ r. ⌜ Put (now (scratch .entry)) (putAlternative (now (scratch .entry)) (k .alternatives) at node) (moreAlternatives k) r (now (scratch .exit)) ⌝ }
 {
-    put_pair(scratch, 1440 + k.alternatives, at, node);
+    put_pair(scratch, ALTERNATIVES_AT + k.alternatives, at, node);
     let mut l = k;
     l.alternatives = k.alternatives + 1;
     l.last = k.last + 1;
@@ -56,13 +72,17 @@ pub fn put_alternative(scratch: &mut [u32], k: Tally, at: usize, node: usize) ->
 
 // Appends a process node.
 pub fn put_term(scratch: &mut [u32], k: Tally, n: TermNode) -> Tally
-    requires { ⌜ Area (now scratch) × (k .terms < 1024) ⌝ }
+    requires { ⌜ Area (now scratch) × (k .terms < processTermLimit) ⌝ }
     requires { ⌜ FitsTerm n ⌝ }
     ensures { λ r. ⌜ Put (now (scratch .entry)) (putTerm (now (scratch .entry)) (k .terms) n) (moreTerms k) r (now (scratch .exit)) ⌝ }
 {
-    let i = 1952 + 2 * k.terms;
-    put_word(scratch, i, n.kind + 16 * n.at + 131072 * n.first);
-    put_word(scratch, i + 1, n.second + 16384 * n.third);
+    let i = TERMS_AT + 2 * k.terms;
+    put_word(
+        scratch,
+        i,
+        n.kind + TERM_KIND_RADIX * n.at + TERM_FIRST_UNIT * n.first,
+    );
+    put_word(scratch, i + 1, n.second + POINTER_RADIX * n.third);
     let mut l = k;
     l.terms = k.terms + 1;
     l.last = k.terms;
@@ -71,10 +91,10 @@ pub fn put_term(scratch: &mut [u32], k: Tally, n: TermNode) -> Tally
 
 // Appends a branch: the label at `at` with a process's pointer.
 pub fn put_branch(scratch: &mut [u32], k: Tally, at: usize, pointer: usize) -> Tally
-    requires { ⌜ Area (now scratch) × (k .branches < 1640) × (k .last < 16) × (at < 8192) × (pointer < 16384) ⌝ }
+    requires { ⌜ Area (now scratch) × (k .branches < branchRoom) × (k .last < labelLimit) × (at < offsetRadix) × (pointer < pointerRadix) ⌝ }
     ensures { λ r. ⌜ Put (now (scratch .entry)) (putBranch (now (scratch .entry)) (k .branches) at pointer) (moreBranches k) r (now (scratch .exit)) ⌝ }
 {
-    put_pair(scratch, 4000 + k.branches, at, pointer);
+    put_pair(scratch, BRANCHES_AT + k.branches, at, pointer);
     let mut l = k;
     l.branches = k.branches + 1;
     l.last = k.last + 1;
@@ -83,10 +103,10 @@ pub fn put_branch(scratch: &mut [u32], k: Tally, at: usize, pointer: usize) -> T
 
 // Appends a signature entry: the name at `at` with its type's node.
 pub fn put_entry(scratch: &mut [u32], k: Tally, at: usize, node: usize) -> Tally
-    requires { ⌜ Area (now scratch) × (k .entries < 512) × (at < 8192) × (node < 512) ⌝ }
+    requires { ⌜ Area (now scratch) × (k .entries < typeTermLimit) × (at < offsetRadix) × (node < typeTermLimit) ⌝ }
     ensures { λ r. ⌜ Put (now (scratch .entry)) (putEntry (now (scratch .entry)) (k .entries) at node) (moreEntries k) r (now (scratch .exit)) ⌝ }
 {
-    put_pair(scratch, 416 + k.entries, at, node);
+    put_pair(scratch, ENTRIES_AT + k.entries, at, node);
     let mut l = k;
     l.entries = k.entries + 1;
     l
@@ -94,10 +114,10 @@ pub fn put_entry(scratch: &mut [u32], k: Tally, at: usize, node: usize) -> Tally
 
 // Appends a type: its name at `at` with its definition's node.
 pub fn put_type(scratch: &mut [u32], k: Tally, at: usize, node: usize) -> Tally
-    requires { ⌜ Area (now scratch) × (k .types < 64) × (at < 8192) × (node < 512) ⌝ }
+    requires { ⌜ Area (now scratch) × (k .types < typeLimit) × (at < offsetRadix) × (node < typeTermLimit) ⌝ }
     ensures { λ r. ⌜ Put (now (scratch .entry)) (putType (now (scratch .entry)) (k .types) at node) (moreTypes k) r (now (scratch .exit)) ⌝ }
 {
-    let i = 16 + 2 * k.types;
+    let i = TYPES_AT + 2 * k.types;
     put_word(scratch, i, at);
     put_word(scratch, i + 1, node);
     let mut l = k;
@@ -107,14 +127,14 @@ pub fn put_type(scratch: &mut [u32], k: Tally, at: usize, node: usize) -> Tally
 
 // Appends a process.
 pub fn put_process(scratch: &mut [u32], k: Tally, p: ProcessEntry) -> Tally
-    requires { ⌜ Area (now scratch) × (k .processes < 64) ⌝ }
+    requires { ⌜ Area (now scratch) × (k .processes < processLimit) ⌝ }
     requires { ⌜ FitsEntry p ⌝ }
     ensures { λ r. ⌜ Put (now (scratch .entry)) (putProcess (now (scratch .entry)) (k .processes) p) (moreProcesses k) r (now (scratch .exit)) ⌝ }
 {
-    let i = 144 + 4 * k.processes;
+    let i = PROCESSES_AT + 4 * k.processes;
     put_word(scratch, i, p.at);
     put_word(scratch, i + 1, p.first);
-    put_word(scratch, i + 2, p.provided + 1024 * p.used);
+    put_word(scratch, i + 2, p.provided + PROVIDED_RADIX * p.used);
     put_word(scratch, i + 3, p.body);
     let mut l = k;
     l.processes = k.processes + 1;
@@ -123,10 +143,10 @@ pub fn put_process(scratch: &mut [u32], k: Tally, p: ProcessEntry) -> Tally
 
 // Appends an exec: its process's name at `at`.
 pub fn put_exec(scratch: &mut [u32], k: Tally, at: usize) -> Tally
-    requires { ⌜ Area (now scratch) × (k .execs < 16) × (at < 8192) ⌝ }
+    requires { ⌜ Area (now scratch) × (k .execs < execLimit) × (at < offsetRadix) ⌝ }
     ensures { λ r. ⌜ Put (now (scratch .entry)) (putExec (now (scratch .entry)) (k .execs) at) (moreExecs k) r (now (scratch .exit)) ⌝ }
 {
-    put_word(scratch, 400 + k.execs, at);
+    put_word(scratch, EXECS_AT + k.execs, at);
     let mut l = k;
     l.execs = k.execs + 1;
     l

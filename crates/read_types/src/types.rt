@@ -13,6 +13,7 @@ use crate::steps::type_head;
 use crate::steps::type_term;
 use crate::store::put_alternative;
 use crate::store::put_node;
+use notation::kinds;
 use notation::reading::Cursor;
 use notation::reading::Taken;
 use notation::reading::Tally;
@@ -22,6 +23,9 @@ use notation::token::TypeHead;
 ghost use mathlib.Core.Path.{_≡_};
 ghost use Prim.Native.Nat.{_<_, _≤_};
 ghost use Rattle.read_types.specs.Filling.{Stepped, labelColon, choiceOpening, infixKind, Room, TypeRead, AtomRead, RightRead, AlternativesRead, MoreRead, OneRead, NameRead, RoundRead, ChoiceRead};
+
+// From the kind of a choice's mark to the kind of its node.
+const CHOICE_SHIFT: usize = Token::PLUS - kinds::PLUS;
 
 // A label and its colon.
 fn label_colon(text: &[u8], c: Cursor, n: usize) -> Taken
@@ -52,12 +56,12 @@ fn infix_kind(kind: usize) -> usize
     ensures { λ r. ⌜ r < 8 ⌝ }
 {
     if kind == Token::STAR {
-        return 2;
+        return kinds::TENSOR;
     }
     if kind == Token::AT {
-        return 3;
+        return kinds::PAR;
     }
-    4
+    kinds::LOLLI
 }
 
 // The type 1.
@@ -73,7 +77,7 @@ fn one_type(text: &[u8], scratch: &mut [u32], c: Cursor, k: Tally) -> Out
         scratch,
         k,
         TypeNode {
-            kind: 0,
+            kind: kinds::UNIT,
             first: 0,
             second: 0,
         },
@@ -94,7 +98,7 @@ fn name_type(text: &[u8], scratch: &mut [u32], c: Cursor, k: Tally) -> Out
         scratch,
         k,
         TypeNode {
-            kind: 1,
+            kind: kinds::NAMED,
             first: 0,
             second: i,
         },
@@ -114,8 +118,8 @@ fn read_atom(text: &[u8], scratch: &mut [u32], c: Cursor, k: Tally) -> Out
         TypeHead::One => one_type(text, scratch, c, k),
         TypeHead::Name => name_type(text, scratch, c, k),
         TypeHead::Round => read_round(text, scratch, c, k),
-        TypeHead::Plus => read_choice(text, scratch, c, k, 28),
-        TypeHead::With => read_choice(text, scratch, c, k, 29),
+        TypeHead::Plus => read_choice(text, scratch, c, k, Token::PLUS),
+        TypeHead::With => read_choice(text, scratch, c, k, Token::WITH),
         TypeHead::Other => misfit(text, c),
     }
 }
@@ -155,7 +159,7 @@ fn read_choice(text: &[u8], scratch: &mut [u32], c: Cursor, k: Tally, kind: usiz
         scratch,
         l,
         TypeNode {
-            kind: kind - 23,
+            kind: kind - CHOICE_SHIFT,
             first: l.alternatives,
             second: l.last,
         },

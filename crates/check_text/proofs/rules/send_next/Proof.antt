@@ -7,7 +7,6 @@ use Rattle.check_text.proofs.rules.send_next.Statement.{statement}
 use Rattle.check_text.proofs.rules.send_next.Tie as tie
 use Rattle.check_text.proofs.rules.send_next.Reads as reads
 use Rattle.check_text.proofs.rules.send_next.Lts as lts
-use Rattle.check_terms.proofs.sends.cancel_next.Reads as cancel-next-reads
 use Rattle.check_terms.proofs.sends.choose_next.Reads as choose-next-reads
 use Rattle.check_terms.proofs.sends.close_next.Reads as close-next-reads
 use Rattle.check_terms.proofs.sends.pass_next.Reads as pass-next-reads
@@ -27,18 +26,11 @@ unfolding sendStep
 returns-2 c = rw (ne-eqb _ _ (c .before .before .before .if1 .left), eq-eqb _ _ (c .before .if2 .taken)) (c .pass-next .ensures)
 
 choose-next-requires : tie.Need-choose-next-requires
-choose-next-requires c κs = c .before .before .before .before .before .before .before .before .pre
+choose-next-requires c κs = c .before .before .before .before .before .before .pre
 
 returns-3 : tie.Need-returns-3
 unfolding sendStep
-returns-3 c = rw (ne-eqb _ _ (c .before .before .before .before .before .if1 .left), ne-eqb _ _ (c .before .before .before .if2 .left), eq-eqb _ _ (c .before .if3 .taken)) (c .choose-next .ensures)
-
-cancel-next-requires : tie.Need-cancel-next-requires
-cancel-next-requires c κs = c .before .before .before .before .before .before .before .before .pre
-
-returns-4 : tie.Need-returns-4
-unfolding sendStep
-returns-4 c = rw (ne-eqb _ _ (c .before .before .before .before .before .if1 .left), ne-eqb _ _ (c .before .before .before .if2 .left), ne-eqb _ _ (c .before .if3 .left)) (c .cancel-next .ensures)
+returns-3 c = rw (ne-eqb _ _ (c .before .before .before .if1 .left), ne-eqb _ _ (c .before .if2 .left)) (c .choose-next .ensures)
 
 pub send-next-spec : {M : Type 1} → statement M
 send-next-spec =
@@ -49,6 +41,4 @@ send-next-spec =
     pass-next-requires
     returns-2
     choose-next-requires
-    returns-3
-    cancel-next-requires
-    returns-4)
+    returns-3)

@@ -15,8 +15,8 @@ use Rattle.check_text.specs.Offers.{choosing-with, offerOf, listed}
 use Rattle.check_text.proofs.choices.labels_offered.Reads as labels-offered-reads
 use Rattle.check_text.proofs.process.check_branches.Reads as check-branches
 use Rattle.check_text.proofs.process.check_choice.Reads as check-choice
-use Rattle.check_text.proofs.process.+check_branches+check_choice+check_process+check_raise+check_rest+check_spawn+check_term+check_try.Lts-check_choice as check-choice-lts
-use Rattle.check_text.proofs.process.+check_branches+check_choice+check_process+check_raise+check_rest+check_spawn+check_term+check_try.Proof.Measures.{check-branches-below, check-choice-at}
+use Rattle.check_text.proofs.process.+check_branches+check_choice+check_ending+check_process+check_raise+check_receive+check_rest+check_spawn+check_term+check_try.Lts-check_choice as check-choice-lts
+use Rattle.check_text.proofs.process.+check_branches+check_choice+check_ending+check_process+check_raise+check_receive+check_rest+check_spawn+check_term+check_try.Proof.Measures.{check-branches-below, check-choice-at}
 
 pub check-choice-met : {M : Type 1} (t : ℕ) → check-choice-lts.Closed (labels-offered-reads.Asked, labels-offered-reads.Learnt, check-branches-below t, check-branches.Post) (check-choice-at t) check-choice.Post M
 check-choice-met t =

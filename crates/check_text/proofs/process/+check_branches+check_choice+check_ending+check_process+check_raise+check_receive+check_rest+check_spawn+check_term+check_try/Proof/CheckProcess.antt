@@ -8,8 +8,8 @@ use Rattle.check_text.specs.Process.{empty-fine, empty-left, node-in}
 use Rattle.read_tables.proofs.access.term_node.Reads as term-node-reads
 use Rattle.check_text.proofs.process.check_process.Reads as check-process
 use Rattle.check_text.proofs.process.check_term.Reads as check-term
-use Rattle.check_text.proofs.process.+check_branches+check_choice+check_process+check_raise+check_rest+check_spawn+check_term+check_try.Lts-check_process as check-process-lts
-use Rattle.check_text.proofs.process.+check_branches+check_choice+check_process+check_raise+check_rest+check_spawn+check_term+check_try.Proof.Measures.{check-process-at, check-term-below}
+use Rattle.check_text.proofs.process.+check_branches+check_choice+check_ending+check_process+check_raise+check_receive+check_rest+check_spawn+check_term+check_try.Lts-check_process as check-process-lts
+use Rattle.check_text.proofs.process.+check_branches+check_choice+check_ending+check_process+check_raise+check_receive+check_rest+check_spawn+check_term+check_try.Proof.Measures.{check-process-at, check-term-below}
 
 pub check-process-met : {M : Type 1} (t : ℕ) → check-process-lts.Closed (term-node-reads.Asked, term-node-reads.Learnt, check-term-below t, check-term.Post) (check-process-at t) check-process.Post M
 check-process-met t =

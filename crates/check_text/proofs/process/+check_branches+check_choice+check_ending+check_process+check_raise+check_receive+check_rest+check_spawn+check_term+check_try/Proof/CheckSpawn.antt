@@ -16,8 +16,8 @@ use Rattle.check_text.proofs.rules.spawn_half.Reads as spawn-half-reads
 use Rattle.check_text.proofs.rules.spawn_refusal.Reads as spawn-refusal-reads
 use Rattle.check_text.proofs.process.check_process.Reads as check-process
 use Rattle.check_text.proofs.process.check_spawn.Reads as check-spawn
-use Rattle.check_text.proofs.process.+check_branches+check_choice+check_process+check_raise+check_rest+check_spawn+check_term+check_try.Lts-check_spawn as check-spawn-lts
-use Rattle.check_text.proofs.process.+check_branches+check_choice+check_process+check_raise+check_rest+check_spawn+check_term+check_try.Proof.Measures.{check-process-below, check-spawn-at}
+use Rattle.check_text.proofs.process.+check_branches+check_choice+check_ending+check_process+check_raise+check_receive+check_rest+check_spawn+check_term+check_try.Lts-check_spawn as check-spawn-lts
+use Rattle.check_text.proofs.process.+check_branches+check_choice+check_ending+check_process+check_raise+check_receive+check_rest+check_spawn+check_term+check_try.Proof.Measures.{check-process-below, check-spawn-at}
 
 pub check-spawn-met : {M : Type 1} (t : ℕ) → check-spawn-lts.Closed (spawn-refusal-reads.Asked, spawn-refusal-reads.Learnt, spawn-half-reads.Asked, spawn-half-reads.Learnt, check-process-below t, check-process.Post) (check-spawn-at t) check-spawn.Post M
 check-spawn-met t =

@@ -21,8 +21,8 @@ use Rattle.notation.proofs.words.narrow.Reads as narrow-reads
 use Rattle.check_contexts.proofs.held.retype_end.Reads as retype-end-reads
 use Rattle.check_text.proofs.process.check_branches.Reads as check-branches
 use Rattle.check_text.proofs.process.check_process.Reads as check-process
-use Rattle.check_text.proofs.process.+check_branches+check_choice+check_process+check_raise+check_rest+check_spawn+check_term+check_try.Lts-check_branches as check-branches-lts
-use Rattle.check_text.proofs.process.+check_branches+check_choice+check_process+check_raise+check_rest+check_spawn+check_term+check_try.Proof.Measures.{check-branches-at, check-branches-below, check-process-below}
+use Rattle.check_text.proofs.process.+check_branches+check_choice+check_ending+check_process+check_raise+check_receive+check_rest+check_spawn+check_term+check_try.Lts-check_branches as check-branches-lts
+use Rattle.check_text.proofs.process.+check_branches+check_choice+check_ending+check_process+check_raise+check_receive+check_rest+check_spawn+check_term+check_try.Proof.Measures.{check-branches-at, check-branches-below, check-process-below}
 
 pub check-branches-met : {M : Type 1} (t : ℕ) → check-branches-lts.Closed (branch-reads.Asked, branch-reads.Learnt, labelled-reads.Asked, labelled-reads.Learnt, narrow-reads.Asked, narrow-reads.Learnt, retype-end-reads.Asked, retype-end-reads.Learnt, check-process-below t, check-process.Post, check-branches-below t, check-branches.Post) (check-branches-at t) check-branches.Post M
 check-branches-met t =

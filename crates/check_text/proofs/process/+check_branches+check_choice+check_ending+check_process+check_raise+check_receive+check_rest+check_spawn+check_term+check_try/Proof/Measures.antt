@@ -7,10 +7,14 @@ use Rattle.check_text.proofs.process.check_branches.Reads as check-bran
 use Rattle.check_text.proofs.process.check_branches.Kinds as check-branches-kinds
 use Rattle.check_text.proofs.process.check_choice.Reads as check-choice
 use Rattle.check_text.proofs.process.check_choice.Kinds as check-choice-kinds
+use Rattle.check_text.proofs.process.check_ending.Reads as check-ending
+use Rattle.check_text.proofs.process.check_ending.Kinds as check-ending-kinds
 use Rattle.check_text.proofs.process.check_process.Reads as check-process
 use Rattle.check_text.proofs.process.check_process.Kinds as check-process-kinds
 use Rattle.check_text.proofs.process.check_raise.Reads as check-raise
 use Rattle.check_text.proofs.process.check_raise.Kinds as check-raise-kinds
+use Rattle.check_text.proofs.process.check_receive.Reads as check-receive
+use Rattle.check_text.proofs.process.check_receive.Kinds as check-receive-kinds
 use Rattle.check_text.proofs.process.check_rest.Reads as check-rest
 use Rattle.check_text.proofs.process.check_rest.Kinds as check-rest-kinds
 use Rattle.check_text.proofs.process.check_spawn.Reads as check-spawn
@@ -26,11 +30,17 @@ abbrev pub μ-check-branches : Measures 2 check-branches-kinds.ps ℕ
 abbrev pub μ-check-choice : Measures 2 check-choice-kinds.ps ℕ
 μ-check-choice κs a = 4096 * (a .1 .1 .1 .1 .0) + 3000
 
+abbrev pub μ-check-ending : Measures 2 check-ending-kinds.ps ℕ
+μ-check-ending κs a = 4096 * (a .1 .1 .1 .1 .0) + 3500
+
 abbrev pub μ-check-process : Measures 2 check-process-kinds.ps ℕ
 μ-check-process κs a = pointerWeight (a .1 .1 .1 .1 .0)
 
 abbrev pub μ-check-raise : Measures 2 check-raise-kinds.ps ℕ
 μ-check-raise κs a = 4096 * (a .1 .1 .1 .1 .0) + 3000
+
+abbrev pub μ-check-receive : Measures 2 check-receive-kinds.ps ℕ
+μ-check-receive κs a = 4096 * (a .1 .1 .1 .1 .0) + 3500
 
 abbrev pub μ-check-rest : Measures 2 check-rest-kinds.ps ℕ
 μ-check-rest κs a = 4096 * (a .1 .1 .1 .1 .0) + 3000
@@ -56,6 +66,12 @@ check-choice-at t = and 2 check-choice-kinds.ps (is 2 check-choice-kinds.ps μ-c
 abbrev pub check-choice-below : ℕ → In 2 check-choice-kinds.ps
 check-choice-below t = and 2 check-choice-kinds.ps (falls 2 check-choice-kinds.ps _<_ μ-check-choice t) check-choice.Pre
 
+abbrev pub check-ending-at : ℕ → In 2 check-ending-kinds.ps
+check-ending-at t = and 2 check-ending-kinds.ps (is 2 check-ending-kinds.ps μ-check-ending t) check-ending.Pre
+
+abbrev pub check-ending-below : ℕ → In 2 check-ending-kinds.ps
+check-ending-below t = and 2 check-ending-kinds.ps (falls 2 check-ending-kinds.ps _<_ μ-check-ending t) check-ending.Pre
+
 abbrev pub check-process-at : ℕ → In 2 check-process-kinds.ps
 check-process-at t = and 2 check-process-kinds.ps (is 2 check-process-kinds.ps μ-check-process t) check-process.Pre
 
@@ -67,6 +83,12 @@ check-raise-at t = and 2 check-raise-kinds.ps (is 2 check-raise-kinds.ps μ-chec
 
 abbrev pub check-raise-below : ℕ → In 2 check-raise-kinds.ps
 check-raise-below t = and 2 check-raise-kinds.ps (falls 2 check-raise-kinds.ps _<_ μ-check-raise t) check-raise.Pre
+
+abbrev pub check-receive-at : ℕ → In 2 check-receive-kinds.ps
+check-receive-at t = and 2 check-receive-kinds.ps (is 2 check-receive-kinds.ps μ-check-receive t) check-receive.Pre
+
+abbrev pub check-receive-below : ℕ → In 2 check-receive-kinds.ps
+check-receive-below t = and 2 check-receive-kinds.ps (falls 2 check-receive-kinds.ps _<_ μ-check-receive t) check-receive.Pre
 
 abbrev pub check-rest-at : ℕ → In 2 check-rest-kinds.ps
 check-rest-at t = and 2 check-rest-kinds.ps (is 2 check-rest-kinds.ps μ-check-rest t) check-rest.Pre

@@ -13,8 +13,8 @@ use Rattle.calculus.specs.Verdict.{demand}
 use Rattle.check_text.specs.Nodes.{raise-at}
 use Rattle.check_text.proofs.process.check_process.Reads as check-process
 use Rattle.check_text.proofs.process.check_raise.Reads as check-raise
-use Rattle.check_text.proofs.process.+check_branches+check_choice+check_process+check_raise+check_rest+check_spawn+check_term+check_try.Lts-check_raise as check-raise-lts
-use Rattle.check_text.proofs.process.+check_branches+check_choice+check_process+check_raise+check_rest+check_spawn+check_term+check_try.Proof.Measures.{check-process-below, check-raise-at}
+use Rattle.check_text.proofs.process.+check_branches+check_choice+check_ending+check_process+check_raise+check_receive+check_rest+check_spawn+check_term+check_try.Lts-check_raise as check-raise-lts
+use Rattle.check_text.proofs.process.+check_branches+check_choice+check_ending+check_process+check_raise+check_receive+check_rest+check_spawn+check_term+check_try.Proof.Measures.{check-process-below, check-raise-at}
 
 pub check-raise-met : {M : Type 1} (t : ℕ) → check-raise-lts.Closed (check-process-below t, check-process.Post) (check-raise-at t) check-raise.Post M
 check-raise-met t =

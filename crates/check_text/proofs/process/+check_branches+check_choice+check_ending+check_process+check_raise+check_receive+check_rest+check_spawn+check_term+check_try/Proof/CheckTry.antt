@@ -19,8 +19,8 @@ use Rattle.check_contexts.proofs.halves.divides.Reads as divides-reads
 use Rattle.check_contexts.proofs.halves.keep.Reads as keep-reads
 use Rattle.check_text.proofs.process.check_process.Reads as check-process
 use Rattle.check_text.proofs.process.check_try.Reads as check-try
-use Rattle.check_text.proofs.process.+check_branches+check_choice+check_process+check_raise+check_rest+check_spawn+check_term+check_try.Lts-check_try as check-try-lts
-use Rattle.check_text.proofs.process.+check_branches+check_choice+check_process+check_raise+check_rest+check_spawn+check_term+check_try.Proof.Measures.{check-process-below, check-try-at}
+use Rattle.check_text.proofs.process.+check_branches+check_choice+check_ending+check_process+check_raise+check_receive+check_rest+check_spawn+check_term+check_try.Lts-check_try as check-try-lts
+use Rattle.check_text.proofs.process.+check_branches+check_choice+check_ending+check_process+check_raise+check_receive+check_rest+check_spawn+check_term+check_try.Proof.Measures.{check-process-below, check-try-at}
 
 pub check-try-met : {M : Type 1} (t : ℕ) → check-try-lts.Closed (divides-reads.Asked, divides-reads.Learnt, keep-reads.Asked, keep-reads.Learnt, check-process-below t, check-process.Post) (check-try-at t) check-try.Post M
 check-try-met t =

@@ -11,8 +11,8 @@ use Rattle.check_terms.specs.Next.{contextIn}
 use Rattle.check_text.specs.Process.{rest-on, rest-stops}
 use Rattle.check_text.proofs.process.check_process.Reads as check-process
 use Rattle.check_text.proofs.process.check_rest.Reads as check-rest
-use Rattle.check_text.proofs.process.+check_branches+check_choice+check_process+check_raise+check_rest+check_spawn+check_term+check_try.Lts-check_rest as check-rest-lts
-use Rattle.check_text.proofs.process.+check_branches+check_choice+check_process+check_raise+check_rest+check_spawn+check_term+check_try.Proof.Measures.{check-process-below, check-rest-at}
+use Rattle.check_text.proofs.process.+check_branches+check_choice+check_ending+check_process+check_raise+check_receive+check_rest+check_spawn+check_term+check_try.Lts-check_rest as check-rest-lts
+use Rattle.check_text.proofs.process.+check_branches+check_choice+check_ending+check_process+check_raise+check_receive+check_rest+check_spawn+check_term+check_try.Proof.Measures.{check-process-below, check-rest-at}
 
 pub check-rest-met : {M : Type 1} (t : ℕ) → check-rest-lts.Closed (check-process-below t, check-process.Post) (check-rest-at t) check-rest.Post M
 check-rest-met t =
