@@ -80,7 +80,7 @@ pub wellFormed?-iff : (p : Program) (C : Config) → So (wellFormed? p C) ↔ We
 unfolding wellFormed?
 wellFormed?-iff p C = Iff·trans
     (places-law C _ (λ q. typedAs?-iff p (contextOf (q .held)) (isSome (q .link)) (q .doing))
-    and endsFit-iff (ends C)
+    and endsFit-iff p (ends C)
     and linksLead-iff C
     and handlersLinked-iff C
     and linkedOnce-iff C
@@ -94,7 +94,7 @@ wellFormed?-iff p C = Iff·trans
       λ (((((((((((t, (u, o)), l), h), m), f), x), n), c), k), g), r). record {
         typed = t;
         once = u;
-        oneType = o;
+        agree = o;
         links = l;
         linked = h;
         linkedOnce = m;
@@ -106,5 +106,5 @@ wellFormed?-iff p C = Iff·trans
         given = g;
         held = r;
       },
-      λ w. (((((((((((w .typed, (w .once, w .oneType)), w .links), w .linked), w .linkedOnce), w .forest), w .outside), w .numbers), w .processes), w .channels), w .given), w .held),
+      λ w. (((((((((((w .typed, (w .once, w .agree)), w .links), w .linked), w .linkedOnce), w .forest), w .outside), w .numbers), w .processes), w .channels), w .given), w .held),
     )

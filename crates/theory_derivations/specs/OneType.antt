@@ -2,12 +2,14 @@
 -- Whoever reasons about the types of two ends cites these laws alone, and never that the types are equal.
 use Prim.Native.Nat.{ℕ}
 use mathlib.Core.Path.{_≡_, refl, sym, _∙_, ap}
+use mathlib.Core.Logic.{_↔_}
+use mathlib.Core.Bool.{Bool, true, false, So, and-eq-true-iff}
 use mathlib.Core.Option.{Option, some, none}
 use Rattle.notation.specs.Tree.{Name, Ty, unit}
-use Rattle.calculus.specs.Types.{standing, Passing, passing, Choosing, choosing, labelled}
-use Rattle.calculus.specs.Program.{Program}
-use Rattle.calculus.specs.Typing.{OneType}
-use Rattle.theory_derivations.specs.Equality.{sameType-iff}
+use Rattle.calculus.specs.Types.{Side, sameSide, sameType, standing, Passing, passing, Choosing, choosing, labelled}
+use Rattle.calculus.specs.Program.{Slot, Program}
+use Rattle.calculus.specs.Typing.{OneType, entryFits}
+use Rattle.theory_derivations.specs.Equality.{sameSide-iff, sameType-iff}
 
 module _ (p : Program) where
   -- while a type is compared down to names, two types are one only where they are the same type
@@ -16,6 +18,10 @@ module _ (p : Program) where
 
   type-same : {A B : Ty Name} → A ≡ B → OneType p A B
   type-same {A} {B} e = record { same = sameType-iff A B .1 e }
+
+  -- the test of two types
+  pub one-iff : (A B : Ty Name) → So (sameType A B) ↔ OneType p A B
+  one-iff A B = (λ s. record { same = s }, λ h. h .same)
 
   -- ── an equivalence
   pub one-refl : (A : Ty Name) → OneType p A A
@@ -26,6 +32,19 @@ module _ (p : Program) where
 
   pub one-trans : {A B D : Ty Name} → OneType p A B → OneType p B D → OneType p A D
   one-trans h k = type-same (same-type h ∙ same-type k)
+
+  -- the test does not mind the order
+  pub one-test-sym : (A B : Ty Name) → sameType A B ≡ sameType B A
+  one-test-sym A B = go (sameType A B) (sameType B A) (λ s. one-iff B A .1 (one-sym (one-iff A B .0 s))) (λ s. one-iff A B .1 (one-sym (one-iff B A .0 s)))
+    where
+      go : (a b : Bool) → (So a → So b) → (So b → So a) → a ≡ b
+      go true b f g = sym (f refl)
+      go false true f g = g refl
+      go false false f g = refl
+
+  -- a held channel that fits an entry of a signature is on its side, and of one type with it
+  pub one-fits : (s : Side) (A : Ty Name) (h : Slot) → entryFits s A (some h) ≡ true → (h .side ≡ s) × OneType p (h .type) A
+  one-fits s A h e = let r = and-eq-true-iff (sameSide (h .side) s) (sameType (h .type) A) .0 e in (sameSide-iff (h .side) s .0 (r .0), one-iff (h .type) A .0 (r .1))
 
   -- ── where one is closed, so is the other
   pub one-unit : {A B : Ty Name} → OneType p A B → standing (p .types) A ≡ unit → standing (p .types) B ≡ unit

@@ -149,6 +149,43 @@ far-is C e = go (holderFrom 0 (e .channel) (other (e .side)) (C .processes)) ref
     go none z = out (e .side) refl (outsideOf (e .channel) (C .outside)) refl z
     go (some h) z = at-process h (held-by C e h z)
 
+-- ── what is known by the answer
+-- the outside's channel that a far end is
+pub record FarOutside (C : Config) (e : End) : Type 0 where
+  pub entry : Outside
+  pub found : outsideOf (e .channel) (C .outside) ≡ some entry
+  pub listed : In entry (C .outside)
+  pub channel : entry .channel ≡ e .channel
+  pub side : e .side ≡ provided
+
+-- no process holds it, nor does the outside
+pub record FarNobody (C : Config) (e : End) : Type 0 where
+  pub processes : (j : ℕ) (q : Process) → getElem? (C .processes) j ≡ some q → (x : Name × End) → In x (q .held) → x .1 .channel ≡ e .channel → x .1 .side ≡ other (e .side) → ⊥
+  pub outside : e .side ≡ provided → (y : Outside) → In y (C .outside) → y .channel ≢ e .channel
+
+module _ (C : Config) (e : End) where
+  pub far-held : {h : Holder} → farEnd C e ≡ atProcess h → HeldFar C e h
+  far-held z = go (subst (FarIs C e) z (far-is C e))
+    where
+      go : {h : Holder} → FarIs C e (atProcess h) → HeldFar C e h
+      go (at-process h f) = f
+
+  pub far-outside : {n : ℕ} → farEnd C e ≡ atOutside n → FarOutside C e
+  far-outside z = go (subst (FarIs C e) z (far-is C e))
+    where
+      by : (o : Option Outside) → outsideOf (e .channel) (C .outside) ≡ o → (y : Outside) → In y (C .outside) → y .channel ≡ e .channel → e .side ≡ provided → FarOutside C e
+      by none w y i c s = absurd (outside-none (e .channel) (C .outside) w y i c)
+      by (some x) w y i c s = let r = outside-some (e .channel) (C .outside) x w in record { entry = x; found = w; listed = r .0; channel = r .1; side = s }
+
+      go : {n : ℕ} → FarIs C e (atOutside n) → FarOutside C e
+      go (at-outside n y i c s) = by (outsideOf (e .channel) (C .outside)) refl y i c s
+
+  pub far-nobody : farEnd C e ≡ givenUp → FarNobody C e
+  far-nobody z = go (subst (FarIs C e) z (far-is C e))
+    where
+      go : FarIs C e givenUp → FarNobody C e
+      go (at-nobody a o) = record { processes = a; outside = o }
+
 -- an end is the far end of its far end
 pub far-back : (e d : End) → key d ≡ (e .channel, other (e .side)) → key e ≡ (d .channel, other (d .side))
 far-back e d z = λ i. (ap (λ (k : ℕ × Side). k .0) (sym z) i, (sym (other-other (e .side)) ∙ ap (λ (k : ℕ × Side). other (k .1)) (sym z)) i)

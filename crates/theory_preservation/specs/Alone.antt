@@ -9,23 +9,24 @@ use native.Mathlib.Omega.{arith}
 use lib.ListN.{length, set, getElem?, length-set}
 use lib.Dec.{ltb}
 use Rattle.notation.specs.Limits.{processPlaces, channelPlaces, heldLimit}
-use Rattle.notation.specs.Tree.{Name, Located, Ty, Proc, plain}
+use Rattle.notation.specs.Tree.{Name, Located, Ty, Proc, cancel, spawn, fwd, raise, try, plain}
 use Rattle.calculus.specs.Named.{lookup, without, kept, names, isSome}
-use Rattle.calculus.specs.Types.{provided, used, sameType}
+use Rattle.calculus.specs.Types.{provided, used}
 use Rattle.calculus.specs.Program.{slot, Context, Program}
 use Rattle.calculus.specs.Mentions.{mentions, halfMentions, spawnTakes, spawnLeaves, tryTakes, exactlyOne}
-use Rattle.calculus.specs.Typing.{Typed, Brought, bringing}
-use Rattle.calculus.specs.Configuration.{End, end, Doing, running, folding, waiting, Process, process, Outside, Config, withProcesses, withOutside, Far, atProcess, atOutside, givenUp, farEnd, freshChannel, movedUp, relinked, inserted, removed, doingNow, foldsUp, goesOn, becoming}
-use Rattle.calculus.specs.Steps.{lacking, outsideAfter, parting, cancelling, spawned, spawning, trying, changedAt, putAt, startedHandler, startedDoing, foldedHandler, movedEnd, joinedTo, joining, forwarding, raising, leaving, foldingUp}
-use Rattle.calculus.specs.WellFormed.{In, contextOf, isWaiting, NoneTwice}
-use Rattle.theory_derivations.specs.Booleans.{ltb-iff, all-iff}
-use Rattle.theory_derivations.specs.Equality.{sameType-iff}
+use Rattle.calculus.specs.Typing.{OneType, Typed, forwards, spawns, tries, raises, cancels, bringing}
+use Rattle.calculus.specs.Configuration.{End, end, Doing, running, folding, waiting, Process, process, Outside, Config, withProcesses, withOutside, replaced, Holder, freshChannel, movedUp, relinked, inserted, removed, letGo, movedOutside, doingNow, linkedBy, foldsUp, goesOn, becoming}
+use Rattle.calculus.specs.Steps.{changedAt, putAt, startedHandler, startedDoing, foldedHandler, movedEnd, farMoved}
+use Rattle.calculus.specs.Reduces.{GivesUp, by-process, by-outside, by-nobody, Empty, no-term, no-channel}
+use Rattle.calculus.specs.WellFormed.{In, contextOf, isWaiting, NoneTwice, Stands}
+use Rattle.calculus.specs.declared.answers.Seen.{Seen}
+use Rattle.theory_derivations.specs.Booleans.{all-iff}
 use Rattle.theory_ends.specs.Lists.{length-inserted, length-removed, set-cases, found-below, below-found}
 use Rattle.theory_ends.specs.Names.{names-in, without-sub}
 use Rattle.theory_ends.specs.Contexts.{held-plain, context-names, context-without, context-kept, context-append, context-length, absent-held}
-use Rattle.theory_ends.specs.FarEnds.{FarIs, at-process, at-outside, at-nobody, far-is}
+use Rattle.theory_ends.specs.FarEnds.{HeldFar}
 use Rattle.theory_preservation.specs.Mates.{put}
-use Rattle.theory_preservation.specs.Roster.{channelKey, Has, TypedDoing, Good, NamesOf, Goes, Runs, runs-on, runs-awake, folds}
+use Rattle.theory_preservation.specs.Roster.{channelKey, Has, TypedDoing, Good, NamesOf, Goes, runs-on, runs-awake, folds}
 use Rattle.theory_preservation.specs.LettingGo.{let-go-sub, raised, left, left-alone}
 use Rattle.theory_preservation.specs.Places.{Shows, shows-set, shows-in, shows-out, idIn, id-in-low, id-in-new, relinked-in, up-below, idOut}
 use Rattle.theory_preservation.specs.FarEnds.{fresh-unheld}
@@ -33,28 +34,37 @@ use Rattle.theory_preservation.specs.Forwarding.{forwarded, forwarded-ou
 use Rattle.theory_preservation.specs.Relocating.{Relocated, relocated}
 use Rattle.theory_preservation.specs.Witness.{Tip}
 use Rattle.theory_preservation.specs.Growing
-use Rattle.theory_preservation.specs.Invariant.{Inv, Keeps, keeps-cond, keeps-held, at-roster, fine-at, inv-set, inv-less, inv-two, handler, unlinked}
+use Rattle.theory_preservation.specs.Invariant.{Inv, at-roster, fine-at, inv-set, inv-less, inv-two, handler, unlinked}
 
-pub outside-after-sub : (f : Far) (k : ℕ) (o : List Outside) → Sublistᴰ (outsideAfter f k o) o
-outside-after-sub (atProcess h) k o = Sublistᴰ·refl o
-outside-after-sub (atOutside n) k o = let-go-sub k o
-outside-after-sub givenUp k o = Sublistᴰ·refl o
+-- an end is given up: the outside lets go of some of its channels, or of none
+pub gives-up : (Q : Config → Type 0) {C D : Config} {e : End} {seen : Seen} → GivesUp C e seen D → ((ys : List Outside) → Sublistᴰ ys (C .outside) → Q (withOutside ys C)) → Q D
+gives-up Q {C} (by-process _) f = f (C .outside) (Sublistᴰ·refl (C .outside))
+gives-up Q {C} {e = e} (by-outside _) f = f (letGo (e .channel) (C .outside)) (let-go-sub (e .channel) (C .outside))
+gives-up Q {C} (by-nobody _) f = f (C .outside) (Sublistᴰ·refl (C .outside))
 
-module _ {p : Program} {C : Config} (I : Inv p C) (i : ℕ) (q : Process) (at : getElem? (C .processes) i ≡ some q) where
+module _ {p : Program} {C : Config} (I : Inv p C) {i : ℕ} {q : Process} (here : Stands C i q) where
   abbrev b : Bool
   b = isSome (Option·map (I .id) (q .link))
 
-  -- the process at i has let go of the end e, and perhaps of others
-  pub parting-keeps : (d : Doing) → Goes (q .doing) d → {l : List (Name × End)} → Sublistᴰ l (q .held) → TypedDoing p (contextOf l) b d → (e : End)
-      → Keeps p (parting C i (becoming d l q) e)
-  unfolding parting
-  parting-keeps d w s t e = inv-less I i q at d w s t (outside-after-sub (farEnd C e) (e .channel) (C .outside))
+  at : getElem? (C .processes) i ≡ some q
+  at = here .there
 
-  pub cancel-keeps : Runs (q .doing) → (c : Located) (P : Proc) → Typed p (without (c .name) (contextOf (q .held))) b P → Keeps p (cancelling C i q c P)
-  unfolding cancelling
-  cancel-keeps w c P t =
-      keeps-held p (lookup (c .name) (q .held)) _
-      (λ e _. parting-keeps (running P) (runs-on w P) (without-sub (c .name) (q .held)) (subst (λ G. Typed p G b P) (context-without (c .name) (q .held)) t) e)
+  -- the process at i does d from now on, and has let go of the end e, and perhaps of others
+  pub parts : (d : Doing) → Goes (q .doing) d → {l : List (Name × End)} → Sublistᴰ l (q .held) → TypedDoing p (contextOf l) b d → {e : End} {seen : Seen} {D : Config}
+      → GivesUp C e seen D → Inv p (replaced i (becoming d l q) D)
+  parts d w {l} s t g = gives-up (λ D. Inv p (replaced i (becoming d l q) D)) g (λ ys k. inv-less I i q at d w s t k)
+
+  -- it folds up, and has let go of some ends
+  pub folds-up : isWaiting (q .doing) ≡ false → {l : List (Name × End)} → Sublistᴰ l (q .held) → Inv p (replaced i (foldsUp q l) C)
+  folds-up w s = inv-less I i q at folding (folds w) s tt (Sublistᴰ·refl (C .outside))
+
+  pub cancel-keeps : {o : ℕ} {c : Located} {P : Proc} {e : End} {seen : Seen} {D : Config} → q .doing ≡ running (cancel o c P) → GivesUp C e seen D
+      → Typed p (contextOf (q .held)) b (cancel o c P) → Inv p (replaced i (goesOn q P (without (c .name) (q .held))) D)
+  cancel-keeps {c = c} {P = P} r g (cancels _ t) =
+      parts (running P) (runs-on r P) (without-sub (c .name) (q .held)) (subst (λ G. Typed p G b P) (context-without (c .name) (q .held)) t) g
+
+  pub fold-keeps : {n : Name} {e : End} {l : List (Name × End)} {seen : Seen} {D : Config} → q .doing ≡ folding → q .held ≡ (n, e) ∷ l → GivesUp C e seen D → Inv p (replaced i (foldsUp q l) D)
+  fold-keeps {l = l} r z g = parts folding (folds (ap isWaiting r)) (subst (Sublistᴰ l) (sym z) (Sublistᴰ·cons (Sublistᴰ·refl l))) tt g
 
   -- ── raise, and leaving the list
   inside : i < length (C .processes)
@@ -76,12 +86,12 @@ module _ {p : Program} {C : Config} (I : Inv p C) (i : ℕ) (q : Process) (at : 
 
     raised-inv : isWaiting d ≡ false → NamesOf d (names (r .held)) → TypedDoing p (contextOf (r .held)) (isSome (Option·map (I .id) (r .link))) d → (P : Proc)
         → NoneTwice (names (q .held)) → Typed p (contextOf (q .held)) false P
-        → Inv p (withProcesses (set l₁ i (process (running P) (q .held) none)) C)
+        → Inv p (withProcesses (set l₁ i (linkedBy none (goesOn q P (q .held)))) C)
     raised-inv wd nd td P n t = record {
       id = I .id;
-      roster = put (I .id i) (some (process (running P) (q .held) none)) (put (I .id h) (some (relinked (I .id) (becoming d (r .held) r))) (I .roster));
+      roster = put (I .id i) (some (linkedBy none (goesOn q P (q .held)))) (put (I .id h) (some (relinked (I .id) (becoming d (r .held) r))) (I .roster));
       next = I .next;
-      shows = shows-set s₁ i (omega (arith, inside, len₁)) (process (running P) (q .held) none) (λ k e. absurd (Option·none-ne-some k e));
+      shows = shows-set s₁ i (omega (arith, inside, len₁)) (linkedBy none (goesOn q P (q .held))) (λ k e. absurd (Option·none-ne-some k e));
       good = raised (I .good) (I .id i) (I .id h) (relinked (I .id) q) (relinked (I .id) r) (at-roster I i q at) (at-roster I h r rh) w link-id rw d wd nd td P n t;
       places = subst (λ n. n ≤ processPlaces) (sym (length-set l₁ i _ ∙ len₁)) (I .places);
       numbers = I .numbers;
@@ -121,23 +131,29 @@ module _ {p : Program} {C : Config} (I : Inv p C) (i : ℕ) (q : Process) (at : 
   started-names ns folding n = n
   started-names ns (waiting P) n = n
 
-  pub raise-keeps : Runs (q .doing) → (P : Proc) → b ≡ true → Typed p (contextOf (q .held)) false P → Keeps p (raising C i q P)
-  unfolding raising
-  raise-keeps w P e t = go (q .link) refl
+  pub raise-keeps : {o : ℕ} {P : Proc} → q .doing ≡ running (raise o P) → Typed p (contextOf (q .held)) b (raise o P)
+      → Inv p (replaced i (linkedBy none (goesOn q P (q .held))) (withProcesses (changedAt startedHandler (q .link) (C .processes)) C))
+  raise-keeps {P = P} r (raises e t) = go (q .link) refl
     where
-      go : (o : Option ℕ) → q .link ≡ o → Inv p (withProcesses (set (changedAt startedHandler o (C .processes)) i (process (running P) (q .held) none)) C)
+      go : (o : Option ℕ) → q .link ≡ o → Inv p (replaced i (linkedBy none (goesOn q P (q .held))) (withProcesses (changedAt startedHandler o (C .processes)) C))
       go none z = absurd (false≢true (sym (ap (λ o. isSome (Option·map (I .id) o)) z) ∙ e))
       go (some h) z =
-          let r = handler I i q at h z in
-          subst (λ o. Inv p (withProcesses (set (putAt (C .processes) h (Option·map startedHandler o)) i (process (running P) (q .held) none)) C)) (sym (r .1))
-          (raised-inv (runs-awake w) h z (r .0) (r .1) (r .2) (startedDoing (r .0 .doing)) (started-waits-not (r .0 .doing))
-          (started-names _ (r .0 .doing) (fine-at I h (r .0) (r .1) .names))
-          (started-typed _ _ (r .0 .doing) (fine-at I h (r .0) (r .1) .typed)) P (runs-on w P .names _ (fine-at I i q at .names)) t)
+          let x = handler I i q at h z in
+          subst (λ o. Inv p (replaced i (linkedBy none (goesOn q P (q .held))) (withProcesses (putAt (C .processes) h (Option·map startedHandler o)) C))) (sym (x .1))
+          (raised-inv (runs-awake r) h z (x .0) (x .1) (x .2) (startedDoing (x .0 .doing)) (started-waits-not (x .0 .doing))
+          (started-names _ (x .0 .doing) (fine-at I h (x .0) (x .1) .names))
+          (started-typed _ _ (x .0 .doing) (fine-at I h (x .0) (x .1) .typed)) P (runs-on r P .names _ (fine-at I i q at .names)) t)
 
-  pub leave-keeps : isWaiting (q .doing) ≡ false → Keeps p (leaving C i q)
-  unfolding leaving
-  leave-keeps w = go (q .link) refl
+  empty-awake : Empty q → isWaiting (q .doing) ≡ false
+  empty-awake (no-term e) = ap isWaiting e
+  empty-awake (no-channel e _) = ap isWaiting e
+
+  pub leave-keeps : Empty q → Inv p (withProcesses (removed i (changedAt foldedHandler (q .link) (C .processes))) C)
+  leave-keeps e = go (q .link) refl
     where
+      w : isWaiting (q .doing) ≡ false
+      w = empty-awake e
+
       go : (o : Option ℕ) → q .link ≡ o → Inv p (withProcesses (removed i (changedAt foldedHandler o (C .processes))) C)
       go none z = record {
         id = idOut (I .shows) i;
@@ -153,11 +169,6 @@ module _ {p : Program} {C : Config} (I : Inv p C) (i : ℕ) (q : Process) (at : 
           subst (λ o. Inv p (withProcesses (removed i (putAt (C .processes) h (Option·map foldedHandler o))) C)) (sym (r .1))
           (left-inv w h z (r .0) (r .1) (r .2) folding refl tt tt)
 
-  pub fold-keeps : q .doing ≡ folding → (l : List (Name × End)) → q .held ≡ l → Keeps p (foldingUp C i q l)
-  unfolding foldingUp
-  fold-keeps e [] z = leave-keeps (ap isWaiting e)
-  fold-keeps e (x ∷ l) z = parting-keeps folding (folds (ap isWaiting e)) (subst (Sublistᴰ l) (sym z) (Sublistᴰ·cons (Sublistᴰ·refl l))) tt (x .1)
-
   -- ── spawn and try
   -- the identity `next` is nobody's
   new-id : (j : ℕ) → j < length (C .processes) → I .id j ≢ I .next
@@ -165,12 +176,24 @@ module _ {p : Program} {C : Config} (I : Inv p C) (i : ℕ) (q : Process) (at : 
       let x = below-found (C .processes) j h in
       let b = I .good .placed (I .id j) (relinked (I .id) (x .0)) (I .shows .there j (x .0) (x .1)) .1 in omega arith
 
-  pub spawn-keeps : Runs (q .doing) → (x : Located) (A : Ty Located) (P Q : Proc) → Brought (x .name) (contextOf (q .held)) (spawnTakes (x .name) P (contextOf (q .held)))
-      → Brought (x .name) (contextOf (q .held)) (spawnLeaves (x .name) P (contextOf (q .held)))
-      → Typed p (bringing (x .name) (slot provided (plain A)) (spawnTakes (x .name) P (contextOf (q .held)))) false P
-      → Typed p (bringing (x .name) (slot used (plain A)) (spawnLeaves (x .name) P (contextOf (q .held)))) b Q → Keeps p (spawning C i q x A P Q)
-  unfolding spawning spawnTakes spawnLeaves
-  spawn-keeps w x A P Q bP bQ tP tQ = keeps-cond p (ltb (length (C .processes)) processPlaces) _ lacking (λ lt. go lt (freshChannel C) refl) tt
+  pub spawn-keeps : {x : Located} {A : Ty Located} {P Q : Proc} {k : ℕ} → q .doing ≡ running (spawn x A P Q) → length (C .processes) < processPlaces → freshChannel C ≡ some k
+      → Typed p (contextOf (q .held)) b (spawn x A P Q)
+      → Inv p (withProcesses
+      (inserted i (process (running P) (spawnTakes (x .name) P (q .held) ++ ((x .name, end provided k (plain A)) ∷ [])) none)
+      (set (C .processes) i (goesOn q Q (spawnLeaves (x .name) P (q .held) ++ ((x .name, end used k (plain A)) ∷ [])))))
+      C)
+  unfolding spawnTakes spawnLeaves
+  spawn-keeps {x} {A} {P} {Q} {k} w lt e (spawns _ bP bQ tP tQ) = record {
+    id = idIn s₁ i (I .next);
+    roster = put (I .next) (some made) (put (I .id i) (some (relinked (I .id) maker)) (I .roster));
+    next = suc (I .next);
+    shows = shows-in s₁ i (I .next) (omega (arith, inside, len₁)) (λ j h. new-id j (omega (arith, len₁))) made (λ h z. absurd (Option·none-ne-some h z));
+    good = Growing.spawned (I .good) (I .id i) (relinked (I .id) q) (at-roster I i q at) w t n (plain A) k (fresh .1) (fresh .0) (absent-held n (q .held) (bP .new)) P Q
+        (room t (bP .room)) (room (λ m. not (t m)) (bQ .room)) (subst (λ G. Typed p G false P) (sym (half t (end provided k (plain A)))) tP)
+        (subst (λ G. Typed p G b Q) (sym (half (λ m. not (t m)) (end used k (plain A)))) tQ);
+    places = let c = length-inserted i made (set (C .processes) i maker) in omega (arith, len₁);
+    numbers = I .numbers;
+  }
     where
       n : Name
       n = x .name
@@ -185,45 +208,44 @@ module _ {p : Program} {C : Config} (I : Inv p C) (i : ℕ) (q : Process) (at : 
       room : (t : Name → Bool) → length (kept t (contextOf (q .held))) < heldLimit → length (kept t (q .held)) < heldLimit
       room t h = subst (λ m. m < heldLimit) (ap length (context-kept t (q .held)) ∙ context-length (kept t (q .held))) h
 
-      go : ltb (length (C .processes)) processPlaces ≡ true → (o : Option ℕ) → freshChannel C ≡ o → Keeps p (spawned C i q n (plain A) P Q o)
-      go lt none e = tt
-      go lt (some k) e = record {
-        id = idIn s₁ i (I .next);
-        roster = put (I .next) (some made) (put (I .id i) (some (relinked (I .id) maker)) (I .roster));
-        next = suc (I .next);
-        shows = shows-in s₁ i (I .next) (omega (arith, inside, len₁)) (λ j h. new-id j (omega (arith, len₁))) made (λ h z. absurd (Option·none-ne-some h z));
-        good = Growing.spawned (I .good) (I .id i) (relinked (I .id) q) (at-roster I i q at) w t n (plain A) k (fresh .1) (fresh .0) (absent-held n (q .held) (bP .new)) P Q
-            (room t (bP .room)) (room (λ m. not (t m)) (bQ .room)) (subst (λ G. Typed p G false P) (sym (half t (end provided k (plain A)))) tP)
-            (subst (λ G. Typed p G b Q) (sym (half (λ m. not (t m)) (end used k (plain A)))) tQ);
-        places = let a = ltb-iff (length (C .processes)) processPlaces .0 lt in let c = length-inserted i made (set (C .processes) i maker) in omega (arith, len₁);
-        numbers = I .numbers;
-      }
-        where
-          maker : Process
-          maker = goesOn q Q (kept (λ m. not (t m)) (q .held) ++ ((n, end used k (plain A)) ∷ []))
+      maker : Process
+      maker = goesOn q Q (kept (λ m. not (t m)) (q .held) ++ ((n, end used k (plain A)) ∷ []))
 
-          made : Process
-          made = process (running P) (kept t (q .held) ++ ((n, end provided k (plain A)) ∷ [])) none
+      made : Process
+      made = process (running P) (kept t (q .held) ++ ((n, end provided k (plain A)) ∷ [])) none
 
-          len₁ : length (set (C .processes) i maker) ≡ length (C .processes)
-          len₁ = length-set (C .processes) i maker
+      len₁ : length (set (C .processes) i maker) ≡ length (C .processes)
+      len₁ = length-set (C .processes) i maker
 
-          s₁ : Shows (I .id) (set (C .processes) i maker) (put (I .id i) (some (relinked (I .id) maker)) (I .roster))
-          s₁ = shows-set (I .shows) i inside maker (I .shows .within i q at)
+      s₁ : Shows (I .id) (set (C .processes) i maker) (put (I .id i) (some (relinked (I .id) maker)) (I .roster))
+      s₁ = shows-set (I .shows) i inside maker (I .shows .within i q at)
 
-          fresh : (k < channelPlaces) × ((v : ℕ) (t : Tip) → Has (I .roster) (C .outside) v t → t .0 .0 ≢ channelKey k)
-          fresh = fresh-unheld C (I .shows) k e
+      fresh : (k < channelPlaces) × ((v : ℕ) (t : Tip) → Has (I .roster) (C .outside) v t → t .0 .0 ≢ channelKey k)
+      fresh = fresh-unheld C (I .shows) k e
 
-  pub try-keeps : Runs (q .doing) → (P Q : Proc) → exactlyOne P Q (names (contextOf (q .held))) ≡ true → Typed p (tryTakes P (contextOf (q .held))) true P
-      → Typed p (tryTakes Q (contextOf (q .held))) b Q → Keeps p (trying C i q P Q)
-  unfolding trying tryTakes exactlyOne
-  try-keeps w P Q one tP tQ = keeps-cond p (ltb (length (C .processes)) processPlaces) _ lacking go tt
+  pub try-keeps : {o : ℕ} {P Q : Proc} → q .doing ≡ running (try o P Q) → length (C .processes) < processPlaces → Typed p (contextOf (q .held)) b (try o P Q)
+      → Inv p (withProcesses
+      (set (inserted i (process (waiting Q) (tryTakes Q (q .held)) (Option·map (movedUp i) (q .link))) (C .processes)) i
+      (linkedBy (some (suc i)) (goesOn q P (tryTakes P (q .held)))))
+      C)
+  unfolding tryTakes exactlyOne
+  try-keeps {P = P} {Q = Q} w lt (tries one tP tQ) = record {
+    id = f;
+    roster = put (f i) (some (relinked f tryer)) (put (I .next) (some (relinked f waiter)) (I .roster));
+    next = suc (I .next);
+    shows = shows-set s₁ i (omega (arith, inside, len₁)) tryer (λ h z. let y = Option·some-injective _ _ z in omega (arith, inside, len₁));
+    good = subst (λ S. Good p S (C .outside) (C .given) (suc (I .next))) same
+        (Growing.tried (I .good) (I .id i) (relinked (I .id) q) (at-roster I i q at) w (mentions P) (mentions Q) disjoint P Q
+        (subst (λ G. Typed p G true P) (context-kept (mentions P) (q .held)) tP) (subst (λ G. Typed p G b Q) (context-kept (mentions Q) (q .held)) tQ));
+    places = subst (λ n. n ≤ processPlaces) (sym (length-set (inserted i waiter (C .processes)) i tryer ∙ len₁)) lt;
+    numbers = I .numbers;
+  }
     where
       waiter : Process
-      waiter = relinked (movedUp i) (becoming (waiting Q) (kept (mentions Q) (q .held)) q)
+      waiter = process (waiting Q) (kept (mentions Q) (q .held)) (Option·map (movedUp i) (q .link))
 
       tryer : Process
-      tryer = process (running P) (kept (mentions P) (q .held)) (some (suc i))
+      tryer = linkedBy (some (suc i)) (goesOn q P (kept (mentions P) (q .held)))
 
       f : ℕ → ℕ
       f = idIn (I .shows) i (I .next)
@@ -252,64 +274,50 @@ module _ {p : Program} {C : Config} (I : Inv p C) (i : ℕ) (q : Process) (at : 
       fi : f i ≡ I .id i
       fi = id-in-low (I .shows) i (I .next)
 
-      go : ltb (length (C .processes)) processPlaces ≡ true → Inv p (withProcesses (set (inserted i waiter (C .processes)) i tryer) C)
-      go lt = record {
-        id = f;
-        roster = put (f i) (some (relinked f tryer)) (put (I .next) (some (relinked f waiter)) (I .roster));
-        next = suc (I .next);
-        shows = shows-set s₁ i (omega (arith, inside, len₁)) tryer (λ h z. let y = Option·some-injective _ _ z in omega (arith, inside, len₁));
-        good = subst (λ S. Good p S (C .outside) (C .given) (suc (I .next))) same
-            (Growing.tried (I .good) (I .id i) (relinked (I .id) q) (at-roster I i q at) w (mentions P) (mentions Q) disjoint P Q
-            (subst (λ G. Typed p G true P) (context-kept (mentions P) (q .held)) tP) (subst (λ G. Typed p G b Q) (context-kept (mentions Q) (q .held)) tQ));
-        places = let a = ltb-iff (length (C .processes)) processPlaces .0 lt in subst (λ n. n ≤ processPlaces) (sym (length-set (inserted i waiter (C .processes)) i tryer ∙ len₁)) a;
-        numbers = I .numbers;
-      }
-        where
-          same : put (I .id i) (some (process (running P) (kept (mentions P) (q .held)) (some (I .next))))
-              (put (I .next) (some (relinked (I .id) (becoming (waiting Q) (kept (mentions Q) (q .held)) q))) (I .roster))
-              ≡ put (f i) (some (relinked f tryer)) (put (I .next) (some (relinked f waiter)) (I .roster))
-          same j =
-              put (sym fi j) (some (process (running P) (kept (mentions P) (q .held)) (some (sym (id-in-new (I .shows) i (I .next)) j))))
-              (put (I .next) (some (process (waiting Q) (kept (mentions Q) (q .held)) (sym (relinked-in (I .shows) i (I .next) (q .link)) j))) (I .roster))
+      same : put (I .id i) (some (linkedBy (some (I .next)) (goesOn q P (kept (mentions P) (q .held)))))
+          (put (I .next) (some (process (waiting Q) (kept (mentions Q) (q .held)) (Option·map (I .id) (q .link)))) (I .roster))
+          ≡ put (f i) (some (relinked f tryer)) (put (I .next) (some (relinked f waiter)) (I .roster))
+      same j =
+          put (sym fi j) (some (linkedBy (some (sym (id-in-new (I .shows) i (I .next)) j)) (goesOn q P (kept (mentions P) (q .held)))))
+          (put (I .next) (some (process (waiting Q) (kept (mentions Q) (q .held)) (sym (relinked-in (I .shows) i (I .next) (q .link)) j))) (I .roster))
 
-  -- ── fwd
-  pub forward-keeps : isWaiting (q .doing) ≡ false → (x c : Located) (A B : Ty Name) → lookup (x .name) (contextOf (q .held)) ≡ some (slot provided A)
-      → lookup (c .name) (contextOf (q .held)) ≡ some (slot used B)
-      → sameType A B ≡ true → Keeps p (forwarding C i q x c)
-  unfolding forwarding
-  forward-keeps w x c A B hx hc ab =
-      keeps-held p (lookup (x .name) (q .held)) _ λ e le. keeps-held p (lookup (c .name) (q .held)) _ λ d ld. joins e d le ld (farEnd C d)
-    where
-      emptied-inv : {o : List Outside} → Sublistᴰ o (C .outside) → Inv p (withOutside o (withProcesses (set (C .processes) i (foldsUp q [])) C))
-      emptied-inv = inv-less I i q at folding (folds w) (Sublistᴰ·nil-sublist (q .held)) tt
+  -- ── fwd: e is the end of x, d that of c
+  module _ {o : ℕ} {x c : Located} (r : q .doing ≡ running (fwd o x c)) {e d : End} (le : lookup (x .name) (q .held) ≡ some e) (ld : lookup (c .name) (q .held) ≡ some d) where
+    -- x is provided, c is used, and their types are one
+    record Forwards : Type 0 where
+      gives : e .side ≡ provided
+      takes : d .side ≡ used
+      one : OneType p (e .type) (d .type)
 
-      module-of : (e d : End) → lookup (x .name) (q .held) ≡ some e → lookup (c .name) (q .held) ≡ some d → (e .side ≡ provided) × (d .side ≡ used) × (e .type ≡ d .type)
-      module-of e d le ld =
-          let a = held-plain (x .name) (q .held) provided A hx in
-          let b = held-plain (c .name) (q .held) used B hc in
-          let ea : a .end ≡ e = Option·some-injective _ _ (sym (a .found) ∙ le) in
-          let db : b .end ≡ d = Option·some-injective _ _ (sym (b .found) ∙ ld) in (
-            ap (λ (e : End). e .side) (sym ea) ∙ a .side,
-            ap (λ (e : End). e .side) (sym db) ∙ b .side,
-            ap (λ (e : End). e .type) (sym ea) ∙ a .type ∙ sameType-iff A B .0 ab ∙ sym (b .type) ∙ ap (λ (e : End). e .type) db,
-          )
+    forwards-as : Typed p (contextOf (q .held)) b (fwd o x c) → Forwards
+    forwards-as (forwards A B hx hc ab _) =
+        let a = held-plain (x .name) (q .held) provided A hx in
+        let b = held-plain (c .name) (q .held) used B hc in
+        let ea : a .end ≡ e = Option·some-injective _ _ (sym (a .found) ∙ le) in
+        let db : b .end ≡ d = Option·some-injective _ _ (sym (b .found) ∙ ld) in
+        record {
+          gives = ap (λ (e : End). e .side) (sym ea) ∙ a .side;
+          takes = ap (λ (e : End). e .side) (sym db) ∙ b .side;
+          one = rw (ap (λ (e : End). e .type) (sym ea) ∙ a .type, ap (λ (e : End). e .type) (sym db) ∙ b .type) ab;
+        }
 
-      joined : (e d : End) → lookup (x .name) (q .held) ≡ some e → lookup (c .name) (q .held) ≡ some d → (f : Far) → FarIs C e f → Keeps p (joinedTo C i q e d f)
-      joined e d le ld _ (at-process h f) =
-          let m = module-of e d le ld in
-          let r = h .process in
-          inv-two I i (h .place) q r at (f .stands) folding (r .doing) [] _
-          (forwarded (I .good) (I .id i) (relinked (I .id) q) (at-roster I i q at) w (x .name) (c .name) e d le ld (m .0) (m .1) (m .2) (I .id (h .place))
-          (relinked (I .id) r) (at-roster I (h .place) r (f .stands))
-          (h .name) (f .end) (f .held) (f .channel) (f .side) _
-          (subst (Relocated (f .end) (d .channel) (r .held)) (λ t. movedEnd (f .channel t) (f .side t) (d .channel) (r .held))
-          (relocated (h .name) (f .end) (d .channel) (r .held) (fine-at I (h .place) r (f .stands) .keys) (f .held))))
-      joined e d le ld _ (at-outside n y j z s) =
-          let m = module-of e d le ld in
-          inv-set I i q at folding [] (I .numbers) (forwarded-out (I .good) (I .id i) (relinked (I .id) q) (at-roster I i q at) w (x .name) (c .name) e d le ld (m .0) (m .1) (m .2))
-      joined e d le ld _ (at-nobody a o) = emptied-inv (Sublistᴰ·refl (C .outside))
+    pub forward-keeps : {h : Holder} → Typed p (contextOf (q .held)) b (fwd o x c) → HeldFar C e h → Inv p (replaced (h .place) (farMoved e d (h .process)) (replaced i (foldsUp q []) C))
+    forward-keeps {h} t f =
+        let m = forwards-as t in
+        inv-two I i (h .place) q (h .process) at (f .stands) folding (h .process .doing) [] _
+        (forwarded (I .good) (I .id i) (relinked (I .id) q) (at-roster I i q at) (runs-awake r) (x .name) (c .name) e d le ld (m .gives) (m .takes) (m .one) (I .id (h .place))
+        (relinked (I .id) (h .process)) (at-roster I (h .place) (h .process) (f .stands)) (h .name) (f .end) (f .held) (f .channel) (f .side) _
+        (subst (Relocated (f .end) (d .channel) (h .process .held)) (λ t. movedEnd (f .channel t) (f .side t) (d .channel) (h .process .held))
+        (relocated (h .name) (f .end) (d .channel) (h .process .held) (fine-at I (h .place) (h .process) (f .stands) .keys) (f .held))))
 
-      joins : (e d : End) → lookup (x .name) (q .held) ≡ some e → lookup (c .name) (q .held) ≡ some d → (f : Far) → Keeps p (joining C i q e d f)
-      joins e d le ld (atProcess h) = joined e d le ld (farEnd C e) (far-is C e)
-      joins e d le ld (atOutside n) = joined e d le ld (farEnd C e) (far-is C e)
-      joins e d le ld givenUp = parting-keeps folding (folds w) (Sublistᴰ·nil-sublist (q .held)) tt e
+    pub forward-out-keeps : Typed p (contextOf (q .held)) b (fwd o x c) → Inv p (withOutside (movedOutside (e .channel) (d .channel) (C .outside)) (replaced i (foldsUp q []) C))
+    forward-out-keeps t =
+        let m = forwards-as t in
+        inv-set I i q at folding [] (I .numbers)
+        (forwarded-out (I .good) (I .id i) (relinked (I .id) q) (at-roster I i q at) (runs-awake r) (x .name) (c .name) e d le ld (m .gives) (m .takes) (m .one))
+
+    pub joined-nobody : Inv p (replaced i (foldsUp q []) C)
+    joined-nobody = folds-up (runs-awake r) (Sublistᴰ·nil-sublist (q .held))
+
+    pub nobody-joined : {seen : Seen} {D : Config} → GivesUp C e seen D → Inv p (replaced i (foldsUp q []) D)
+    nobody-joined g = parts folding (folds (runs-awake r)) (Sublistᴰ·nil-sublist (q .held)) tt g

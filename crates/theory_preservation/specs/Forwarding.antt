@@ -12,11 +12,13 @@ use Rattle.calculus.specs.Named.{lookup, isSome}
 use Rattle.calculus.specs.Types.{provided, used, other}
 use Rattle.calculus.specs.Program.{Program}
 use Rattle.calculus.specs.Declarations.{outward}
-use Rattle.calculus.specs.Configuration.{End, end, folding, Process, process, Outside, changedOutside, movedOutside, holding, foldsUp}
+use Rattle.calculus.specs.Typing.{OneType}
+use Rattle.calculus.specs.Configuration.{End, end, ofChannel, folding, Process, Outside, outsideOfChannel, changedOutside, movedOutside, holding, foldsUp}
 use Rattle.calculus.specs.WellFormed.{In, NoneTwice, Rising, key, isWaiting}
+use Rattle.theory_derivations.specs.OneType.{one-sym, one-trans}
 use Rattle.theory_ends.specs.Names.{lookup-in}
 use Rattle.theory_ends.specs.Ends.{side-clash, keyAt}
-use Rattle.theory_preservation.specs.Witness.{Tip, Rel, Witness, Moved, over, outing, tipKey, keyNumber, keySide}
+use Rattle.theory_preservation.specs.Witness.{Tip, Rel, of-channels, Witness, Recast, recast-same, recasting, Moved, over, outing, keyNumber, keySide}
 use Rattle.theory_preservation.specs.Mates.{put}
 use Rattle.theory_preservation.specs.Roster.{Roster, channelKey, channel-no-link, keyOf, tipOf, linkTip, outsideTip, Has, outside, TypedDoing, Fine, fine-less, Good, Change, becomes, one-good, two-good, NamesOf, folds}
 use Rattle.theory_preservation.specs.Relocating.{Relocated}
@@ -41,7 +43,7 @@ outside-once k f j h (a ∷ o) u n = go (eqb k (a .channel)) (outside-once k f j
 module _ {p : Program} {S : Roster} {o : List Outside} {given next : ℕ} (G : Good p S o given next) where
   -- the process r of u provides x, by the end e, and uses c, by the end d
   module _ (u : ℕ) (r : Process) (su : S u ≡ some r) (wr : isWaiting (r .doing) ≡ false) (x c : Name) (e d : End) (lx : lookup x (r .held) ≡ some e) (lc : lookup c (r .held) ≡ some d)
-      (se : e .side ≡ provided) (sd : d .side ≡ used) (ed : e .type ≡ d .type) where
+      (se : e .side ≡ provided) (sd : d .side ≡ used) (ed : OneType p (e .type) (d .type)) where
     u0 : u ≢ 0
     u0 = above G u r su
 
@@ -52,25 +54,27 @@ module _ {p : Program} {S : Roster} {o : List Outside} {given next : ℕ} (G : G
     hc = held-tip G u r su (c, d) (lookup-in c (r .held) lc)
 
     abbrev R : ℕ → Rel
-    R w = Moved (Has S o) (keyOf d ∷ []) u w
+    R w = Moved (Recast p (Has S o)) (keyOf d ∷ []) u w
 
     -- another's end stays
     stays : (v w : ℕ) (t : Tip) → v ≢ u → Has S o v t → R w v t
-    stays v w t n h = inl ((λ m. n (owner G v u (keyOf d) (t .1) (some (d .type)) (subst (λ q. Has S o v (q, t .1)) (List·Memᴰ·eq-of-singleton m) h) hc)), h)
+    stays v w t n h = inl ((λ m. n (owner G v u (keyOf d) (t .1) (some (d .type)) (subst (λ q. Has S o v (q, t .1)) (List·Memᴰ·eq-of-singleton m) h) hc)), recast-same p (Has S o) v t h)
 
     emptied : (w : ℕ) → Change p (R w) u (S u) (some (foldsUp r []))
     emptied w =
         becomes G (R w) u r su folding [] wr (fine-less (G .fine u r su) folding (folds wr) (Sublistᴰ·nil-sublist (r .held)) tt) (λ y i. absurd (List·Memᴰ·not-nil i))
-        (λ h s t. inl ((λ m. channel-no-link (d .channel) h (sym (ap keyNumber (List·Memᴰ·eq-of-singleton m)))), t))
+        (λ h s t. inl ((λ m. channel-no-link (d .channel) h (sym (ap keyNumber (List·Memᴰ·eq-of-singleton m)))), recast-same p (Has S o) u (linkTip h s) t))
 
-    -- the far end of e takes the place of d
-    moves : (w : ℕ) (f g : End) → Has S o w (tipOf f) → f .channel ≡ e .channel → f .side ≡ used → g ≡ end (f .side) (d .channel) (f .type) → R w w (tipOf g)
+    -- the far end of e takes the place of d, with its own type
+    moves : (w : ℕ) (f g : End) → Has S o w (tipOf f) → f .channel ≡ e .channel → f .side ≡ used → g ≡ ofChannel (d .channel) f → R w w (tipOf g)
     moves w f g hf z s h =
-        let t : tipOf g ≡ tipOf d = λ i. (
-          (channelKey (h i .channel), (ap (λ (e : End). e .side) h ∙ s ∙ sym sd) i),
-          some ((ap (λ (e : End). e .type) h ∙ one-type G w u f e z hf hx ∙ ed) i),
-        ) in
-        inr (List·Memᴰ·head (ap tipKey t), refl, subst (Has S o u) (sym t) hc)
+        let k : keyOf g ≡ keyOf d = λ i. (channelKey (h i .channel), (ap (λ (e : End). e .side) h ∙ s ∙ sym sd) i) in
+        let one : OneType p (d .type) (f .type) = one-trans p (one-sym p ed) (one-type G u w e f (sym z) hx hf) in
+        inr (
+          List·Memᴰ·head k,
+          refl,
+          (some (d .type), subst (λ k. Has S o u (k, some (d .type))) (sym k) hc, of-channels (subst (λ (g : End). OneType p (d .type) (g .type)) (sym h) one)),
+        )
 
     -- ── the far end of e is at the process q of w
     module _ (w : ℕ) (q : Process) (sw : S w ≡ some q) (n : Name) (f : End) (hf : In (n, f) (q .held)) (z : f .channel ≡ e .channel) (s : f .side ≡ other (e .side))
@@ -87,9 +91,10 @@ module _ {p : Program} {S : Roster} {o : List Outside} {given next : ℕ} (G : G
       sf : f .side ≡ used
       sf = s ∙ ap other se
 
-      W : Witness (R w) next
+      W : Witness p (R w) next
+      unfolding recasting
       W =
-          over (G .witness) (keyOf d ∷ []) u w (λ y m. ap (G .witness .own) (List·Memᴰ·eq-of-singleton m) ∙ G .witness .sound u (tipOf d) hc) u0 (channelKey (e .channel))
+          over (recasting (G .witness)) (keyOf d ∷ []) u w (λ y m. ap (G .witness .own) (List·Memᴰ·eq-of-singleton m) ∙ G .witness .sound u (tipOf d) hc) u0 (channelKey (e .channel))
           (joins G u w e f z s hx hw u0 w0) (λ t m. off (key-cases e (keyOf d) (sym (ap keyNumber (List·Memᴰ·eq-of-singleton m)))))
           (inl (
             ap (λ t. G .witness .own (channelKey (e .channel), t)) (sym se) ∙ near-owner G u w e f z s hx hw u0 w0,
@@ -118,7 +123,7 @@ module _ {p : Program} {S : Roster} {o : List Outside} {given next : ℕ} (G : G
               uw (owner G u w (keyOf d) (some (d .type)) (some (y .0 .1 .type)) hc
               (subst (λ k. Has S o w (k, some (y .0 .1 .type))) (λ i. (channelKey (y .2 i .0), (ap keySide (y .2) ∙ sf ∙ sym sd) i)) (held-tip G w q sw (y .0) (y .1))))
 
-          chan : (y : Name × End) → (y .1 ≡ end (f .side) (d .channel) (f .type)) ⊎ (In y (q .held) × (key (y .1) ≢ key f)) → y .1 .channel < channelPlaces
+          chan : (y : Name × End) → (y .1 ≡ ofChannel (d .channel) f) ⊎ (In y (q .held) × (key (y .1) ≢ key f)) → y .1 .channel < channelPlaces
           chan y (inl h) = subst (λ (e : End). e .channel < channelPlaces) (sym h) (G .fine u r su .channels (c, d) (lookup-in c (r .held) lc))
           chan y (inr h) = g .channels y (h .0)
 
@@ -128,14 +133,15 @@ module _ {p : Program} {S : Roster} {o : List Outside} {given next : ℕ} (G : G
           (becomes G (R w) w q sw (q .doing) l′ refl q-fine (λ y i. end-at y (rl .entry y i)) (λ h s t. stays w w (linkTip h s) (λ y. uw (sym y)) t))
           (λ v t nu nw h. stays v w t nu h) u0 w0
         where
-          end-at : (y : Name × End) → (y .1 ≡ end (f .side) (d .channel) (f .type)) ⊎ (In y (q .held) × (key (y .1) ≢ key f)) → R w w (tipOf (y .1))
+          end-at : (y : Name × End) → (y .1 ≡ ofChannel (d .channel) f) ⊎ (In y (q .held) × (key (y .1) ≢ key f)) → R w w (tipOf (y .1))
           end-at y (inl h) = moves w f (y .1) hw z sf h
           end-at y (inr h) = stays w w (tipOf (y .1)) (λ y. uw (sym y)) (held-tip G w q sw y (h .0))
 
     -- ── the far end of e is the outside's
     pub forwarded-out : Good p (put u (some (foldsUp r [])) S) (movedOutside (e .channel) (d .channel) o) given next
+    unfolding recasting
     forwarded-out =
-        one-good G (outing (G .witness) (keyOf d) u u0 (G .witness .sound u (tipOf d) hc)) u (foldsUp r []) (emptied 0) (λ v t nu _ h. stays v 0 t nu h)
+        one-good G (outing (recasting (G .witness)) (keyOf d) u u0 (G .witness .sound u (tipOf d) hc)) u (foldsUp r []) (emptied 0) (λ v t nu _ h. stays v 0 t nu h)
         (λ y i. out y (cases y i)) (record {
           outwards = λ y i. outw y (cases y i);
           below = λ y i. num y (cases y i);
@@ -145,7 +151,7 @@ module _ {p : Program} {S : Roster} {o : List Outside} {given next : ℕ} (G : G
         })
       where
         move : Outside → Outside
-        move y = record { number = y .number; channel = d .channel; type = y .type }
+        move = outsideOfChannel (d .channel)
 
         cases : (y : Outside) → In y (movedOutside (e .channel) (d .channel) o) → Changed (e .channel) move o y
         cases = outside-cases (e .channel) move o (G .fair .keys)

@@ -13,14 +13,14 @@ use Rattle.calculus.specs.Named.{lookup, kept, names, isSome}
 use Rattle.calculus.specs.Types.{Side, provided, used}
 use Rattle.calculus.specs.Program.{Program}
 use Rattle.calculus.specs.Typing.{Typed}
-use Rattle.calculus.specs.Configuration.{End, end, Doing, running, folding, waiting, Process, process, Outside, goesOn, becoming}
+use Rattle.calculus.specs.Configuration.{End, end, Doing, running, folding, waiting, Process, process, Outside, goesOn, linkedBy, becoming}
 use Rattle.calculus.specs.WellFormed.{In, NoneTwice, contextOf, key, isWaiting}
 use Rattle.theory_ends.specs.Lists.{once-by, sub-in, sub-once, once-snoc, length-snoc, map-append}
 use Rattle.theory_ends.specs.Names.{absent, kept-sub, kept-in, names-map, names-in, names-append}
 use Rattle.theory_ends.specs.Ends.{keyAt}
 use Rattle.theory_preservation.specs.Witness.{Key, Tip, Rel, Witness, fewer, Moved, Joined, sides, Between, over, joined-uses, joined-provides, tipNumber, keyNumber}
 use Rattle.theory_preservation.specs.Mates.{put, put-elim, Profile, Mates, mates-same, mates-put, mates-new, Quiet, quiet-none, quiet-some}
-use Rattle.theory_preservation.specs.Roster.{Roster, channelKey, linkKey, link-key-one, channel-no-link, keyOf, tipOf, linkTip, Tips, holds, links, waits, Has, outside, inside, TypedDoing, Fine, fine-less, profile, Good, NamesOf, Goes, Runs, runs-on, runs-awake, folds, names-less, names-snoc}
+use Rattle.theory_preservation.specs.Roster.{Roster, channelKey, linkKey, link-key-one, channel-no-link, keyOf, tipOf, linkTip, Tips, holds, links, waits, Has, outside, inside, TypedDoing, Fine, fine-new, fine-less, profile, Good, NamesOf, Goes, runs-on, runs-awake, folds, names-less, names-snoc}
 use Rattle.theory_preservation.specs.LettingGo.{profile-put-two}
 use Rattle.theory_preservation.specs.Retyping.{key-from-key, above, owner, held-tip}
 
@@ -136,7 +136,7 @@ module _ {p : Program} {S : Roster} {o : List Outside} {given next : ℕ} (G : G
     elsewhere v t n h = inl ((λ m. let x = goes-has (t .0) m in n (owner G v F.u (t .0) (t .1) (x .0) h (x .1))), inl h)
 
     -- the new joint is between F.u and the new process
-    grown : Witness (Joined (Has S o) F.k F.ends F.T) (suc next) → ((F.ends provided ≡ F.u) × (F.ends used ≡ next)) ⊎ ((F.ends provided ≡ next) × (F.ends used ≡ F.u)) → Witness R (suc next)
+    grown : Witness p (Joined (Has S o) F.k F.ends F.T) (suc next) → ((F.ends provided ≡ F.u) × (F.ends used ≡ next)) ⊎ ((F.ends provided ≡ next) × (F.ends used ≡ F.u)) → Witness p R (suc next)
     grown W b =
         over W moving F.u next (λ q i. let x = goes-has q i in W .sound F.u (q, x .0) (inl (x .1))) u0 F.k
         (W .live (F.ends provided) (F.ends used) ((F.k, provided), F.T) ((F.k, used), F.T) (inr (refl, refl, refl)) (inr (refl, refl, refl)) (nonzero provided b)
@@ -165,7 +165,7 @@ module _ {p : Program} {S : Roster} {o : List Outside} {given next : ℕ} (G : G
       tips : (q : Process) → y ≡ some q → (t : Tip) → Tips v q t → R v t
       place : (q : Process) → y ≡ some q → (0 < v) × (v < suc next)
 
-    grown-good : Witness R (suc next) → {S′ : Roster} → ((v : ℕ) → Grows v (S′ v)) → Mates (λ v. profile (S′ v)) → Good p S′ o given (suc next)
+    grown-good : Witness p R (suc next) → {S′ : Roster} → ((v : ℕ) → Grows v (S′ v)) → Mates (λ v. profile (S′ v)) → Good p S′ o given (suc next)
     grown-good W {S′} c m = record {
       witness = fewer W (omega arith) have;
       fine = λ v q e. c v .fine q e;
@@ -197,7 +197,7 @@ module _ {p : Program} {S : Roster} {o : List Outside} {given next : ℕ} (G : G
   -- ── a process that holds less and one more channel
   brought : (r : Process) → Fine p r → (d : Doing) → Goes (r .doing) d → (k : Option ℕ) (t : Name → Bool) (x : Name) (e : End) → lookup x (r .held) ≡ none
       → ¬ In (key e) (map keyAt (r .held)) → length (kept t (r .held)) < heldLimit
-      → e .channel < channelPlaces → TypedDoing p (contextOf (kept t (r .held) ++ ((x, e) ∷ []))) (isSome k) d → Fine p (process d (kept t (r .held) ++ ((x, e) ∷ [])) k)
+      → e .channel < channelPlaces → TypedDoing p (contextOf (kept t (r .held) ++ ((x, e) ∷ []))) (isSome k) d → Fine p (linkedBy k (becoming d (kept t (r .held) ++ ((x, e) ∷ [])) r))
   unfolding names
   brought r f d w k t x e new nk room lt td = record {
     typed = td;
@@ -226,7 +226,7 @@ module _ {p : Program} {S : Roster} {o : List Outside} {given next : ℕ} (G : G
       chan y (inr i) = subst (λ (y : Name × End). y .1 .channel < channelPlaces) (sym (List·Memᴰ·eq-of-singleton i)) lt
 
   -- ── spawn: the new process takes what t picks, and provides x on the channel n
-  module _ (u : ℕ) (r : Process) (su : S u ≡ some r) (wr : Runs (r .doing)) (t : Name → Bool) (x : Name) (A : Ty Name) (n : ℕ)
+  module _ (u : ℕ) (r : Process) (su : S u ≡ some r) {R₀ : Proc} (wr : r .doing ≡ running R₀) (t : Name → Bool) (x : Name) (A : Ty Name) (n : ℕ)
       (free : (v : ℕ) (e : Tip) → Has S o v e → e .0 .0 ≢ channelKey n)
       (lt : n < channelPlaces) (new : lookup x (r .held) ≡ none) (P Q : Proc) where
     abbrev rest : Name → Bool
@@ -265,7 +265,7 @@ module _ {p : Program} {S : Roster} {o : List Outside} {given next : ℕ} (G : G
         (grown fork (joined-provides (G .witness) (channelKey n) u next (some A) free (omega arith) (G .placed u r su .1)) (inr (refl, refl)))
         (put-elim (Grows fork) next (some made) (put u (some maker) S)
         (at-one fork next (next-place fork) made
-        (brought r (G .fine u r su) (running P) (runs-on wr P) none t x (end provided n A) new (no-key provided) roomP lt tP) made-tips)
+        (fine-new (brought r (G .fine u r su) (running P) (runs-on wr P) none t x (end provided n A) new (no-key provided) roomP lt tP)) made-tips)
         (λ v _. put-elim (Grows fork) u (some maker) S
         (at-one fork u (u-place fork) maker
         (brought r (G .fine u r su) (running Q) (runs-on wr Q) (r .link) rest x (end used n A) new (no-key used) roomQ lt tQ) maker-tips)
@@ -302,13 +302,13 @@ module _ {p : Program} {S : Roster} {o : List Outside} {given next : ℕ} (G : G
             (mates-put (mates-same same (G .mates)) next (some (none, false)) (subst Quiet (sym (sym (same next) ∙ ap profile nobody)) quiet-none) quiet-some)
 
   -- ── try: the new process takes what t₂ picks, and waits as the handler
-  module _ (u : ℕ) (r : Process) (su : S u ≡ some r) (wr : Runs (r .doing)) (t₁ t₂ : Name → Bool)
+  module _ (u : ℕ) (r : Process) (su : S u ≡ some r) {R₀ : Proc} (wr : r .doing ≡ running R₀) (t₁ t₂ : Name → Bool)
       (disjoint : (x : Name × End) → In x (r .held) → So (t₁ (x .0)) → So (t₂ (x .0)) → ⊥) (P Q : Proc) where
     abbrev tryer : Process
-    tryer = process (running P) (kept t₁ (r .held)) (some next)
+    tryer = linkedBy (some next) (goesOn r P (kept t₁ (r .held)))
 
     abbrev waiter : Process
-    waiter = becoming (waiting Q) (kept t₂ (r .held)) r
+    waiter = process (waiting Q) (kept t₂ (r .held)) (r .link)
 
     abbrev fork′ : Fork S o
     fork′ = record {
@@ -330,7 +330,8 @@ module _ {p : Program} {S : Roster} {o : List Outside} {given next : ℕ} (G : G
     abbrev R₂ : Rel
     R₂ = R fork′
 
-    half : (d : Doing) → NamesOf d (names (r .held)) → (k : Option ℕ) (t : Name → Bool) → TypedDoing p (contextOf (kept t (r .held))) (isSome k) d → Fine p (process d (kept t (r .held)) k)
+    half : (d : Doing) → NamesOf d (names (r .held)) → (k : Option ℕ) (t : Name → Bool) → TypedDoing p (contextOf (kept t (r .held))) (isSome k) d
+        → Fine p (linkedBy k (becoming d (kept t (r .held)) r))
     half d n k t td =
         let f = fine-less (G .fine u r su) folding (folds (runs-awake wr)) (kept-sub t (r .held)) tt in
         record { typed = td; names = names-less d (kept-sub t (r .held)) n; keys = f .keys; room = f .room; channels = f .channels }
@@ -345,7 +346,7 @@ module _ {p : Program} {S : Roster} {o : List Outside} {given next : ℕ} (G : G
         (half (running P) (runs-on wr P .names _ (G .fine u r su .names)) (some next) t₁ tP) tryer-tips)
         (λ v nu. put-elim (λ v y. v ≢ u → Grows fork′ v y) next (some waiter) S
         (λ _. at-one fork′ next (next-place fork′) waiter
-        (half (waiting Q) (runs-on wr Q .names _ (G .fine u r su .names)) (r .link) t₂ tQ) waiter-tips)
+        (fine-new (half (waiting Q) (runs-on wr Q .names _ (G .fine u r su .names)) (r .link) t₂ tQ)) waiter-tips)
         (λ v _ n. old fork′ v n) v nu))
         (mates-same (λ v. sym (profile-put-two u next (some tryer) (some waiter) S v))
         (mates-new (G .mates) u next (r .link) (ap profile su ∙ ap (λ b. some (r .link, b)) (runs-awake wr)) (ap profile nobody)))

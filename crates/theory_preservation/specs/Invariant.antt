@@ -5,16 +5,17 @@ use mathlib.Core.Path.{_≡_, refl, sym, _∙_, ap, subst}
 use mathlib.Core.Logic.{_≢_}
 use mathlib.Core.List.{List, Sublistᴰ}
 use mathlib.Core.Option.{Option, some, none, Option·map, Option·some-injective}
-use mathlib.Core.Bool.{Bool, true, false, cond, true≢false}
+use mathlib.Core.Bool.{Bool, true, false, true≢false}
 use Prim.Native.Nat.{ℕ, _≤_}
 use native.Mathlib.Omega.{arith}
 use lib.ListN.{length, set, getElem?, length-set}
 use Rattle.notation.specs.Limits.{processPlaces, outsideNumbers}
-use Rattle.notation.specs.Tree.{Name}
+use Rattle.notation.specs.Tree.{Name, Proc}
 use Rattle.calculus.specs.Named.{isSome}
 use Rattle.calculus.specs.Program.{Program}
-use Rattle.calculus.specs.Configuration.{End, Doing, Process, process, relinked, Outside, Config, withProcesses, withOutside, withGiven, becoming}
-use Rattle.calculus.specs.Steps.{Outcome, carried, notOpen, lacking, onHeld}
+use Rattle.calculus.specs.Configuration.{End, Doing, running, Process, relinked, Outside, Config, withProcesses, withOutside, withGiven, becoming}
+use Rattle.calculus.specs.Typing.{Typed}
+use Rattle.calculus.specs.Reduces.{Runs}
 use Rattle.calculus.specs.WellFormed.{contextOf, isWaiting}
 use Rattle.theory_ends.specs.Lists.{found-below, below-found}
 use Rattle.theory_preservation.specs.Mates.{put}
@@ -30,20 +31,6 @@ pub record Inv (p : Program) (C : Config) : Type 0 where
   pub good : Good p roster (C .outside) (C .given) next
   pub places : length (C .processes) ≤ processPlaces
   pub numbers : C .given ≤ outsideNumbers
-
--- where a step was carried out, the invariant holds of what it left
-abbrev pub Keeps : Program → Outcome → Type 0
-Keeps p (carried s D) = Inv p D
-Keeps p notOpen = Unit {0}
-Keeps p lacking = Unit {0}
-
-pub keeps-cond : (p : Program) (b : Bool) (x y : Outcome) → (b ≡ true → Keeps p x) → Keeps p y → Keeps p (cond b x y)
-keeps-cond p true x y f g = f refl
-keeps-cond p false x y f g = g
-
-pub keeps-held : (p : Program) (o : Option End) (k : End → Outcome) → ((e : End) → o ≡ some e → Keeps p (k e)) → Keeps p (onHeld o k)
-keeps-held p none k f = tt
-keeps-held p (some e) k f = f e refl
 
 module _ {p : Program} {C : Config} (I : Inv p C) where
   -- the process q at place i, as the roster has it
@@ -81,6 +68,10 @@ module _ {p : Program} {C : Config} (I : Inv p C) where
         let x = below-found (C .processes) h (I .shows .within i q at h e) in
         let m = I .good .mates .up (I .id i) (I .id h) (isWaiting (q .doing)) (ap profile at-roster ∙ ap (λ o. some (Option·map (I .id) o, isWaiting (q .doing))) e) in
         (x .0, x .1, ap (λ (y : Option ℕ × Bool). y .1) (Option·some-injective _ _ (sym (ap profile (I .shows .there h (x .0) (x .1))) ∙ m .1)))
+
+  -- the term that a process runs is typed with what it holds
+  pub runs-typed : {i : ℕ} {q : Process} {P : Proc} → Runs C i q P → Typed p (contextOf (q .held)) (isSome (Option·map (I .id) (q .link))) P
+  runs-typed {i} {q} {P} r = typed-at i q (r .stands .there) (running P) (r .runs)
 
   -- no link leads to a process that does not wait
   pub unlinked : (i : ℕ) (q : Process) → getElem? (C .processes) i ≡ some q → isWaiting (q .doing) ≡ false → (j : ℕ) (r : Process) → getElem? (C .processes) j ≡ some r → r .link ≢ some i

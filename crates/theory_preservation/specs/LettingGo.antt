@@ -12,12 +12,12 @@ use Rattle.notation.specs.Tree.{Name, Proc}
 use Rattle.calculus.specs.Named.{isSome, names}
 use Rattle.calculus.specs.Program.{Program}
 use Rattle.calculus.specs.Typing.{Typed}
-use Rattle.calculus.specs.Configuration.{End, Doing, running, Process, process, Outside, letGo, doingNow, becoming}
+use Rattle.calculus.specs.Configuration.{End, Doing, running, Process, Outside, letGo, doingNow, linkedBy, becoming}
 use Rattle.calculus.specs.WellFormed.{In, Rising, contextOf, isWaiting, NoneTwice}
 use Rattle.theory_ends.specs.Lists.{sub-in, sub-once}
-use Rattle.theory_preservation.specs.Witness.{Tip, fewer}
+use Rattle.theory_preservation.specs.Witness.{Tip, fewer, Recast, recast-same, recasting}
 use Rattle.theory_preservation.specs.Mates.{put, put-elim, put-at, Profile, Mates, mates-same, mates-put, mates-cut, Quiet, quiet-none, quiet-some}
-use Rattle.theory_preservation.specs.Roster.{Roster, Tips, holds, links, waits, Has, outside, inside, TypedDoing, Fine, fine-less, Fair, profile, Good, becomes, one-good, NamesOf, Goes}
+use Rattle.theory_preservation.specs.Roster.{Roster, tipOf, linkTip, outsideTip, Tips, holds, links, waits, Has, outside, inside, TypedDoing, Fine, fine-less, Fair, profile, Good, becomes, one-good, NamesOf, Goes}
 
 -- ── the outside lets go
 rising-from : {low high : ℕ} (l : List ℕ) → low ≤ high → Rising high l → Rising low l
@@ -62,17 +62,18 @@ put-twice u x y F v = go (ℕ-discrete v u)
     go (no _) = refl
 
 module _ {p : Program} {S : Roster} {o : List Outside} {given next : ℕ} (G : Good p S o given next) where
-  -- ── the process r of u now does d and holds l, of what it held
+  -- ── the process r of u now does d and holds l: ends that it had, with types that are one with those they had
   pub less : (u : ℕ) (r : Process) → S u ≡ some r → (d : Doing) (l : List (Name × End)) → isWaiting (r .doing) ≡ isWaiting d → Fine p (becoming d l r)
-      → ((x : Name × End) → In x l → (n : Name) × In (n, x .1) (r .held)) → {o′ : List Outside} → Sublistᴰ o′ o → Good p (put u (some (becoming d l r)) S) o′ given next
+      → ((x : Name × End) → In x l → Recast p (Has S o) u (tipOf (x .1))) → {o′ : List Outside} → Sublistᴰ o′ o → Good p (put u (some (becoming d l r)) S) o′ given next
   less u r su d l w f s k =
-      one-good G (G .witness) u (becoming d l r)
-      (becomes G (Has S o) u r su d l w f (λ x i. let m = s x i in inside r su (holds (m .0, x .1) (m .1) refl)) (λ h s t. t))
-      (λ v e n z t. t) (λ y i. outside refl y (sub-in k i) refl) (fair-less (G .fair) k)
+      one-good G (recasting (G .witness)) u (becoming d l r)
+      (becomes G (Recast p (Has S o)) u r su d l w f s (λ h s t. recast-same p (Has S o) u (linkTip h s) t))
+      (λ v e n z t. recast-same p (Has S o) v e t) (λ y i. recast-same p (Has S o) 0 (outsideTip y) (outside refl y (sub-in k i) refl)) (fair-less (G .fair) k)
 
   pub lessen : (u : ℕ) (r : Process) → S u ≡ some r → (d : Doing) → Goes (r .doing) d → {l : List (Name × End)} → Sublistᴰ l (r .held)
       → TypedDoing p (contextOf l) (isSome (r .link)) d → {o′ : List Outside} → Sublistᴰ o′ o → Good p (put u (some (becoming d l r)) S) o′ given next
-  lessen u r su d w {l} s t k = less u r su d l (w .waits) (fine-less (G .fine u r su) d w s t) (λ x i. (x .0, sub-in s i)) k
+  lessen u r su d w {l} s t k = less u r su d l (w .waits) (fine-less (G .fine u r su) d w s t)
+      (λ x i. recast-same p (Has S o) u (tipOf (x .1)) (inside r su (holds x (sub-in s i) refl))) k
 
   -- ── links go too: y is what stands at v afterwards
   pub record Shrinks (v : ℕ) (y : Option Process) : Type 0 where
@@ -102,17 +103,17 @@ module _ {p : Program} {S : Roster} {o : List Outside} {given next : ℕ} (G : G
   -- the process r of v does d from now on, which is no waiting, with its link or none
   shrinks : (v : ℕ) (r : Process) → S v ≡ some r → (d : Doing) (k : Option ℕ) → isWaiting d ≡ false → ((h : ℕ) → k ≡ some h → r .link ≡ some h)
       → NamesOf d (names (r .held)) → TypedDoing p (contextOf (r .held)) (isSome k) d
-      → Shrinks v (some (process d (r .held) k))
+      → Shrinks v (some (linkedBy k (doingNow d r)))
   shrinks v r sv d k w s n t = record {
     fine = λ q e. subst (Fine p) (Option·some-injective _ _ e) fine′;
     tips = λ q e. subst (λ q. (t : Tip) → Tips v q t → Has S o v t) (Option·some-injective _ _ e) here;
     was = λ _ _. (r, sv);
   }
     where
-      fine′ : Fine p (process d (r .held) k)
+      fine′ : Fine p (linkedBy k (doingNow d r))
       fine′ = let f = G .fine v r sv in record { typed = t; names = n; keys = f .keys; room = f .room; channels = f .channels }
 
-      here : (e : Tip) → Tips v (process d (r .held) k) e → Has S o v e
+      here : (e : Tip) → Tips v (linkedBy k (doingNow d r)) e → Has S o v e
       here e (holds x i z) = inside r sv (holds x i z)
       here e (links h y z) = inside r sv (links h (s h y) z)
       here e (waits y z) = absurd (true≢false (sym y ∙ w))
@@ -136,12 +137,12 @@ module _ {p : Program} {S : Roster} {o : List Outside} {given next : ℕ} (G : G
         ∙ (λ i. put u (e i) (put h (some (s .link, wd i)) (λ v. profile (S v))) v))
 
     pub raised : (P : Proc) → NoneTwice (names (r .held)) → Typed p (contextOf (r .held)) false P
-        → Good p (put u (some (process (running P) (r .held) none)) (put h (some (doingNow d s)) S)) o given next
+        → Good p (put u (some (linkedBy none (doingNow (running P) r))) (put h (some (doingNow d s)) S)) o given next
     raised P n t =
         shrunk-good
         (put-elim Shrinks u _ (put h (some (doingNow d s)) S) (shrinks u r su (running P) none refl (λ k e. absurd (Option·none-ne-some k e)) n t)
         (λ v _. put-elim Shrinks h _ S handler (λ v _. stays v) v))
-        (mates-same (rest-same (some (process (running P) (r .held) none)) (some (none, false)) refl) cut-mates)
+        (mates-same (rest-same (some (linkedBy none (doingNow (running P) r))) (some (none, false)) refl) cut-mates)
 
     pub left : Good p (put u none (put h (some (doingNow d s)) S)) o given next
     left =

@@ -14,6 +14,7 @@ pub mod Alone
 pub mod Weakening
 pub mod Calling
 pub mod Outward
+pub mod AfterMessage
 pub mod Sending
 pub mod Stepping
 pub mod Joints

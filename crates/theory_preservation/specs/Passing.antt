@@ -1,7 +1,7 @@
 -- A channel goes over a channel.
 use mathlib.Core.Path.{_≡_, refl, sym, _∙_, ap, subst}
 use mathlib.Core.Logic.{_≢_, _⊎_, inl, inr}
-use mathlib.Core.List.{List, [], _∷_, _++_, map, append-nil, Sublistᴰ, List·Memᴰ·head, List·Memᴰ·tail, List·Memᴰ·append-cases, List·Memᴰ·eq-of-singleton, Memᴰ·of-map}
+use mathlib.Core.List.{List, [], _∷_, _++_, map, Sublistᴰ, List·Memᴰ·head, List·Memᴰ·tail, List·Memᴰ·append-cases, List·Memᴰ·eq-of-singleton, Memᴰ·of-map}
 use mathlib.Core.Option.{Option, some, none}
 use mathlib.Core.Bool.{true, cond}
 use Prim.Native.Nat.{ℕ, suc, _≤_, _<_}
@@ -14,13 +14,14 @@ use Rattle.calculus.specs.Named.{lookup, without, names, isSome}
 use Rattle.calculus.specs.Types.{Side, provided, used, other}
 use Rattle.calculus.specs.Program.{Program}
 use Rattle.calculus.specs.Declarations.{outward}
-use Rattle.calculus.specs.Configuration.{End, end, Doing, Process, process, Outside, retypedOutside, becoming}
-use Rattle.calculus.specs.Configuration.{retypedEnd}
+use Rattle.calculus.specs.Typing.{OneType}
+use Rattle.calculus.specs.Configuration.{End, ofType, Doing, Process, Outside, retypedEnd, retypedOutside, becoming}
 use Rattle.calculus.specs.WellFormed.{In, NoneTwice, Rising, contextOf, key}
+use Rattle.theory_derivations.specs.OneType.{one-refl}
 use Rattle.theory_ends.specs.Lists.{sub-in, sub-once, once-snoc, length-snoc, map-append}
 use Rattle.theory_ends.specs.Names.{by-test, lookup-in, absent, without-sub, without-cases, changed-cases, changed-names, changed-length, names-append}
 use Rattle.theory_ends.specs.Ends.{keyAt}
-use Rattle.theory_preservation.specs.Witness.{Tip, Rel, Witness, Retyped, retyping, Moved, Between, over, outing, keyNumber}
+use Rattle.theory_preservation.specs.Witness.{Tip, Rel, of-channels, Witness, Retyped, retyping, Moved, Between, over, outing, keyNumber}
 use Rattle.theory_preservation.specs.Mates.{put}
 use Rattle.theory_preservation.specs.Roster.{Roster, channelKey, channel-no-link, keyOf, tipOf, linkTip, outsideTip, Has, outside, TypedDoing, Fine, Fair, Good, Change, becomes, one-good, two-good, NamesOf, Goes, names-snoc}
 use Rattle.theory_preservation.specs.LettingGo.{fair-less}
@@ -46,7 +47,7 @@ module _ {p : Program} {S : Roster} {o : List Outside} {given next : ℕ} (G : G
     k = channelKey (e .channel)
 
     abbrev R : Rel
-    R = Retyped (Has S o) k (some B)
+    R = Retyped p (Has S o) k (some B)
 
     u0 : u ≢ 0
     u0 = above G u r su
@@ -69,17 +70,25 @@ module _ {p : Program} {S : Roster} {o : List Outside} {given next : ℕ} (G : G
     -- the sender's ends afterwards: none of them is that of d
     module _ (far : (t : Option (Ty Name)) → ¬ Has S o u ((k, other (e .side)), t)) where
       sender-end : (x : Name × End) → In x (retypedEnd c B (without a (r .held))) → R u (tipOf (x .1)) × (key (x .1) ≢ key d)
-      sender-end x i = go (changed-cases key c (λ e. end (e .side) (e .channel) B) (without a (r .held)) e keys′ lc′ x i)
+      sender-end x i = go (changed-cases key c (ofType B) (without a (r .held)) e keys′ lc′ x i)
         where
           keys′ : NoneTwice (map keyAt (without a (r .held)))
           keys′ = sub-once keyAt (without-sub a (r .held)) (G .fine u r su .keys)
 
-          go : (x .1 ≡ end (e .side) (e .channel) B) ⊎ (In x (without a (r .held)) × (key (x .1) ≢ key e)) → R u (tipOf (x .1)) × (key (x .1) ≢ key d)
-          go (inl z) = (retyped-tip (Has S o) u e B hu far (x .1) (inl z), λ y. ed (ap key (sym z) ∙ y))
-          go (inr z) = let m = left-names x (z .0) in (retyped-tip (Has S o) u e B hu far (x .1) (inr (held-tip G u r su x (m .0), z .1)), m .1)
+          go : (x .1 ≡ ofType B e) ⊎ (In x (without a (r .held)) × (key (x .1) ≢ key e)) → R u (tipOf (x .1)) × (key (x .1) ≢ key d)
+          go (inl z) = (retyped-tip p (Has S o) u e (one-refl p B) hu far (x .1) (inl z), λ y. ed (ap key (sym z) ∙ y))
+          go (inr z) = let m = left-names x (z .0) in (retyped-tip p (Has S o) u e (one-refl p B) hu far (x .1) (inr (held-tip G u r su x (m .0), z .1)), m .1)
 
-      passed-end : R u (tipOf d)
-      passed-end = retyped-tip (Has S o) u e B hu far d (inr (ha, λ z. ed (sym z)))
+      -- d is on another channel
+      other-channel : channelKey (d .channel) ≢ k
+      other-channel z = two (key-cases e (keyOf d) z)
+        where
+          two : (keyOf d ≡ keyOf e) ⊎ (keyOf d ≡ (k, other (e .side))) → ⊥
+          two (inl h) = ed (sym (key-from-key d e h))
+          two (inr h) = far (some (d .type)) (subst (λ q. Has S o u (q, some (d .type))) h ha)
+
+      passed-end : {A : Ty Name} → OneType p (d .type) A → R u (tipOf (ofType A d))
+      passed-end one = (some (d .type), ha, inr (other-channel, of-channels one))
 
       sender-fine : Fine p (becoming P (retypedEnd c B (without a (r .held))) r)
       sender-fine = fine-retyped (G .fine u r su) P wP (without-sub a (r .held)) c B tP
@@ -91,19 +100,19 @@ module _ {p : Program} {S : Roster} {o : List Outside} {given next : ℕ} (G : G
           (λ x i. let t = sender-end x i in inl ((λ m. t .1 (key-from-key (x .1) d (List·Memᴰ·eq-of-singleton m))), t .0))
           (λ h s t. inl (
             (λ m. channel-no-link (d .channel) h (sym (ap keyNumber (List·Memᴰ·eq-of-singleton m)))),
-            retyped-off (Has S o) u (linkTip h s) t
+            retyped-off p (Has S o) u (linkTip h s) t
                 (λ z. channel-no-link (e .channel) h (sym z)),
           ))
 
     -- another's end stays, where it is no end of c
     else-stays : (v w : ℕ) (t : Tip) → v ≢ u → Has S o v t → t .0 .0 ≢ k → Moved R (keyOf d ∷ []) u w v t
     else-stays v w t nu h n =
-        inl ((λ m. nu (owner G v u (keyOf d) (t .1) (some (d .type)) (subst (λ q. Has S o v (q, t .1)) (List·Memᴰ·eq-of-singleton m) h) ha)), retyped-off (Has S o) v t h n)
+        inl ((λ m. nu (owner G v u (keyOf d) (t .1) (some (d .type)) (subst (λ q. Has S o v (q, t .1)) (List·Memᴰ·eq-of-singleton m) h) ha)), retyped-off p (Has S o) v t h n)
 
-    -- ── to the process q of w, which takes it as x
-    module _ (w : ℕ) (q : Process) (sw : S w ≡ some q) (Q : Doing) (wQ : Goes (q .doing) Q) (c′ x : Name) (f : End) (lf : lookup c′ (q .held) ≡ some f)
+    -- ── to the process q of w, which takes it as x; c then has the type B′ there, and x the type A
+    module _ {B′ A : Ty Name} (bb : OneType p B B′) (da : OneType p (d .type) A) (w : ℕ) (q : Process) (sw : S w ≡ some q) (Q : Doing) (wQ : Goes (q .doing) Q) (c′ x : Name) (f : End) (lf : lookup c′ (q .held) ≡ some f)
         (z : f .channel ≡ e .channel) (s : f .side ≡ other (e .side)) (new : lookup x (q .held) ≡ none) (room : length (q .held) < heldLimit)
-        (tQ : TypedDoing p (contextOf (retypedEnd c′ B (q .held) ++ ((x, d) ∷ []))) (isSome (q .link)) Q) where
+        (tQ : TypedDoing p (contextOf (retypedEnd c′ B′ (q .held) ++ ((x, ofType A d) ∷ []))) (isSome (q .link)) Q) where
       w0 : w ≢ 0
       w0 = above G w q sw
 
@@ -126,74 +135,62 @@ module _ {p : Program} {S : Roster} {o : List Outside} {given next : ℕ} (G : G
       no-d : (t : Option (Ty Name)) → ¬ Has S o w (keyOf d, t)
       no-d t h = uw (owner G u w (keyOf d) (some (d .type)) t ha h)
 
-      own-end : (y : Name × End) → In y (retypedEnd c′ B (q .held)) → R w (tipOf (y .1))
+      own-end : (y : Name × End) → In y (retypedEnd c′ B′ (q .held)) → R w (tipOf (y .1))
       own-end y i =
-          subst (λ k. Retyped (Has S o) (channelKey k) (some B) w (tipOf (y .1))) z
-          (retyped-tip (Has S o) w f B hw far-w (y .1) (go (changed-cases key c′ (λ e. end (e .side) (e .channel) B) (q .held) f (G .fine w q sw .keys) lf y i)))
+          subst (λ k. Retyped p (Has S o) (channelKey k) (some B) w (tipOf (y .1))) z
+          (retyped-tip p (Has S o) w f bb hw far-w (y .1) (go (changed-cases key c′ (ofType B′) (q .held) f (G .fine w q sw .keys) lf y i)))
         where
-          go : (y .1 ≡ end (f .side) (f .channel) B) ⊎ (In y (q .held) × (key (y .1) ≢ key f)) → (y .1 ≡ end (f .side) (f .channel) B) ⊎ (Has S o w (tipOf (y .1)) × (key (y .1) ≢ key f))
+          go : (y .1 ≡ ofType B′ f) ⊎ (In y (q .held) × (key (y .1) ≢ key f)) → (y .1 ≡ ofType B′ f) ⊎ (Has S o w (tipOf (y .1)) × (key (y .1) ≢ key f))
           go (inl h) = inl h
           go (inr h) = inr (held-tip G w q sw y (h .0), h .1)
 
-      taken : (y : Name × End) → In y (retypedEnd c′ B (q .held)) ⊎ In y ((x, d) ∷ []) → Moved R (keyOf d ∷ []) u w w (tipOf (y .1))
+      taken : (y : Name × End) → In y (retypedEnd c′ B′ (q .held)) ⊎ In y ((x, ofType A d) ∷ []) → Moved R (keyOf d ∷ []) u w w (tipOf (y .1))
       taken y (inl i) = let t = own-end y i in inl ((λ m. no-d (t .0) (subst (λ q. Has S o w (q, t .0)) (List·Memᴰ·eq-of-singleton m) (t .1))), t)
       taken y (inr i) =
-          subst (λ (y : Name × End). Moved R (keyOf d ∷ []) u w w (tipOf (y .1))) (sym (List·Memᴰ·eq-of-singleton i)) (inr (List·Memᴰ·head refl, refl, passed-end far-u))
+          subst (λ (y : Name × End). Moved R (keyOf d ∷ []) u w w (tipOf (y .1))) (sym (List·Memᴰ·eq-of-singleton i)) (inr (List·Memᴰ·head refl, refl, passed-end far-u da))
 
-      taker-fine : Fine p (becoming Q (retypedEnd c′ B (q .held) ++ ((x, d) ∷ [])) q)
+      taker-fine : Fine p (becoming Q (retypedEnd c′ B′ (q .held) ++ ((x, ofType A d) ∷ [])) q)
       unfolding names
       taker-fine = record {
         typed = tQ;
-        names = subst (NamesOf Q) (sym (names-append (retypedEnd c′ B (q .held)) ((x, d) ∷ [])))
-            (names-snoc Q (names (retypedEnd c′ B (q .held))) x (subst (NamesOf Q) (sym same-names) (wQ .names (names (q .held)) (g .names)))
+        names = subst (NamesOf Q) (sym (names-append (retypedEnd c′ B′ (q .held)) ((x, ofType A d) ∷ [])))
+            (names-snoc Q (names (retypedEnd c′ B′ (q .held))) x (subst (NamesOf Q) (sym same-names) (wQ .names (names (q .held)) (g .names)))
             (λ m. absent x (q .held) new (subst (In x) same-names m)));
-        keys = subst NoneTwice (sym (map-append keyAt (retypedEnd c′ B (q .held)) ((x, d) ∷ [])))
-            (once-snoc (map keyAt (retypedEnd c′ B (q .held))) (key d) (subst NoneTwice (sym (retyped-keys c′ B (q .held))) (g .keys)) no-key);
-        room = subst (λ n. n ≤ heldLimit) (sym (length-snoc (retypedEnd c′ B (q .held)) (x, d) ∙ ap suc (changed-length c′ _ (q .held)))) room;
-        channels = λ y i. chan y (List·Memᴰ·append-cases (retypedEnd c′ B (q .held)) i);
+        keys = subst NoneTwice (sym (map-append keyAt (retypedEnd c′ B′ (q .held)) ((x, ofType A d) ∷ [])))
+            (once-snoc (map keyAt (retypedEnd c′ B′ (q .held))) (key d) (subst NoneTwice (sym (retyped-keys c′ B′ (q .held))) (g .keys)) no-key);
+        room = subst (λ n. n ≤ heldLimit) (sym (length-snoc (retypedEnd c′ B′ (q .held)) (x, ofType A d) ∙ ap suc (changed-length c′ _ (q .held)))) room;
+        channels = λ y i. chan y (List·Memᴰ·append-cases (retypedEnd c′ B′ (q .held)) i);
       }
         where
           g : Fine p q
           g = G .fine w q sw
 
-          same-names : names (retypedEnd c′ B (q .held)) ≡ names (q .held)
+          same-names : names (retypedEnd c′ B′ (q .held)) ≡ names (q .held)
           same-names = changed-names c′ _ (q .held)
 
-          no-key : ¬ In (key d) (map keyAt (retypedEnd c′ B (q .held)))
+          no-key : ¬ In (key d) (map keyAt (retypedEnd c′ B′ (q .held)))
           no-key m =
-              let y = Memᴰ·of-map keyAt (q .held) (subst (In (key d)) (retyped-keys c′ B (q .held)) m) in
+              let y = Memᴰ·of-map keyAt (q .held) (subst (In (key d)) (retyped-keys c′ B′ (q .held)) m) in
               no-d (some (y .0 .1 .type)) (subst (λ k. Has S o w (k, some (y .0 .1 .type))) (key-of-key (y .0 .1) d (y .2)) (held-tip G w q sw (y .0) (y .1)))
 
-          chan : (y : Name × End) → In y (retypedEnd c′ B (q .held)) ⊎ In y ((x, d) ∷ []) → y .1 .channel < channelPlaces
-          chan y (inl i) = retyped-channels c′ B (q .held) channelPlaces (g .channels) y i
+          chan : (y : Name × End) → In y (retypedEnd c′ B′ (q .held)) ⊎ In y ((x, ofType A d) ∷ []) → y .1 .channel < channelPlaces
+          chan y (inl i) = retyped-channels c′ B′ (q .held) channelPlaces (g .channels) y i
           chan y (inr i) = subst (λ (y : Name × End). y .1 .channel < channelPlaces) (sym (List·Memᴰ·eq-of-singleton i)) (G .fine u r su .channels (a, d) (lookup-in a (r .held) la))
 
-      taker : Change p (Moved R (keyOf d ∷ []) u w) w (S w) (some (becoming Q (retypedEnd c′ B (q .held) ++ ((x, d) ∷ [])) q))
+      taker : Change p (Moved R (keyOf d ∷ []) u w) w (S w) (some (becoming Q (retypedEnd c′ B′ (q .held) ++ ((x, ofType A d) ∷ [])) q))
       taker =
-          becomes G (Moved R (keyOf d ∷ []) u w) w q sw Q (retypedEnd c′ B (q .held) ++ ((x, d) ∷ [])) (wQ .waits) taker-fine
-          (λ y i. taken y (List·Memᴰ·append-cases (retypedEnd c′ B (q .held)) i))
+          becomes G (Moved R (keyOf d ∷ []) u w) w q sw Q (retypedEnd c′ B′ (q .held) ++ ((x, ofType A d) ∷ [])) (wQ .waits) taker-fine
+          (λ y i. taken y (List·Memᴰ·append-cases (retypedEnd c′ B′ (q .held)) i))
           (λ h s t. else-stays w w (linkTip h s) (λ y. uw (sym y)) t (λ y. channel-no-link (e .channel) h (sym y)))
 
-      moving : Witness (Moved R (keyOf d ∷ []) u w) next
+      moving : Witness p (Moved R (keyOf d ∷ []) u w) next
       unfolding retyping
       moving =
           over (retyping (G .witness) k (some B)) (keyOf d ∷ []) u w (λ y m. ap (G .witness .own) (List·Memᴰ·eq-of-singleton m) ∙ G .witness .sound u (tipOf d) ha) u0 k
           (joins G u w e f z s hu hw u0 w0) off (between (e .side) refl)
         where
-          -- d is on another channel
           off : (s : Side) → ¬ In (k, s) (keyOf d ∷ [])
-          off s m = go (passed-end far-u .2)
-            where
-              same : channelKey (d .channel) ≡ k
-              same = sym (ap keyNumber (List·Memᴰ·eq-of-singleton m))
-
-              go : ((channelKey (d .channel) ≡ k) × (some (d .type) ≡ some B)) ⊎ ((channelKey (d .channel) ≢ k) × (some (d .type) ≡ passed-end far-u .0)) → ⊥
-              go (inr y) = y .0 same
-              go (inl y) = two (key-cases e (keyOf d) same)
-                where
-                  two : (keyOf d ≡ keyOf e) ⊎ (keyOf d ≡ (k, other (e .side))) → ⊥
-                  two (inl h) = ed (sym (key-from-key d e h))
-                  two (inr h) = far-u (some (d .type)) (subst (λ q. Has S o u (q, some (d .type))) h ha)
+          off s m = other-channel far-u (sym (ap keyNumber (List·Memᴰ·eq-of-singleton m)))
 
           between : (t : Side) → e .side ≡ t → Between (G .witness .own) k u w
           between provided y = inl (
@@ -207,10 +204,10 @@ module _ {p : Program} {S : Roster} {o : List Outside} {given next : ℕ} (G : G
                 ∙ near-owner G u w e f z s hu hw u0 w0,
           )
 
-      pub passed : Good p (put w (some (becoming Q (retypedEnd c′ B (q .held) ++ ((x, d) ∷ [])) q))
+      pub passed : Good p (put w (some (becoming Q (retypedEnd c′ B′ (q .held) ++ ((x, ofType A d) ∷ [])) q))
           (put u (some (becoming P (retypedEnd c B (without a (r .held))) r)) S)) o given next
       passed =
-          two-good G moving u w (becoming P (retypedEnd c B (without a (r .held))) r) (becoming Q (retypedEnd c′ B (q .held) ++ ((x, d) ∷ [])) q)
+          two-good G moving u w (becoming P (retypedEnd c B (without a (r .held))) r) (becoming Q (retypedEnd c′ B′ (q .held) ++ ((x, ofType A d) ∷ [])) q)
           (sender far-u w) taker (λ v t nu nw h. else-stays v w t nu h (λ y. rest v t nu nw (whose G u v e hu t h y))) u0 w0
         where
           rest : (v : ℕ) (t : Tip) → v ≢ u → v ≢ w → (v ≡ u) ⊎ Has S o v ((k, other (e .side)), t .1) → ⊥
@@ -223,9 +220,9 @@ module _ {p : Program} {S : Roster} {o : List Outside} {given next : ℕ} (G : G
     passed-unheard far {o′} sub =
         one-good G (retyping (G .witness) k (some B)) u (becoming P (retypedEnd c B (without a (r .held))) r)
         (becomes G R u r su P (retypedEnd c B (without a (r .held))) (wP .waits) (sender-fine (far u)) (λ x i. sender-end (far u) x i .0)
-        (λ h s t. retyped-off (Has S o) u (linkTip h s) t (λ z. channel-no-link (e .channel) h (sym z))))
-        (λ v t nu _ h. retyped-off (Has S o) v t h (λ y. rest v t nu (whose G u v e hu t h y)))
-        (λ y i. let h : Has S o 0 (outsideTip y) = outside refl y (sub-in sub i) refl in retyped-off (Has S o) 0 (outsideTip y) h
+        (λ h s t. retyped-off p (Has S o) u (linkTip h s) t (λ z. channel-no-link (e .channel) h (sym z))))
+        (λ v t nu _ h. retyped-off p (Has S o) v t h (λ y. rest v t nu (whose G u v e hu t h y)))
+        (λ y i. let h : Has S o 0 (outsideTip y) = outside refl y (sub-in sub i) refl in retyped-off p (Has S o) 0 (outsideTip y) h
         (λ z. rest 0 (outsideTip y) (λ k. u0 (sym k)) (whose G u 0 e hu (outsideTip y) h z)))
         (fair-less (G .fair) sub)
       where
@@ -233,8 +230,8 @@ module _ {p : Program} {S : Roster} {o : List Outside} {given next : ℕ} (G : G
         rest v t nu (inl y) = nu y
         rest v t nu (inr y) = far v (t .1) y
 
-    -- ── to the outside, which uses it from then on, or lets go of it at once
-    module _ (y : Outside) (i : In y o) (z : y .channel ≡ e .channel) (s : e .side ≡ provided) (sd : d .side ≡ used) (oB : outward p B ≡ true) (oA : outward p (d .type) ≡ true) where
+    -- ── to the outside, which uses it from then on with the type A, or lets go of it at once; c then has the type B′ there
+    module _ {B′ A : Ty Name} (bb : OneType p B B′) (da : OneType p (d .type) A) (y : Outside) (i : In y o) (z : y .channel ≡ e .channel) (s : e .side ≡ provided) (sd : d .side ≡ used) (oB : outward p B′ ≡ true) (oA : outward p A ≡ true) where
       far-out : Has S o 0 ((k, other (e .side)), some (y .type))
       far-out = out-far G e y i z s
 
@@ -242,22 +239,22 @@ module _ {p : Program} {S : Roster} {o : List Outside} {given next : ℕ} (G : G
       far-not t h = u0 (owner G u 0 _ t (some (y .type)) h far-out)
 
       abbrev shown : Outside
-      shown = record { number = given; channel = d .channel; type = d .type }
+      shown = record { number = given; channel = d .channel; type = A }
 
       d-out : keyOf d ≡ (channelKey (d .channel), used)
       d-out i = (channelKey (d .channel), sd i)
 
-      W : Witness (Moved R (keyOf d ∷ []) u 0) next
+      W : Witness p (Moved R (keyOf d ∷ []) u 0) next
       unfolding retyping
       W = outing (retyping (G .witness) k (some B)) (keyOf d) u u0 (G .witness .sound u (tipOf d) ha)
 
-      old-out : (x : Outside) → In x (retypedOutside (e .channel) B o) → Moved R (keyOf d ∷ []) u 0 0 (outsideTip x)
+      old-out : (x : Outside) → In x (retypedOutside (e .channel) B′ o) → Moved R (keyOf d ∷ []) u 0 0 (outsideTip x)
       old-out x j =
-          let t = out-retyped G (e .channel) B x j in
+          let t = out-retyped G (e .channel) bb x j in
           inl ((λ m. u0 (owner G u 0 (keyOf d) (some (d .type)) (t .0) ha (subst (λ q. Has S o 0 (q, t .0)) (List·Memᴰ·eq-of-singleton m) (t .1)))), t)
 
       new-out : Moved R (keyOf d ∷ []) u 0 0 (outsideTip shown)
-      new-out = inr (List·Memᴰ·head (sym d-out), refl, subst (λ q. R u (q, some (d .type))) d-out (passed-end far-not))
+      new-out = inr (List·Memᴰ·head (sym d-out), refl, subst (λ q. R u (q, some A)) d-out (passed-end far-not da))
 
       passed-to : (o′ : List Outside) → ((x : Outside) → In x o′ → Moved R (keyOf d ∷ []) u 0 0 (outsideTip x)) → Fair p (suc given) o′
           → Good p (put u (some (becoming P (retypedEnd c B (without a (r .held))) r)) S) o′ (suc given) next
@@ -270,15 +267,14 @@ module _ {p : Program} {S : Roster} {o : List Outside} {given next : ℕ} (G : G
           rest v t nu n0 (inr j) = n0 (owner G v 0 _ (t .1) (some (y .type)) j far-out)
 
       abbrev o₁ : List Outside
-      o₁ = retypedOutside (e .channel) B o
+      o₁ = retypedOutside (e .channel) B′ o
 
       f₁ : Fair p given o₁
-      f₁ = fair-retyped (G .fair) (e .channel) B oB
+      f₁ = fair-retyped (G .fair) (e .channel) B′ oB
 
-      pub passed-gone : Good p (put u (some (becoming P (retypedEnd c B (without a (r .held))) r)) S) (o₁ ++ []) (suc given) next
+      pub passed-gone : Good p (put u (some (becoming P (retypedEnd c B (without a (r .held))) r)) S) o₁ (suc given) next
       passed-gone =
-          subst (λ o. Good p (put u (some (becoming P (retypedEnd c B (without a (r .held))) r)) S) o (suc given) next) (sym (append-nil o₁))
-          (passed-to o₁ old-out (record { outwards = f₁ .outwards; below = λ x j. let b = f₁ .below x j in omega arith; rising = f₁ .rising; keys = f₁ .keys; channels = f₁ .channels }))
+          passed-to o₁ old-out (record { outwards = f₁ .outwards; below = λ x j. let b = f₁ .below x j in omega arith; rising = f₁ .rising; keys = f₁ .keys; channels = f₁ .channels })
 
       pub passed-out : Good p (put u (some (becoming P (retypedEnd c B (without a (r .held))) r)) S) (o₁ ++ (shown ∷ [])) (suc given) next
       passed-out = passed-to (o₁ ++ (shown ∷ [])) (λ x j. out x (List·Memᴰ·append-cases o₁ j)) (record {
@@ -302,5 +298,5 @@ module _ {p : Program} {S : Roster} {o : List Outside} {given next : ℕ} (G : G
           fresh : ¬ In (d .channel) (map (λ (x : Outside). x .channel) o₁)
           fresh m =
               let x = Memᴰ·of-map (λ (x : Outside). x .channel) o₁ m in
-              let t = out-retyped G (e .channel) B (x .0) (x .1) in
+              let t = out-retyped G (e .channel) bb (x .0) (x .1) in
               u0 (owner G u 0 (keyOf d) (some (d .type)) (t .0) ha (subst (λ q. Has S o 0 (q, t .0)) (λ j. (channelKey (x .2 j), sym sd j)) (t .1)))

@@ -9,7 +9,7 @@ use native.Mathlib.Omega.{arith}
 use native.Mathlib.Decide.{ℕ-discrete, decLt}
 use lib.ListN.{length, set, getElem?, length-set, length-map}
 use lib.Dec.{ltb}
-use Rattle.calculus.specs.Configuration.{Process, process, movedUp, movedDown, relinked, inserted, removed}
+use Rattle.calculus.specs.Configuration.{Process, linkedBy, movedUp, movedDown, relinked, inserted, removed}
 use Rattle.theory_derivations.specs.Booleans.{bool-cases, cond-true, cond-false, ltb-iff}
 use Rattle.theory_ends.specs.Lists.{found-below, below-found, set-at, set-off, set-cases, putIn, takeOut, in-low, in-here, in-high, out-low, out-high, length-in, length-removed, found-map, not-below}
 use Rattle.theory_preservation.specs.Mates.{put, put-at, put-off, put-elim}
@@ -217,7 +217,7 @@ module _ {id : ℕ → ℕ} {l : List Process} {S : Roster} (s : Shows id l S) w
           go (inr y) =
               let e : idIn i z j ≡ id (y .0) = ap (idIn i z) (y .3) ∙ id-in-up i z (y .0) in
               put-off z (some (relinked (idIn i z) q)) S (idIn i z j) (λ w. new (y .0) (found-below l (y .0) (y .2)) (sym e ∙ w)) ∙ ap S e ∙ s .there (y .0) (y .1) (y .2)
-              ∙ ap (λ o. some (process (y .1 .doing) (y .1 .held) o)) (sym (relinked-in i z (y .1 .link))) ∙ ap (λ r. some (relinked (idIn i z) r)) (y .4)
+              ∙ ap (λ o. some (linkedBy o (y .1))) (sym (relinked-in i z (y .1 .link))) ∙ ap (λ r. some (relinked (idIn i z) r)) (y .4)
 
       here : (r : Process) → some (relinked (idIn i z) q) ≡ some r → (j : ℕ) × (q′ : Process) × (getElem? (putIn (suc i) q m′) j ≡ some q′) × (idIn i z j ≡ z)
       here r e = (suc i, q, in-here (suc i) q m′ (omega (arith, length-map l (relinked (movedUp i)))), id-in-new i z)
@@ -324,7 +324,7 @@ module _ {id : ℕ → ℕ} {l : List Process} {S : Roster} (s : Shows id l S) w
       there′ j r e =
           let x = from j r e in
           put-off (id i) none S (id (skip i j)) (λ z. skip-not i j (s .apart (skip i j) i (found-below l (skip i j) (x .1)) h z)) ∙ s .there (skip i j) (x .0) (x .1)
-          ∙ ap (λ o. some (process (x .0 .doing) (x .0 .held) o))
+          ∙ ap (λ o. some (linkedBy o (x .0)))
           (sym (relink-map (idOut i) (movedDown i) (x .0 .link) (λ k y. id-out-down i k (λ z. alone (skip i j) (x .0) (x .1) (y ∙ ap some z)))))
           ∙ ap (λ r. some (relinked (idOut i) r)) (x .2)
 

@@ -1,4 +1,4 @@
--- A label goes over a channel: its ends get another type.
+-- A label goes over a channel: each of its ends gets another type, and these are one type again.
 use mathlib.Core.Path.{_≡_, refl, sym, _∙_, ap, subst}
 use mathlib.Core.Logic.{_≢_, _⊎_, inl, inr}
 use mathlib.Core.List.{List, [], _∷_, map, List·Memᴰ·head, List·Memᴰ·tail, List·Memᴰ·not-nil, Memᴰ·map, Memᴰ·of-map, Memᴰ·cast, Sublistᴰ, Sublistᴰ·refl}
@@ -13,15 +13,16 @@ use Rattle.calculus.specs.Named.{lookup, names, isSome}
 use Rattle.calculus.specs.Types.{Side, provided, used, other}
 use Rattle.calculus.specs.Program.{Program}
 use Rattle.calculus.specs.Declarations.{outward}
-use Rattle.calculus.specs.Configuration.{End, end, Doing, Process, process, Outside, changedOutside, retypedOutside, becoming}
-use Rattle.calculus.specs.Configuration.{retypedEnd}
+use Rattle.calculus.specs.Typing.{OneType}
+use Rattle.calculus.specs.Configuration.{End, ofType, Doing, Process, Outside, outsideOfType, changedOutside, retypedEnd, retypedOutside, becoming}
 use Rattle.calculus.specs.WellFormed.{In, NoneTwice, Rising, contextOf, key}
 use Rattle.theory_graphs.specs.Moves.{no-loop}
 use Rattle.theory_derivations.specs.Booleans.{bool-cases, cond-true, cond-false, eqb-iff}
+use Rattle.theory_derivations.specs.OneType.{one-refl}
 use Rattle.theory_ends.specs.Lists.{sub-in, sub-once, sub-length}
 use Rattle.theory_ends.specs.Names.{lookup-in, changed-cases, changed-names, changed-length, changed-map}
 use Rattle.theory_ends.specs.Ends.{keyAt}
-use Rattle.theory_preservation.specs.Witness.{Key, Tip, Rel, side-discrete, joint, Retyped, retyping, keyNumber}
+use Rattle.theory_preservation.specs.Witness.{Key, Tip, Rel, side-discrete, one-of-refl, of-channel, of-channels, joint, Retyped, retyping, keyNumber}
 use Rattle.theory_preservation.specs.Mates.{put}
 use Rattle.theory_preservation.specs.Roster.{Roster, channelKey, channel-key-one, channel-no-link, keyOf, tipOf, linkTip, outsideTip, holds, Has, outside, inside, TypedDoing, Fine, Fair, Good, Change, becomes, one-good, two-good, NamesOf, Goes, names-less}
 
@@ -49,30 +50,31 @@ key-of-key x e h i = (channelKey (h i .0), h i .1)
 pub key-from-key : (x e : End) → keyOf x ≡ keyOf e → key x ≡ key e
 key-from-key x e h i = (channel-key-one (x .channel) (e .channel) (ap keyNumber h) i, h i .1)
 
--- ── what is kept of the ends when those of e's channel get the type A
-pub retyped-off : (H : Rel) {k : ℕ} {T : Option (Ty Name)} (v : ℕ) (t : Tip) → H v t → t .0 .0 ≢ k → Retyped H k T v t
-retyped-off H v t h n = (t .1, h, inr (n, refl))
+-- ── what is kept of the ends when those of e's channel get types that are one with T
+pub retyped-off : (p : Program) (H : Rel) {k : ℕ} {T : Option (Ty Name)} (v : ℕ) (t : Tip) → H v t → t .0 .0 ≢ k → Retyped p H k T v t
+retyped-off p H v t h n = (t .1, h, inr (n, one-of-refl p (t .1)))
 
 -- e itself, and each other end of u, where the far end of e is not at u
-pub retyped-tip : (H : Rel) (u : ℕ) (e : End) (A : Ty Name) → H u (tipOf e) → ((t : Option (Ty Name)) → ¬ H u ((channelKey (e .channel), other (e .side)), t))
-    → (x : End) → (x ≡ end (e .side) (e .channel) A) ⊎ (H u (tipOf x) × (key x ≢ key e)) → Retyped H (channelKey (e .channel)) (some A) u (tipOf x)
-retyped-tip H u e A he far x (inl z) = (
+pub retyped-tip : (p : Program) (H : Rel) (u : ℕ) (e : End) {T A : Ty Name} → OneType p T A → H u (tipOf e)
+    → ((t : Option (Ty Name)) → ¬ H u ((channelKey (e .channel), other (e .side)), t))
+    → (x : End) → (x ≡ ofType A e) ⊎ (H u (tipOf x) × (key x ≢ key e)) → Retyped p H (channelKey (e .channel)) (some T) u (tipOf x)
+retyped-tip p H u e {T} one he far x (inl z) = (
   some (e .type),
   subst (λ k. H u (k, some (e .type))) (λ i. (channelKey (sym z i .channel), sym z i .side)) he,
-  inl (ap (λ (x : End). channelKey (x .channel)) z, ap (λ (x : End). some (x .type)) z),
+  inl (ap (λ (x : End). channelKey (x .channel)) z, of-channels (subst (λ (x : End). OneType p T (x .type)) (sym z) one)),
 )
-retyped-tip H u e A he far x (inr h) = retyped-off H u (tipOf x) (h .0) (λ z. go (key-cases e (keyOf x) z))
+retyped-tip p H u e one he far x (inr h) = retyped-off p H u (tipOf x) (h .0) (λ z. go (key-cases e (keyOf x) z))
   where
     go : (keyOf x ≡ keyOf e) ⊎ (keyOf x ≡ (channelKey (e .channel), other (e .side))) → ⊥
     go (inl z) = h .1 (key-from-key x e z)
     go (inr z) = far (some (x .type)) (subst (λ k. H u (k, some (x .type))) z (h .0))
 
 -- ── a process with one end retyped
-retype-key : (A : Ty Name) (x : End) → key (end (x .side) (x .channel) A) ≡ key x
+retype-key : (A : Ty Name) (x : End) → key (ofType A x) ≡ key x
 retype-key A x = refl
 
 pub retyped-keys : (c : Name) (A : Ty Name) (l : List (Name × End)) → map keyAt (retypedEnd c A l) ≡ map keyAt l
-retyped-keys c A l = changed-map key c (λ e. end (e .side) (e .channel) A) (retype-key A) l
+retyped-keys c A l = changed-map key c (ofType A) (retype-key A) l
 
 pub retyped-channels : (c : Name) (A : Ty Name) (l : List (Name × End)) (n : ℕ) → ((x : Name × End) → In x l → x .1 .channel < n) → (x : Name × End)
     → In x (retypedEnd c A l) → x .1 .channel < n
@@ -139,7 +141,7 @@ fair-retyped {p} {given} {o} f k A a = record {
 }
   where
     re : Outside → Outside
-    re y = record { number = y .number; channel = y .channel; type = A }
+    re = outsideOfType A
 
     out : (y : Outside) → Changed k re o y → outward p (y .type) ≡ true
     out y (inl r) = ap (λ (y : Outside). outward p (y .type)) (r .3) ∙ a
@@ -163,8 +165,8 @@ module _ {p : Program} {S : Roster} {o : List Outside} {given next : ℕ} (G : G
   owner u v q s t h g = sym (G .witness .sound u (q, s) h) ∙ G .witness .sound v (q, t) g
 
   -- both ends, one type
-  pub one-type : (u v : ℕ) (e d : End) → e .channel ≡ d .channel → Has S o u (tipOf e) → Has S o v (tipOf d) → e .type ≡ d .type
-  one-type u v e d z h g = Option·some-injective _ _ (sym (G .witness .typ u (tipOf e) h) ∙ ap (λ k. G .witness .ty (channelKey k)) z ∙ G .witness .typ v (tipOf d) g)
+  pub one-type : (u v : ℕ) (e d : End) → e .channel ≡ d .channel → Has S o u (tipOf e) → Has S o v (tipOf d) → OneType p (e .type) (d .type)
+  one-type u v e d z h g = of-channel (G .witness .agree u v (tipOf e) (tipOf d) h g (ap channelKey z))
 
   -- a channel with processes at both ends is a joint, and these are two
   module _ (u w : ℕ) (e d : End) (c : d .channel ≡ e .channel) (s : d .side ≡ other (e .side)) (hu : Has S o u (tipOf e)) (hw : Has S o w (tipOf d)) (u0 : u ≢ 0) (w0 : w ≢ 0) where
@@ -202,17 +204,16 @@ module _ {p : Program} {S : Roster} {o : List Outside} {given next : ℕ} (G : G
   held-tip u r su x i = inside r su (holds x i refl)
 
   -- the process r of u with the end e of c retyped, where the far end is not at u
-  pub retypes : (u : ℕ) (r : Process) (su : S u ≡ some r) (d : Doing) → Goes (r .doing) d → (c : Name) (e : End) (A : Ty Name) → lookup c (r .held) ≡ some e
+  pub retypes : (u : ℕ) (r : Process) (su : S u ≡ some r) (d : Doing) → Goes (r .doing) d → (c : Name) (e : End) {T A : Ty Name} → OneType p T A → lookup c (r .held) ≡ some e
       → ((t : Option (Ty Name)) → ¬ Has S o u ((channelKey (e .channel), other (e .side)), t)) → TypedDoing p (contextOf (retypedEnd c A (r .held))) (isSome (r .link)) d
-      → Change p (Retyped (Has S o) (channelKey (e .channel)) (some A)) u (S u) (some (becoming d (retypedEnd c A (r .held)) r))
-  retypes u r su d w c e A lc far t =
-      becomes G (Retyped (Has S o) (channelKey (e .channel)) (some A)) u r su d (retypedEnd c A (r .held)) (w .waits) (fine-retyped (G .fine u r su) d w (Sublistᴰ·refl (r .held)) c A t)
-      (λ x i. retyped-tip (Has S o) u e A (held-tip u r su (c, e) (lookup-in c (r .held) lc)) far (x .1)
-      (entry x (changed-cases key c (λ e. end (e .side) (e .channel) A) (r .held) e (G .fine u r su .keys) lc x i)))
-      (λ h s k. retyped-off (Has S o) u (linkTip h s) k (λ z. channel-no-link (e .channel) h (sym z)))
+      → Change p (Retyped p (Has S o) (channelKey (e .channel)) (some T)) u (S u) (some (becoming d (retypedEnd c A (r .held)) r))
+  retypes u r su d w c e {T} {A} one lc far t =
+      becomes G (Retyped p (Has S o) (channelKey (e .channel)) (some T)) u r su d (retypedEnd c A (r .held)) (w .waits) (fine-retyped (G .fine u r su) d w (Sublistᴰ·refl (r .held)) c A t)
+      (λ x i. retyped-tip p (Has S o) u e one (held-tip u r su (c, e) (lookup-in c (r .held) lc)) far (x .1)
+      (entry x (changed-cases key c (ofType A) (r .held) e (G .fine u r su .keys) lc x i)))
+      (λ h s k. retyped-off p (Has S o) u (linkTip h s) k (λ z. channel-no-link (e .channel) h (sym z)))
     where
-      entry : (x : Name × End) → (x .1 ≡ end (e .side) (e .channel) A) ⊎ (In x (r .held) × (key (x .1) ≢ key e))
-          → (x .1 ≡ end (e .side) (e .channel) A) ⊎ (Has S o u (tipOf (x .1)) × (key (x .1) ≢ key e))
+      entry : (x : Name × End) → (x .1 ≡ ofType A e) ⊎ (In x (r .held) × (key (x .1) ≢ key e)) → (x .1 ≡ ofType A e) ⊎ (Has S o u (tipOf (x .1)) × (key (x .1) ≢ key e))
       entry x (inl z) = inl z
       entry x (inr z) = inr (held-tip u r su x (z .0), z .1)
 
@@ -222,17 +223,17 @@ module _ {p : Program} {S : Roster} {o : List Outside} {given next : ℕ} (G : G
     hu : Has S o u (tipOf e)
     hu = held-tip u r su (c, e) (lookup-in c (r .held) lc)
 
-    -- to the process q of w
-    pub chosen : (w : ℕ) (q : Process) → S w ≡ some q → (d′ : Doing) → Goes (q .doing) d′ → (c′ : Name) (f : End) → lookup c′ (q .held) ≡ some f → f .channel ≡ e .channel
-        → f .side ≡ other (e .side) → TypedDoing p (contextOf (retypedEnd c′ A (q .held))) (isSome (q .link)) d′
-        → Good p (put w (some (becoming d′ (retypedEnd c′ A (q .held)) q)) (put u (some (becoming d (retypedEnd c A (r .held)) r)) S)) o given next
-    chosen w q sw d′ wd′ c′ f lf z s td′ =
-        two-good G (retyping (G .witness) (channelKey (e .channel)) (some A)) u w (becoming d (retypedEnd c A (r .held)) r) (becoming d′ (retypedEnd c′ A (q .held)) q)
-        (retypes u r su d wd c e A lc (λ t h. uw (owner u w _ t (some (f .type)) h far)) td)
-        (subst (λ k. Change p (Retyped (Has S o) (channelKey k) (some A)) w (S w) (some (becoming d′ (retypedEnd c′ A (q .held)) q))) z
-        (retypes w q sw d′ wd′ c′ f A lf (λ t h. uw
+    -- to the process q of w, whose end f goes on by its own type
+    pub chosen : {B : Ty Name} → OneType p A B → (w : ℕ) (q : Process) → S w ≡ some q → (d′ : Doing) → Goes (q .doing) d′ → (c′ : Name) (f : End) → lookup c′ (q .held) ≡ some f → f .channel ≡ e .channel
+        → f .side ≡ other (e .side) → TypedDoing p (contextOf (retypedEnd c′ B (q .held))) (isSome (q .link)) d′
+        → Good p (put w (some (becoming d′ (retypedEnd c′ B (q .held)) q)) (put u (some (becoming d (retypedEnd c A (r .held)) r)) S)) o given next
+    chosen {B} one w q sw d′ wd′ c′ f lf z s td′ =
+        two-good G (retyping (G .witness) (channelKey (e .channel)) (some A)) u w (becoming d (retypedEnd c A (r .held)) r) (becoming d′ (retypedEnd c′ B (q .held)) q)
+        (retypes u r su d wd c e (one-refl p A) lc (λ t h. uw (owner u w _ t (some (f .type)) h far)) td)
+        (subst (λ k. Change p (Retyped p (Has S o) (channelKey k) (some A)) w (S w) (some (becoming d′ (retypedEnd c′ B (q .held)) q))) z
+        (retypes w q sw d′ wd′ c′ f one lf (λ t h. uw
         (owner u w _ (some (e .type)) t hu (subst (λ k. Has S o w (k, t)) (λ i. (channelKey (z i), (ap other s ∙ other-other (e .side)) i)) h))) td′))
-        (λ v t nu nw h. retyped-off (Has S o) v t h (λ y. rest v t nu nw h (whose u v e hu t h y))) u0 w0
+        (λ v t nu nw h. retyped-off p (Has S o) v t h (λ y. rest v t nu nw h (whose u v e hu t h y))) u0 w0
       where
         u0 : u ≢ 0
         u0 = above u r su
@@ -257,9 +258,9 @@ module _ {p : Program} {S : Roster} {o : List Outside} {given next : ℕ} (G : G
     pub chosen-unheard : ((v : ℕ) (t : Option (Ty Name)) → ¬ Has S o v ((channelKey (e .channel), other (e .side)), t))
         → Good p (put u (some (becoming d (retypedEnd c A (r .held)) r)) S) o given next
     chosen-unheard far =
-        one-good G (retyping (G .witness) (channelKey (e .channel)) (some A)) u (becoming d (retypedEnd c A (r .held)) r) (retypes u r su d wd c e A lc (far u) td)
-        (λ v t nu _ h. retyped-off (Has S o) v t h (λ y. rest v t nu (whose u v e hu t h y)))
-        (λ y i. let h : Has S o 0 (outsideTip y) = outside refl y i refl in retyped-off (Has S o) 0 (outsideTip y) h
+        one-good G (retyping (G .witness) (channelKey (e .channel)) (some A)) u (becoming d (retypedEnd c A (r .held)) r) (retypes u r su d wd c e (one-refl p A) lc (far u) td)
+        (λ v t nu _ h. retyped-off p (Has S o) v t h (λ y. rest v t nu (whose u v e hu t h y)))
+        (λ y i. let h : Has S o 0 (outsideTip y) = outside refl y i refl in retyped-off p (Has S o) 0 (outsideTip y) h
         (λ z. rest 0 (outsideTip y) (λ k. above u r su (sym k)) (whose u 0 e hu (outsideTip y) h z))) (G .fair)
       where
         rest : (v : ℕ) (t : Tip) → v ≢ u → (v ≡ u) ⊎ Has S o v ((channelKey (e .channel), other (e .side)), t .1) → ⊥
@@ -267,30 +268,31 @@ module _ {p : Program} {S : Roster} {o : List Outside} {given next : ℕ} (G : G
         rest v t nu (inr y) = far v (t .1) y
 
   -- the outside's ends afterwards
-  pub out-retyped : (k : ℕ) (A : Ty Name) (y : Outside) → In y (retypedOutside k A o) → Retyped (Has S o) (channelKey k) (some A) 0 (outsideTip y)
-  out-retyped k A y i = go (outside-cases k re o (G .fair .keys) y i)
+  pub out-retyped : (k : ℕ) {T A : Ty Name} → OneType p T A → (y : Outside) → In y (retypedOutside k A o) → Retyped p (Has S o) (channelKey k) (some T) 0 (outsideTip y)
+  out-retyped k {T} {A} one y i = go (outside-cases k (outsideOfType A) o (G .fair .keys) y i)
     where
-      re : Outside → Outside
-      re y = record { number = y .number; channel = y .channel; type = A }
-
-      go : Changed k re o y → Retyped (Has S o) (channelKey k) (some A) 0 (outsideTip y)
+      go : Changed k (outsideOfType A) o y → Retyped p (Has S o) (channelKey k) (some T) 0 (outsideTip y)
       go (inl x) =
-          let z : y .channel ≡ x .0 .channel = ap (λ (y : Outside). y .channel) (x .3) in
-          (some (x .0 .type), outside refl (x .0) (x .1) (λ i. ((channelKey (z i), used), some (x .0 .type))), inl (ap channelKey (z ∙ x .2), ap (λ (y : Outside). some (y .type)) (x .3)))
-      go (inr x) = retyped-off (Has S o) 0 (outsideTip y) (outside refl y (x .0) refl) (λ z. x .1 (channel-key-one (y .channel) k z))
+          let z : y .channel ≡ x .0 .channel = ap (λ (y : Outside). y .channel) (x .3) in (
+            some (x .0 .type),
+            outside refl (x .0) (x .1) (λ i. ((channelKey (z i), used), some (x .0 .type))),
+            inl (ap channelKey (z ∙ x .2), of-channels (subst (λ (y : Outside). OneType p T (y .type)) (sym (x .3)) one)),
+          )
+      go (inr x) = retyped-off p (Has S o) 0 (outsideTip y) (outside refl y (x .0) refl) (λ z. x .1 (channel-key-one (y .channel) k z))
 
   -- the outside has the far end of e
   pub out-far : (e : End) (y : Outside) → In y o → y .channel ≡ e .channel → e .side ≡ provided → Has S o 0 ((channelKey (e .channel), other (e .side)), some (y .type))
   out-far e y i z s = outside refl y i (λ i. ((channelKey (sym z i), other (s i)), some (y .type)))
 
-  pub chosen-out : (u : ℕ) (r : Process) → S u ≡ some r → (d : Doing) → Goes (r .doing) d → (c : Name) (e : End) (A : Ty Name) → lookup c (r .held) ≡ some e
-      → TypedDoing p (contextOf (retypedEnd c A (r .held))) (isSome (r .link)) d → (y : Outside) → In y o → y .channel ≡ e .channel → e .side ≡ provided → outward p A ≡ true
-      → Good p (put u (some (becoming d (retypedEnd c A (r .held)) r)) S) (retypedOutside (e .channel) A o) given next
-  chosen-out u r su d wd c e A lc td y i z s a =
+  -- to the outside, whose end goes on by its own type
+  pub chosen-out : (u : ℕ) (r : Process) → S u ≡ some r → (d : Doing) → Goes (r .doing) d → (c : Name) (e : End) {A B : Ty Name} → OneType p A B → lookup c (r .held) ≡ some e
+      → TypedDoing p (contextOf (retypedEnd c A (r .held))) (isSome (r .link)) d → (y : Outside) → In y o → y .channel ≡ e .channel → e .side ≡ provided → outward p B ≡ true
+      → Good p (put u (some (becoming d (retypedEnd c A (r .held)) r)) S) (retypedOutside (e .channel) B o) given next
+  chosen-out u r su d wd c e {A} {B} one lc td y i z s a =
       one-good G (retyping (G .witness) (channelKey (e .channel)) (some A)) u (becoming d (retypedEnd c A (r .held)) r)
-      (retypes u r su d wd c e A lc (λ t h. above u r su (owner u 0 _ t (some (y .type)) h far)) td)
-      (λ v t nu n0 h. retyped-off (Has S o) v t h (λ k. rest v t nu n0 (whose u v e (held-tip u r su (c, e) (lookup-in c (r .held) lc)) t h k)))
-      (out-retyped (e .channel) A) (fair-retyped (G .fair) (e .channel) A a)
+      (retypes u r su d wd c e (one-refl p A) lc (λ t h. above u r su (owner u 0 _ t (some (y .type)) h far)) td)
+      (λ v t nu n0 h. retyped-off p (Has S o) v t h (λ k. rest v t nu n0 (whose u v e (held-tip u r su (c, e) (lookup-in c (r .held) lc)) t h k)))
+      (out-retyped (e .channel) one) (fair-retyped (G .fair) (e .channel) B a)
     where
       far : Has S o 0 ((channelKey (e .channel), other (e .side)), some (y .type))
       far = out-far e y i z s

@@ -81,18 +81,14 @@ pub record Goes (d d′ : Doing) : Type 0 where
   pub waits : isWaiting d ≡ isWaiting d′
   pub names : (ns : List Name) → NamesOf d ns → NamesOf d′ ns
 
-pub record Runs (d : Doing) : Type 0 where
-  pub term : Proc
-  pub runs : d ≡ running term
-
-pub runs-on : {d : Doing} → Runs d → (P : Proc) → Goes d (running P)
-runs-on r P = record { waits = ap isWaiting (r .runs); names = λ ns n. subst (λ d. NamesOf d ns) (r .runs) n }
+pub runs-on : {d : Doing} {R : Proc} → d ≡ running R → (P : Proc) → Goes d (running P)
+runs-on r P = record { waits = ap isWaiting r; names = λ ns n. subst (λ d. NamesOf d ns) r n }
 
 pub folds : {d : Doing} → isWaiting d ≡ false → Goes d folding
 folds w = record { waits = w; names = λ ns n. tt }
 
-pub runs-awake : {d : Doing} → Runs d → isWaiting d ≡ false
-runs-awake r = ap isWaiting (r .runs)
+pub runs-awake : {d : Doing} {R : Proc} → d ≡ running R → isWaiting d ≡ false
+runs-awake r = ap isWaiting r
 
 pub names-less : (d : Doing) {l m : List (Name × End)} → Sublistᴰ l m → NamesOf d (names m) → NamesOf d (names l)
 names-less (running P) {l} {m} s n = subst NoneTwice (sym (names-map l)) (sub-once (λ (e : Name × End). e .0) s (subst NoneTwice (names-map m) n))
@@ -111,6 +107,10 @@ pub record Fine (p : Program) (r : Process) : Type 0 where
   pub room : length (r .held) ≤ heldLimit
   pub channels : (x : Name × End) → In x (r .held) → x .1 .channel < channelPlaces
 
+-- a new process that does, holds and is linked as another
+pub fine-new : {p : Program} {r : Process} → Fine p r → Fine p (process (r .doing) (r .held) (r .link))
+fine-new f = record { typed = f .typed; names = f .names; keys = f .keys; room = f .room; channels = f .channels }
+
 -- ── the outside's channels
 pub record Fair (p : Program) (given : ℕ) (o : List Outside) : Type 0 where
   pub outwards : (y : Outside) → In y o → outward p (y .type) ≡ true
@@ -125,7 +125,7 @@ profile (some r) = some (r .link, isWaiting (r .doing))
 
 -- ── all together
 pub record Good (p : Program) (S : Roster) (o : List Outside) (given next : ℕ) : Type 0 where
-  pub witness : Witness (Has S o) next
+  pub witness : Witness p (Has S o) next
   pub fine : (v : ℕ) (r : Process) → S v ≡ some r → Fine p r
   pub placed : (v : ℕ) (r : Process) → S v ≡ some r → (0 < v) × (v < next)
   pub mates : Mates (λ v. profile (S v))
@@ -142,7 +142,7 @@ profile-some none y e r h = absurd (Option·none-ne-some (r .link, isWaiting (r 
 profile-some (some q) y e r h = (q, refl)
 
 module _ {p : Program} {S : Roster} {o : List Outside} {given next : ℕ} (G : Good p S o given next) where
-  pub changed-good : {R : Rel} {S′ : Roster} {o′ : List Outside} {given′ : ℕ} → Witness R next → ((v : ℕ) → Change p R v (S v) (S′ v))
+  pub changed-good : {R : Rel} {S′ : Roster} {o′ : List Outside} {given′ : ℕ} → Witness p R next → ((v : ℕ) → Change p R v (S v) (S′ v))
       → ((y : Outside) → In y o′ → R 0 (outsideTip y)) → Fair p given′ o′ → Good p S′ o′ given′ next
   changed-good {R} {S′} {o′} W c out f = record {
     witness = fewer W (omega arith) have;
@@ -175,7 +175,7 @@ module _ {p : Program} {S : Roster} {o : List Outside} {given next : ℕ} (G : G
       here e (waits k z) = rw z (hk u used (inside r su (waits (w ∙ k) refl)))
 
   -- the process r of u becomes q
-  pub one-good : {R : Rel} {o′ : List Outside} {given′ : ℕ} → Witness R next → (u : ℕ) (q : Process) → Change p R u (S u) (some q)
+  pub one-good : {R : Rel} {o′ : List Outside} {given′ : ℕ} → Witness p R next → (u : ℕ) (q : Process) → Change p R u (S u) (some q)
       → ((v : ℕ) (e : Tip) → v ≢ u → v ≢ 0 → Has S o v e → R v e) → ((y : Outside) → In y o′ → R 0 (outsideTip y)) → Fair p given′ o′ → Good p (put u (some q) S) o′ given′ next
   one-good {R} W u q c rest out f =
       changed-good W (put-elim (λ v y. Change p R v (S v) y) u (some q) S c
@@ -185,7 +185,7 @@ module _ {p : Program} {S : Roster} {o : List Outside} {given next : ℕ} (G : G
       above v r s e = let b = G .placed v r s .0 in omega arith
 
   -- those of u and w become q and q′
-  pub two-good : {R : Rel} → Witness R next → (u w : ℕ) (q q′ : Process) → Change p R u (S u) (some q) → Change p R w (S w) (some q′)
+  pub two-good : {R : Rel} → Witness p R next → (u w : ℕ) (q q′ : Process) → Change p R u (S u) (some q) → Change p R w (S w) (some q′)
       → ((v : ℕ) (e : Tip) → v ≢ u → v ≢ w → Has S o v e → R v e) → u ≢ 0 → w ≢ 0 → Good p (put w (some q′) (put u (some q) S)) o given next
   two-good {R} W u w q q′ c c′ rest u0 w0 =
       changed-good W

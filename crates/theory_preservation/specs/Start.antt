@@ -6,7 +6,6 @@ use mathlib.Core.Option.{Option, some, none, Option·none-ne-some, Option·some-
 use mathlib.Core.Bool.{true, false, true≢false}
 use Prim.Native.Nat.{ℕ, zero, suc, _+_, _≤_, _<_}
 use native.Mathlib.Omega.{arith}
-use native.Mathlib.Decide.{ℕ-discrete}
 use lib.ListN.{length, getElem?}
 use lib.Dec.{lit≤}
 use Rattle.notation.specs.Limits.{heldLimit, channelPlaces, outsideNumbers}
@@ -15,16 +14,17 @@ use Rattle.calculus.specs.Named.{names, distinct, all}
 use Rattle.calculus.specs.Types.{provided, used}
 use Rattle.calculus.specs.Program.{slot, Signature, Program, onSide, signatureContext}
 use Rattle.calculus.specs.Declarations.{outward, entryTypes}
-use Rattle.calculus.specs.Typing.{Typed, TypedBody}
+use Rattle.calculus.specs.Typing.{OneType, Typed, TypedBody}
 use Rattle.calculus.specs.Configuration.{End, end, running, Process, process, relinked, Outside}
 use Rattle.calculus.specs.Runs.{startHeld, startOutside, startConfig}
 use Rattle.calculus.specs.WellFormed.{In, NoneTwice, Rising, contextOf, isWaiting, WellFormed}
 use Rattle.theory_derivations.specs.Booleans.{all-iff}
-use Rattle.theory_ends.specs.Lists.{once-by, search}
+use Rattle.theory_derivations.specs.OneType.{one-refl}
+use Rattle.theory_ends.specs.Lists.{once-by}
 use Rattle.theory_ends.specs.Names.{distinct-iff}
 use Rattle.theory_ends.specs.Contexts.{context-names, context-length}
 use Rattle.theory_ends.specs.Ends.{side-clash, keyAt}
-use Rattle.theory_preservation.specs.Witness.{Key, Tip, Witness, tipNumber, tipSide, tipType, keyNumber}
+use Rattle.theory_preservation.specs.Witness.{Key, Tip, OneOf, of-channels, one-of-refl, one-of-sym, one-of-trans, Witness, tipNumber, tipSide, tipType, keyNumber}
 use Rattle.theory_preservation.specs.Mates.{Quiet, quiet-none, quiet-some, mates-quiet}
 use Rattle.theory_preservation.specs.Roster.{Roster, channelKey, channel-key-one, Tips, holds, links, waits, Has, outside, inside, Fine, Fair, profile}
 use Rattle.theory_preservation.specs.Invariant.{Inv}
@@ -49,11 +49,17 @@ start-keys k (e ∷ l) = (
   start-keys (suc k) l,
 )
 
--- the outside's channels are those of the process
-start-other : (k : ℕ) (l : List (Name × Ty Name)) (y : Outside) → In y (startOutside k l) → (x : Name × End) × In x (startHeld k l) × (x .1 .channel ≡ y .channel) × (x .1 .type ≡ y .type)
-start-other k [] y i = absurd (List·Memᴰ·not-nil i)
-start-other k (e ∷ l) y (List·Memᴰ·head h) = ((e .0, end provided k (e .1)), List·Memᴰ·head refl, ap (λ (y : Outside). y .channel) (sym h), ap (λ (y : Outside). y .type) (sym h))
-start-other k (e ∷ l) y (List·Memᴰ·tail i) = let r = start-other (suc k) l y i in (r .0, List·Memᴰ·tail (r .1), r .2, r .3)
+-- the outside's channels are those of the process, and of one type with them
+start-other : (p : Program) (k : ℕ) (l : List (Name × Ty Name)) (y : Outside) → In y (startOutside k l)
+    → (x : Name × End) × In x (startHeld k l) × (x .1 .channel ≡ y .channel) × OneType p (x .1 .type) (y .type)
+start-other p k [] y i = absurd (List·Memᴰ·not-nil i)
+start-other p k (e ∷ l) y (List·Memᴰ·head h) = (
+  (e .0, end provided k (e .1)),
+  List·Memᴰ·head refl,
+  ap (λ (y : Outside). y .channel) (sym h),
+  subst (λ (y : Outside). OneType p (e .1) (y .type)) (sym h) (one-refl p (e .1)),
+)
+start-other p k (e ∷ l) y (List·Memᴰ·tail i) = let r = start-other p (suc k) l y i in (r .0, List·Memᴰ·tail (r .1), r .2, r .3)
 
 start-number : (k : ℕ) (l : List (Name × Ty Name)) (y : Outside) → In y (startOutside k l)
     → (y .number ≡ y .channel) × (k ≤ y .channel) × (y .channel < k + length l) × In (y .type) (entryTypes l)
@@ -106,42 +112,35 @@ module _ (p : Program) (s : Signature) (d : distinct (names (signatureContext s)
   at-one (suc (suc v)) r e = absurd (Option·none-ne-some r e)
 
   -- an end is provided by the process or used by the outside
-  ends-are : (v : ℕ) (e : Tip) → Has S O v e
-      → (x : Name × End) × In x (startHeld 0 l) × (e .0 .0 ≡ channelKey (x .1 .channel)) × (e .1 ≡ some (x .1 .type)) ×
+  abbrev EndIs : ℕ → Tip → Type 0
+  EndIs v e =
+      (x : Name × End) × In x (startHeld 0 l) × (e .0 .0 ≡ channelKey (x .1 .channel)) × OneOf p (some (x .1 .type)) (e .1) ×
       (((v ≡ 1) × (e .0 .1 ≡ provided)) ⊎ ((v ≡ 0) × (e .0 .1 ≡ used)))
+
+  ends-are : (v : ℕ) (e : Tip) → Has S O v e → EndIs v e
   ends-are v e (outside z y i h) =
-      let x = start-other 0 l y i in
-      (x .0, x .1, ap tipNumber h ∙ ap channelKey (sym (x .2)), ap tipType h ∙ ap some (sym (x .3)), inr (z, ap tipSide h))
+      let x = start-other p 0 l y i in
+      (x .0, x .1, ap tipNumber h ∙ ap channelKey (sym (x .2)), subst (OneOf p (some (x .0 .1 .type))) (ap tipType (sym h)) (of-channels (x .3)), inr (z, ap tipSide h))
   ends-are v e (inside r w h) = go (at-one v r w) h
     where
-      go : (v ≡ 1) × (q ≡ r) → Tips v r e
-          → (x : Name × End) × In x (startHeld 0 l) × (e .0 .0 ≡ channelKey (x .1 .channel)) × (e .1 ≡ some (x .1 .type)) ×
-          (((v ≡ 1) × (e .0 .1 ≡ provided)) ⊎ ((v ≡ 0) × (e .0 .1 ≡ used)))
+      go : (v ≡ 1) × (q ≡ r) → Tips v r e → EndIs v e
       go (z, y) (holds x i k) =
           let m : In x (startHeld 0 l) = subst (λ (r : Process). In x (r .held)) (sym y) i in
-          (x, m, ap tipNumber k, ap tipType k, inl (z, ap tipSide k ∙ start-end 0 l x m .2))
+          (x, m, ap tipNumber k, subst (OneOf p (some (x .1 .type))) (ap tipType (sym k)) (one-of-refl p (some (x .1 .type))), inl (z, ap tipSide k ∙ start-end 0 l x m .2))
       go (z, y) (links h k _) = absurd (Option·none-ne-some h (ap (λ (r : Process). r .link) y ∙ k))
       go (z, y) (waits k _) = absurd (true≢false (sym k ∙ ap (λ (r : Process). isWaiting (r .doing)) (sym y)))
-
-  abbrev typeIf : {Q : Name × End → Type 0} → Dec ((x : Name × End) × In x (startHeld 0 l) × Q x) → Option (Ty Name)
-  typeIf (yes r) = some (r .0 .1 .type)
-  typeIf (no _) = none
-
-  numbered : (n : ℕ) → Dec ((x : Name × End) × In x (startHeld 0 l) × (channelKey (x .1 .channel) ≡ n))
-  numbered n = search (λ (x : Name × End). ℕ-discrete (channelKey (x .1 .channel)) n) (startHeld 0 l)
 
   abbrev own₁ : Key → ℕ
   own₁ k = elim (k .1) as (λ _. ℕ) [ provided ↦ 1 | used ↦ 0 ]
 
-  start-witness : Witness (Has S O) 2
+  start-witness : Witness p (Has S O) 2
   start-witness = record {
     K = [];
     own = own₁;
-    ty = λ n. typeIf (numbered n);
     once = tt;
     forest = tt;
     sound = λ v e h. side e v (ends-are v e h .4);
-    typ = λ v e h. type v e h (numbered (e .0 .0));
+    agree = λ u v e f h g z. types u v e f z (ends-are u e h) (ends-are v f g);
     live = λ u v e f h g u0 v0 z a b. absurd (no-use v f v0 b (ends-are v f g .4));
     vertex = λ k s m. absurd (List·Memᴰ·not-nil m);
   }
@@ -150,13 +149,15 @@ module _ (p : Program) (s : Signature) (d : distinct (names (signatureContext s)
       side e v (inl z) = ap (λ s. own₁ (0, s)) (z .1) ∙ sym (z .0)
       side e v (inr z) = ap (λ s. own₁ (0, s)) (z .1) ∙ sym (z .0)
 
-      type : (v : ℕ) (e : Tip) → Has S O v e → (d : Dec ((x : Name × End) × In x (startHeld 0 l) × (channelKey (x .1 .channel) ≡ e .0 .0))) → typeIf d ≡ e .1
-      type v e h (yes r) =
-          let x = ends-are v e h in
-          let z : r .0 ≡ x .0 = once-by keyAt (start-keys 0 l) (r .1) (x .1)
-          (λ j. (channel-key-one (r .0 .1 .channel) (x .0 .1 .channel) (r .2 ∙ x .2) j, (start-end 0 l (r .0) (r .1) .2 ∙ sym (start-end 0 l (x .0) (x .1) .2)) j)) in
-          ap (λ (x : Name × End). some (x .1 .type)) z ∙ sym (x .3)
-      type v e h (no n) = let x = ends-are v e h in absurd (n (x .0, x .1, sym (x .2)))
+      -- two ends of one channel are of one of the process's
+      types : (u v : ℕ) (e f : Tip) → e .0 .0 ≡ f .0 .0 → EndIs u e → EndIs v f → OneOf p (e .1) (f .1)
+      types u v e f z x y =
+          let one : x .0 ≡ y .0 = once-by keyAt (start-keys 0 l) (x .1) (y .1)
+          (λ j. (
+            channel-key-one (x .0 .1 .channel) (y .0 .1 .channel) (sym (x .2) ∙ z ∙ y .2) j,
+            (start-end 0 l (x .0) (x .1) .2 ∙ sym (start-end 0 l (y .0) (y .1) .2)) j,
+          )) in
+          one-of-trans p (one-of-sym p (x .3)) (subst (λ (x : Name × End). OneOf p (some (x .1 .type)) (f .1)) (sym one) (y .3))
 
       no-use : (v : ℕ) (f : Tip) → v ≢ 0 → f .0 .1 ≡ used → ((v ≡ 1) × (f .0 .1 ≡ provided)) ⊎ ((v ≡ 0) × (f .0 .1 ≡ used)) → ⊥
       no-use v f n b (inl z) = side-clash (sym (z .1) ∙ b)

@@ -18,12 +18,11 @@ use Rattle.calculus.specs.Forest.{Forest, joints}
 use Rattle.calculus.specs.WellFormed.{In, NoneTwice, contextOf, processEnds, outsideEnds, ends, key, TypedAs, isWaiting, Stands, WellFormed}
 use Rattle.theory_graphs.specs.Graph.{decIn}
 use Rattle.theory_graphs.specs.Moves.{thin}
-use Rattle.theory_derivations.specs.Equality.{sameType-iff}
 use Rattle.theory_ends.specs.Lists.{once-append, search, map-append, found-below, once-left, once-right, once-apart}
 use Rattle.theory_ends.specs.Names.{distinct-iff}
 use Rattle.theory_ends.specs.Contexts.{context-names}
 use Rattle.theory_ends.specs.Ends.{side-clash, keyAt, process-end, end-process, keys-of-process, one-process, keys-once, outside-end, end-outside, outside-keys, keys-outside}
-use Rattle.theory_preservation.specs.Witness.{Key, Tip, key-discrete, joint, Witness, tipNumber, tipKey, tipType, keyNumber, keySide}
+use Rattle.theory_preservation.specs.Witness.{Key, Tip, key-discrete, OneOf, of-channels, of-links, joint, Witness, tipNumber, tipKey, tipType, keyNumber, keySide}
 use Rattle.theory_preservation.specs.Mates.{Mates, link-of}
 use Rattle.theory_preservation.specs.Roster.{Roster, channelKey, linkKey, channel-key-one, link-key-one, channel-no-link, tipOf, linkTip, outsideTip, Tips, holds, links, waits, Has, outside, inside, TypedDoing, Fine, Fair, profile, Good, NamesOf}
 use Rattle.theory_preservation.specs.Retyping.{above, owner, one-type, key-of-key}
@@ -58,7 +57,7 @@ module _ {p : Program} {C : Config} (I : Inv p C) where
   abbrev G : Good p (I .roster) (C .outside) (C .given) (I .next)
   G = I .good
 
-  abbrev W : Witness (Has (I .roster) (C .outside)) (I .next)
+  abbrev W : Witness p (Has (I .roster) (C .outside)) (I .next)
   W = I .good .witness
 
   held-at : (i : ℕ) (q : Process) → getElem? (C .processes) i ≡ some q → (x : Name × End) → In x (q .held) → Has S (C .outside) (I .id i) (tipOf (x .1))
@@ -121,7 +120,7 @@ module _ {p : Program} {C : Config} (I : Inv p C) where
         typed-as p (contextOf (q .held)) (isSome (q .link)) (q .doing) (subst (NamesOf (q .doing)) (sym (context-names (q .held))) (f .names))
         (subst (λ b. TypedDoing p (contextOf (q .held)) b (q .doing)) (is-some-map (I .id) (q .link)) (f .typed));
     once = none-held-twice;
-    oneType = λ e d m n z. let u = end-has e m in let v = end-has d n in sameType-iff (e .type) (d .type) .1 (one-type G (u .0) (v .0) e d z (u .1) (v .1));
+    agree = λ e d m n z. let u = end-has e m in let v = end-has d n in one-type G (u .0) (v .0) e d z (u .1) (v .1);
     links = λ i q s h z. let r = handler I i q (s .there) h z in (r .0, record { there = r .1 }, r .2);
     linked = λ h r s w. linker h r (s .there) w;
     linkedOnce = λ i j q r s t h z y. I .shows .apart i j (found-below (C .processes) i (s .there)) (found-below (C .processes) j (t .there))
@@ -355,32 +354,25 @@ module _ {p : Program} {C : Config} (w : WellFormed p C) where
   seat-kind v t (of-link _ _ _ _ h _ k) = inr (suc h, provided, k)
   seat-kind v t (of-wait i _ _ _ _ k) = inr (suc i, used, k)
 
-  seat-type : (u v : ℕ) (e f : Tip) → Seat C u e → Seat C v f → e .0 .0 ≡ f .0 .0 → e .1 ≡ f .1
+  seat-type : (u v : ℕ) (e f : Tip) → Seat C u e → Seat C v f → e .0 .0 ≡ f .0 .0 → OneOf p (e .1) (f .1)
   seat-type u v e f s t z = go (seat-kind u e s) (seat-kind v f t)
     where
       go : ((d : End) × In d (ends C) × (e ≡ tipOf d)) ⊎ ((h : ℕ) × (s : Side) × (e ≡ linkTip h s))
-          → ((d : End) × In d (ends C) × (f ≡ tipOf d)) ⊎ ((h : ℕ) × (s : Side) × (f ≡ linkTip h s)) → e .1 ≡ f .1
+          → ((d : End) × In d (ends C) × (f ≡ tipOf d)) ⊎ ((h : ℕ) × (s : Side) × (f ≡ linkTip h s)) → OneOf p (e .1) (f .1)
       go (inl x) (inl y) =
           let c = channel-key-one (x .0 .channel) (y .0 .channel) (ap tipNumber (sym (x .2)) ∙ z ∙ ap tipNumber (y .2)) in
-          ap tipType (x .2) ∙ ap some (sameType-iff (x .0 .type) (y .0 .type) .0 (w .oneType (x .0) (y .0) (x .1) (y .1) c)) ∙ ap tipType (sym (y .2))
+          rw (x .2, y .2) (of-channels (w .agree (x .0) (y .0) (x .1) (y .1) c))
       go (inl x) (inr y) = absurd (channel-no-link (x .0 .channel) (y .0) (ap tipNumber (sym (x .2)) ∙ z ∙ ap tipNumber (y .2)))
       go (inr x) (inl y) = absurd (channel-no-link (y .0 .channel) (x .0) (ap tipNumber (sym (y .2)) ∙ sym z ∙ ap tipNumber (x .2)))
-      go (inr x) (inr y) = ap tipType (x .2 ∙ (λ j. linkTip (x .0) (x .1))) ∙ ap tipType (sym (y .2))
+      go (inr x) (inr y) = rw (x .2, y .2) of-links
 
-  -- ── the owner of a key and the type of a number, found in the list of all ends
+  -- ── the owner of a key, found in the list of all ends
   abbrev vertexIf : {Q : ℕ × Tip → Type 0} → Dec ((x : ℕ × Tip) × In x (allTips C) × Q x) → ℕ
   vertexIf (yes r) = r .0 .0
   vertexIf (no _) = 0
 
-  abbrev typeIf : {Q : ℕ × Tip → Type 0} → Dec ((x : ℕ × Tip) × In x (allTips C) × Q x) → Option (Ty Name)
-  typeIf (yes r) = r .0 .1 .1
-  typeIf (no _) = none
-
   keyed : (k : Key) → Dec ((x : ℕ × Tip) × In x (allTips C) × (x .1 .0 ≡ k))
   keyed k = search (λ (x : ℕ × Tip). key-discrete (x .1 .0) k) (allTips C)
-
-  numbered : (n : ℕ) → Dec ((x : ℕ × Tip) × In x (allTips C) × (x .1 .0 .0 ≡ n))
-  numbered n = search (λ (x : ℕ × Tip). ℕ-discrete (x .1 .0 .0) n) (allTips C)
 
   own₀ : Key → ℕ
   own₀ k = vertexIf (keyed k)
@@ -394,13 +386,6 @@ module _ {p : Program} {C : Config} (w : WellFormed p C) where
     where
       go : (d : Dec ((x : ℕ × Tip) × In x (allTips C) × (x .1 .0 ≡ t .0))) → vertexIf d ≡ v
       go (yes r) = seat-one (r .0 .0) v (r .0 .1) t (in-seat C (r .0 .0) (r .0 .1) (r .1)) (has-seat C v t h) (t .0) (sym (r .2)) refl
-      go (no n) = absurd (n ((v, t), seat-in C v t (has-seat C v t h), refl))
-
-  type-sound : (v : ℕ) (t : Tip) → H v t → typeIf (numbered (t .0 .0)) ≡ t .1
-  type-sound v t h = go (numbered (t .0 .0))
-    where
-      go : (d : Dec ((x : ℕ × Tip) × In x (allTips C) × (x .1 .0 .0 ≡ t .0 .0))) → typeIf d ≡ t .1
-      go (yes r) = seat-type (r .0 .0) v (r .0 .1) t (in-seat C (r .0 .0) (r .0 .1) (r .1)) (has-seat C v t h) (r .2)
       go (no n) = absurd (n ((v, t), seat-in C v t (has-seat C v t h), refl))
 
   seat-below : (v : ℕ) (t : Tip) → Seat C v t → v < suc (length (C .processes))
@@ -428,17 +413,16 @@ module _ {p : Program} {C : Config} (w : WellFormed p C) where
     within = λ i q e h z. found-below (C .processes) h (handlers i q e h z .1);
   }
 
-  found-witness : Witness H (suc (length (C .processes)))
+  found-witness : Witness p H (suc (length (C .processes)))
   found-witness = record {
     K = nub (numbers C shown own₀ own-sound handlers);
     own = own₀;
-    ty = λ n. typeIf (numbered n);
     once = nub-once (numbers C shown own₀ own-sound handlers);
     forest = thin (joint own₀) (numbers C shown own₀ own-sound handlers) (nub (numbers C shown own₀ own-sound handlers))
         (nub-once (numbers C shown own₀ own-sound handlers)) (nub-in (numbers C shown own₀ own-sound handlers))
         (subst Forest (sym (joints-are C shown own₀ own-sound handlers)) (forest-along suc pred (λ x. omega arith) (joints C) (w .forest)));
     sound = own-sound;
-    typ = type-sound;
+    agree = λ u v e f h g z. seat-type u v e f (has-seat C u e h) (has-seat C v f g) z;
     live = λ u v e f h g u0 v0 z a b. in-nub (numbers C shown own₀ own-sound handlers) (e .0 .0) (numbers-all C shown own₀ own-sound handlers u v e f h g u0 v0 z a b);
     vertex = λ k s _. own-below (k, s);
   }

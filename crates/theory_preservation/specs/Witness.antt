@@ -3,16 +3,19 @@
 use mathlib.Core.Path.{_≡_, refl, sym, _∙_, ap, subst}
 use mathlib.Core.Logic.{_≢_, _⊎_, inl, inr, ite, if-pos, if-neg}
 use mathlib.Core.List.{List, [], _∷_, map, List·Memᴰ·head, List·Memᴰ·tail, List·Memᴰ·not-nil, List·Memᴰ·eq-of-singleton}
-use mathlib.Core.Option.{Option}
+use mathlib.Core.Option.{Option, some, none}
 use Prim.Native.Nat.{ℕ, suc, _≤_, _<_}
 use native.Mathlib.Omega.{arith}
 use native.Mathlib.Decide.{ℕ-discrete}
 use Rattle.notation.specs.Tree.{Name, Ty}
 use Rattle.calculus.specs.Types.{Side, provided, used}
+use Rattle.calculus.specs.Program.{Program}
+use Rattle.calculus.specs.Typing.{OneType}
 use Rattle.calculus.specs.Forest.{Joint, Forest}
 use Rattle.calculus.specs.WellFormed.{In, NoneTwice}
 use Rattle.theory_graphs.specs.Graph.{decIn, glue, glueJ, glue-at, glue-off, glue-self}
 use Rattle.theory_graphs.specs.Moves.{map-cong, share, grow, grow-turned, thin}
+use Rattle.theory_derivations.specs.OneType.{one-refl, one-sym, one-trans}
 use Rattle.theory_ends.specs.Ends.{side-clash}
 
 -- the number of a joint and a side of it
@@ -63,52 +66,97 @@ key-discrete p q = decPair p q (ℕ-discrete (p .0) (q .0)) (side-discrete (p .1
 abbrev pub joint : (Key → ℕ) → ℕ → Joint
 joint own k = (own (k, provided), own (k, used))
 
--- K: the numbers that join, at least those with both ends at processes; below `next` stand the vertices of all of them
-pub record Witness (H : Rel) (next : ℕ) : Type 0 where
+-- the types of two ends are one; an end of a link has none
+pub data OneOf (p : Program) : Option (Ty Name) → Option (Ty Name) → Type 0 where
+  of-links : OneOf p none none
+  of-channels : {A B : Ty Name} → OneType p A B → OneOf p (some A) (some B)
+
+pub of-channel : {p : Program} {A B : Ty Name} → OneOf p (some A) (some B) → OneType p A B
+of-channel (of-channels h) = h
+
+module _ (p : Program) where
+  pub one-of-refl : (s : Option (Ty Name)) → OneOf p s s
+  one-of-refl none = of-links
+  one-of-refl (some A) = of-channels (one-refl p A)
+
+  pub one-of-sym : {s t : Option (Ty Name)} → OneOf p s t → OneOf p t s
+  one-of-sym of-links = of-links
+  one-of-sym (of-channels h) = of-channels (one-sym p h)
+
+  pub one-of-trans : {s t u : Option (Ty Name)} → OneOf p s t → OneOf p t u → OneOf p s u
+  one-of-trans of-links k = k
+  one-of-trans (of-channels h) (of-channels k) = of-channels (one-trans p h k)
+
+-- K: the numbers that join, at least those with both ends at processes; below `next` stand the vertices of all of them.
+-- Each end has its own type; those of one number have one type.
+pub record Witness (p : Program) (H : Rel) (next : ℕ) : Type 0 where
   pub K : List ℕ
   pub own : Key → ℕ
-  pub ty : ℕ → Option (Ty Name)
   pub once : NoneTwice K
   pub forest : Forest (map (joint own) K)
   pub sound : (v : ℕ) (e : Tip) → H v e → own (e .0) ≡ v
-  pub typ : (v : ℕ) (e : Tip) → H v e → ty (e .0 .0) ≡ e .1
+  pub agree : (u v : ℕ) (e f : Tip) → H u e → H v f → e .0 .0 ≡ f .0 .0 → OneOf p (e .1) (f .1)
   pub live : (u v : ℕ) (e f : Tip) → H u e → H v f → u ≢ 0 → v ≢ 0 → e .0 .0 ≡ f .0 .0 → e .0 .1 ≡ provided → f .0 .1 ≡ used → In (e .0 .0) K
   pub vertex : (k : ℕ) (s : Side) → In k K → own (k, s) < next
 
 -- ── fewer ends, more vertices
-pub fewer : {H H′ : Rel} {n m : ℕ} → Witness H n → n ≤ m → ((v : ℕ) (e : Tip) → H′ v e → H v e) → Witness H′ m
+pub fewer : {p : Program} {H H′ : Rel} {n m : ℕ} → Witness p H n → n ≤ m → ((v : ℕ) (e : Tip) → H′ v e → H v e) → Witness p H′ m
 fewer w le s = record {
   K = w .K;
   own = w .own;
-  ty = w .ty;
   once = w .once;
   forest = w .forest;
   sound = λ v e h. w .sound v e (s v e h);
-  typ = λ v e h. w .typ v e (s v e h);
+  agree = λ u v e f h g. w .agree u v e f (s u e h) (s v f g);
   live = λ u v e f h g. w .live u v e f (s u e h) (s v f g);
   vertex = λ k s m. let b = w .vertex k s m in omega arith;
 }
 
--- ── the ends of k get another type
-abbrev pub Retyped : Rel → ℕ → Option (Ty Name) → Rel
-Retyped H k T v e = (t : Option (Ty Name)) × H v (e .0, t) × (((e .0 .0 ≡ k) × (e .1 ≡ T)) ⊎ ((e .0 .0 ≢ k) × (e .1 ≡ t)))
+-- ── each end gets a type that is one with what it had
+abbrev pub Recast : Program → Rel → Rel
+Recast p H v e = (t : Option (Ty Name)) × H v (e .0, t) × OneOf p t (e .1)
 
-unfoldable pub retyping : {H : Rel} {n : ℕ} → Witness H n → (k : ℕ) (T : Option (Ty Name)) → Witness (Retyped H k T) n
-retyping {H} w k T = record {
-  K = w .K;
-  own = w .own;
-  ty = λ m. ite (ℕ-discrete m k) T (w .ty m);
-  once = w .once;
-  forest = w .forest;
-  sound = λ v e h. w .sound v (e .0, h .0) (h .1);
-  typ = λ v e h. go v e h (h .2);
-  live = λ u v e f h g. w .live u v (e .0, h .0) (f .0, g .0) (h .1) (g .1);
-  vertex = w .vertex;
-}
-  where
-    go : (v : ℕ) (e : Tip) (h : Retyped H k T v e) → ((e .0 .0 ≡ k) × (e .1 ≡ T)) ⊎ ((e .0 .0 ≢ k) × (e .1 ≡ h .0)) → ite (ℕ-discrete (e .0 .0) k) T (w .ty (e .0 .0)) ≡ e .1
-    go v e h (inl z) = if-pos (ℕ-discrete (e .0 .0) k) (z .0) _ _ ∙ sym (z .1)
-    go v e h (inr z) = if-neg (ℕ-discrete (e .0 .0) k) (z .0) _ _ ∙ w .typ v (e .0, h .0) (h .1) ∙ sym (z .1)
+pub recast-same : (p : Program) (H : Rel) (v : ℕ) (e : Tip) → H v e → Recast p H v e
+recast-same p H v e h = (e .1, h, one-of-refl p (e .1))
+
+-- ── the ends of k get types that are one with T, and each other one as before
+abbrev pub Retyped : Program → Rel → ℕ → Option (Ty Name) → Rel
+Retyped p H k T v e = (t : Option (Ty Name)) × H v (e .0, t) × (((e .0 .0 ≡ k) × OneOf p T (e .1)) ⊎ ((e .0 .0 ≢ k) × OneOf p t (e .1)))
+
+module _ {p : Program} {H : Rel} {n : ℕ} (w : Witness p H n) where
+  -- the owners stay, whatever the types
+  abbrev pub Typeless : Rel → Type 0
+  Typeless R = (v : ℕ) (e : Tip) → R v e → (t : Option (Ty Name)) × H v (e .0, t)
+
+  abbrev pub with-types : {R : Rel} → Typeless R → ((u v : ℕ) (e f : Tip) → R u e → R v f → e .0 .0 ≡ f .0 .0 → OneOf p (e .1) (f .1)) → Witness p R n
+  with-types s a = record {
+    K = w .K;
+    own = w .own;
+    once = w .once;
+    forest = w .forest;
+    sound = λ v e h. let t = s v e h in w .sound v (e .0, t .0) (t .1);
+    agree = a;
+    live = λ u v e f h g. let t = s u e h in let x = s v f g in w .live u v (e .0, t .0) (f .0, x .0) (t .1) (x .1);
+    vertex = w .vertex;
+  }
+
+  -- two ends that were of one type are so again
+  pub again : (u v : ℕ) (e f : Tip) (s t : Option (Ty Name)) → H u (e .0, s) → H v (f .0, t) → e .0 .0 ≡ f .0 .0 → OneOf p s (e .1) → OneOf p t (f .1) → OneOf p (e .1) (f .1)
+  again u v e f s t h g z a b = one-of-trans p (one-of-sym p a) (one-of-trans p (w .agree u v (e .0, s) (f .0, t) h g z) b)
+
+  unfoldable pub recasting : Witness p (Recast p H) n
+  recasting = with-types (λ v e h. (h .0, h .1)) (λ u v e f h g z. again u v e f (h .0) (g .0) (h .1) (g .1) z (h .2) (g .2))
+
+  unfoldable pub retyping : (k : ℕ) (T : Option (Ty Name)) → Witness p (Retyped p H k T) n
+  retyping k T = with-types (λ v e h. (h .0, h .1)) (λ u v e f h g z. go u v e f h g z (h .2) (g .2))
+    where
+      go : (u v : ℕ) (e f : Tip) (h : Retyped p H k T u e) (g : Retyped p H k T v f) → e .0 .0 ≡ f .0 .0
+          → ((e .0 .0 ≡ k) × OneOf p T (e .1)) ⊎ ((e .0 .0 ≢ k) × OneOf p (h .0) (e .1))
+          → ((f .0 .0 ≡ k) × OneOf p T (f .1)) ⊎ ((f .0 .0 ≢ k) × OneOf p (g .0) (f .1)) → OneOf p (e .1) (f .1)
+      go u v e f h g z (inl a) (inl b) = one-of-trans p (one-of-sym p (a .1)) (b .1)
+      go u v e f h g z (inl a) (inr b) = absurd (b .0 (sym z ∙ a .0))
+      go u v e f h g z (inr a) (inl b) = absurd (a .0 (z ∙ b .0))
+      go u v e f h g z (inr a) (inr b) = again u v e f (h .0) (g .0) (h .1) (g .1) z (a .1) (b .1)
 
 -- ── the ends S go from u to w
 abbrev pub Moved : Rel → List Key → ℕ → ℕ → Rel
@@ -121,7 +169,7 @@ movedOwn own S w q = ite (decIn key-discrete q S) w (own q)
 abbrev pub Between : (Key → ℕ) → ℕ → ℕ → ℕ → Type 0
 Between own k u w = ((own (k, provided) ≡ u) × (own (k, used) ≡ w)) ⊎ ((own (k, provided) ≡ w) × (own (k, used) ≡ u))
 
-module _ {H : Rel} {n : ℕ} (W : Witness H n) (S : List Key) (u w : ℕ) (from : (q : Key) → In q S → W .own q ≡ u) (u0 : u ≢ 0) where
+module _ {p : Program} {H : Rel} {n : ℕ} (W : Witness p H n) (S : List Key) (u w : ℕ) (from : (q : Key) → In q S → W .own q ≡ u) (u0 : u ≢ 0) where
   abbrev own′ : Key → ℕ
   own′ = movedOwn (W .own) S w
 
@@ -134,15 +182,14 @@ module _ {H : Rel} {n : ℕ} (W : Witness H n) (S : List Key) (u w : ℕ) (from 
   was v e (inr h) = (u, h .2, λ z. u0)
 
   -- over a joint k between u and w
-  pub over : (k : ℕ) → In k (W .K) → ((s : Side) → ¬ In (k, s) S) → Between (W .own) k u w → Witness (Moved H S u w) n
+  pub over : (k : ℕ) → In k (W .K) → ((s : Side) → ¬ In (k, s) S) → Between (W .own) k u w → Witness p (Moved H S u w) n
   over k m out b = record {
     K = W .K;
     own = own′;
-    ty = W .ty;
     once = W .once;
     forest = share (joint (W .own)) (W .K) (W .forest) (joint own′) k m (λ t. (here provided t, here used t)) (λ x _ t. (glued (x, provided) b t, glued (x, used) b t));
     sound = moved-sound;
-    typ = λ v e h. W .typ _ e (was v e h .1);
+    agree = λ v x e f h g. W .agree _ _ e f (was v e h .1) (was x f g .1);
     live = λ v x e f h g v0 x0. W .live _ _ e f (was v e h .1) (was x f g .1) (was v e h .2 v0) (was x f g .2 x0);
     vertex = λ x s i. bound (x, s) i b;
   }
@@ -205,21 +252,20 @@ apart-once k (y ∷ l) u = go (ℕ-discrete y k) (apart-once k l (u .1))
     go (no _) r = ((λ m. u .0 (apart-in k y l m .0)), r)
 
 -- the joint k goes, and own may change there
-apart-forest : {H : Rel} {n : ℕ} (W : Witness H n) (k : ℕ) (own : Key → ℕ) → ((x : ℕ) (s : Side) → x ≢ k → own (x, s) ≡ W .own (x, s)) → Forest (map (joint own) (apart k (W .K)))
+apart-forest : {p : Program} {H : Rel} {n : ℕ} (W : Witness p H n) (k : ℕ) (own : Key → ℕ) → ((x : ℕ) (s : Side) → x ≢ k → own (x, s) ≡ W .own (x, s)) → Forest (map (joint own) (apart k (W .K)))
 apart-forest W k own h =
     subst Forest (map-cong (joint (W .own)) (joint own) (apart k (W .K)) (λ x m t. (sym (h x provided (apart-in k x (W .K) m .1)) t, sym (h x used (apart-in k x (W .K) m .1)) t)))
     (thin (joint (W .own)) (W .K) (apart k (W .K)) (apart-once k (W .K) (W .once)) (λ x m. apart-in k x (W .K) m .0) (W .forest))
 
 -- ── the end q goes to the outside
-pub outing : {H : Rel} {n : ℕ} (W : Witness H n) (q : Key) (u : ℕ) → u ≢ 0 → W .own q ≡ u → Witness (Moved H (q ∷ []) u 0) n
-outing {H} {n} W q u u0 f = record {
+pub outing : {p : Program} {H : Rel} {n : ℕ} (W : Witness p H n) (q : Key) (u : ℕ) → u ≢ 0 → W .own q ≡ u → Witness p (Moved H (q ∷ []) u 0) n
+outing {H = H} {n = n} W q u u0 f = record {
   K = apart (q .0) (W .K);
   own = movedOwn (W .own) (q ∷ []) 0;
-  ty = W .ty;
   once = apart-once (q .0) (W .K) (W .once);
   forest = apart-forest W (q .0) (movedOwn (W .own) (q ∷ []) 0) same;
   sound = moved-sound W (q ∷ []) u 0 from u0;
-  typ = λ v e h. W .typ _ e (was W (q ∷ []) u 0 from u0 v e h .1);
+  agree = λ v x e f h g. W .agree _ _ e f (was W (q ∷ []) u 0 from u0 v e h .1) (was W (q ∷ []) u 0 from u0 x f g .1);
   live = live′;
   vertex = λ x s m. let r = apart-in (q .0) x (W .K) m in subst (λ y. y < n) (sym (same x s (r .1))) (W .vertex x s (r .0));
 }
@@ -248,7 +294,7 @@ sides g t used = t
 abbrev pub Joined : Rel → ℕ → (Side → ℕ) → Option (Ty Name) → Rel
 Joined H k at T v e = H v e ⊎ ((e .0 .0 ≡ k) × (v ≡ at (e .0 .1)) × (e .1 ≡ T))
 
-module _ {H : Rel} {n : ℕ} (W : Witness H n) (k i z : ℕ) (T : Option (Ty Name)) (free : (v : ℕ) (e : Tip) → H v e → e .0 .0 ≢ k) (nz : n ≤ z) (i< : i < n) where
+module _ {p : Program} {H : Rel} {n : ℕ} (W : Witness p H n) (k i z : ℕ) (T : Option (Ty Name)) (free : (v : ℕ) (e : Tip) → H v e → e .0 .0 ≢ k) (nz : n ≤ z) (i< : i < n) where
   abbrev atOwn : (Side → ℕ) → Key → ℕ
   atOwn at q = ite (ℕ-discrete (q .0) k) (at (q .1)) (W .own q)
 
@@ -266,15 +312,14 @@ module _ {H : Rel} {n : ℕ} (W : Witness H n) (k i z : ℕ) (T : Option (Ty Nam
           let r = apart-in k x (W .K) h in
           ap (glue i z) (old-own at x s (r .1)) ∙ glue-off i z (W .own (x, s)) (λ e. let b = W .vertex x s (r .0) in omega arith)
 
-  joined-with : (at : Side → ℕ) → ((s : Side) → at s < suc z) → Forest (map (joint (atOwn at)) (k ∷ apart k (W .K))) → Witness (Joined H k at T) (suc z)
+  joined-with : (at : Side → ℕ) → ((s : Side) → at s < suc z) → Forest (map (joint (atOwn at)) (k ∷ apart k (W .K))) → Witness p (Joined H k at T) (suc z)
   joined-with at lt fo = record {
     K = k ∷ apart k (W .K);
     own = atOwn at;
-    ty = λ x. ite (ℕ-discrete x k) T (W .ty x);
     once = ((λ h. apart-in k k (W .K) h .1 refl), apart-once k (W .K) (W .once));
     forest = fo;
     sound = sound′;
-    typ = typ′;
+    agree = agree′;
     live = live′;
     vertex = vertex′;
   }
@@ -283,9 +328,11 @@ module _ {H : Rel} {n : ℕ} (W : Witness H n) (k i z : ℕ) (T : Option (Ty Nam
       sound′ v e (inl h) = old-own at (e .0 .0) (e .0 .1) (free v e h) ∙ W .sound v e h
       sound′ v e (inr h) = if-pos (ℕ-discrete (e .0 .0) k) (h .0) _ _ ∙ sym (h .1)
 
-      typ′ : (v : ℕ) (e : Tip) → Joined H k at T v e → ite (ℕ-discrete (e .0 .0) k) T (W .ty (e .0 .0)) ≡ e .1
-      typ′ v e (inl h) = if-neg (ℕ-discrete (e .0 .0) k) (free v e h) _ _ ∙ W .typ v e h
-      typ′ v e (inr h) = if-pos (ℕ-discrete (e .0 .0) k) (h .0) _ _ ∙ sym (h .2)
+      agree′ : (u v : ℕ) (e f : Tip) → Joined H k at T u e → Joined H k at T v f → e .0 .0 ≡ f .0 .0 → OneOf p (e .1) (f .1)
+      agree′ u v e f (inl h) (inl g) y = W .agree u v e f h g y
+      agree′ u v e f (inl h) (inr g) y = absurd (free u e h (y ∙ g .0))
+      agree′ u v e f (inr h) (inl g) y = absurd (free v f g (sym y ∙ h .0))
+      agree′ u v e f (inr h) (inr g) y = subst (OneOf p (e .1)) (h .2 ∙ sym (g .2)) (one-of-refl p (e .1))
 
       live′ : (u v : ℕ) (e f : Tip) → Joined H k at T u e → Joined H k at T v f → u ≢ 0 → v ≢ 0 → e .0 .0 ≡ f .0 .0 → e .0 .1 ≡ provided → f .0 .1 ≡ used → In (e .0 .0) (k ∷ apart k (W .K))
       live′ u v e f (inl h) (inl g) u0 v0 p a b = List·Memᴰ·tail (in-apart k (e .0 .0) (W .K) (W .live u v e f h g u0 v0 p a b) (free u e h))
@@ -305,7 +352,7 @@ module _ {H : Rel} {n : ℕ} (W : Witness H n) (k i z : ℕ) (T : Option (Ty Nam
   gone = apart-forest W k (W .own) (λ x s n. refl)
 
   -- the new vertex uses, or it provides
-  pub joined-uses : Witness (Joined H k (sides i z) T) (suc z)
+  pub joined-uses : Witness p (Joined H k (sides i z) T) (suc z)
   joined-uses =
       joined-with (sides i z) lt
       (grow (joint (W .own)) (apart k (W .K)) gone (joint (atOwn (sides i z))) k i z (λ t. (new-own (sides i z) provided t, new-own (sides i z) used t)) iz (glued-old (sides i z)))
@@ -314,7 +361,7 @@ module _ {H : Rel} {n : ℕ} (W : Witness H n) (k i z : ℕ) (T : Option (Ty Nam
       lt provided = omega arith
       lt used = omega arith
 
-  pub joined-provides : Witness (Joined H k (sides z i) T) (suc z)
+  pub joined-provides : Witness p (Joined H k (sides z i) T) (suc z)
   joined-provides =
       joined-with (sides z i) lt
       (grow-turned (joint (W .own)) (apart k (W .K)) gone (joint (atOwn (sides z i))) k i z (λ t. (new-own (sides z i) provided t, new-own (sides z i) used t)) iz (glued-old (sides z i)))
