@@ -42,7 +42,8 @@ use Rattle.run_words.specs.declared.records.Process.{Process as ProcessWords}
 use Rattle.check_contexts.specs.Held.{channelsOf, HeldIn, endFound, Sees, Drops, Retypes}
 use Rattle.check_contexts.specs.declared.held.Lookup.{Lookup}
 use Rattle.check_contexts.specs.declared.held.Lookup.the-variants as lookups
-use Rattle.run_alone.specs.Run.{pointerLimit, doingAs, ProcessOf}
+use Rattle.run_words.specs.Raw.{pointerLimit}
+use Rattle.run_alone.specs.Run.{doingAs, ProcessOf}
 use Rattle.run_alone.specs.Making.{channels-many}
 
 -- the message of a send: kinds 1, 2 and 3

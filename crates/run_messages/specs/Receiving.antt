@@ -1,185 +1,137 @@
--- A process that receives, and what its sender's message does to it.
-use Prim.Native.Nat.{ℕ, suc, _+_, _-_, _≤_, _<_}
-use mathlib.Core.Path.{_≡_, refl, sym, _∙_, ap, subst}
-use mathlib.Core.List.{List, [], _∷_, _++_}
-use mathlib.Core.Bool.{Bool, true, false, cond}
-use mathlib.Core.Option.{Option, some, Option·map}
-use native.Mathlib.Omega.{arith}
-use lib.ListN.{length, length-set, set}
+-- A recv: as the send at its far end, or with its far end given up.
+use Prim.Native.Nat.{_<_, _≤_, suc, zero, ℕ}
+use Rattle.calculus.specs.Configuration.{Config, Holder, Outside, foldsUp, replaced}
+use Rattle.calculus.specs.Program.{Program}
+use Rattle.calculus.specs.Steps.{Outcome, Turn, alone, answering, notOpen, receive, receives, receiving, send, sends, turnOf}
+use Rattle.calculus.specs.declared.answers.Seen.the-variants.{Nothing}
+use Rattle.check_contexts.specs.Held.{Drops, Sees}
+use Rattle.check_contexts.specs.declared.held.Lookup.{Lookup}
 use Rattle.notation.specs.Bytes.{same}
+use Rattle.notation.specs.Reader.{nameIn}
 use Rattle.notation.specs.Token.{nameAt}
-use Rattle.notation.specs.Reader.{nameIn, labelIn}
-use Rattle.notation.specs.Tree.{Name, Proc}
 use Rattle.notation.specs.declared.reading.Found.{Found}
-use Rattle.notation.specs.declared.reading.Found.the-variants as found
-use Rattle.notation.specs.Tables.{Area}
-use Rattle.calculus.specs.Configuration.{End, end, Process, Config, replaced, goesOn}
-use Rattle.calculus.specs.Steps.{Outcome, onClose, onChannel, onLabel, bothTo, branchOf, bound, onward, passedType, takesClose, takesChannel, takesLabel}
-use Rattle.calculus.specs.Named.{lookup}
-use Rattle.calculus.specs.Types.{standing, passing}
-use Rattle.read_tables.specs.Access.{BranchOf, branch-there}
+use Rattle.notation.specs.declared.reading.TermNode.{TermNode}
 use Rattle.read_tables.specs.Decode.{processIn}
 use Rattle.read_tables.specs.Program.{plainIn, programIn}
-use Rattle.read_tables.specs.Roots.{ProcessIn, BranchesIn, branchesIn, FirstBranch}
-use Rattle.read_tables.specs.Search.{placeOf}
-use Rattle.read_tables.specs.Whole.{Tables}
-use Rattle.read_tables.specs.declared.access.Labelled.{Labelled}
-use Rattle.run_words.specs.Raw.{rawIn, sideOf, Bounded}
-use Rattle.run_words.specs.Values.{Changed, endIn}
-use Rattle.run_words.specs.Values as values
-use Rattle.run_words.specs.Operations as raw
+use Rattle.read_tables.specs.Roots.{ProcessIn}
+use Rattle.run_alone.specs.Forwarding.{far-as, farOf, farRaw}
+use Rattle.run_alone.specs.Parting.{held-none, held-some}
+use Rattle.run_alone.specs.Run.{Becomes, Carries, configIn, doingAs, processAs}
+use Rattle.run_alone.specs.declared.outcome.Outcome.the-variants.{Carried, NotOpen}
+use Rattle.run_alone.specs.declared.outcome.Outcome.{Outcome as OutcomeWords}
+use Rattle.run_messages.specs.Messages.{Heard, SendNode, heard, messageBy, partsBy, turnBy}
+use Rattle.run_words.specs.DecodeLaws.{FarAs, atOutside, atProcess, givenUp}
+use Rattle.run_words.specs.Raw.{rawIn}
 use Rattle.run_words.specs.declared.records.End.{End as EndWords}
+use Rattle.run_words.specs.declared.records.Far.{Far}
 use Rattle.run_words.specs.declared.records.Held.{Held}
 use Rattle.run_words.specs.declared.records.Process.{Process as ProcessWords}
-use Rattle.check_contexts.specs.Held.{channelsOf, EndIn, HeldIn, endFound, FoundIn, Sees, Drops, Brings}
-use Rattle.check_contexts.specs.Halves.{append-nil}
-use Rattle.check_contexts.specs.declared.held.Lookup.{Lookup}
+use mathlib.Core.Bool.{Bool, cond, false, true}
+use mathlib.Core.List.{List}
+use mathlib.Core.Logic.{_⊎_, inl, inr}
+use mathlib.Core.Path.{_∙_, _≡_, ap, refl, subst, sym}
+use native.Mathlib.Omega.{arith}
+use Rattle.calculus.specs.Configuration as calculus
 use Rattle.check_contexts.specs.declared.held.Lookup.the-variants as lookups
-use Rattle.run_alone.specs.declared.outcome.Outcome.{Outcome as OutcomeWords}
-use Rattle.run_alone.specs.declared.outcome.Outcome.the-variants.{NotOpen}
-use Rattle.run_messages.specs.declared.messages.Receiver.{Receiver}
-use Rattle.run_messages.specs.declared.messages.Sending.{Sending}
-use Rattle.run_alone.specs.Run.{configIn, processAs, RunOf, ProcessOf, StandsAt, Becomes, Carries}
-use Rattle.run_messages.specs.Messages.{partsBy, messageBy, TypeAfter, MovesOn}
-use Rattle.run_alone.specs.Changes.{then, stored, running-as, places-after, places-in}
+use Rattle.run_words.specs.Values as values
+use Rattle.run_words.specs.declared.records.Far.the-variants as far
+use Rattle.run_messages.specs.Sending.{sendBy}
 
--- a process that receives stands at its place, and the numbers of its term are those of the text
-pub record ReceiverIn (s w ws : List ℕ) (to : Receiver) : Type 0 where
-  pub stands : StandsAt s w ws (to .place) (to .process)
-  pub parts : partsBy s w (to .term) (to .term .kind)
+-- a process that sends, whatever its name for the channel
+abbrev pub answeredBy : Program → Config → Holder → Turn → Outcome
+answeredBy p C h (sends c m P) = send p C (h .place) (h .process) c m P
+answeredBy p C h (receives c v) = notOpen
+answeredBy p C h alone = notOpen
 
-pub parts-at : {s w ws : List ℕ} {to : Receiver} → ReceiverIn s w ws to → {k : ℕ} → to .term .kind ≡ k → partsBy s w (to .term) k
-parts-at {s} {w} {to = to} r e = subst (partsBy s w (to .term)) e (r .parts)
+pub answering-heard : (p : Program) (C : Config) (h : Holder) (T : Turn) → answering p C h T ≡ answeredBy p C h (heard (h .name) T)
+answering-heard p C h (sends c m P) = go (same (c .name) (h .name))
+  where
+    go : (b : Bool) → cond b (send p C (h .place) (h .process) c m P) notOpen ≡ answeredBy p C h (cond b (sends c m P) alone)
+    go true = refl
+    go false = refl
+answering-heard p C h (receives c v) = go (same (c .name) (h .name))
+  where
+    go : (b : Bool) → notOpen ≡ answeredBy p C h (cond b (receives c v) alone)
+    go true = refl
+    go false = refl
+answering-heard p C h alone = refl
 
--- ── two processes change
-abbrev pub bothSet : Config → ℕ → Process → ℕ → Process → Config
-bothSet C i P j Q = replaced j Q (replaced i P C)
+abbrev pub receivingBy : List ℕ → List ℕ → List ℕ → ℕ → ProcessWords → ℕ → EndWords → Outcome
+receivingBy s w old i p c e = receiving (programIn s w) (configIn s w old) i (processAs s w p) (nameAt s c) (farOf s w old e)
 
-module _ (s w old mid : List ℕ) (t : RunOf s w old) (i j : ℕ) (q r : ProcessWords) (o : ProcessOf s w (length (rawIn old .processes)) q) (u : ProcessOf s w (length (rawIn old .processes)) r)
-    (c : Changed old mid (raw.onProcesses (λ l. set l i (values.processIn q)) (rawIn old))) (b : Bounded (rawIn mid)) where
-  pub first-set : Becomes s w old mid (replaced i (processAs s w q) (configIn s w old))
-  first-set = stored s w old mid t i q o c b
+-- ── by the kind of the far end's node
+module _ (s w : List ℕ) (C : Config) (h : Holder) (t : TermNode) where
+  answered-alone : (k : ℕ) → (k ≡ 1 → ⊥) → (k ≡ 2 → ⊥) → (k ≡ 3 → ⊥) → answeredBy (programIn s w) C h (turnBy s w t k) ≡ notOpen
+  answered-alone zero a b c = refl
+  answered-alone (suc zero) a b c = absurd (a refl)
+  answered-alone (suc (suc zero)) a b c = absurd (b refl)
+  answered-alone (suc (suc (suc zero))) a b c = absurd (c refl)
+  answered-alone (suc (suc (suc (suc zero)))) a b c = refl
+  answered-alone (suc (suc (suc (suc (suc zero))))) a b c = refl
+  answered-alone (suc (suc (suc (suc (suc (suc zero)))))) a b c = refl
+  answered-alone (suc (suc (suc (suc (suc (suc (suc zero))))))) a b c = refl
+  answered-alone (suc (suc (suc (suc (suc (suc (suc (suc zero)))))))) a b c = refl
+  answered-alone (suc (suc (suc (suc (suc (suc (suc (suc (suc k))))))))) a b c = refl
 
-  pub first-many : length (rawIn mid .processes) ≡ length (rawIn old .processes)
-  first-many = places-after first-set ∙ length-set (configIn s w old .processes) i (processAs s w q) ∙ places-in s w old
+  answered-send : (k : ℕ) → 1 ≤ k → k ≤ 3 → send (programIn s w) C (h .place) (h .process) (nameIn s (t .first)) (messageBy s (t .second) k) (processIn s w (t .third)) ≡ answeredBy (programIn s w) C h (turnBy s w t k)
+  answered-send zero a b = absurd (omega arith)
+  answered-send (suc zero) a b = refl
+  answered-send (suc (suc zero)) a b = refl
+  answered-send (suc (suc (suc zero))) a b = refl
+  answered-send (suc (suc (suc (suc k)))) a b = absurd (omega arith)
 
-  pub second-of : ProcessOf s w (length (rawIn mid .processes)) r
-  second-of = subst (λ n. ProcessOf s w n r) (sym first-many) u
+parts-third : (s w : List ℕ) (t : TermNode) (k : ℕ) → 1 ≤ k → k ≤ 3 → partsBy s w t k → ProcessIn s w (t .third)
+parts-third s w t zero a b p = absurd (omega arith)
+parts-third s w t (suc zero) a b p = p
+parts-third s w t (suc (suc zero)) a b p = p
+parts-third s w t (suc (suc (suc zero))) a b (l, p) = p
+parts-third s w t (suc (suc (suc (suc k)))) a b p = absurd (omega arith)
 
-  pub both-set : (new : List ℕ) → Changed mid new (raw.onProcesses (λ l. set l j (values.processIn r)) (rawIn mid)) → Bounded (rawIn new) → Becomes s w old new (bothSet (configIn s w old) i (processAs s w q) j (processAs s w r))
-  both-set new d k = then (replaced j (processAs s w r)) first-set (stored s w mid new (first-set .run) j r second-of d k)
+pub send-parts : (s w : List ℕ) (t : TermNode) → (t .kind ≡ 0 → ⊥) → t .kind ≤ 3 → partsBy s w t (t .kind) → SendNode t × ProcessIn s w (t .third)
+send-parts s w t a b p =
+    let l : 1 ≤ t .kind = omega (arith, a) in
+    (record { low = l; high = b; label = λ z. subst (partsBy s w t) z p .0 }, parts-third s w t (t .kind) l b p)
 
--- ── with the end that was passed, if it was found and the receiver's own was
-pub record BringsOver (s w : List ℕ) (h : Held) (own passed : Lookup) (at : ℕ) (r : Held) : Type 0 where
-  pub is : channelsOf s w r ≡ channelsOf s w h ++ bound (programIn s w) (nameAt s at) (endFound s w own) (endFound s w passed)
-  pub fits : HeldIn s w r
+module _ (s w old : List ℕ) (i : ℕ) (p : ProcessWords) (c : ℕ) (e : EndWords) where
+  abbrev holderBy : ℕ → ProcessWords → ℕ → Holder
+  holderBy j r x = record { place = j; process = processAs s w r; name = nameAt s x }
 
-module _ (s w : List ℕ) (h : Held) (t : HeldIn s w h) (own passed : Lookup) (at : ℕ) where
-  brings-none : bound (programIn s w) (nameAt s at) (endFound s w own) (endFound s w passed) ≡ [] → BringsOver s w h own passed at h
-  brings-none e = record { is = sym (ap (λ l. channelsOf s w h ++ l) e ∙ append-nil (channelsOf s w h)); fits = t }
+  module _ (j x : ℕ) (r : ProcessWords) (t : TermNode) (f : farOf s w old e ≡ calculus.atProcess (holderBy j r x)) (g : Heard s w x (doingAs s w (r .kind) (r .pointer)) t) where
+    answers-as : receivingBy s w old i p c e ≡ answeredBy (programIn s w) (configIn s w old) (holderBy j r x) (turnBy s w t (t .kind))
+    answers-as =
+        ap (receiving (programIn s w) (configIn s w old) i (processAs s w p) (nameAt s c)) f
+        ∙ answering-heard (programIn s w) (configIn s w old) (holderBy j r x) (turnOf (doingAs s w (r .kind) (r .pointer)))
+        ∙ ap (answeredBy (programIn s w) (configIn s w old) (holderBy j r x)) (g .is)
 
-  pub brings-unheld : own ≡ lookups.Nothing → BringsOver s w h own passed at h
-  brings-unheld e = brings-none (ap (λ (f : Lookup). bound (programIn s w) (nameAt s at) (endFound s w f) (endFound s w passed)) e)
+    pub answers-not : (t .kind ≡ 0) ⊎ (3 < t .kind) → Carries s w old old NotOpen (receivingBy s w old i p c e)
+    answers-not z = subst (Carries s w old old NotOpen) (sym (answers-as ∙ answered-alone s w (configIn s w old) (holderBy j r x) t (t .kind) (λ y. go z (omega arith, omega arith)) (λ y. go z (omega arith, omega arith)) (λ y. go z (omega arith, omega arith)))) (record { is = (refl, refl) })
+      where
+        go : (t .kind ≡ 0) ⊎ (3 < t .kind) → (1 ≤ t .kind) × (t .kind ≤ 3) → ⊥
+        go (inl a) (b, d) = omega arith
+        go (inr a) (b, d) = omega arith
 
-  module _ {e : EndWords} (z : own ≡ lookups.Found e) where
-    pub brings-nothing : passed ≡ lookups.Nothing → BringsOver s w h own passed at h
-    brings-nothing y = brings-none λ j. bound (programIn s w) (nameAt s at) (endFound s w (z j)) (endFound s w (y j))
+    pub answers : {new : List ℕ} {o : OutcomeWords} → (t .kind ≡ 0 → ⊥) → t .kind ≤ 3 → Carries s w old new o (sendBy s w old j r t) → Carries s w old new o (receivingBy s w old i p c e)
+    answers {new} {o} a b k = subst (Carries s w old new o) (answered-send s w (configIn s w old) (holderBy j r x) t (t .kind) (omega (arith, a)) b ∙ sym answers-as) k
 
-    pub brings-over : {d : EndWords} {node : ℕ} {r : Held} → passed ≡ lookups.Found d → TypeAfter s w (passedType (plainIn s w (d .node)) (passing (standing (programIn s w .types) (plainIn s w (e .node))))) node → Brings h at (d .side) node (d .channel) r
-        → BringsOver s w h own passed at r
-    brings-over {d} y u b = record {
-      is = b .is s w ∙ ap (λ A. channelsOf s w h ++ ((nameAt s at, end (sideOf (d .side)) (d .channel) A) ∷ [])) (u .is)
-          ∙ sym λ j. channelsOf s w h ++ bound (programIn s w) (nameAt s at) (endFound s w (z j)) (endFound s w (y j));
-      fits = b .fits s w (u .type) t;
-    }
+  receives-up : {F : calculus.Far} {new : List ℕ} {h : Held} → FarAs (nameAt s) (plainIn s w) (processIn s w) (rawIn old) far.GivenUp F → Drops s (p .held) c h → Becomes s w old new (replaced i (processAs s w (values.foldingUp h p)) (configIn s w old))
+      → Carries s w old new (Carried Nothing) (receiving (programIn s w) (configIn s w old) i (processAs s w p) (nameAt s c) F)
+  receives-up {new = new} givenUp d b = record { is = (refl, subst (λ l. Becomes s w old new (replaced i (foldsUp (processAs s w p) l) (configIn s w old))) (d .is w) b) }
 
-pub found-in : {s w : List ℕ} {f : Lookup} {d : EndWords} → f ≡ lookups.Found d → FoundIn s w f → EndIn s w (endIn d) × (d .side < 2)
-found-in {s} {w} e o = subst (FoundIn s w) e o
+  pub receives-nothing : {new : List ℕ} {h : Held} → far.GivenUp ≡ farRaw s w old e → Drops s (p .held) c h → Becomes s w old new (replaced i (processAs s w (values.foldingUp h p)) (configIn s w old)) → Carries s w old new (Carried Nothing) (receivingBy s w old i p c e)
+  receives-nothing f d b = receives-up (far-as s w old e far.GivenUp f) d b
 
--- ── the branch of a label: a search that has come to n branches before the place e
-pub record BranchIs (s w : List ℕ) (at e n : ℕ) (r : Found) : Type 0 where
-  pub is : branchOf (nameAt s (at + 1)) (branchesIn s w e n) ≡ Option·map (λ x. processIn s w x) (placeOf r)
-  pub process : (x : ℕ) → r ≡ found.At x → ProcessIn s w x
+  receives-out : {k : ℕ} {F : calculus.Far} → FarAs (nameAt s) (plainIn s w) (processIn s w) (rawIn old) (far.Outside k) F → Carries s w old old NotOpen (receiving (programIn s w) (configIn s w old) i (processAs s w p) (nameAt s c) F)
+  receives-out (atOutside g) = record { is = (refl, refl) }
 
-abbrev processThere : List ℕ → List ℕ → Found → Type 0
-processThere s w (found.At x) = ProcessIn s w x
-processThere s w found.Nothing = Unit
+  pub receives-outside : (k : ℕ) → far.Outside k ≡ farRaw s w old e → Carries s w old old NotOpen (receivingBy s w old i p c e)
+  receives-outside k f = receives-out (far-as s w old e (far.Outside k) f)
 
-module _ (s w : List ℕ) (at e₀ n₀ : ℕ) where
-  abbrev reached : ℕ → ℕ → Option Proc
-  reached e n = branchOf (nameAt s (at + 1)) (branchesIn s w e n)
+-- ── the rule
+module _ (s w old : List ℕ) (i : ℕ) (p : ProcessWords) (c : ℕ) {f : Lookup} (a : Sees s (p .held) c f) where
+  pub receives-unheld : f ≡ lookups.Nothing → Carries s w old old NotOpen (receive (programIn s w) (configIn s w old) i (processAs s w p) (nameIn s c))
+  unfolding receive
+  receives-unheld q = held-none a _ q
 
-  pub record Searching (e n : ℕ) : Type 0 where
-    pub owner : ℕ
-    pub there : BranchesIn s w owner e n
-    pub rest : reached e₀ n₀ ≡ reached e n
-
-  pub search-start : (p : ℕ) → BranchesIn s w p e₀ n₀ → Searching e₀ n₀
-  search-start p b = record { owner = p; there = b; rest = refl }
-
-  module _ (e n : ℕ) (l : Searching e n) (h : n ≡ 0 → ⊥) where
-    more : n ≡ suc (n - 1)
-    more = omega (arith, h)
-
-    still : BranchesIn s w (l .owner) e (suc (n - 1))
-    still = subst (BranchesIn s w (l .owner) e) more (l .there)
-
-    pub search-there : Tables s w → Area w × (1 ≤ e) × (e ≤ 1640)
-    search-there t = let (a, b) = branch-there s w t (l .owner) e (n - 1) still in (t .area, a, b)
-
-    module _ (a : Labelled) (o : BranchOf w e a) {b : Bool} (t : b ≡ same (nameAt s (at + 1)) (nameAt s (a .at + 1))) where
-      begins : FirstBranch s w (l .owner) e (n - 1) (a .at) (a .number)
-      begins = o .says s (l .owner) (n - 1) still
-
-      tested : (q : Bool) → b ≡ q → reached e₀ n₀ ≡ cond q (some (processIn s w (a .number))) (reached (e - 1) (n - 1))
-      tested q y =
-          l .rest ∙ ap (reached e) more ∙ ap (branchOf (nameAt s (at + 1))) (begins .is) ∙ ap (λ p. cond p (some (processIn s w (a .number))) (reached (e - 1) (n - 1))) (sym t ∙ y)
-
-      pub search-found : b ≡ true → BranchIs s w at e₀ n₀ (found.At (a .number))
-      search-found y = record { is = tested true y; process = λ x q. subst (processThere s w) q (begins .process) }
-
-      pub search-on : b ≡ false → Searching (e - 1) (n - 1)
-      search-on y = record { owner = l .owner; there = begins .rest; rest = tested false y }
-
-  pub search-end : (e n : ℕ) → Searching e n → n ≡ 0 → BranchIs s w at e₀ n₀ found.Nothing
-  search-end e n l z = record { is = l .rest ∙ ap (reached e) z; process = λ x q. subst (processThere s w) q tt }
-
--- ── the receiver afterwards
--- the sender is as its send left it, and the receiver goes on with the term at a pointer and what it holds now
-abbrev pub bothOn : List ℕ → List ℕ → List ℕ → Sending → Receiver → ℕ → Held → Outcome
-bothOn s w old sent to pointer held = bothTo (configIn s w old) (sent .place) (processAs s w (sent .after)) (to .place) (some (processAs s w (running-as pointer (to .process .link) held)))
-
-module _ (s w old : List ℕ) (sent : Sending) (to : Receiver) where
-  abbrev pub bothBy : Option Process → Outcome
-  bothBy o = bothTo (configIn s w old) (sent .place) (processAs s w (sent .after)) (to .place) o
-
-  abbrev receiver : Process
-  receiver = processAs s w (to .process)
-
-  -- the message of the sender's node, were it of the kind k
-  abbrev over : ℕ → List (Name × End)
-  over k = onward (programIn s w) (messageBy s (sent .term .second) k) (nameAt s (to .name)) (channelsOf s w (to .process .held))
-
-  module _ {new : List ℕ} {o : OutcomeWords} (h : Held) (pointer : ℕ) (b : Carries s w old new o (bothOn s w old sent to pointer h)) where
-    -- the receiver has the channels of l
-    with-held : (l : _) → channelsOf s w h ≡ l → Carries s w old new o (bothBy (some (goesOn receiver (processIn s w pointer) l)))
-    with-held l e = subst (λ m. Carries s w old new o (bothBy (some (goesOn receiver (processIn s w pointer) m)))) e b
-
-    pub hears-close : Drops s (to .process .held) (to .name) h → Carries s w old new o (bothBy (takesClose (onClose (processIn s w pointer)) (nameAt s (to .name)) receiver))
-    hears-close d = with-held _ (d .is w)
-
-    pub hears-channel : {name : ℕ} {f g : Lookup} {m : Held} → sent .term .kind ≡ 2 → Sees s (sent .before .held) (sent .term .second) f → Sees s (to .process .held) (to .name) g
-        → MovesOn s w (to .process .held) (sent .term) (to .name) m → BringsOver s w m g f name h
-        → Carries s w old new o (bothBy (takesChannel (programIn s w) (nameIn s (sent .term .second)) (onChannel (nameIn s name) (processIn s w pointer)) (nameAt s (to .name)) (lookup (nameAt s (sent .term .second)) (channelsOf s w (sent .before .held))) receiver))
-    hears-channel {name} z f g c d =
-        with-held _ (d .is ∙ λ j. (c .is ∙ ap over z) j ++ bound (programIn s w) (nameAt s name) (sym (g .is w) j) (sym (f .is w) j))
-
-    pub hears-label : {e n : ℕ} {k : Found} → sent .term .kind ≡ 3 → BranchIs s w (sent .term .second) e n k → k ≡ found.At pointer → MovesOn s w (to .process .held) (sent .term) (to .name) h
-        → Carries s w old new o (bothBy (takesLabel (programIn s w) (labelIn s (sent .term .second)) (onLabel (branchesIn s w e n)) (nameAt s (to .name)) receiver))
-    hears-label y f z c =
-        subst (λ p. Carries s w old new o (bothBy (Option·map (λ P. goesOn receiver P (over 3)) p))) (sym (f .is ∙ ap (λ y. Option·map (λ x. processIn s w x) (placeOf y)) z)) (with-held _ (c .is ∙ ap over y))
-
-  pub hears-nothing : {e n : ℕ} {k : Found} → BranchIs s w (sent .term .second) e n k → k ≡ found.Nothing
-      → Carries s w old old NotOpen (bothBy (takesLabel (programIn s w) (labelIn s (sent .term .second)) (onLabel (branchesIn s w e n)) (nameAt s (to .name)) receiver))
-  hears-nothing f z =
-      subst (λ o. Carries s w old old NotOpen (bothBy (Option·map (λ P. goesOn receiver P (over 3)) o))) (sym (f .is ∙ ap (λ y. Option·map (λ x. processIn s w x) (placeOf y)) z)) (record { is = (refl, refl) })
+  pub receives-on : {e : EndWords} {new : List ℕ} {o : OutcomeWords} → f ≡ lookups.Found e → Carries s w old new o (receivingBy s w old i p c e) → Carries s w old new o (receive (programIn s w) (configIn s w old) i (processAs s w p) (nameIn s c))
+  unfolding receive
+  receives-on q k = held-some a _ q k

@@ -24,17 +24,17 @@ use Rattle.read_tables.specs.Decode.{typeIn, processIn, argumentsAt}
 use Rattle.read_tables.specs.Names.{CallAt}
 use Rattle.read_tables.specs.Program.{programIn}
 use Rattle.read_tables.specs.Roots.{TypeIn, ProcessIn, Handlers, each-kind, processCases, process-root}
-use Rattle.run_words.specs.Raw.{rawIn, linkOf}
+use Rattle.run_words.specs.Raw.{rawIn, linkOf, pointerLimit}
 use Rattle.run_words.specs.declared.records.Process.{Process as ProcessWords}
 use Rattle.check_contexts.specs.Held.{channelsOf}
 use Rattle.calculus.specs.Typing.{Bodies}
 use Rattle.run_alone.specs.declared.outcome.Outcome.{Outcome as OutcomeWords}
 use Rattle.run_alone.specs.declared.outcome.Outcome.the-variants.{NotOpen}
-use Rattle.run_alone.specs.Run.{pointerLimit, configIn, doingAs, processAs, RunOf, StandsAt, Carries}
+use Rattle.run_alone.specs.Run.{configIn, doingAs, processAs, RunOf, StandsAt, Carries}
 use Rattle.run_alone.specs.Changes.{places-in}
 use Rattle.run_alone.specs.Making.{SpawnIn}
 use Rattle.run_messages.specs.Messages.{messageBy, SendNode, label-small}
-use Rattle.run_messages.specs.Meeting.{sendBy}
+use Rattle.run_messages.specs.Sending.{sendBy}
 use Rattle.run_alone.specs.Calling.{CallIn, names-many}
 
 -- every process of the program has at most 16 channels, as an accepted text's have
