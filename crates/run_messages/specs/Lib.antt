@@ -1,3 +1,4 @@
+pub mod Kinds
 pub mod Messages
 pub mod Sending
 pub mod Meeting

@@ -23,6 +23,7 @@ use Rattle.read_tables.specs.Roots.{BranchesIn, FirstBranch, ProcessIn, branche
 use Rattle.read_tables.specs.Search.{placeOf}
 use Rattle.read_tables.specs.Whole.{Tables}
 use Rattle.read_tables.specs.declared.access.Labelled.{Labelled}
+use Rattle.run_messages.specs.Kinds.{recvChannelKind, recvLabelKind, recvOver, recvUnitKind, sendChannelKind, sendLabelKind, sendUnitKind}
 use Rattle.run_alone.specs.Changes.{places-after, places-in, stored, then}
 use Rattle.run_alone.specs.Forwarding.{farOf}
 use Rattle.run_alone.specs.Parting.{endAs}
@@ -176,13 +177,13 @@ module _ (s w old : List ℕ) (sent : Sending) (to : Receiver) where
     pub hears-close : Drops s (to .process .held) (to .name) h → Carries s w old new o (bothBy (takesClose (onClose (processIn s w pointer)) (nameAt s (to .name)) receiver))
     hears-close d = with-held _ (d .is w)
 
-    pub hears-channel : {name : ℕ} {f g : Lookup} {m : Held} → sent .term .kind ≡ 2 → Sees s (sent .before .held) (sent .term .second) f → Sees s (to .process .held) (to .name) g
+    pub hears-channel : {name : ℕ} {f g : Lookup} {m : Held} → sent .term .kind ≡ sendChannelKind → Sees s (sent .before .held) (sent .term .second) f → Sees s (to .process .held) (to .name) g
         → MovesOn s w (to .process .held) (sent .term) (to .name) m → BringsOver s w m g f name h
         → Carries s w old new o (bothBy (takesChannel (programIn s w) (nameIn s (sent .term .second)) (onChannel (nameIn s name) (processIn s w pointer)) (nameAt s (to .name)) (lookup (nameAt s (sent .term .second)) (channelsOf s w (sent .before .held))) receiver))
     hears-channel {name} z f g c d =
         with-held _ (d .is ∙ λ j. (c .is ∙ ap over z) j ++ bound (programIn s w) (nameAt s name) (sym (g .is w) j) (sym (f .is w) j))
 
-    pub hears-label : {e n : ℕ} {k : Found} → sent .term .kind ≡ 3 → BranchIs s w (sent .term .second) e n k → k ≡ found.At pointer → MovesOn s w (to .process .held) (sent .term) (to .name) h
+    pub hears-label : {e n : ℕ} {k : Found} → sent .term .kind ≡ sendLabelKind → BranchIs s w (sent .term .second) e n k → k ≡ found.At pointer → MovesOn s w (to .process .held) (sent .term) (to .name) h
         → Carries s w old new o (bothBy (takesLabel (programIn s w) (labelIn s (sent .term .second)) (onLabel (branchesIn s w e n)) (nameAt s (to .name)) receiver))
     hears-label y f z c =
         subst (λ p. Carries s w old new o (bothBy (Option·map (λ P. goesOn receiver P (over 3)) p))) (sym (f .is ∙ ap (λ y. Option·map (λ x. processIn s w x) (placeOf y)) z)) (with-held _ (c .is ∙ ap over y))
@@ -258,7 +259,7 @@ module _ (s w old : List ℕ) (sent : Sending) where
         ∙ meeting-heard (programIn s w) (configIn s w old) (sent .place) (processAs s w (sent .before)) (processAs s w (sent .after)) (message s (sent .term)) (holderBy to) (turnOf (doingAs s w (to .process .kind) (to .process .pointer)))
         ∙ ap (metBy (programIn s w) (configIn s w old) (sent .place) (processAs s w (sent .before)) (processAs s w (sent .after)) (message s (sent .term)) (holderBy to)) (g .is)
 
-    pub meets-other : SendNode (sent .term) → (to .term .kind ≡ sent .term .kind + 5 → ⊥) → Carries s w old old NotOpen (sendingBy s w old sent)
+    pub meets-other : SendNode (sent .term) → (to .term .kind ≡ sent .term .kind + recvOver → ⊥) → Carries s w old old NotOpen (sendingBy s w old sent)
     meets-other a z = subst (Carries s w old old NotOpen) (sym (meets-as ∙ met-other s w (configIn s w old) (sent .place) (processAs s w (sent .before)) (processAs s w (sent .after)) (holderBy to) (sent .term) (to .term) (sent .term .kind) (to .term .kind) (a .low) (a .high) z)) (record { is = (refl, refl) })
 
     pub meets : {new : List ℕ} {o : OutcomeWords} → Carries s w old new o (heardBy to) → Carries s w old new o (sendingBy s w old sent)
@@ -269,17 +270,17 @@ module _ (s w old : List ℕ) (sent : Sending) where
     kinds : (k l : ℕ) → sent .term .kind ≡ k → to .term .kind ≡ l → Carries s w old new o (kindsBy to k l) → Carries s w old new o (heardBy to)
     kinds k l a b c = subst (λ m. Carries s w old new o (kindsBy to m (to .term .kind))) (sym a) (subst (λ m. Carries s w old new o (kindsBy to k m)) (sym b) c)
 
-    pub hears-kind-close : sent .term .kind ≡ 1 → to .term .kind ≡ 6 → Carries s w old new o (bothBy s w old sent to (takesClose (onClose (processIn s w (to .term .third))) (nameAt s (to .name)) (processAs s w (to .process)))) → Carries s w old new o (heardBy to)
+    pub hears-kind-close : sent .term .kind ≡ sendUnitKind → to .term .kind ≡ recvUnitKind → Carries s w old new o (bothBy s w old sent to (takesClose (onClose (processIn s w (to .term .third))) (nameAt s (to .name)) (processAs s w (to .process)))) → Carries s w old new o (heardBy to)
     unfolding afterReceive
     hears-kind-close a b c = kinds 1 6 a b c
 
-    pub hears-kind-channel : sent .term .kind ≡ 2 → to .term .kind ≡ 7
+    pub hears-kind-channel : sent .term .kind ≡ sendChannelKind → to .term .kind ≡ recvChannelKind
         → Carries s w old new o (bothBy s w old sent to (takesChannel (programIn s w) (nameIn s (sent .term .second)) (onChannel (nameIn s (to .term .second)) (processIn s w (to .term .third))) (nameAt s (to .name)) (lookup (nameAt s (sent .term .second)) (channelsOf s w (sent .before .held))) (processAs s w (to .process))))
         → Carries s w old new o (heardBy to)
     unfolding afterReceive
     hears-kind-channel a b c = kinds 2 7 a b c
 
-    pub hears-kind-label : sent .term .kind ≡ 3 → to .term .kind ≡ 8
+    pub hears-kind-label : sent .term .kind ≡ sendLabelKind → to .term .kind ≡ recvLabelKind
         → Carries s w old new o (bothBy s w old sent to (takesLabel (programIn s w) (labelIn s (sent .term .second)) (onLabel (branchesIn s w (to .term .second) (to .term .third))) (nameAt s (to .name)) (processAs s w (to .process)))) → Carries s w old new o (heardBy to)
     unfolding afterReceive
     hears-kind-label a b c = kinds 3 8 a b c

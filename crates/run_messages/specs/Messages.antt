@@ -42,7 +42,8 @@ use Rattle.run_words.specs.declared.records.Process.{Process as ProcessWords}
 use Rattle.check_contexts.specs.Held.{channelsOf, HeldIn, endFound, Sees, Drops, Retypes}
 use Rattle.check_contexts.specs.declared.held.Lookup.{Lookup}
 use Rattle.check_contexts.specs.declared.held.Lookup.the-variants as lookups
-use Rattle.run_words.specs.Raw.{pointerLimit}
+use Rattle.run_words.specs.Raw.{pointerLimit, runningKind}
+use Rattle.run_messages.specs.Kinds.{sendChannelKind, sendLabelKind, sendUnitKind}
 use Rattle.run_alone.specs.Run.{doingAs, ProcessOf}
 use Rattle.run_alone.specs.Making.{channels-many}
 
@@ -58,9 +59,9 @@ message s n = messageBy s (n .second) (n .kind)
 
 -- the node of a send
 pub record SendNode (n : TermNode) : Type 0 where
-  pub low : 1 ≤ n .kind
-  pub high : n .kind ≤ 3
-  pub label : n .kind ≡ 3 → n .second < pointerLimit
+  pub low : sendUnitKind ≤ n .kind
+  pub high : n .kind ≤ sendLabelKind
+  pub label : n .kind ≡ sendLabelKind → n .second < pointerLimit
 
 -- ── the type afterwards
 pub record TypeAfter (s w : List ℕ) (A : Ty Name) (r : ℕ) : Type 0 where
@@ -124,15 +125,15 @@ module _ (s w : List ℕ) (n : TermNode) (A : Ty Name) where
   sentType = afterMessage (programIn s w) (message s n) A
 
   module _ {r : ℕ} where
-    pub closed-type : n .kind ≡ 1 → TypeAfter s w A r → TypeAfter s w sentType r
+    pub closed-type : n .kind ≡ sendUnitKind → TypeAfter s w A r → TypeAfter s w sentType r
     unfolding afterMessage
     closed-type e h = subst (λ k. TypeAfter s w (afterMessage (programIn s w) (message s (termNode k (n .at) (n .first) (n .second) (n .third))) A) r) (sym e) h
 
-    pub passed-type : n .kind ≡ 2 → TypeAfter s w (afterPassing A (passing (standing (programIn s w .types) A))) r → TypeAfter s w sentType r
+    pub passed-type : n .kind ≡ sendChannelKind → TypeAfter s w (afterPassing A (passing (standing (programIn s w .types) A))) r → TypeAfter s w sentType r
     unfolding afterMessage
     passed-type e h = subst (λ k. TypeAfter s w (afterMessage (programIn s w) (message s (termNode k (n .at) (n .first) (n .second) (n .third))) A) r) (sym e) h
 
-    pub chosen-type : n .kind ≡ 3 → TypeAfter s w (afterChoosing A (nameAt s (n .second + 1)) (choosing (standing (programIn s w .types) A))) r → TypeAfter s w sentType r
+    pub chosen-type : n .kind ≡ sendLabelKind → TypeAfter s w (afterChoosing A (nameAt s (n .second + 1)) (choosing (standing (programIn s w .types) A))) r → TypeAfter s w sentType r
     unfolding afterMessage
     chosen-type e h = subst (λ k. TypeAfter s w (afterMessage (programIn s w) (message s (termNode k (n .at) (n .first) (n .second) (n .third))) A) r) (sym e) h
 
@@ -182,18 +183,18 @@ module _ (s w : List ℕ) (h : Held) (n : TermNode) where
   abbrev SentAt : ℕ → Held → Type 0
   SentAt k r = channelsOf s w r ≡ afterSend (programIn s w) (nameAt s (n .first)) (messageBy s (n .second) k) (channelsOf s w h)
 
-  pub sent-close : (r : Held) → n .kind ≡ 1 → HeldIn s w h → Drops s h (n .first) r → SentHeld s w h n r
+  pub sent-close : (r : Held) → n .kind ≡ sendUnitKind → HeldIn s w h → Drops s h (n .first) r → SentHeld s w h n r
   unfolding afterSend
   sent-close r e t d = record { is = subst (λ k. SentAt k r) (sym e) (d .is w); fits = d .fits w t }
 
-  pub sent-channel : (m r : Held) → n .kind ≡ 2 → Drops s h (n .second) m → MovesOn s w m n (n .first) r → SentHeld s w h n r
+  pub sent-channel : (m r : Held) → n .kind ≡ sendChannelKind → Drops s h (n .second) m → MovesOn s w m n (n .first) r → SentHeld s w h n r
   unfolding afterSend
   sent-channel m r e d c = record {
     is = subst (λ k. SentAt k r) (sym e) (c .is ∙ λ j. onward (programIn s w) (messageBy s (n .second) (e j)) (nameAt s (n .first)) (d .is w j));
     fits = c .fits;
   }
 
-  pub sent-label : (r : Held) → n .kind ≡ 3 → MovesOn s w h n (n .first) r → SentHeld s w h n r
+  pub sent-label : (r : Held) → n .kind ≡ sendLabelKind → MovesOn s w h n (n .first) r → SentHeld s w h n r
   unfolding afterSend
   sent-label r e c = record {
     is = subst (λ k. SentAt k r) (sym e) (c .is ∙ ap (λ k. onward (programIn s w) (messageBy s (n .second) k) (nameAt s (n .first)) (channelsOf s w h)) e);
@@ -289,7 +290,7 @@ module _ (s w : List ℕ) (x : ℕ) where
   no-turn d e = record { is = ap (heard (nameAt s x)) e; parts = tt }
 
   module _ (r : ProcessWords) {m : ℕ} (o : ProcessOf s w m r) (t : Tables s w) where
-    pub heard-idle : (r .kind ≡ 0 → ⊥) → Heard s w x (doingAs s w (r .kind) (r .pointer)) (termNode 0 0 0 0 0)
+    pub heard-idle : (r .kind ≡ runningKind → ⊥) → Heard s w x (doingAs s w (r .kind) (r .pointer)) (termNode 0 0 0 0 0)
     heard-idle z = no-turn (doingAs s w (r .kind) (r .pointer)) (go (r .kind) z)
       where
         go : (k : ℕ) → (k ≡ 0 → ⊥) → turnOf (doingAs s w k (r .pointer)) ≡ alone
@@ -297,7 +298,7 @@ module _ (s w : List ℕ) (x : ℕ) where
         go (suc zero) z = refl
         go (suc (suc k)) z = refl
 
-    module _ (z : r .kind ≡ 0) where
+    module _ (z : r .kind ≡ runningKind) where
       runs-term : ProcessIn s w (r .pointer)
       runs-term = o .term (λ e. let q : _≡_ {A = ℕ} 0 1 = sym z ∙ e in omega arith)
 

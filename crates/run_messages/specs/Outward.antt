@@ -14,6 +14,7 @@ use Rattle.notation.specs.declared.reading.Found.{Found}
 use Rattle.read_tables.specs.Decode.{processIn}
 use Rattle.read_tables.specs.Program.{plainIn, programIn}
 use Rattle.read_tables.specs.Roots.{TypeIn}
+use Rattle.run_messages.specs.Kinds.{sendChannelKind, sendLabelKind, sendUnitKind}
 use Rattle.run_alone.specs.Changes.{given, let-go, passed-out, retyped, then}
 use Rattle.run_alone.specs.Forwarding.{far-as, farOf, farRaw}
 use Rattle.run_alone.specs.Parting.{endAs, held-none, held-some}
@@ -64,7 +65,7 @@ module _ (s w old : List ℕ) (sent : Sending) where
     outAt k = toOutside (programIn s w) (configIn s w old) (sent .place) (processAs s w (sent .before)) (processAs s w (sent .after)) (messageBy s (sent .term .second) k) (endAs s w (sent .over)) number
 
     module _ (mid : List ℕ) (b : Becomes s w old mid (replaced (sent .place) (processAs s w (sent .after)) (configIn s w old))) where
-      pub out-close : (new : List ℕ) → sent .term .kind ≡ 1 → Changed mid new (raw.onOutside (raw.letGo (sent .over .channel)) (rawIn mid)) → Bounded (rawIn new) → Carries s w old new (Carried (Close number)) outBy
+      pub out-close : (new : List ℕ) → sent .term .kind ≡ sendUnitKind → Changed mid new (raw.onOutside (raw.letGo (sent .over .channel)) (rawIn mid)) → Bounded (rawIn new) → Carries s w old new (Carried (Close number)) outBy
       out-close new z c k = subst (λ m. Carries s w old new (Carried (Close number)) (outAt m)) (sym z)
           (record { is = (refl, then (λ (D : Config). withOutside (calculus.letGo (sent .over .channel) (D .outside)) D) b (let-go s w mid new (b .run) (sent .over .channel) c k)) })
 
@@ -80,7 +81,7 @@ module _ (s w old : List ℕ) (sent : Sending) where
           (ap (λ A. retypedOutside (sent .over .channel) A (configIn s w old .outside)) (u .is) ∙ sym (outside-onward-is (programIn s w) (message s (sent .term)) (sent .over .channel) (configIn s w old .outside) (a .there)))
           (then (λ (D : Config). withOutside (retypedOutside (sent .over .channel) (plainIn s w node) (D .outside)) D) b (retyped s w mid new (b .run) (sent .over .channel) node (u .type) c k))
 
-      pub out-label : (new : List ℕ) → sent .term .kind ≡ 3 → Changed mid new (raw.onOutside (raw.changedOutside (sent .over .channel) (raw.retyped node)) (rawIn mid)) → Bounded (rawIn new) → Carries s w old new (Carried (Label number (sent .term .second))) outBy
+      pub out-label : (new : List ℕ) → sent .term .kind ≡ sendLabelKind → Changed mid new (raw.onOutside (raw.changedOutside (sent .over .channel) (raw.retyped node)) (rawIn mid)) → Bounded (rawIn new) → Carries s w old new (Carried (Label number (sent .term .second))) outBy
       out-label new z c k = subst (λ m. Carries s w old new (Carried (Label number (sent .term .second))) (outAt m)) (sym z) (record { is = (refl, subst (λ k. Becomes s w old new (overAt k)) z (out-moved new c k)) })
 
   -- the rule
@@ -144,7 +145,7 @@ module _ (s w old : List ℕ) (sent : Sending) (number : ℕ) where
     new-outside : (next : ℕ) → newOutside (programIn s w) next (outsideOf (sent .over .channel) (configIn s w old .outside)) (endAs s w d) ≡ record { number = next; channel = d .channel; type = plainIn s w node } ∷ []
     new-outside next = ap (λ (b : Option Outside). newOutside (programIn s w) next b (endAs s w d)) (a .there) ∙ ap (λ A. record { number = next; channel = d .channel; type = A } ∷ []) (sym (v .is))
 
-    pub passes-numbered : (mid new : List ℕ) (gone : Bool) (m : ℕ) → sent .term .kind ≡ 2 → m ≡ rawIn old .given
+    pub passes-numbered : (mid new : List ℕ) (gone : Bool) (m : ℕ) → sent .term .kind ≡ sendChannelKind → m ≡ rawIn old .given
         → Becomes s w old mid (withOutside (outsideOnward (programIn s w) (message s (sent .term)) (sent .over .channel) (configIn s w old .outside)) (replaced (sent .place) (processAs s w (sent .after)) (configIn s w old)))
         → Becomes s w mid new (numbered (configIn s w mid) (endAs s w cameOver) gone) → Carries s w old new (Carried (Passed number m gone)) (passedBy d gone)
     passes-numbered mid new gone m y z b c = record {
@@ -156,7 +157,7 @@ module _ (s w old : List ℕ) (sent : Sending) (number : ℕ) where
       );
     }
 
-  module _ {f : Lookup} (z : sent .term .kind ≡ 2) (a : Sees s (sent .before .held) (sent .term .second) f) where
+  module _ {f : Lookup} (z : sent .term .kind ≡ sendChannelKind) (a : Sees s (sent .before .held) (sent .term .second) f) where
     pub passes-none : f ≡ lookups.Nothing → Carries s w old old NotOpen (outBy s w old sent number)
     passes-none y = subst (λ k. Carries s w old old NotOpen (outAt s w old sent number k)) (sym z) (held-none a _ y)
 

@@ -14,6 +14,7 @@ use Rattle.notation.specs.declared.reading.TermNode.{TermNode}
 use Rattle.read_tables.specs.Decode.{processIn}
 use Rattle.read_tables.specs.Program.{plainIn, programIn}
 use Rattle.read_tables.specs.Roots.{ProcessIn}
+use Rattle.run_messages.specs.Kinds.{idleKind, sendLabelKind, sendUnitKind}
 use Rattle.run_alone.specs.Forwarding.{far-as, farOf, farRaw}
 use Rattle.run_alone.specs.Parting.{held-none, held-some}
 use Rattle.run_alone.specs.Run.{Becomes, Carries, configIn, doingAs, processAs}
@@ -87,9 +88,9 @@ parts-third s w t (suc (suc zero)) a b p = p
 parts-third s w t (suc (suc (suc zero))) a b (l, p) = p
 parts-third s w t (suc (suc (suc (suc k)))) a b p = absurd (omega arith)
 
-pub send-parts : (s w : List ℕ) (t : TermNode) → (t .kind ≡ 0 → ⊥) → t .kind ≤ 3 → partsBy s w t (t .kind) → SendNode t × ProcessIn s w (t .third)
+pub send-parts : (s w : List ℕ) (t : TermNode) → (t .kind ≡ idleKind → ⊥) → t .kind ≤ sendLabelKind → partsBy s w t (t .kind) → SendNode t × ProcessIn s w (t .third)
 send-parts s w t a b p =
-    let l : 1 ≤ t .kind = omega (arith, a) in
+    let l : sendUnitKind ≤ t .kind = omega (arith, a) in
     (record { low = l; high = b; label = λ z. subst (partsBy s w t) z p .0 }, parts-third s w t (t .kind) l b p)
 
 module _ (s w old : List ℕ) (i : ℕ) (p : ProcessWords) (c : ℕ) (e : EndWords) where
@@ -103,14 +104,14 @@ module _ (s w old : List ℕ) (i : ℕ) (p : ProcessWords) (c : ℕ) (e : EndWor
         ∙ answering-heard (programIn s w) (configIn s w old) (holderBy j r x) (turnOf (doingAs s w (r .kind) (r .pointer)))
         ∙ ap (answeredBy (programIn s w) (configIn s w old) (holderBy j r x)) (g .is)
 
-    pub answers-not : (t .kind ≡ 0) ⊎ (3 < t .kind) → Carries s w old old NotOpen (receivingBy s w old i p c e)
+    pub answers-not : (t .kind ≡ idleKind) ⊎ (sendLabelKind < t .kind) → Carries s w old old NotOpen (receivingBy s w old i p c e)
     answers-not z = subst (Carries s w old old NotOpen) (sym (answers-as ∙ answered-alone s w (configIn s w old) (holderBy j r x) t (t .kind) (λ y. go z (omega arith, omega arith)) (λ y. go z (omega arith, omega arith)) (λ y. go z (omega arith, omega arith)))) (record { is = (refl, refl) })
       where
-        go : (t .kind ≡ 0) ⊎ (3 < t .kind) → (1 ≤ t .kind) × (t .kind ≤ 3) → ⊥
+        go : (t .kind ≡ idleKind) ⊎ (sendLabelKind < t .kind) → (sendUnitKind ≤ t .kind) × (t .kind ≤ sendLabelKind) → ⊥
         go (inl a) (b, d) = omega arith
         go (inr a) (b, d) = omega arith
 
-    pub answers : {new : List ℕ} {o : OutcomeWords} → (t .kind ≡ 0 → ⊥) → t .kind ≤ 3 → Carries s w old new o (sendBy s w old j r t) → Carries s w old new o (receivingBy s w old i p c e)
+    pub answers : {new : List ℕ} {o : OutcomeWords} → (t .kind ≡ idleKind → ⊥) → t .kind ≤ sendLabelKind → Carries s w old new o (sendBy s w old j r t) → Carries s w old new o (receivingBy s w old i p c e)
     answers {new} {o} a b k = subst (Carries s w old new o) (answered-send s w (configIn s w old) (holderBy j r x) t (t .kind) (omega (arith, a)) b ∙ sym answers-as) k
 
   receives-up : {F : calculus.Far} {new : List ℕ} {h : Held} → FarAs (nameAt s) (plainIn s w) (processIn s w) (rawIn old) far.GivenUp F → Drops s (p .held) c h → Becomes s w old new (replaced i (processAs s w (values.foldingUp h p)) (configIn s w old))

@@ -11,6 +11,7 @@ use Rattle.notation.specs.declared.reading.Found.{Found}
 use Rattle.notation.specs.declared.reading.TermNode.{TermNode}
 use Rattle.read_tables.specs.Decode.{processIn}
 use Rattle.read_tables.specs.Program.{plainIn, programIn}
+use Rattle.run_messages.specs.Kinds.{sendChannelKind, sendLabelKind, sendUnitKind}
 use Rattle.run_alone.specs.Forwarding.{far-as, farOf, farRaw}
 use Rattle.run_alone.specs.Parting.{endAs, held-none, held-some}
 use Rattle.run_alone.specs.Run.{Becomes, Carries, ProcessOf, StandsAt, configIn, processAs}
@@ -51,14 +52,14 @@ module _ (s w old : List ℕ) (sent : Sending) where
   abbrev unheardAt : ℕ → Outcome
   unheardAt k = unheard (configIn s w old) (sent .place) (processAs s w (sent .before)) (processAs s w (sent .after)) (messageBy s (sent .term .second) k)
 
-  module _ {f : Lookup} (z : sent .term .kind ≡ 2) (a : Sees s (sent .before .held) (sent .term .second) f) where
+  module _ {f : Lookup} (z : sent .term .kind ≡ sendChannelKind) (a : Sees s (sent .before .held) (sent .term .second) f) where
     pub unheard-none : f ≡ lookups.Nothing → Carries s w old old NotOpen unheardBy
     unheard-none y = subst (λ k. Carries s w old old NotOpen (unheardAt k)) (sym z) (held-none a _ y)
 
     pub unheard-parts : {new : List ℕ} {r : OutcomeWords} {d : EndWords} → f ≡ lookups.Found d → Carries s w old new r (parting (configIn s w old) (sent .place) (processAs s w (sent .after)) (endAs s w d)) → Carries s w old new r unheardBy
     unheard-parts {new} {r} y c = subst (λ k. Carries s w old new r (unheardAt k)) (sym z) (held-some a _ y c)
 
-  pub unheard-goes : {new : List ℕ} → 1 ≤ sent .term .kind → sent .term .kind ≤ 3 → (sent .term .kind ≡ 2 → ⊥) → Becomes s w old new (replaced (sent .place) (processAs s w (sent .after)) (configIn s w old)) → Carries s w old new (Carried Nothing) unheardBy
+  pub unheard-goes : {new : List ℕ} → sendUnitKind ≤ sent .term .kind → sent .term .kind ≤ sendLabelKind → (sent .term .kind ≡ sendChannelKind → ⊥) → Becomes s w old new (replaced (sent .place) (processAs s w (sent .after)) (configIn s w old)) → Carries s w old new (Carried Nothing) unheardBy
   unheard-goes {new} l h z b = go (sent .term .kind) l h z
     where
       go : (k : ℕ) → 1 ≤ k → k ≤ 3 → (k ≡ 2 → ⊥) → Carries s w old new (Carried Nothing) (unheardAt k)

@@ -4,6 +4,7 @@ ghost use Prim.Native.Nat.{_<_, _+_, ℕ};
 ghost use Rattle.calculus.specs.WellFormed.{WellFormed};
 ghost use Rattle.read_tables.specs.Program.{programIn};
 ghost use Rattle.run_words.specs.declared.records.Far.the-variants as far;
+ghost use Rattle.run_messages.specs.Kinds.{recvChannelKind, recvLabelKind, recvOver, recvUnitKind, sendChannelKind, sendLabelKind, sendUnitKind};
 ghost use Rattle.run_alone.specs.Run.{configIn, processAs, RunOf, Carries, ProcessOf, Becomes};
 ghost use Rattle.run_alone.specs.Forwarding.{farRaw};
 ghost use Rattle.notation.specs.Limits.{heldLimit, textLimit};
@@ -91,7 +92,7 @@ fn hear_close(text: &[u8], scratch: &[u32], run: &mut [u32], sent: Sending, to: 
     requires { ⌜ RunOf (now text) (now scratch) (now run) ⌝ }
     requires { ⌜ SendingIn (now text) (now scratch) (now run) sent ⌝ }
     requires { ⌜ ReceiverIn (now text) (now scratch) (now run) to ⌝ }
-    requires { ⌜ (sent .term .kind ≡ 1) × (to .term .kind ≡ 6) ⌝ }
+    requires { ⌜ (sent .term .kind ≡ sendUnitKind) × (to .term .kind ≡ recvUnitKind) ⌝ }
     ensures { λ o. ⌜ Carries (now (text .entry)) (now (scratch .entry)) (now (run .entry)) (now (run .exit)) o (heardBy (now (text .entry)) (now (scratch .entry)) (now (run .entry)) sent to) ⌝ }
 {
     let r = to.process;
@@ -130,7 +131,7 @@ fn hear_channel(
     requires { ⌜ RunOf (now text) (now scratch) (now run) ⌝ }
     requires { ⌜ SendingIn (now text) (now scratch) (now run) sent ⌝ }
     requires { ⌜ ReceiverIn (now text) (now scratch) (now run) to ⌝ }
-    requires { ⌜ (sent .term .kind ≡ 2) × (to .term .kind ≡ 7) × (to .process .held .count < heldLimit) ⌝ }
+    requires { ⌜ (sent .term .kind ≡ sendChannelKind) × (to .term .kind ≡ recvChannelKind) × (to .process .held .count < heldLimit) ⌝ }
     ensures { λ o. ⌜ Carries (now (text .entry)) (now (scratch .entry)) (now (run .entry)) (now (run .exit)) o (heardBy (now (text .entry)) (now (scratch .entry)) (now (run .entry)) sent to) ⌝ }
 {
     let n = sent.term;
@@ -170,7 +171,7 @@ fn hear_label(text: &[u8], scratch: &[u32], run: &mut [u32], sent: Sending, to: 
     requires { ⌜ RunOf (now text) (now scratch) (now run) ⌝ }
     requires { ⌜ SendingIn (now text) (now scratch) (now run) sent ⌝ }
     requires { ⌜ ReceiverIn (now text) (now scratch) (now run) to ⌝ }
-    requires { ⌜ (sent .term .kind ≡ 3) × (to .term .kind ≡ 8) ⌝ }
+    requires { ⌜ (sent .term .kind ≡ sendLabelKind) × (to .term .kind ≡ recvLabelKind) ⌝ }
     ensures { λ o. ⌜ Carries (now (text .entry)) (now (scratch .entry)) (now (run .entry)) (now (run .exit)) o (heardBy (now (text .entry)) (now (scratch .entry)) (now (run .entry)) sent to) ⌝ }
 {
     let n = sent.term;
@@ -190,8 +191,8 @@ fn hear(text: &[u8], scratch: &[u32], run: &mut [u32], sent: Sending, to: Receiv
     requires { ⌜ RunOf (now text) (now scratch) (now run) ⌝ }
     requires { ⌜ SendingIn (now text) (now scratch) (now run) sent ⌝ }
     requires { ⌜ ReceiverIn (now text) (now scratch) (now run) to ⌝ }
-    requires { ⌜ to .term .kind ≡ sent .term .kind + 5 ⌝ }
-    requires { ⌜ (to .term .kind ≡ 7 → to .process .held .count < heldLimit) ⌝ }
+    requires { ⌜ to .term .kind ≡ sent .term .kind + recvOver ⌝ }
+    requires { ⌜ (to .term .kind ≡ recvChannelKind → to .process .held .count < heldLimit) ⌝ }
     ensures { λ o. ⌜ Carries (now (text .entry)) (now (scratch .entry)) (now (run .entry)) (now (run .exit)) o (heardBy (now (text .entry)) (now (scratch .entry)) (now (run .entry)) sent to) ⌝ }
 {
     let n = sent.term;

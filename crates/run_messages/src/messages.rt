@@ -9,6 +9,7 @@ ghost use Rattle.read_tables.specs.Program.{plainIn, programIn};
 ghost use Rattle.read_tables.specs.Roots.{TypeIn};
 ghost use Rattle.read_tables.specs.Whole.{Tables};
 ghost use Rattle.check_contexts.specs.Held.{HeldIn};
+ghost use Rattle.run_messages.specs.Kinds.{sendLabelKind, sendUnitKind};
 ghost use Rattle.run_alone.specs.Run.{doingAs, ProcessOf};
 ghost use Rattle.run_messages.specs.Messages.{message, TypeAfter, MovesOn, SentHeld, Heard};
 use check_contexts::held::Lookup;
@@ -87,7 +88,7 @@ fn after_choosing(text: &[u8], scratch: &[u32], at: usize, i: usize) -> usize
 pub(crate) fn after_message(text: &[u8], scratch: &[u32], n: TermNode, i: usize) -> usize
     requires { ⌜ Tables (now text) (now scratch) ⌝ }
     requires { ⌜ TypeIn (now text) (now scratch) i ⌝ }
-    requires { ⌜ (1 ≤ n .kind) × (n .kind ≤ 3) ⌝ }
+    requires { ⌜ (sendUnitKind ≤ n .kind) × (n .kind ≤ sendLabelKind) ⌝ }
     ensures { λ r. ⌜ TypeAfter (now (text .entry)) (now (scratch .entry)) (afterMessage (programIn (now (text .entry)) (now (scratch .entry))) (message (now (text .entry)) n) (plainIn (now (text .entry)) (now (scratch .entry)) i)) r ⌝ }
 {
     if n.kind == SEND_UNIT {
@@ -117,7 +118,7 @@ pub(crate) fn came_over(text: &[u8], scratch: &[u32], i: usize, j: usize) -> usi
 pub(crate) fn move_on(text: &[u8], scratch: &[u32], h: Held, n: TermNode, at: usize) -> Held
     requires { ⌜ Tables (now text) (now scratch) ⌝ }
     requires { ⌜ HeldIn (now text) (now scratch) h ⌝ }
-    requires { ⌜ (1 ≤ n .kind) × (n .kind ≤ 3) ⌝ }
+    requires { ⌜ (sendUnitKind ≤ n .kind) × (n .kind ≤ sendLabelKind) ⌝ }
     ensures { λ r. ⌜ MovesOn (now (text .entry)) (now (scratch .entry)) h n at r ⌝ }
 {
     let f = find_end(text, h, at);
@@ -132,7 +133,7 @@ pub(crate) fn move_on(text: &[u8], scratch: &[u32], h: Held, n: TermNode, at: us
 pub(crate) fn after_send(text: &[u8], scratch: &[u32], h: Held, n: TermNode) -> Held
     requires { ⌜ Tables (now text) (now scratch) ⌝ }
     requires { ⌜ HeldIn (now text) (now scratch) h ⌝ }
-    requires { ⌜ (1 ≤ n .kind) × (n .kind ≤ 3) ⌝ }
+    requires { ⌜ (sendUnitKind ≤ n .kind) × (n .kind ≤ sendLabelKind) ⌝ }
     ensures { λ r. ⌜ SentHeld (now (text .entry)) (now (scratch .entry)) h n r ⌝ }
 {
     if n.kind == SEND_UNIT {

@@ -4,6 +4,7 @@ ghost use Prim.Native.Nat.{_<_, _+_, _≤_};
 ghost use Rattle.calculus.specs.WellFormed.{WellFormed};
 ghost use Rattle.read_tables.specs.Program.{programIn};
 ghost use Rattle.run_words.specs.declared.records.Far.the-variants as far;
+ghost use Rattle.run_messages.specs.Kinds.{sendChannelKind};
 ghost use Rattle.run_alone.specs.Run.{configIn, RunOf, Carries, Becomes};
 ghost use Rattle.run_alone.specs.Forwarding.{farRaw};
 ghost use Rattle.run_messages.specs.Sending.{SendingIn, sendingBy};
@@ -44,7 +45,7 @@ fn send_shown(text: &[u8], scratch: &[u32], run: &mut [u32], sent: Sending, o: O
     requires { ⌜ RunOf (now text) (now scratch) (now run) ⌝ }
     requires { ⌜ SendingIn (now text) (now scratch) (now run) sent ⌝ }
     requires { ⌜ OutsideIn (now text) (now scratch) (now run) (sent .over .channel) o ⌝ }
-    requires { ⌜ (sent .term .kind ≡ 2 → ⊥) ⌝ }
+    requires { ⌜ (sent .term .kind ≡ sendChannelKind → ⊥) ⌝ }
     ensures { λ r. ⌜ Carries (now (text .entry)) (now (scratch .entry)) (now (run .entry)) (now (run .exit)) r (outBy (now (text .entry)) (now (scratch .entry)) (now (run .entry)) sent (o .number)) ⌝ }
 {
     let n = sent.term;
@@ -95,7 +96,7 @@ fn pass_numbered(
     requires { ⌜ RunOf (now text) (now scratch) (now run) ⌝ }
     requires { ⌜ SendingIn (now text) (now scratch) (now run) sent ⌝ }
     requires { ⌜ (m ≡ rawIn (now run) .given) × (m < outsideNumbers) × (length (rawIn (now run) .outside) < outsideNumbers) ⌝ }
-    requires { ⌜ OutsideIn (now text) (now scratch) (now run) (sent .over .channel) o × (sent .term .kind ≡ 2) ⌝ }
+    requires { ⌜ OutsideIn (now text) (now scratch) (now run) (sent .over .channel) o × (sent .term .kind ≡ sendChannelKind) ⌝ }
     requires { ⌜ EndIn (now text) (now scratch) (endIn d) ⌝ }
     ensures { λ r. ⌜ Carries (now (text .entry)) (now (scratch .entry)) (now (run .entry)) (now (run .exit)) r (passedBy (now (text .entry)) (now (scratch .entry)) (now (run .entry)) sent (o .number) d gone) ⌝ }
 {
@@ -118,7 +119,7 @@ fn pass_out(text: &[u8], scratch: &[u32], run: &mut [u32], sent: Sending, o: Out
     requires { ⌜ SendingIn (now text) (now scratch) (now run) sent ⌝ }
     requires { ⌜ OutsideIn (now text) (now scratch) (now run) (sent .over .channel) o ⌝ }
     requires { ⌜ length (rawIn (now run) .outside) ≤ rawIn (now run) .given ⌝ }
-    requires { ⌜ sent .term .kind ≡ 2 ⌝ }
+    requires { ⌜ sent .term .kind ≡ sendChannelKind ⌝ }
     ensures { λ r. ⌜ Carries (now (text .entry)) (now (scratch .entry)) (now (run .entry)) (now (run .exit)) r (outBy (now (text .entry)) (now (scratch .entry)) (now (run .entry)) sent (o .number)) ⌝ }
 {
     let n = sent.term;

@@ -5,6 +5,7 @@ ghost use Rattle.calculus.specs.Steps.{step};
 ghost use Rattle.calculus.specs.WellFormed.{WellFormed};
 ghost use Rattle.read_tables.specs.Program.{programIn};
 ghost use Rattle.run_words.specs.Raw.{runningKind};
+ghost use Rattle.run_messages.specs.Kinds.{fwdKind};
 ghost use Rattle.run_alone.specs.Run.{configIn, RunOf, StandsAt, Carries};
 ghost use Rattle.run_steps.specs.Dispatch.{SmallSignatures, RuledBy, termBy};
 use notation::kinds::CALL;
@@ -49,7 +50,7 @@ fn step_ending(
     requires { ⌜ RunOf (now text) (now scratch) (now run) ⌝ }
     requires { ⌜ StandsAt (now text) (now scratch) (now run) place p ⌝ }
     requires { ⌜ SmallSignatures (programIn (now text) (now scratch)) ⌝ }
-    requires { ⌜ RuledBy (now text) (now scratch) (now run) place p n × (9 ≤ n .kind) ⌝ }
+    requires { ⌜ RuledBy (now text) (now scratch) (now run) place p n × (fwdKind ≤ n .kind) ⌝ }
     ensures { λ r. ⌜ Carries (now (text .entry)) (now (scratch .entry)) (now (run .entry)) (now (run .exit)) r (termBy (now (text .entry)) (now (scratch .entry)) (now (run .entry)) place p) ⌝ }
 {
     let kind = n.kind;
