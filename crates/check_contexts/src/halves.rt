@@ -7,11 +7,12 @@ use run_words::held::no_ends;
 use run_words::held::with;
 use run_words::records::End;
 use run_words::records::Held;
+ghost use Rattle.notation.specs.Limits.{heldLimit};
 ghost use mathlib.Core.Path.{_≡_};
 ghost use Prim.Native.Nat.{ℕ, _+_, _≤_, _<_};
 ghost use mathlib.Core.List.{[], _∷_, _++_};
 ghost use mathlib.Core.Bool.{cond};
-ghost use Rattle.run_words.specs.Raw.{BoundedEnd, sideOf};
+ghost use Rattle.run_words.specs.Raw.{BoundedEnd, sideOf, sideRadix};
 ghost use Rattle.run_words.specs.Values.{endIn, heldIn};
 ghost use Rattle.notation.specs.Token.{nameAt};
 ghost use Rattle.read_tables.specs.Whole.{Tables};
@@ -73,7 +74,7 @@ fn keeps_end(text: &[u8], scratch: &[u32], half: Half, want: bool, at: usize) ->
 
 // With an end more, if it goes with what is kept.
 fn with_if(h: Held, e: End, goes: bool) -> Held
-    requires { ⌜ (h .count < 16) × BoundedEnd (endIn e) × (e .side < 2) ⌝ }
+    requires { ⌜ (h .count < heldLimit) × BoundedEnd (endIn e) × (e .side < sideRadix) ⌝ }
     ensures { λ r. ⌜ heldIn r ≡ heldIn h ++ cond goes (endIn e ∷ []) [] ⌝ }
     ensures { λ r. ⌜ r .count ≤ h .count + 1 ⌝ }
 {
@@ -128,7 +129,7 @@ pub fn divides(
     requires { ⌜ Tables (now text) (now scratch) ⌝ }
     requires { ⌜ HalfIn (now text) (now scratch) first ⌝ }
     requires { ⌜ HalfIn (now text) (now scratch) second ⌝ }
-    requires { ⌜ h .count ≤ 16 ⌝ }
+    requires { ⌜ h .count ≤ heldLimit ⌝ }
     ensures { λ r. ⌜ Fair (now (text .entry)) (now (scratch .entry)) h first second exactly r ⌝ }
 {
     let n = h.count;

@@ -8,12 +8,12 @@ use run_words::held::with;
 use run_words::held::without;
 use run_words::records::End;
 use run_words::records::Held;
+ghost use Rattle.notation.specs.Limits.{channelPlaces, heldLimit, textLimit, typeTermLimit};
 ghost use mathlib.Core.Path.{_≡_};
 ghost use Prim.Native.Nat.{ℕ, _<_, _≤_};
-ghost use Rattle.notation.specs.Limits.{channelPlaces, heldLimit, textLimit, typeTermLimit};
 ghost use Rattle.check_contexts.specs.Held.{isNamed, Sees, Drops, Retypes, Brings};
 ghost use Rattle.run_words.specs.Operations.{first};
-ghost use Rattle.run_words.specs.Raw.{BoundedEnd};
+ghost use Rattle.run_words.specs.Raw.{BoundedEnd, sideRadix};
 ghost use Rattle.run_words.specs.Lists.{All};
 ghost use Rattle.run_words.specs.Values.{heldIn};
 
@@ -25,7 +25,7 @@ pub enum Lookup {
 
 // The first position that has the name at `at`.
 fn position_named(text: &[u8], h: Held, at: usize) -> Found
-    requires { ⌜ h .count ≤ 16 ⌝ }
+    requires { ⌜ h .count ≤ heldLimit ⌝ }
     ensures { λ r. ⌜ r ≡ first (isNamed (now (text .entry)) at) (heldIn h) ⌝ }
 {
     let n = h.count;
@@ -43,7 +43,7 @@ fn position_named(text: &[u8], h: Held, at: usize) -> Found
 
 // The channel whose name is the one at `at`.
 pub fn find_end(text: &[u8], h: Held, at: usize) -> Lookup
-    requires { ⌜ h .count ≤ 16 ⌝ }
+    requires { ⌜ h .count ≤ heldLimit ⌝ }
     ensures { λ r. ⌜ Sees (now (text .entry)) h at r ⌝ }
 {
     let f = position_named(text, h, at);
@@ -56,7 +56,7 @@ pub fn find_end(text: &[u8], h: Held, at: usize) -> Lookup
 
 // Without that channel.
 pub fn drop_end(text: &[u8], h: Held, at: usize) -> Held
-    requires { ⌜ h .count ≤ 16 ⌝ }
+    requires { ⌜ h .count ≤ heldLimit ⌝ }
     ensures { λ r. ⌜ Drops (now (text .entry)) h at r ⌝ }
 {
     let f = position_named(text, h, at);
@@ -68,7 +68,7 @@ pub fn drop_end(text: &[u8], h: Held, at: usize) -> Held
 
 // With another type for that channel.
 pub fn retype_end(text: &[u8], h: Held, at: usize, node: u32) -> Held
-    requires { ⌜ (h .count ≤ 16) × (node < typeTermLimit) ⌝ }
+    requires { ⌜ (h .count ≤ heldLimit) × (node < typeTermLimit) ⌝ }
     requires { ⌜ All BoundedEnd (heldIn h) ⌝ }
     ensures { λ r. ⌜ Retypes (now (text .entry)) h at node r ⌝ }
 {
@@ -91,7 +91,7 @@ pub fn retype_end(text: &[u8], h: Held, at: usize, node: u32) -> Held
 
 // With one channel more: its name is the one at `at`.
 pub fn bring_end(h: Held, at: u32, side: u32, node: u32, channel: u32) -> Held
-    requires { ⌜ (h .count < heldLimit) × (at < textLimit) × (side < 2) × (node < typeTermLimit) × (channel < channelPlaces) ⌝ }
+    requires { ⌜ (h .count < heldLimit) × (at < textLimit) × (side < sideRadix) × (node < typeTermLimit) × (channel < channelPlaces) ⌝ }
     ensures { λ r. ⌜ Brings h at side node channel r ⌝ }
 {
     with(

@@ -12,7 +12,7 @@ use Rattle.notation.specs.Tree.{Name, Located}
 use Rattle.calculus.specs.Named.{lookup}
 use Rattle.calculus.specs.Program.{slot, Context, Signature, onSide, entries, signatureContext}
 use Rattle.calculus.specs.Typing.{namesOf}
-use Rattle.calculus.specs.Configuration.{End, end, process, running, replaced}
+use Rattle.calculus.specs.Configuration.{End, end, goesOn, replaced}
 use Rattle.calculus.specs.Steps.{Outcome, renamedEnd, renamed, entering, calling}
 use Rattle.calculus.specs.declared.answers.Seen.the-variants as Seen
 use Rattle.notation.specs.declared.reading.Found.{Found}
@@ -27,12 +27,13 @@ use Rattle.read_tables.specs.Whole.{EntriesIn, FirstEntry, SignatureIn, Tables}
 use Rattle.read_tables.specs.declared.access.Labelled.{Labelled}
 use Rattle.read_tables.specs.declared.access.Declared.{Declared}
 use Rattle.read_tables.specs.declared.arguments.Argument.the-variants as arguments
-use Rattle.run_words.specs.Raw.{sideOf, linkOf}
+use Rattle.run_words.specs.Raw.{sideOf}
 use Rattle.run_words.specs.declared.records.End.{End as EndWords}
 use Rattle.run_words.specs.declared.records.Held.{Held}
 use Rattle.run_words.specs.declared.records.Process.{Process as ProcessWords}
 use Rattle.run_words.specs.Lists.{All}
 use Rattle.run_words.specs.Values.{heldIn}
+use Rattle.run_words.specs.Values as values
 use Rattle.check_contexts.specs.Held.{channelsOf, EndIn, HeldIn, endFound, Sees, Brings}
 use Rattle.check_contexts.specs.Halves.{append-nil}
 use Rattle.check_contexts.specs.Walks.{Ends, Walking, walk-start, walk-on, walk-end}
@@ -40,7 +41,6 @@ use Rattle.check_contexts.specs.declared.held.Lookup.{Lookup}
 use Rattle.check_contexts.specs.declared.held.Lookup.the-variants as lookups
 use Rattle.run_alone.specs.declared.outcome.Outcome.the-variants.{Carried, NotOpen}
 use Rattle.run_alone.specs.Run.{configIn, processAs, Becomes, Carries}
-use Rattle.run_alone.specs.Changes.{running-as}
 use Rattle.run_alone.specs.Making.{channels-many}
 
 pub append-assoc : {A : Type 0} (a b c : List A) → (a ++ b) ++ c ≡ a ++ (b ++ c)
@@ -217,11 +217,11 @@ module _ (s w old : List ℕ) (i : ℕ) (p : ProcessWords) (name bracket : ℕ) 
         let l = c .fitting _ declared-is .1 in
         omega (arith, l, length-append (contextIn s w 0 (d .first) (d .provided)) (contextIn s w 1 (d .first + d .provided) (d .used)), context-many s w 0 (d .first) (d .provided), context-many s w 1 (d .first + d .provided) (d .used))
 
-    pub calls-on : (new : List ℕ) (q : Held) → EntersCall s w (p .held) bracket d q → Becomes s w old new (replaced i (processAs s w (running-as (d .body) (p .link) q)) (configIn s w old)) → Carries s w old new (Carried Seen.Nothing) (callingBy s w old i p name bracket)
+    pub calls-on : (new : List ℕ) (q : Held) → EntersCall s w (p .held) bracket d q → Becomes s w old new (replaced i (processAs s w (values.runningOn (d .body) q p)) (configIn s w old)) → Carries s w old new (Carried Seen.Nothing) (callingBy s w old i p name bracket)
     unfolding calling signatureOf
     calls-on new q g u =
         subst (λ o. Carries s w old new (Carried Seen.Nothing) (entering (configIn s w old) i (processAs s w p) (namesOf (argumentsAt s bracket .0) ++ namesOf (argumentsAt s bracket .1)) o)) (sym declared-is)
-        (record { is = (refl, subst (λ l. Becomes s w old new (replaced i (process (running (processIn s w (d .body))) l (linkOf (p .link))) (configIn s w old))) (g .is _ _ (c .lists) provided-many) u) })
+        (record { is = (refl, subst (λ l. Becomes s w old new (replaced i (goesOn (processAs s w p) (processIn s w (d .body)) l) (configIn s w old))) (g .is _ _ (c .lists) provided-many) u) })
 
 -- the place past a signature's first entries
 pub entries-below : (s w : List ℕ) (i n : ℕ) → Tables s w → EntriesIn s w i n → (n ≡ 0 → ⊥) → i < 512

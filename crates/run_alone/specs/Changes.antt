@@ -8,10 +8,10 @@ use native.Mathlib.Omega.{arith}
 use native.Mathlib.Decide.{decLt}
 use lib.Dec.{eqb}
 use lib.ListN.{length-map, length, set, getElem?}
-use Rattle.notation.specs.Limits.{processTermLimit}
+use Rattle.notation.specs.Limits.{heldLimit, processTermLimit}
 use Rattle.notation.specs.Token.{nameAt}
 use Rattle.notation.specs.Tree.{empty}
-use Rattle.calculus.specs.Configuration.{Process, Outside, Config, config, replaced, movedUp, movedDown}
+use Rattle.calculus.specs.Configuration.{Process, Outside, Config, replaced, movedUp, movedDown}
 use Rattle.calculus.specs.Configuration as calculus
 use Rattle.read_tables.specs.Decode.{processIn}
 use Rattle.read_tables.specs.Program.{plainIn}
@@ -20,7 +20,7 @@ use Rattle.read_tables.specs.Stands.{ProcessFrom}
 use Rattle.read_tables.specs.Whole.{Tables}
 use Rattle.run_words.specs.Lists.{All}
 use Rattle.run_words.specs.ListLaws.{all-at, all-set, all-append, all-weaken, below-length, all-map, all-insert, all-remove}
-use Rattle.run_words.specs.Raw.{RawProcess, RawOutside, RawConfig, BoundedEnd, BoundedProcess, linkOf, linksBelow, rawIn, Bounded}
+use Rattle.run_words.specs.Raw.{RawProcess, RawOutside, RawConfig, BoundedEnd, BoundedProcess, linkOf, linksBelow, rawIn, Bounded, pointerLimit, runningKind}
 use Rattle.run_words.specs.Values as values
 use Rattle.run_words.specs.Values.{Changed, heldIn, held-length}
 use Rattle.run_words.specs.Operations as raw
@@ -28,10 +28,9 @@ use Rattle.run_words.specs.Bounds.{letGo-all}
 use Rattle.run_words.specs.DecodeLaws.{decoded-at, decoded-set, decoded-inserted, decoded-removed, decoded-letGo, decoded-retyped, decoded-rerouted, decoded-append}
 use Rattle.run_words.specs.Decode.{decodedOutside, decodedProcess, decoded}
 use Rattle.run_words.specs.declared.records.Process.{Process as ProcessWords}
-use Rattle.run_words.specs.declared.records.Held.{Held}
 use Rattle.run_words.specs.declared.records.Outside.{Outside as OutsideWords}
 use Rattle.check_contexts.specs.Held.{channelsOf, EndIn, HeldIn}
-use Rattle.run_alone.specs.Run.{pointerLimit, configIn, processAs, Fits, RunOf, ProcessOf, StandsAt, Becomes}
+use Rattle.run_alone.specs.Run.{configIn, processAs, Fits, RunOf, ProcessOf, StandsAt, Becomes}
 
 -- one change after another
 pub then : {s w old mid new : List ℕ} {D : Config} (f : Config → Config) → Becomes s w old mid D → Becomes s w mid new (f (configIn s w mid)) → Becomes s w old new (f D)
@@ -58,12 +57,9 @@ pointer-small s w p t a = go (decLt p processTermLimit)
         let b : ProcessFrom s (empty (p - processTermLimit)) = subst (ProcessFrom s) e (a .from) in
         omega (arith, b)
 
--- a process that runs the term at a pointer
-abbrev pub running-as : ℕ → ℕ → Held → ProcessWords
-running-as pointer link held = record { kind = 0; pointer = pointer; link = link; held = held }
-
-pub runs-on : {s w : List ℕ} {n : ℕ} → Tables s w → (pointer link : ℕ) (held : Held) → linksBelow n (linkOf link) → ProcessIn s w pointer → HeldIn s w held → ProcessOf s w n (running-as pointer link held)
-runs-on {s} {w} t pointer link held l a h = record { kind = omega arith; pointer = pointer-small s w pointer t a; link = l; term = λ z. a; held = h }
+-- a process that runs
+pub runs-on : {s w : List ℕ} {n : ℕ} → Tables s w → (p : ProcessWords) → p .kind ≡ runningKind → linksBelow n (linkOf (p .link)) → ProcessIn s w (p .pointer) → HeldIn s w (p .held) → ProcessOf s w n p
+runs-on {s} {w} t p k l a h = record { kind = omega arith; pointer = pointer-small s w (p .pointer) t a; link = l; term = λ z. a; held = h }
 
 module _ (s w : List ℕ) where
   abbrev decodes : RawProcess → Process
@@ -86,7 +82,7 @@ module _ (s w : List ℕ) where
   fits-of t = record { term = t .term; held = t .held .each }
 
   -- ── what is loaded
-  pub stands-at : (ws : List ℕ) (i : ℕ) (p : ProcessWords) → RunOf s w ws → getElem? (rawIn ws .processes) i ≡ some (values.processIn p) → BoundedProcess (length (rawIn ws .processes)) (values.processIn p) → p .held .count ≤ 16 → StandsAt s w ws i p
+  pub stands-at : (ws : List ℕ) (i : ℕ) (p : ProcessWords) → RunOf s w ws → getElem? (rawIn ws .processes) i ≡ some (values.processIn p) → BoundedProcess (length (rawIn ws .processes)) (values.processIn p) → p .held .count ≤ heldLimit → StandsAt s w ws i p
   unfolding channelsOf
   stands-at ws i p t g b m =
       let f = all-at (Fits s w) (rawIn ws .processes) i (t .processes) g in
@@ -99,9 +95,9 @@ module _ (s w : List ℕ) where
   -- ── what is changed
   module _ (old new : List ℕ) (t : RunOf s w old) where
     by-processes : (f : List RawProcess → List RawProcess) (l : List Process) → map decodes (f (rawIn old .processes)) ≡ l → All (Fits s w) (f (rawIn old .processes))
-        → Changed old new (raw.onProcesses f (rawIn old)) → Bounded (rawIn new) → Becomes s w old new (config l (configIn s w old .outside) (configIn s w old .given))
+        → Changed old new (raw.onProcesses f (rawIn old)) → Bounded (rawIn new) → Becomes s w old new (calculus.withProcesses l (configIn s w old))
     by-processes f l e a c b = record {
-      is = ap (decoded (nameAt s) (plainIn s w) (processIn s w)) (c .is) ∙ ap (λ m. config m (configIn s w old .outside) (configIn s w old .given)) e;
+      is = ap (decoded (nameAt s) (plainIn s w) (processIn s w)) (c .is) ∙ ap (λ m. calculus.withProcesses m (configIn s w old)) e;
       run = record {
         tables = t .tables;
         wide = omega (arith, t .wide, c .long);
@@ -124,14 +120,14 @@ module _ (s w : List ℕ) where
     relinked-fits f = all-map (Fits s w) (Fits s w) (raw.relinked f) (λ p h. record { term = h .term; held = h .held }) (rawIn old .processes) (t .processes)
 
     pub came : (i : ℕ) (p : ProcessWords) {n : ℕ} → ProcessOf s w n p → Changed old new (raw.onProcesses (raw.inserted i (values.processIn p)) (rawIn old)) → Bounded (rawIn new)
-        → Becomes s w old new (config (calculus.inserted i (processAs s w p) (configIn s w old .processes)) (configIn s w old .outside) (configIn s w old .given))
+        → Becomes s w old new (calculus.withProcesses (calculus.inserted i (processAs s w p) (configIn s w old .processes)) (configIn s w old))
     unfolding channelsOf raw.inserted
     came i p o c b =
         by-processes (raw.inserted i (values.processIn p)) _ (decoded-inserted (nameAt s) (plainIn s w) (processIn s w) i (values.processIn p) (rawIn old .processes))
         (all-insert (Fits s w) (suc i) (values.processIn p) (map (raw.relinked (movedUp i)) (rawIn old .processes)) (relinked-fits (movedUp i)) (fits-of o)) c b
 
     pub left : (i : ℕ) → Changed old new (raw.onProcesses (raw.removed i) (rawIn old)) → Bounded (rawIn new)
-        → Becomes s w old new (config (calculus.removed i (configIn s w old .processes)) (configIn s w old .outside) (configIn s w old .given))
+        → Becomes s w old new (calculus.withProcesses (calculus.removed i (configIn s w old .processes)) (configIn s w old))
     unfolding raw.removed
     left i c b =
         by-processes (raw.removed i) _ (decoded-removed (nameAt s) (plainIn s w) (processIn s w) i (rawIn old .processes))
@@ -144,13 +140,10 @@ module _ (s w : List ℕ) where
     abbrev outsides : List RawOutside → List Outside
     outsides l = map (decodedOutside (nameAt s) (plainIn s w) (processIn s w)) l
 
-    abbrev withOutside : List Outside → Config
-    withOutside l = config (configIn s w old .processes) l (configIn s w old .given)
-
     by-outside : (f : List RawOutside → List RawOutside) (l : List Outside) → outsides (f (rawIn old .outside)) ≡ l → All TypedOutside (f (rawIn old .outside))
-        → Changed old new (raw.onOutside f (rawIn old)) → Bounded (rawIn new) → Becomes s w old new (withOutside l)
+        → Changed old new (raw.onOutside f (rawIn old)) → Bounded (rawIn new) → Becomes s w old new (calculus.withOutside l (configIn s w old))
     by-outside f l e a c b = record {
-      is = ap (decoded (nameAt s) (plainIn s w) (processIn s w)) (c .is) ∙ ap withOutside e;
+      is = ap (decoded (nameAt s) (plainIn s w) (processIn s w)) (c .is) ∙ ap (λ m. calculus.withOutside m (configIn s w old)) e;
       run = record {
         tables = t .tables;
         wide = omega (arith, t .wide, c .long);
@@ -162,28 +155,28 @@ module _ (s w : List ℕ) where
       long = c .long;
     }
 
-    pub let-go : (k : ℕ) → Changed old new (raw.onOutside (raw.letGo k) (rawIn old)) → Bounded (rawIn new) → Becomes s w old new (withOutside (calculus.letGo k (configIn s w old .outside)))
+    pub let-go : (k : ℕ) → Changed old new (raw.onOutside (raw.letGo k) (rawIn old)) → Bounded (rawIn new) → Becomes s w old new (calculus.withOutside (calculus.letGo k (configIn s w old .outside)) (configIn s w old))
     let-go k = by-outside (raw.letGo k) _ (decoded-letGo (nameAt s) (plainIn s w) (processIn s w) k (rawIn old .outside)) (letGo-all TypedOutside k (rawIn old .outside) (t .outside))
 
     pub retyped : (k node : ℕ) → TypeIn s w node → Changed old new (raw.onOutside (raw.changedOutside k (raw.retyped node)) (rawIn old)) → Bounded (rawIn new)
-        → Becomes s w old new (withOutside (calculus.retypedOutside k (plainIn s w node) (configIn s w old .outside)))
+        → Becomes s w old new (calculus.withOutside (calculus.retypedOutside k (plainIn s w node) (configIn s w old .outside)) (configIn s w old))
     retyped k node u =
         by-outside (raw.changedOutside k (raw.retyped node)) _ (decoded-retyped (nameAt s) (plainIn s w) (processIn s w) k node (rawIn old .outside))
         (all-changed TypedOutside (raw.retyped node) k (λ o h. u) (rawIn old .outside) (t .outside))
 
     pub rerouted : (k m : ℕ) → Changed old new (raw.onOutside (raw.changedOutside k (raw.rerouted m)) (rawIn old)) → Bounded (rawIn new)
-        → Becomes s w old new (withOutside (calculus.movedOutside k m (configIn s w old .outside)))
+        → Becomes s w old new (calculus.withOutside (calculus.movedOutside k m (configIn s w old .outside)) (configIn s w old))
     rerouted k m =
         by-outside (raw.changedOutside k (raw.rerouted m)) _ (decoded-rerouted (nameAt s) (plainIn s w) (processIn s w) k m (rawIn old .outside))
         (all-changed TypedOutside (raw.rerouted m) k (λ o h. h) (rawIn old .outside) (t .outside))
 
     pub passed-out : (o : OutsideWords) → TypeIn s w (o .node) → Changed old new (raw.onOutside (λ l. l ++ (values.outsideIn o ∷ [])) (rawIn old)) → Bounded (rawIn new)
-        → Becomes s w old new (withOutside (configIn s w old .outside ++ (record { number = o .number; channel = o .channel; type = plainIn s w (o .node) } ∷ [])))
+        → Becomes s w old new (calculus.withOutside (configIn s w old .outside ++ (record { number = o .number; channel = o .channel; type = plainIn s w (o .node) } ∷ [])) (configIn s w old))
     passed-out o u =
         by-outside (λ l. l ++ (values.outsideIn o ∷ [])) _ (decoded-append (nameAt s) (plainIn s w) (processIn s w) (rawIn old .outside) (values.outsideIn o))
         (all-append TypedOutside (rawIn old .outside) (values.outsideIn o ∷ []) (t .outside) (u, tt))
 
-    pub given : (n : ℕ) → Changed old new (raw.withGiven (rawIn old) n) → Bounded (rawIn new) → Becomes s w old new (config (configIn s w old .processes) (configIn s w old .outside) n)
+    pub given : (n : ℕ) → Changed old new (raw.withGiven (rawIn old) n) → Bounded (rawIn new) → Becomes s w old new (calculus.withGiven n (configIn s w old))
     given n c b = record {
       is = ap (decoded (nameAt s) (plainIn s w) (processIn s w)) (c .is);
       run = record {

@@ -2,14 +2,14 @@
 use Prim.Native.Nat.{ℕ, _<_}
 use mathlib.Core.Path.{_≡_, refl, sym, _∙_, ap, subst}
 use mathlib.Core.List.{List, [], _∷_}
-use mathlib.Core.Bool.{Bool, true, false, true≢false, cond}
+use mathlib.Core.Bool.{true, false, true≢false, cond}
 use mathlib.Core.Option.{some}
 use native.Mathlib.Omega.{arith}
 use lib.ListN.{length, set, getElem?, length-set}
 use Rattle.notation.specs.Token.{nameAt}
 use Rattle.notation.specs.Reader.{nameIn}
 use Rattle.calculus.specs.Types.{Side, other}
-use Rattle.calculus.specs.Configuration.{End, end, folding, Process, process, Config, config, replaced, farEnd}
+use Rattle.calculus.specs.Configuration.{End, end, Process, Config, withOutside, replaced, foldsUp, holding, farEnd}
 use Rattle.calculus.specs.Configuration as calculus
 use Rattle.calculus.specs.Steps.{Outcome, emptied, movedEnd, farMoved, joinedTo, joining, forwarding, parting}
 use Rattle.calculus.specs.declared.answers.Seen.the-variants.{Nothing}
@@ -17,11 +17,11 @@ use Rattle.read_tables.specs.Decode.{processIn}
 use Rattle.read_tables.specs.Program.{plainIn}
 use Rattle.run_words.specs.Lists.{All}
 use Rattle.run_words.specs.ListLaws.{all-at, all-set, map-set}
-use Rattle.run_words.specs.Raw.{RawEnd, rawIn, linkOf, sideOf, Bounded}
+use Rattle.run_words.specs.Raw.{RawEnd, rawIn, sideOf, Bounded}
 use Rattle.run_words.specs.Values.{Changed, endIn, heldIn, held-length}
 use Rattle.run_words.specs.Values as values
 use Rattle.run_words.specs.Operations as raw
-use Rattle.run_words.specs.Operations.{isEnd, heldAt}
+use Rattle.run_words.specs.Operations.{isEnd, heldAt, wasGivenUp}
 use Rattle.run_words.specs.SearchLaws.{First, here, later, first-here, far-process, holder-place, holder-position, holds-here, holds-held}
 use Rattle.run_words.specs.Decode.{decodedProcess}
 use Rattle.run_words.specs.DecodeLaws.{FarAs, atProcess, atOutside, givenUp, decoded-far, decoded-far-process}
@@ -37,17 +37,17 @@ use Rattle.run_alone.specs.declared.outcome.Outcome.{Outcome as OutcomeW
 use Rattle.run_alone.specs.declared.outcome.Outcome.the-variants.{Carried, NotOpen}
 use Rattle.run_alone.specs.Run.{configIn, processAs, RunOf, ProcessOf, StandsAt, Becomes, Carries}
 use Rattle.run_alone.specs.Changes.{then, stored, rerouted, places-after, places-in}
-use Rattle.run_alone.specs.Parting.{endAs, folded, folds, held-none, held-some}
+use Rattle.run_alone.specs.Parting.{endAs, folds, held-none, held-some}
 
 -- r is p, empty
 pub record Empties (p r : ProcessWords) : Type 0 where
   pub is : (s w : List ℕ) → processAs s w r ≡ emptied (processAs s w p)
   pub fits : (s w : List ℕ) (n : ℕ) → ProcessOf s w n p → ProcessOf s w n r
 
-pub empties : (p : ProcessWords) (h : Held) → heldIn h ≡ [] → h .count ≡ 0 → Empties p (folded p h)
+pub empties : (p : ProcessWords) (h : Held) → heldIn h ≡ [] → h .count ≡ 0 → Empties p (values.foldingUp h p)
 unfolding channelsOf
 empties p h e z = record {
-  is = λ s w. ap (λ l. process folding (endsIn s w l) (linkOf (p .link))) e;
+  is = λ s w. ap (λ l. foldsUp (processAs s w p) (endsIn s w l)) e;
   fits = λ s w n t. folds s w p h t (record { many = omega arith; each = subst (All (EndIn s w)) (sym e) tt });
 }
 
@@ -66,7 +66,7 @@ moved-there s w k a m (later {x} {y} {l} r h) =
 
 -- what becomes of the configuration where the far end of e is at a process
 abbrev pub movedOver : Config → ℕ → Process → End → End → calculus.Far → Config
-movedOver C i Q e d (calculus.atProcess h) = config (set (set (C .processes) i Q) (h .place) (farMoved e d (h .process))) (C .outside) (C .given)
+movedOver C i Q e d (calculus.atProcess h) = replaced (h .place) (farMoved e d (h .process)) (replaced i Q C)
 movedOver C i Q e d (calculus.atOutside n) = C
 movedOver C i Q e d calculus.givenUp = C
 
@@ -113,12 +113,12 @@ module _ (s w old : List ℕ) (e : EndWords) where
 
   -- ── the process q stands at a place, and the far end of e takes the channel of d
   module _ (j k : ℕ) (f : farRaw ≡ far.Process j k) (t : RunOf s w old) (i : ℕ) (q r : ProcessWords) (x d : EndWords) (h : Held) where
-    abbrev pub remade : ProcessWords
-    remade = record { kind = r .kind; pointer = r .pointer; link = r .link; held = h }
+    abbrev pub regained : ProcessWords
+    regained = values.ofHeld h r
 
     module _ (g : StandsAt s w old j r) (a : HeldIn s w h) where
-      pub remade-of : ProcessOf s w (length (rawIn old .processes)) remade
-      remade-of = record { kind = g .is .kind; pointer = g .is .pointer; link = g .is .link; term = g .is .term; held = a }
+      pub regained-of : ProcessOf s w (length (rawIn old .processes)) regained
+      regained-of = record { kind = g .is .kind; pointer = g .is .pointer; link = g .is .link; term = g .is .term; held = a }
 
     module _ (mid : List ℕ) (o : ProcessOf s w (length (rawIn old .processes)) q) (c : Changed old mid (raw.onProcesses (λ l. set l i (values.processIn q)) (rawIn old))) (b : Bounded (rawIn mid)) where
       pub mid-becomes : Becomes s w old mid (replaced i (processAs s w q) (configIn s w old))
@@ -127,42 +127,37 @@ module _ (s w old : List ℕ) (e : EndWords) where
       pub mid-many : length (rawIn mid .processes) ≡ length (rawIn old .processes)
       mid-many = places-after mid-becomes ∙ length-set (configIn s w old .processes) i (processAs s w q) ∙ places-in s w old
 
-      pub moves-far : (new : List ℕ) → ProcessOf s w (length (rawIn mid .processes)) remade → channelsOf s w h ≡ movedEnd (e .channel) (other (sideOf (e .side))) (d .channel) (channelsOf s w (r .held))
+      pub moves-far : (new : List ℕ) → ProcessOf s w (length (rawIn mid .processes)) regained → channelsOf s w h ≡ movedEnd (e .channel) (other (sideOf (e .side))) (d .channel) (channelsOf s w (r .held))
           → farOf ≡ calculus.atProcess (record { place = j; process = processAs s w r; name = nameAt s (x .name) })
-          → Changed mid new (raw.onProcesses (λ l. set l j (values.processIn remade)) (rawIn mid)) → Bounded (rawIn new) → Becomes s w old new (movedOver (configIn s w old) i (processAs s w q) (endAs s w e) (endAs s w d) farOf)
+          → Changed mid new (raw.onProcesses (λ l. set l j (values.processIn regained)) (rawIn mid)) → Bounded (rawIn new) → Becomes s w old new (movedOver (configIn s w old) i (processAs s w q) (endAs s w e) (endAs s w d) farOf)
       moves-far new u m z y v =
           subst (Becomes s w old new)
-          (ap (λ l. config (set (set (configIn s w old .processes) i (processAs s w q)) j (process (processAs s w r .doing) l (linkOf (r .link)))) (configIn s w old .outside) (configIn s w old .given)) m
+          (ap (λ l. replaced j (holding l (processAs s w r)) (replaced i (processAs s w q) (configIn s w old))) m
           ∙ sym (ap (movedOver (configIn s w old) i (processAs s w q) (endAs s w e) (endAs s w d)) z))
-          (then (replaced j (processAs s w remade)) mid-becomes (stored s w mid new (mid-becomes .run) j remade u y v))
+          (then (replaced j (processAs s w regained)) mid-becomes (stored s w mid new (mid-becomes .run) j regained u y v))
 
 -- ── the rule
-abbrev pub isGivenUp : Far → Bool
-isGivenUp (far.Process i j) = false
-isGivenUp (far.Outside j) = false
-isGivenUp far.GivenUp = true
-
 module _ (s w old new : List ℕ) (i : ℕ) (p q : ProcessWords) (e d : EndWords) (z : Empties p q) where
   abbrev joinedBy : calculus.Far → Outcome
   joinedBy F = joinedTo (configIn s w old) i (processAs s w p) (endAs s w e) (endAs s w d) F
 
   joins-process : {j k : ℕ} {F : calculus.Far} → FarAs (nameAt s) (plainIn s w) (processIn s w) (rawIn old) (far.Process j k) F → Becomes s w old new (movedOver (configIn s w old) i (processAs s w q) (endAs s w e) (endAs s w d) F) → Carries s w old new (Carried Nothing) (joinedBy F)
   joins-process (atProcess {i = j} {p = r} {e = x} g h) b =
-      record { is = (refl, subst (λ Q. Becomes s w old new (config (set (set (configIn s w old .processes) i Q) j (farMoved (endAs s w e) (endAs s w d) (decodedProcess (nameAt s) (plainIn s w) (processIn s w) r))) (configIn s w old .outside) (configIn s w old .given))) (z .is s w) b) }
+      record { is = (refl, subst (λ Q. Becomes s w old new (replaced j (farMoved (endAs s w e) (endAs s w d) (decodedProcess (nameAt s) (plainIn s w) (processIn s w) r)) (replaced i Q (configIn s w old)))) (z .is s w) b) }
 
   pub joined-process : (j k : ℕ) → far.Process j k ≡ farRaw s w old e → Becomes s w old new (movedOver (configIn s w old) i (processAs s w q) (endAs s w e) (endAs s w d) (farOf s w old e)) → Carries s w old new (Carried Nothing) (joinedBy (farOf s w old e))
   joined-process j k f b = joins-process (far-as s w old e (far.Process j k) f) b
 
   joins-outside : {k : ℕ} {F : calculus.Far} → FarAs (nameAt s) (plainIn s w) (processIn s w) (rawIn old) (far.Outside k) F
-      → Becomes s w old new (config (set (configIn s w old .processes) i (processAs s w q)) (calculus.movedOutside (e .channel) (d .channel) (configIn s w old .outside)) (configIn s w old .given)) → Carries s w old new (Carried Nothing) (joinedBy F)
+      → Becomes s w old new (withOutside (calculus.movedOutside (e .channel) (d .channel) (configIn s w old .outside)) (replaced i (processAs s w q) (configIn s w old))) → Carries s w old new (Carried Nothing) (joinedBy F)
   joins-outside (atOutside g) b =
-      record { is = (refl, subst (λ Q. Becomes s w old new (config (set (configIn s w old .processes) i Q) (calculus.movedOutside (e .channel) (d .channel) (configIn s w old .outside)) (configIn s w old .given))) (z .is s w) b) }
+      record { is = (refl, subst (λ Q. Becomes s w old new (withOutside (calculus.movedOutside (e .channel) (d .channel) (configIn s w old .outside)) (replaced i Q (configIn s w old)))) (z .is s w) b) }
 
   pub joined-outside : (mid : List ℕ) (k : ℕ) → far.Outside k ≡ farRaw s w old e → Becomes s w old mid (replaced i (processAs s w q) (configIn s w old)) → Changed mid new (raw.onOutside (raw.changedOutside (e .channel) (raw.rerouted (d .channel))) (rawIn mid)) → Bounded (rawIn new)
       → Carries s w old new (Carried Nothing) (joinedBy (farOf s w old e))
   joined-outside mid k f b c l =
       joins-outside (far-as s w old e (far.Outside k) f)
-      (then (λ (D : Config). config (D .processes) (calculus.movedOutside (e .channel) (d .channel) (D .outside)) (D .given)) b (rerouted s w mid new (b .run) (e .channel) (d .channel) c l))
+      (then (λ (D : Config). withOutside (calculus.movedOutside (e .channel) (d .channel) (D .outside)) D) b (rerouted s w mid new (b .run) (e .channel) (d .channel) c l))
 
   joins-nobody : {F : calculus.Far} → FarAs (nameAt s) (plainIn s w) (processIn s w) (rawIn old) far.GivenUp F → Becomes s w old new (replaced i (processAs s w q) (configIn s w old)) → Carries s w old new (Carried Nothing) (joinedBy F)
   joins-nobody givenUp b = record { is = (refl, subst (λ Q. Becomes s w old new (replaced i Q (configIn s w old))) (z .is s w) b) }
@@ -189,20 +184,20 @@ module _ (s w old : List ℕ) (i : ℕ) (p : ProcessWords) (x c : ℕ) where
         unfolding forwarding
         forwards k = held-some a _ m (held-some b _ n k)
 
-        joined-far : (y : Far) {F : calculus.Far} → FarAs (nameAt s) (plainIn s w) (processIn s w) (rawIn old) y F → isGivenUp y ≡ false → Carries s w old new r (joinedTo (configIn s w old) i (processAs s w p) (endAs s w e) (endAs s w d) (farOf s w old e))
+        joined-far : (y : Far) {F : calculus.Far} → FarAs (nameAt s) (plainIn s w) (processIn s w) (rawIn old) y F → wasGivenUp y ≡ false → Carries s w old new r (joinedTo (configIn s w old) i (processAs s w p) (endAs s w e) (endAs s w d) (farOf s w old e))
             → Carries s w old new r (joining (configIn s w old) i (processAs s w p) (endAs s w e) (endAs s w d) F)
         joined-far (far.Process j l) (atProcess g h) z k = k
         joined-far (far.Outside j) (atOutside g) z k = k
         joined-far far.GivenUp givenUp z k = absurd (true≢false z)
 
-        pub forwards-joined : (y : Far) → y ≡ farRaw s w old d → isGivenUp y ≡ false → Carries s w old new r (joinedTo (configIn s w old) i (processAs s w p) (endAs s w e) (endAs s w d) (farOf s w old e)) → Carries s w old new r forwardingBy
+        pub forwards-joined : (y : Far) → y ≡ farRaw s w old d → wasGivenUp y ≡ false → Carries s w old new r (joinedTo (configIn s w old) i (processAs s w p) (endAs s w e) (endAs s w d) (farOf s w old e)) → Carries s w old new r forwardingBy
         forwards-joined y q z k = forwards (joined-far y (far-as s w old d y q) z k)
 
-        parted-far : (y : Far) {F : calculus.Far} → FarAs (nameAt s) (plainIn s w) (processIn s w) (rawIn old) y F → isGivenUp y ≡ true → Carries s w old new r (parting (configIn s w old) i (emptied (processAs s w p)) (endAs s w e))
+        parted-far : (y : Far) {F : calculus.Far} → FarAs (nameAt s) (plainIn s w) (processIn s w) (rawIn old) y F → wasGivenUp y ≡ true → Carries s w old new r (parting (configIn s w old) i (emptied (processAs s w p)) (endAs s w e))
             → Carries s w old new r (joining (configIn s w old) i (processAs s w p) (endAs s w e) (endAs s w d) F)
         parted-far (far.Process j l) (atProcess g h) z k = absurd (true≢false (sym z))
         parted-far (far.Outside j) (atOutside g) z k = absurd (true≢false (sym z))
         parted-far far.GivenUp givenUp z k = k
 
-        pub forwards-parted : (y : Far) (q : ProcessWords) → y ≡ farRaw s w old d → isGivenUp y ≡ true → Empties p q → Carries s w old new r (parting (configIn s w old) i (processAs s w q) (endAs s w e)) → Carries s w old new r forwardingBy
+        pub forwards-parted : (y : Far) (q : ProcessWords) → y ≡ farRaw s w old d → wasGivenUp y ≡ true → Empties p q → Carries s w old new r (parting (configIn s w old) i (processAs s w q) (endAs s w e)) → Carries s w old new r forwardingBy
         forwards-parted y q o z u k = forwards (parted-far y (far-as s w old d y o) z (subst (λ Q. Carries s w old new r (parting (configIn s w old) i Q (endAs s w e))) (u .is s w) k))

@@ -7,7 +7,7 @@ use mathlib.Core.Option.{Option, some, none, Option·map}
 use native.Mathlib.Omega.{arith}
 use lib.Dec.{eqb}
 use lib.ListN.{length, set, getElem?, length-set}
-use Rattle.calculus.specs.Configuration.{Process, process, Config, config, replaced}
+use Rattle.calculus.specs.Configuration.{Process, Config, withProcesses, replaced, doingNow}
 use Rattle.calculus.specs.Configuration as calculus
 use Rattle.calculus.specs.Steps.{startedDoing, startedHandler, foldedHandler, putAt, changedAt, leaving, raising}
 use Rattle.calculus.specs.declared.answers.Seen.the-variants.{Nothing}
@@ -23,7 +23,7 @@ use Rattle.run_words.specs.Bounds.{Unlinked}
 use Rattle.run_words.specs.declared.records.Process.{Process as ProcessWords}
 use Rattle.run_alone.specs.declared.outcome.Outcome.the-variants.{Carried}
 use Rattle.run_alone.specs.Run.{configIn, doingAs, processAs, RunOf, ProcessOf, StandsAt, Becomes, Carries}
-use Rattle.run_alone.specs.Changes.{then, stored, left, running-as, runs-on, places-after, places-in}
+use Rattle.run_alone.specs.Changes.{then, stored, left, runs-on, places-after, places-in}
 
 -- ── what becomes of a handler
 abbrev pub handlerKind : Bool → ℕ → ℕ
@@ -34,10 +34,7 @@ handlerAs true q = startedHandler q
 handlerAs false q = foldedHandler q
 
 abbrev pub withHandler : Bool → Option ℕ → Config → Config
-withHandler raised link C = config (changedAt (handlerAs raised) link (C .processes)) (C .outside) (C .given)
-
-abbrev handled : ℕ → ProcessWords → ProcessWords
-handled kind h = record { kind = kind; pointer = h .pointer; link = h .link; held = h .held }
+withHandler raised link C = withProcesses (changedAt (handlerAs raised) link (C .processes)) C
 
 module _ (s w : List ℕ) where
   started : (k pointer : ℕ) → k < 3 → doingAs s w (handlerKind true k) pointer ≡ startedDoing (doingAs s w k pointer)
@@ -46,8 +43,8 @@ module _ (s w : List ℕ) where
   started (suc (suc zero)) pointer h = refl
   started (suc (suc (suc k))) pointer h = absurd (omega arith)
 
-  handled-as : (raised : Bool) (h : ProcessWords) → h .kind < 3 → processAs s w (handled (handlerKind raised (h .kind)) h) ≡ handlerAs raised (processAs s w h)
-  handled-as true h b = ap (λ d. process d (processAs s w h .held) (linkOf (h .link))) (started (h .kind) (h .pointer) b)
+  handled-as : (raised : Bool) (h : ProcessWords) → h .kind < 3 → processAs s w (values.ofKind (handlerKind raised (h .kind)) h) ≡ handlerAs raised (processAs s w h)
+  handled-as true h b = ap (λ d. doingNow d (processAs s w h)) (started (h .kind) (h .pointer) b)
   handled-as false h b = refl
 
   handler-few : (k : ℕ) → k < 3 → handlerKind true k < 3
@@ -56,7 +53,7 @@ module _ (s w : List ℕ) where
   handler-few (suc (suc zero)) b = omega arith
   handler-few (suc (suc (suc k))) b = absurd (omega arith)
 
-  handled-fine : (raised : Bool) (h : ProcessWords) (n : ℕ) → ProcessOf s w n h → ProcessOf s w n (handled (handlerKind raised (h .kind)) h)
+  handled-fine : (raised : Bool) (h : ProcessWords) (n : ℕ) → ProcessOf s w n h → ProcessOf s w n (values.ofKind (handlerKind raised (h .kind)) h)
   handled-fine true h n t = record { kind = handler-few (h .kind) (t .kind); pointer = t .pointer; link = t .link; term = λ z. t .term (λ y. z (ap (handlerKind true) y)); held = t .held }
   handled-fine false h n t = record { kind = omega arith; pointer = t .pointer; link = t .link; term = λ z. absurd (z refl); held = t .held }
 
@@ -71,19 +68,19 @@ module _ (s w : List ℕ) where
     handler-below j n e l = subst (linksBelow n) e l
 
     module _ (j : ℕ) (h : ProcessWords) (u : StandsAt s w old j h) (k : ℕ) (z : k ≡ handlerKind raised (h .kind)) where
-      pub handler-fine : ProcessOf s w (length (rawIn old .processes)) (handled k h)
-      handler-fine = subst (λ m. ProcessOf s w (length (rawIn old .processes)) (handled m h)) (sym z) (handled-fine raised h _ (u .is))
+      pub handler-fine : ProcessOf s w (length (rawIn old .processes)) (values.ofKind k h)
+      handler-fine = subst (λ m. ProcessOf s w (length (rawIn old .processes)) (values.ofKind m h)) (sym z) (handled-fine raised h _ (u .is))
 
-      pub handler-changed : linkOf link ≡ some j → Changed old new (raw.onProcesses (λ l. set l j (values.processIn (handled k h))) (rawIn old)) → Bounded (rawIn new)
+      pub handler-changed : linkOf link ≡ some j → Changed old new (raw.onProcesses (λ l. set l j (values.processIn (values.ofKind k h))) (rawIn old)) → Bounded (rawIn new)
           → Becomes s w old new (withHandler raised (linkOf link) (configIn s w old))
       handler-changed e c b =
-          subst (Becomes s w old new) (ap (λ m. replaced j (processAs s w (handled m h)) (configIn s w old)) z ∙ ap (λ q. replaced j q (configIn s w old)) (handled-as raised h (u .is .kind)) ∙ sym there)
-          (stored s w old new t j (handled k h) handler-fine c b)
+          subst (Becomes s w old new) (ap (λ m. replaced j (processAs s w (values.ofKind m h)) (configIn s w old)) z ∙ ap (λ q. replaced j q (configIn s w old)) (handled-as raised h (u .is .kind)) ∙ sym there)
+          (stored s w old new t j (values.ofKind k h) handler-fine c b)
         where
           there : withHandler raised (linkOf link) (configIn s w old) ≡ replaced j (handlerAs raised (processAs s w h)) (configIn s w old)
           there =
               ap (λ (l : Option ℕ). withHandler raised l (configIn s w old)) e
-              ∙ ap (λ (o : Option Process). config (putAt (configIn s w old .processes) j (Option·map (handlerAs raised) o)) (configIn s w old .outside) (configIn s w old .given)) (u .there)
+              ∙ ap (λ (o : Option Process). withProcesses (putAt (configIn s w old .processes) j (Option·map (handlerAs raised) o)) (configIn s w old)) (u .there)
 
   unlinked-as : (ws : List ℕ) (i : ℕ) → Unlinked i (rawIn ws .processes) → All (λ (q : Process). q .link ≡ some i → ⊥) (configIn s w ws .processes)
   unlinked-as ws i u = all-map (λ p. p .link ≡ some i → ⊥) (λ q. q .link ≡ some i → ⊥) _ (λ p h. h) (rawIn ws .processes) u
@@ -123,10 +120,10 @@ module _ (s w : List ℕ) where
     pub leaves : Becomes s w old mid (withHandler false (linkOf (p .link)) (configIn s w old)) → Changed mid new (raw.onProcesses (raw.removed i) (rawIn mid)) → Bounded (rawIn new)
         → Carries s w old new (Carried Nothing) (leaving (configIn s w old) i (processAs s w p))
     unfolding leaving
-    leaves b c k = record { is = (refl, then (λ (C : Config). config (calculus.removed i (C .processes)) (C .outside) (C .given)) b (left s w mid new (b .run) i c k)) }
+    leaves b c k = record { is = (refl, then (λ (C : Config). withProcesses (calculus.removed i (C .processes)) C) b (left s w mid new (b .run) i c k)) }
 
     pub raises : (pointer : ℕ) → ProcessOf s w (length (rawIn old .processes)) p → ProcessIn s w pointer → Becomes s w old mid (withHandler true (linkOf (p .link)) (configIn s w old))
-        → Changed mid new (raw.onProcesses (λ l. set l i (values.processIn (running-as pointer 0 (p .held)))) (rawIn mid)) → Bounded (rawIn new)
+        → Changed mid new (raw.onProcesses (λ l. set l i (values.processIn (values.ofLink 0 (values.runningOn pointer (p .held) p)))) (rawIn mid)) → Bounded (rawIn new)
         → Carries s w old new (Carried Nothing) (raising (configIn s w old) i (processAs s w p) (processIn s w pointer))
     unfolding raising
-    raises pointer t a b c k = record { is = (refl, then (replaced i (processAs s w (running-as pointer 0 (p .held)))) b (stored s w mid new (b .run) i _ (runs-on (b .run .tables) pointer 0 (p .held) tt a (t .held)) c k)) }
+    raises pointer t a b c k = record { is = (refl, then (replaced i (processAs s w (values.ofLink 0 (values.runningOn pointer (p .held) p)))) b (stored s w mid new (b .run) i _ (runs-on (b .run .tables) (values.ofLink 0 (values.runningOn pointer (p .held) p)) refl tt a (t .held)) c k)) }

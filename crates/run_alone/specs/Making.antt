@@ -15,7 +15,7 @@ use Rattle.notation.specs.declared.reading.Found.the-variants as found
 use Rattle.calculus.specs.Named.{kept}
 use Rattle.calculus.specs.Types.{provided, used}
 use Rattle.calculus.specs.Mentions.{spawnTakes, spawnLeaves, tryTakes}
-use Rattle.calculus.specs.Configuration.{end, running, waiting, Process, process, Config, config, replaced, movedUp}
+use Rattle.calculus.specs.Configuration.{end, running, waiting, Process, process, Config, withProcesses, replaced, goesOn, linkedBy, movedUp}
 use Rattle.calculus.specs.Configuration as calculus
 use Rattle.calculus.specs.Steps.{Outcome, lacking, placeFor, spawned, spawning, trying}
 use Rattle.calculus.specs.declared.answers.Seen.the-variants.{Nothing}
@@ -24,7 +24,7 @@ use Rattle.read_tables.specs.Roots.{TypeIn, ProcessIn}
 use Rattle.read_tables.specs.Decode.{typeIn, processIn}
 use Rattle.read_tables.specs.Program.{plainIn}
 use Rattle.run_words.specs.ListLaws.{length-insert}
-use Rattle.run_words.specs.Raw.{rawIn, sideOf, linkOf, linksBelow, Bounded}
+use Rattle.run_words.specs.Raw.{rawIn, sideOf, linkOf, linksBelow, Bounded, runningKind, waitingKind}
 use Rattle.run_words.specs.Values.{Changed, heldIn, held-length}
 use Rattle.run_words.specs.Values as values
 use Rattle.run_words.specs.Operations as raw
@@ -40,7 +40,7 @@ use Rattle.run_alone.specs.declared.outcome.Outcome.{Outcome as OutcomeW
 use Rattle.run_alone.specs.declared.outcome.Outcome.the-variants.{Carried, Lacking}
 use Rattle.run_alone.specs.declared.making.SpawnTerm.{SpawnTerm}
 use Rattle.run_alone.specs.Run.{configIn, processAs, RunOf, ProcessOf, StandsAt, Becomes, Carries}
-use Rattle.run_alone.specs.Changes.{then, stored, came, running-as, runs-on, pointer-small, places-after, places-in, bounded-of}
+use Rattle.run_alone.specs.Changes.{then, stored, came, runs-on, pointer-small, places-after, places-in, bounded-of}
 
 -- ── a free place
 module _ (s w old : List ℕ) (o : Outcome) where
@@ -65,7 +65,7 @@ module _ (s w : List ℕ) where
 
   module _ (old : List ℕ) (t : RunOf s w old) (i : ℕ) (p : ProcessWords) (u : StandsAt s w old i p) (first second : ℕ) (a : ProcessIn s w first) (b : ProcessIn s w second) where
     abbrev handler : ℕ → Held → ProcessWords
-    handler link h = record { kind = 2; pointer = second; link = link; held = h }
+    handler link h = values.newProcess waitingKind second link h
 
     pub tries-nowhere : 128 ≤ length (rawIn old .processes) → Carries s w old old Lacking (trying (configIn s w old) i (processAs s w p) (processIn s w first) (processIn s w second))
     unfolding trying
@@ -82,16 +82,20 @@ module _ (s w : List ℕ) where
 
     module _ (mid : List ℕ) (link : ℕ) (ours theirs : Held) (e : link ≡ movedWord true i (p .link)) (f : TryHalf (p .held) first ours) (g : TryHalf (p .held) second theirs)
         (c : Changed old mid (raw.onProcesses (raw.inserted i (values.processIn (handler link theirs))) (rawIn old))) (k : Bounded (rawIn mid)) where
-      pub handler-came : Becomes s w old mid (config (calculus.inserted i (processAs s w (handler link theirs)) (configIn s w old .processes)) (configIn s w old .outside) (configIn s w old .given))
+      pub handler-came : Becomes s w old mid (withProcesses (calculus.inserted i (processAs s w (handler link theirs)) (configIn s w old .processes)) (configIn s w old))
       handler-came = came s w old mid t i (handler link theirs) (handler-of link theirs e (g .fits)) c k
 
       pub one-more : length (rawIn mid .processes) ≡ suc (length (rawIn old .processes))
       one-more = places-after handler-came ∙ inserted-many i (processAs s w (handler link theirs)) (configIn s w old .processes) ∙ ap suc (places-in s w old)
 
-      pub tried-of : (m : ℕ) → m ≡ i + 2 → ProcessOf s w (length (rawIn mid .processes)) (running-as first m ours)
-      tried-of m z = let y : m ≡ suc (suc i) = omega arith in runs-on (t .tables) first m ours (subst (λ x. linksBelow (length (rawIn mid .processes)) (linkOf x)) (sym y) (omega (arith, one-more, u .below))) a (f .fits)
+      -- the first half goes on, and is linked to the second
+      abbrev goes : ℕ → ProcessWords
+      goes m = values.ofLink m (values.runningOn first ours p)
 
-      pub tries : (new : List ℕ) (m : ℕ) → m ≡ i + 2 → length (rawIn old .processes) < 128 → Changed mid new (raw.onProcesses (λ l. set l i (values.processIn (running-as first m ours))) (rawIn mid)) → Bounded (rawIn new)
+      pub tried-of : (m : ℕ) → m ≡ i + 2 → ProcessOf s w (length (rawIn mid .processes)) (goes m)
+      tried-of m z = let y : m ≡ suc (suc i) = omega arith in runs-on (t .tables) (goes m) refl (subst (λ x. linksBelow (length (rawIn mid .processes)) (linkOf x)) (sym y) (omega (arith, one-more, u .below))) a (f .fits)
+
+      pub tries : (new : List ℕ) (m : ℕ) → m ≡ i + 2 → length (rawIn old .processes) < 128 → Changed mid new (raw.onProcesses (λ l. set l i (values.processIn (goes m))) (rawIn mid)) → Bounded (rawIn new)
           → Carries s w old new (Carried Nothing) (trying (configIn s w old) i (processAs s w p) (processIn s w first) (processIn s w second))
       unfolding trying
       tries new m z n d q =
@@ -103,8 +107,8 @@ module _ (s w : List ℕ) where
           (record {
             is = (
               refl,
-              subst (Becomes s w old new) (λ j. config (set (calculus.inserted i (process (waiting (processIn s w second)) (g .is j) (e₂ j)) (C .processes)) i (process (running (processIn s w first)) (f .is j) (e₁ j))) (C .outside) (C .given))
-                  (then (replaced i (processAs s w (running-as first m ours))) handler-came (stored s w mid new (handler-came .run) i (running-as first m ours) (tried-of m z) d q)),
+              subst (Becomes s w old new) (λ j. withProcesses (set (calculus.inserted i (process (waiting (processIn s w second)) (g .is j) (e₂ j)) (C .processes)) i (linkedBy (e₁ j) (goesOn (processAs s w p) (processIn s w first) (f .is j)))) C)
+                  (then (replaced i (processAs s w (goes m))) handler-came (stored s w mid new (handler-came .run) i (goes m) (tried-of m z) d q)),
             );
           })
 
@@ -133,7 +137,7 @@ module _ (s w : List ℕ) where
     half-room true = f .taken
     half-room false = f .left
 
-    pub half-few : r .count < 16
+    pub half-few : r .count < heldLimit
     half-few = omega (arith, half-room first, channels-many r, ap length (k .is))
 
     pub half-brings : {side : ℕ} (channel : ℕ) {q : Held} → sideOf side ≡ halfSide first → Brings r (m .name) side (m .node) channel q → SpawnHalf h m first channel q
@@ -152,21 +156,21 @@ module _ (s w : List ℕ) where
     half-left f = f .is
 
   module _ (old : List ℕ) (t : RunOf s w old) (i : ℕ) (p : ProcessWords) (u : StandsAt s w old i p) (m : SpawnTerm) (f : SpawnIn m (p .held)) (k : ℕ) where
-    pub maker-of : (h : Held) → HeldIn s w h → ProcessOf s w (length (rawIn old .processes)) (running-as (m .second) (p .link) h)
-    maker-of h g = runs-on (t .tables) (m .second) (p .link) h (u .is .link) (f .second) g
+    pub maker-of : (h : Held) → HeldIn s w h → ProcessOf s w (length (rawIn old .processes)) (values.runningOn (m .second) h p)
+    maker-of h g = runs-on (t .tables) (values.runningOn (m .second) h p) refl (u .is .link) (f .second) g
 
     module _ (mid : List ℕ) (ours theirs : Held) (a : SpawnHalf (p .held) m true k ours) (b : SpawnHalf (p .held) m false k theirs)
-        (c : Changed old mid (raw.onProcesses (λ l. set l i (values.processIn (running-as (m .second) (p .link) theirs))) (rawIn old))) (d : Bounded (rawIn mid)) where
-      pub maker-stays : Becomes s w old mid (replaced i (processAs s w (running-as (m .second) (p .link) theirs)) (configIn s w old))
-      maker-stays = stored s w old mid t i (running-as (m .second) (p .link) theirs) (maker-of theirs (b .fits)) c d
+        (c : Changed old mid (raw.onProcesses (λ l. set l i (values.processIn (values.runningOn (m .second) theirs p))) (rawIn old))) (d : Bounded (rawIn mid)) where
+      pub maker-stays : Becomes s w old mid (replaced i (processAs s w (values.runningOn (m .second) theirs p)) (configIn s w old))
+      maker-stays = stored s w old mid t i (values.runningOn (m .second) theirs p) (maker-of theirs (b .fits)) c d
 
       pub as-before : length (rawIn mid .processes) ≡ length (rawIn old .processes)
-      as-before = places-after maker-stays ∙ length-set (configIn s w old .processes) i (processAs s w (running-as (m .second) (p .link) theirs)) ∙ places-in s w old
+      as-before = places-after maker-stays ∙ length-set (configIn s w old .processes) i (processAs s w (values.runningOn (m .second) theirs p)) ∙ places-in s w old
 
-      pub spawned-of : {n : ℕ} → ProcessOf s w n (running-as (m .first) 0 ours)
-      spawned-of = runs-on (t .tables) (m .first) 0 ours tt (f .first) (a .fits)
+      pub spawned-of : {n : ℕ} → ProcessOf s w n (values.newProcess runningKind (m .first) 0 ours)
+      spawned-of = runs-on (t .tables) (values.newProcess runningKind (m .first) 0 ours) refl tt (f .first) (a .fits)
 
-      pub spawns : (new : List ℕ) → Changed mid new (raw.onProcesses (raw.inserted i (values.processIn (running-as (m .first) 0 ours))) (rawIn mid)) → Bounded (rawIn new)
+      pub spawns : (new : List ℕ) → Changed mid new (raw.onProcesses (raw.inserted i (values.processIn (values.newProcess runningKind (m .first) 0 ours))) (rawIn mid)) → Bounded (rawIn new)
           → Carries s w old new (Carried Nothing) (spawned (configIn s w old) i (processAs s w p) (nameAt s (m .name)) (plainIn s w (m .node)) (processIn s w (m .first)) (processIn s w (m .second)) (some k))
       spawns new q z =
           let C = configIn s w old in
@@ -175,8 +179,8 @@ module _ (s w : List ℕ) where
           record {
             is = (
               refl,
-              subst (Becomes s w old new) (λ j. config (calculus.inserted i (process (running (processIn s w (m .first))) (e₁ j) none) (set (C .processes) i (process (running (processIn s w (m .second))) (e₂ j) (linkOf (p .link))))) (C .outside) (C .given))
-                  (then (λ (D : Config). config (calculus.inserted i (processAs s w (running-as (m .first) 0 ours)) (D .processes)) (D .outside) (D .given)) maker-stays (came s w mid new (maker-stays .run) i (running-as (m .first) 0 ours) {n = 0} spawned-of q z)),
+              subst (Becomes s w old new) (λ j. withProcesses (calculus.inserted i (process (running (processIn s w (m .first))) (e₁ j) none) (set (C .processes) i (goesOn (processAs s w p) (processIn s w (m .second)) (e₂ j)))) C)
+                  (then (λ (D : Config). withProcesses (calculus.inserted i (processAs s w (values.newProcess runningKind (m .first) 0 ours)) (D .processes)) D) maker-stays (came s w mid new (maker-stays .run) i (values.newProcess runningKind (m .first) 0 ours) {n = 0} spawned-of q z)),
             );
           }
 

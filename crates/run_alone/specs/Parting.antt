@@ -9,7 +9,7 @@ use lib.ListN.{length, set, getElem?}
 use Rattle.notation.specs.Token.{nameAt}
 use Rattle.notation.specs.Reader.{nameIn}
 use Rattle.calculus.specs.Named.{lookup}
-use Rattle.calculus.specs.Configuration.{End, Process, process, Outside, Config, config, at, replaced, farEnd}
+use Rattle.calculus.specs.Configuration.{End, Outside, Config, withOutside, replaced, goesOn, farEnd}
 use Rattle.calculus.specs.Configuration as calculus
 use Rattle.calculus.specs.Steps.{Outcome, onHeld, seenAt, outsideAfter, parting, cancelling, leaving, foldingUp}
 use Rattle.calculus.specs.declared.answers.Seen.{Seen}
@@ -18,7 +18,7 @@ use Rattle.read_tables.specs.Decode.{processIn}
 use Rattle.read_tables.specs.Program.{plainIn}
 use Rattle.run_words.specs.Lists.{All, removeAt}
 use Rattle.run_words.specs.ListLaws.{all-remove}
-use Rattle.run_words.specs.Raw.{RawEnd, rawIn, linkOf, sideOf, Bounded}
+use Rattle.run_words.specs.Raw.{RawEnd, rawIn, sideOf, Bounded}
 use Rattle.run_words.specs.Values.{Changed, endIn, heldIn, held-length, outsideIn}
 use Rattle.run_words.specs.Values as values
 use Rattle.run_words.specs.Operations as raw
@@ -36,7 +36,7 @@ use Rattle.check_contexts.specs.declared.held.Lookup.the-variants as lookups
 use Rattle.run_alone.specs.declared.outcome.Outcome.the-variants.{Carried, NotOpen}
 use Rattle.run_alone.specs.declared.outcome.Outcome.{Outcome as OutcomeWords}
 use Rattle.run_alone.specs.Run.{configIn, processAs, RunOf, ProcessOf, Becomes, Carries}
-use Rattle.run_alone.specs.Changes.{then, stored, let-go, running-as}
+use Rattle.run_alone.specs.Changes.{then, stored, let-go}
 
 -- an end by value
 abbrev pub endAs : List ℕ → List ℕ → EndWords → End
@@ -44,7 +44,7 @@ endAs s w e = endIs s w (endIn e) .1
 
 -- the outside lets go of a channel, if the far end of e is the outside's
 abbrev pub lettingGo : Config → End → Config
-lettingGo C e = config (C .processes) (outsideAfter (farEnd C e) (e .channel) (C .outside)) (C .given)
+lettingGo C e = withOutside (outsideAfter (farEnd C e) (e .channel) (C .outside)) C
 
 pub record GivesUp (s w old new : List ℕ) (e : EndWords) (r : Seen) : Type 0 where
   pub shows : r ≡ seenAt (farEnd (configIn s w old) (endAs s w e))
@@ -73,7 +73,7 @@ module _ (s w old : List ℕ) (e : EndWords) where
       let a : Silent farOf = silent f (subst (λ (x : Far). FarAs (nameAt s) (plainIn s w) (processIn s w) (rawIn old) x farOf) (sym q) (decoded-far (nameAt s) (plainIn s w) (processIn s w) (rawIn old) (e .channel) (sideOf (e .side)) (plainIn s w (e .node)))) z in
       record {
         shows = sym (a .0);
-        becomes = record { is = sym (ap (λ l. config (configIn s w old .processes) l (configIn s w old .given)) (a .1 (e .channel) (configIn s w old .outside))); run = t; past = refl; long = refl };
+        becomes = record { is = sym (ap (λ l. withOutside l (configIn s w old)) (a .1 (e .channel) (configIn s w old .outside))); run = t; past = refl; long = refl };
       }
 
   pub outside-there-below : (k : ℕ) → raw.farEnd (rawIn old) (e .channel) (sideOf (e .side)) ≡ far.Outside k → k < length (rawIn old .outside)
@@ -85,7 +85,7 @@ module _ (s w old : List ℕ) (e : EndWords) where
       let q : farOf ≡ calculus.atOutside (o .number) = decoded-far-outside (nameAt s) (plainIn s w) (processIn s w) (rawIn old) (e .channel) (sideOf (e .side)) (plainIn s w (e .node)) k f g in
       record {
         shows = sym (ap seenAt q);
-        becomes = subst (Becomes s w old new) (sym (ap (λ F. config (configIn s w old .processes) (outsideAfter F (e .channel) (configIn s w old .outside)) (configIn s w old .given)) q)) (let-go s w old new t (e .channel) c b);
+        becomes = subst (Becomes s w old new) (sym (ap (λ F. withOutside (outsideAfter F (e .channel) (configIn s w old .outside)) (configIn s w old)) q)) (let-go s w old new t (e .channel) c b);
       }
 
 -- ── the rules
@@ -118,10 +118,7 @@ module _ (s w : List ℕ) (h : Held) where
     oldest-held n t = record { many = omega (arith, t .many); each = subst (All (EndIn s w)) (sym q) (all-remove (EndIn s w) 0 (heldIn h) (t .each)) }
 
 -- a process that folds up
-abbrev pub folded : ProcessWords → Held → ProcessWords
-folded p h = record { kind = 1; pointer = p .pointer; link = p .link; held = h }
-
-pub folds : (s w : List ℕ) (p : ProcessWords) (h : Held) {n : ℕ} → ProcessOf s w n p → HeldIn s w h → ProcessOf s w n (folded p h)
+pub folds : (s w : List ℕ) (p : ProcessWords) (h : Held) {n : ℕ} → ProcessOf s w n p → HeldIn s w h → ProcessOf s w n (values.foldingUp h p)
 folds s w p h t u = record { kind = omega arith; pointer = t .pointer; link = t .link; term = λ z. absurd (z refl); held = u }
 
 module _ (s w old new : List ℕ) (i : ℕ) (p : ProcessWords) (r : OutcomeWords) where
@@ -129,7 +126,7 @@ module _ (s w old new : List ℕ) (i : ℕ) (p : ProcessWords) (r : OutcomeWords
   unfolding foldingUp
   folds-empty z c = subst (λ l. Carries s w old new r (foldingUp (configIn s w old) i (processAs s w p) l)) (sym (none-held s w (p .held) z)) c
 
-  pub folds-oldest : (e : EndWords) (h : Held) → getElem? (heldIn (p .held)) 0 ≡ some (endIn e) → heldIn h ≡ removeAt 0 (heldIn (p .held)) → Carries s w old new r (parting (configIn s w old) i (processAs s w (folded p h)) (endAs s w e))
+  pub folds-oldest : (e : EndWords) (h : Held) → getElem? (heldIn (p .held)) 0 ≡ some (endIn e) → heldIn h ≡ removeAt 0 (heldIn (p .held)) → Carries s w old new r (parting (configIn s w old) i (processAs s w (values.foldingUp h p)) (endAs s w e))
       → Carries s w old new r (foldingUp (configIn s w old) i (processAs s w p) (channelsOf s w (p .held)))
   unfolding foldingUp
   folds-oldest e h g q c = subst (λ l. Carries s w old new r (foldingUp (configIn s w old) i (processAs s w p) l)) (sym (oldest s w (p .held) e g h q)) c
@@ -148,10 +145,10 @@ end-found {s} {w} t e u = subst (FoundIn s w) e (t .fits w u)
 
 module _ (s w old new : List ℕ) (i : ℕ) (p : ProcessWords) (c pointer : ℕ) where
   pub cancels : {f : Lookup} {e : EndWords} {h : Held} {r : OutcomeWords} → Sees s (p .held) c f → f ≡ lookups.Found e → Drops s (p .held) c h
-      → Carries s w old new r (parting (configIn s w old) i (processAs s w (running-as pointer (p .link) h)) (endAs s w e))
+      → Carries s w old new r (parting (configIn s w old) i (processAs s w (values.runningOn pointer h p)) (endAs s w e))
       → Carries s w old new r (cancelling (configIn s w old) i (processAs s w p) (nameIn s c) (processIn s w pointer))
   unfolding cancelling
-  cancels {e = e} {r = r} t q d k = held-some t _ q (subst (λ l. Carries s w old new r (parting (configIn s w old) i (process (calculus.running (processIn s w pointer)) l (linkOf (p .link))) (endAs s w e))) (d .is w) k)
+  cancels {e = e} {r = r} t q d k = held-some t _ q (subst (λ l. Carries s w old new r (parting (configIn s w old) i (goesOn (processAs s w p) (processIn s w pointer) l) (endAs s w e))) (d .is w) k)
 
 pub cancels-nothing : (s w old : List ℕ) (i : ℕ) (p : ProcessWords) (c pointer : ℕ) {f : Lookup} → Sees s (p .held) c f → f ≡ lookups.Nothing → Carries s w old old NotOpen (cancelling (configIn s w old) i (processAs s w p) (nameIn s c) (processIn s w pointer))
 unfolding cancelling

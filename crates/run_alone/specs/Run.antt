@@ -6,23 +6,20 @@ use mathlib.Core.Option.{some}
 use lib.ListN.{length, drop}
 use Rattle.notation.specs.Limits.{runWords}
 use Rattle.notation.specs.Token.{nameAt}
-use Rattle.calculus.specs.Configuration.{Doing, Process, process, Config, at}
+use Rattle.calculus.specs.Configuration.{Doing, Process, holding, Config, at}
 use Rattle.calculus.specs.Steps as calculus
 use Rattle.read_tables.specs.Decode.{processIn}
 use Rattle.read_tables.specs.Program.{plainIn}
 use Rattle.read_tables.specs.Roots.{TypeIn, ProcessIn}
 use Rattle.read_tables.specs.Whole.{Tables}
 use Rattle.run_words.specs.Lists.{All}
-use Rattle.run_words.specs.Raw.{RawProcess, RawOutside, linkOf, linksBelow, rawIn, Bounded}
-use Rattle.run_words.specs.Decode.{decodedDoing, decoded}
+use Rattle.run_words.specs.Raw.{RawProcess, RawOutside, linkOf, linksBelow, rawIn, Bounded, pointerLimit, foldingKind}
+use Rattle.run_words.specs.Decode.{decodedDoing, decodedProcess, decoded}
+use Rattle.run_words.specs.Values as values
 use Rattle.run_words.specs.declared.records.Process.{Process as ProcessWords}
 use Rattle.check_contexts.specs.Held.{channelsOf, EndIn, HeldIn}
 use Rattle.run_alone.specs.declared.outcome.Outcome.{Outcome}
 use Rattle.run_alone.specs.declared.outcome.Outcome.the-variants.{Carried, NotOpen, Lacking}
-
--- a pointer has 14 bits, and so has the offset that a node keeps in a pointer's place
-abbrev pub pointerLimit : ℕ
-pointerLimit = 16384
 
 abbrev pub configIn : List ℕ → List ℕ → List ℕ → Config
 configIn s w ws = decoded (nameAt s) (plainIn s w) (processIn s w) (rawIn ws)
@@ -32,11 +29,11 @@ doingAs s w = decodedDoing (nameAt s) (plainIn s w) (processIn s w)
 
 -- a process by value
 abbrev pub processAs : List ℕ → List ℕ → ProcessWords → Process
-processAs s w p = process (doingAs s w (p .kind) (p .pointer)) (channelsOf s w (p .held)) (linkOf (p .link))
+processAs s w p = holding (channelsOf s w (p .held)) (decodedProcess (nameAt s) (plainIn s w) (processIn s w) (values.processIn p))
 
 -- a process whose numbers are those of the text and its tables; one that folds up has no term
 pub record Fits (s w : List ℕ) (p : RawProcess) : Type 0 where
-  pub term : (p .kind ≡ 1 → ⊥) → ProcessIn s w (p .pointer)
+  pub term : (p .kind ≡ foldingKind → ⊥) → ProcessIn s w (p .pointer)
   pub held : All (EndIn s w) (p .held)
 
 -- ws is a run of the text s with the tables w
@@ -52,7 +49,7 @@ pub record ProcessOf (s w : List ℕ) (places : ℕ) (p : ProcessWords) : Type 0
   pub kind : p .kind < 3
   pub pointer : p .pointer < pointerLimit
   pub link : linksBelow places (linkOf (p .link))
-  pub term : (p .kind ≡ 1 → ⊥) → ProcessIn s w (p .pointer)
+  pub term : (p .kind ≡ foldingKind → ⊥) → ProcessIn s w (p .pointer)
   pub held : HeldIn s w (p .held)
 
 -- the process p stands at a place

@@ -1,4 +1,6 @@
 // A call: the channels of its lists under the names of the signature.
+ghost use Rattle.run_words.specs.Raw.{sideRadix};
+ghost use Rattle.notation.specs.Limits.{heldLimit, textLimit, typeTermLimit};
 ghost use mathlib.Core.Path.{_≡_};
 ghost use Prim.Native.Nat.{_+_, _≤_, _<_};
 ghost use Rattle.read_tables.specs.Roots.{TypeIn};
@@ -25,6 +27,9 @@ use run_words::held::no_ends;
 use run_words::processes::store;
 use run_words::records::Held;
 use run_words::records::Process;
+use run_words::shape::PROVIDED;
+use run_words::shape::RUNNING;
+use run_words::shape::USED;
 
 // With the end that h holds under the name at `a`, if it holds one: under the name at `at`, and with the type of a node.
 fn enter_end(
@@ -38,7 +43,7 @@ fn enter_end(
     node: u32,
 ) -> Held
     requires { ⌜ HeldIn (now text) (now scratch) h × HeldIn (now text) (now scratch) r × TypeIn (now text) (now scratch) node ⌝ }
-    requires { ⌜ (r .count < 16) × (at < 8192) × (side < 2) × (node < 512) ⌝ }
+    requires { ⌜ (r .count < heldLimit) × (at < textLimit) × (side < sideRadix) × (node < typeTermLimit) ⌝ }
     ensures { λ q. ⌜ EntersEnd (now (text .entry)) (now (scratch .entry)) h r a at side node q ⌝ }
 {
     let f = find_end(text, h, a);
@@ -49,7 +54,7 @@ fn enter_end(
 }
 
 // With the ends that h holds under the names of the list from `from` on, under those of n signature entries.
-pub fn enter_list(
+fn enter_list(
     text: &[u8],
     scratch: &[u32],
     h: Held,
@@ -61,7 +66,7 @@ pub fn enter_list(
 ) -> Held
     requires { ⌜ Tables (now text) (now scratch) × EntriesIn (now text) (now scratch) first n ⌝ }
     requires { ⌜ HeldIn (now text) (now scratch) h × HeldIn (now text) (now scratch) r ⌝ }
-    requires { ⌜ (r .count + n ≤ 16) × (side < 2) ⌝ }
+    requires { ⌜ (r .count + n ≤ heldLimit) × (side < sideRadix) ⌝ }
     ensures { λ q. ⌜ EntersList (now (text .entry)) (now (scratch .entry)) h r from side first n q ⌝ }
 {
     let mut q = r;
@@ -93,7 +98,7 @@ pub fn enter_list(
 
 // The place past n entries; no sum that could wrap where there are none.
 fn past_entries(first: usize, n: usize) -> usize
-    requires { ⌜ (n ≤ 16) × ((n ≡ 0 → ⊥) → first < 512) ⌝ }
+    requires { ⌜ (n ≤ heldLimit) × ((n ≡ 0 → ⊥) → first < 512) ⌝ }
     ensures { λ r. ⌜ r ≡ first + n ⌝ }
 {
     if n == 0 {
@@ -106,16 +111,16 @@ fn past_entries(first: usize, n: usize) -> usize
 fn enter_call(text: &[u8], scratch: &[u32], h: Held, bracket: usize, d: Declared) -> Held
     requires { ⌜ Tables (now text) (now scratch) × SignatureIn (now text) (now scratch) (asEntry d) ⌝ }
     requires { ⌜ HeldIn (now text) (now scratch) h ⌝ }
-    requires { ⌜ d .provided + d .used ≤ 16 ⌝ }
+    requires { ⌜ d .provided + d .used ≤ heldLimit ⌝ }
     ensures { λ r. ⌜ EntersCall (now (text .entry)) (now (scratch .entry)) h bracket d r ⌝ }
 {
     let from = list_start(text, bracket);
     let none = no_ends();
-    let first = enter_list(text, scratch, h, none, from, 0, d.first, d.provided);
+    let first = enter_list(text, scratch, h, none, from, PROVIDED, d.first, d.provided);
     let middle = list_end(text, from);
     let used = list_start(text, middle);
     let second = past_entries(d.first, d.provided);
-    enter_list(text, scratch, h, first, used, 1, second, d.used)
+    enter_list(text, scratch, h, first, used, USED, second, d.used)
 }
 
 // Call: the process goes on with the body of the process named, and the channels of the lists.
@@ -140,15 +145,10 @@ pub fn call(
     let d = declared_process(scratch, k);
     let h = p.held;
     let held = enter_call(text, scratch, h, bracket, d);
-    store(
-        run,
-        place,
-        Process {
-            kind: 0,
-            pointer: d.body as u32,
-            link: p.link,
-            held,
-        },
-    );
+    let mut q = p;
+    q.kind = RUNNING;
+    q.pointer = d.body as u32;
+    q.held = held;
+    store(run, place, q);
     Outcome::Carried(Seen::Nothing)
 }

@@ -1,20 +1,22 @@
 // Forwarding: the two far ends become one channel.
+ghost use Rattle.notation.specs.Limits.{channelPlaces};
 ghost use mathlib.Core.Path.{_≡_};
 ghost use Prim.Native.Nat.{_<_};
 ghost use lib.ListN.{length};
 ghost use Rattle.notation.specs.Reader.{nameIn};
 ghost use Rattle.calculus.specs.Steps.{joinedTo, forwarding};
-ghost use Rattle.run_words.specs.Raw.{rawIn};
+ghost use Rattle.run_words.specs.Raw.{rawIn, sideRadix};
 ghost use Rattle.run_words.specs.declared.records.Far.the-variants as far;
 ghost use Rattle.run_alone.specs.Run.{configIn, processAs, RunOf, ProcessOf, StandsAt, Becomes, Carries};
 ghost use Rattle.run_alone.specs.Parting.{endAs};
-ghost use Rattle.run_alone.specs.Forwarding.{Empties, farRaw, farOf, movedOver, isGivenUp};
+ghost use Rattle.run_alone.specs.Forwarding.{Empties, farRaw, farOf, movedOver};
 use crate::outcome::Outcome;
 use crate::parting::part;
 use calculus::answers::Seen;
 use check_contexts::held::Lookup;
 use check_contexts::held::find_end;
 use run_words::far::far_end;
+use run_words::far::is_given_up;
 use run_words::held::end_at;
 use run_words::held::no_ends;
 use run_words::held::replaced;
@@ -24,18 +26,17 @@ use run_words::processes::store;
 use run_words::records::End;
 use run_words::records::Far;
 use run_words::records::Process;
+use run_words::shape::FOLDING;
 
 // A process that is left empty.
 fn emptied(p: Process) -> Process
     ensures { λ r. ⌜ Empties p r ⌝ }
 {
     let held = no_ends();
-    Process {
-        kind: 1,
-        pointer: p.pointer,
-        link: p.link,
-        held,
-    }
+    let mut q = p;
+    q.kind = FOLDING;
+    q.held = held;
+    q
 }
 
 // The process q stands at a place; the far end of e, which is at position k of what the process at place j holds, takes the channel of d.
@@ -54,33 +55,19 @@ fn move_far_end(
     requires { ⌜ place < length (rawIn (now run) .processes) ⌝ }
     requires { ⌜ ProcessOf (now text) (now scratch) (length (rawIn (now run) .processes)) q ⌝ }
     requires { ⌜ farRaw (now text) (now scratch) (now run) e ≡ far.Process j k ⌝ }
-    requires { ⌜ d .channel < 512 ⌝ }
+    requires { ⌜ d .channel < channelPlaces ⌝ }
     ensures { λ r. ⌜ Becomes (now (text .entry)) (now (scratch .entry)) (now (run .entry)) (now (run .exit)) (movedOver (configIn (now (text .entry)) (now (scratch .entry)) (now (run .entry))) place (processAs (now (text .entry)) (now (scratch .entry)) q) (endAs (now (text .entry)) (now (scratch .entry)) e) (endAs (now (text .entry)) (now (scratch .entry)) d) (farOf (now (text .entry)) (now (scratch .entry)) (now (run .entry)) e)) ⌝ }
 {
     let r = load(run, j);
     let h = r.held;
     let x = end_at(h, k);
-    let held = replaced(
-        h,
-        k,
-        End {
-            name: x.name,
-            side: x.side,
-            node: x.node,
-            channel: d.channel,
-        },
-    );
+    let mut y = x;
+    y.channel = d.channel;
+    let held = replaced(h, k, y);
+    let mut moved = r;
+    moved.held = held;
     store(run, place, q);
-    store(
-        run,
-        j,
-        Process {
-            kind: r.kind,
-            pointer: r.pointer,
-            link: r.link,
-            held,
-        },
-    );
+    store(run, j, moved);
 }
 
 // The far end of d was not given up: it and the far end of e are one channel, and the process is left empty.
@@ -95,7 +82,7 @@ fn join(
 ) -> Outcome
     requires { ⌜ RunOf (now text) (now scratch) (now run) ⌝ }
     requires { ⌜ StandsAt (now text) (now scratch) (now run) place p ⌝ }
-    requires { ⌜ (e .side < 2) × (d .channel < 512) ⌝ }
+    requires { ⌜ (e .side < sideRadix) × (d .channel < channelPlaces) ⌝ }
     ensures { λ r. ⌜ Carries (now (text .entry)) (now (scratch .entry)) (now (run .entry)) (now (run .exit)) r (joinedTo (configIn (now (text .entry)) (now (scratch .entry)) (now (run .entry))) place (processAs (now (text .entry)) (now (scratch .entry)) p) (endAs (now (text .entry)) (now (scratch .entry)) e) (endAs (now (text .entry)) (now (scratch .entry)) d) (farOf (now (text .entry)) (now (scratch .entry)) (now (run .entry)) e)) ⌝ }
 {
     let q = emptied(p);
@@ -114,17 +101,6 @@ fn join(
             store(run, place, q);
             return Outcome::Carried(Seen::Nothing);
         }
-    }
-}
-
-// Whether a far end was given up.
-pub(crate) fn is_given_up(f: Far) -> bool
-    ensures { λ r. ⌜ r ≡ isGivenUp f ⌝ }
-{
-    match f {
-        Far::Process(j, k) => return false,
-        Far::Outside(k) => return false,
-        Far::GivenUp => return true,
     }
 }
 

@@ -15,18 +15,22 @@ use run_words::places::remove;
 use run_words::processes::load;
 use run_words::processes::store;
 use run_words::records::Process;
+use run_words::shape::FOLDING;
+use run_words::shape::RUNNING;
+use run_words::shape::UNLINKED;
+use run_words::shape::WAITING;
 
 // What a handler does once its process raises, or leaves the list.
 fn handler_kind(kind: u32, raised: bool) -> u32
     ensures { λ r. ⌜ r ≡ handlerKind raised kind ⌝ }
 {
     if raised {
-        if kind == 2 {
-            return 0;
+        if kind == WAITING {
+            return RUNNING;
         }
         return kind;
     }
-    1
+    FOLDING
 }
 
 // The handler of a link, if there is one, starts or folds up.
@@ -35,23 +39,14 @@ fn change_handler(text: &[u8], scratch: &[u32], run: &mut [u32], link: u32, rais
     requires { ⌜ linksBelow (length (rawIn (now run) .processes)) (linkOf link) ⌝ }
     ensures { λ r. ⌜ Becomes (now (text .entry)) (now (scratch .entry)) (now (run .entry)) (now (run .exit)) (withHandler raised (linkOf link) (configIn (now (text .entry)) (now (scratch .entry)) (now (run .entry)))) ⌝ }
 {
-    if link == 0 {
+    if link == UNLINKED {
         return;
     }
     let place = wide(link - 1);
     let h = load(run, place);
-    let held = h.held;
-    let kind = handler_kind(h.kind, raised);
-    store(
-        run,
-        place,
-        Process {
-            kind,
-            pointer: h.pointer,
-            link: h.link,
-            held,
-        },
-    );
+    let mut q = h;
+    q.kind = handler_kind(h.kind, raised);
+    store(run, place, q);
 }
 
 // "An empty process steps by leaving the list. Its handler, if linked, then folds up, keeping its own link."
@@ -81,16 +76,10 @@ pub fn raise(
     ensures { λ r. ⌜ Carries (now (text .entry)) (now (scratch .entry)) (now (run .entry)) (now (run .exit)) r (raising (configIn (now (text .entry)) (now (scratch .entry)) (now (run .entry))) place (processAs (now (text .entry)) (now (scratch .entry)) p) (processIn (now (text .entry)) (now (scratch .entry)) pointer)) ⌝ }
 {
     change_handler(text, scratch, run, p.link, true);
-    let held = p.held;
-    store(
-        run,
-        place,
-        Process {
-            kind: 0,
-            pointer,
-            link: 0,
-            held,
-        },
-    );
+    let mut q = p;
+    q.kind = RUNNING;
+    q.pointer = pointer;
+    q.link = UNLINKED;
+    store(run, place, q);
     Outcome::Carried(Seen::Nothing)
 }

@@ -1,5 +1,4 @@
 // A process comes: try and spawn.
-ghost use mathlib.Core.Path.{_≡_};
 ghost use Prim.Native.Nat.{_<_};
 ghost use mathlib.Core.Option.{some};
 ghost use lib.ListN.{length};
@@ -28,6 +27,9 @@ use run_words::processes::count;
 use run_words::processes::store;
 use run_words::records::Held;
 use run_words::records::Process;
+use run_words::shape::RUNNING;
+use run_words::shape::UNLINKED;
+use run_words::shape::WAITING;
 
 // A spawn: where the new name stands, the node of its type, the pointers of its halves.
 pub struct SpawnTerm {
@@ -75,22 +77,18 @@ pub fn try_both(
         run,
         place,
         Process {
-            kind: 2,
+            kind: WAITING,
             pointer: second,
             link,
             held: theirs,
         },
     );
-    store(
-        run,
-        place,
-        Process {
-            kind: 0,
-            pointer: first,
-            link: (place + 2) as u32,
-            held: ours,
-        },
-    );
+    let mut q = p;
+    q.kind = RUNNING;
+    q.pointer = first;
+    q.link = (place + 2) as u32;
+    q.held = ours;
+    store(run, place, q);
     Outcome::Carried(Seen::Nothing)
 }
 
@@ -106,7 +104,7 @@ fn spawn_half(
     requires { ⌜ Tables (now text) (now scratch) ⌝ }
     requires { ⌜ HeldIn (now text) (now scratch) h ⌝ }
     requires { ⌜ SpawnIn (now text) (now scratch) m h ⌝ }
-    requires { ⌜ channel < 512 ⌝ }
+    requires { ⌜ channel < channelPlaces ⌝ }
     ensures { λ r. ⌜ SpawnHalf (now (text .entry)) (now (scratch .entry)) h m first channel r ⌝ }
 {
     let half = Half::OfSpawn(m.name as usize, m.first as usize);
@@ -133,17 +131,16 @@ fn spawn_on(
 {
     let h = p.held;
     let made = Process {
-        kind: 0,
+        kind: RUNNING,
         pointer: m.first,
-        link: 0,
+        link: UNLINKED,
         held: spawn_half(text, scratch, h, m, true, channel),
     };
-    let maker = Process {
-        kind: 0,
-        pointer: m.second,
-        link: p.link,
-        held: spawn_half(text, scratch, h, m, false, channel),
-    };
+    let theirs = spawn_half(text, scratch, h, m, false, channel);
+    let mut maker = p;
+    maker.kind = RUNNING;
+    maker.pointer = m.second;
+    maker.held = theirs;
     store(run, place, maker);
     insert(run, place, made);
     Outcome::Carried(Seen::Nothing)

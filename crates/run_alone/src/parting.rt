@@ -5,7 +5,7 @@ ghost use Rattle.notation.specs.Reader.{nameIn};
 ghost use Rattle.calculus.specs.Steps.{parting, foldingUp, cancelling};
 ghost use Rattle.read_tables.specs.Decode.{processIn};
 ghost use Rattle.read_tables.specs.Roots.{ProcessIn};
-ghost use Rattle.run_words.specs.Raw.{rawIn};
+ghost use Rattle.run_words.specs.Raw.{rawIn, sideRadix};
 ghost use Rattle.run_words.specs.Bounds.{Unlinked};
 ghost use Rattle.check_contexts.specs.Held.{channelsOf};
 ghost use Rattle.run_alone.specs.Run.{configIn, processAs, RunOf, ProcessOf, StandsAt, Carries};
@@ -25,11 +25,13 @@ use run_words::processes::store;
 use run_words::records::End;
 use run_words::records::Far;
 use run_words::records::Process;
+use run_words::shape::FOLDING;
+use run_words::shape::RUNNING;
 
 // The outside lets go of the channel of an end that is given up, if the far end is the outside's; what that shows.
 fn give_up(text: &[u8], scratch: &[u32], run: &mut [u32], e: End) -> Seen
     requires { ⌜ RunOf (now text) (now scratch) (now run) ⌝ }
-    requires { ⌜ e .side < 2 ⌝ }
+    requires { ⌜ e .side < sideRadix ⌝ }
     ensures { λ r. ⌜ GivesUp (now (text .entry)) (now (scratch .entry)) (now (run .entry)) (now (run .exit)) e r ⌝ }
 {
     let f = far_end(run, e.channel, e.side);
@@ -56,7 +58,7 @@ pub fn part(
     requires { ⌜ RunOf (now text) (now scratch) (now run) ⌝ }
     requires { ⌜ place < length (rawIn (now run) .processes) ⌝ }
     requires { ⌜ ProcessOf (now text) (now scratch) (length (rawIn (now run) .processes)) p ⌝ }
-    requires { ⌜ e .side < 2 ⌝ }
+    requires { ⌜ e .side < sideRadix ⌝ }
     ensures { λ r. ⌜ Carries (now (text .entry)) (now (scratch .entry)) (now (run .entry)) (now (run .exit)) r (parting (configIn (now (text .entry)) (now (scratch .entry)) (now (run .entry))) place (processAs (now (text .entry)) (now (scratch .entry)) p) (endAs (now (text .entry)) (now (scratch .entry)) e)) ⌝ }
 {
     let seen = give_up(text, scratch, run, e);
@@ -77,19 +79,10 @@ pub fn fold_up(text: &[u8], scratch: &[u32], run: &mut [u32], place: usize, p: P
     }
     let e = end_at(h, 0);
     let held = without(h, 0);
-    part(
-        text,
-        scratch,
-        run,
-        place,
-        Process {
-            kind: 1,
-            pointer: p.pointer,
-            link: p.link,
-            held,
-        },
-        e,
-    )
+    let mut q = p;
+    q.kind = FOLDING;
+    q.held = held;
+    part(text, scratch, run, place, q, e)
 }
 
 // Cancel: the process gives up the channel c and goes on with the term at a pointer.
@@ -113,17 +106,9 @@ pub fn cancel(
         return Outcome::NotOpen;
     };
     let held = drop_end(text, h, c);
-    part(
-        text,
-        scratch,
-        run,
-        place,
-        Process {
-            kind: 0,
-            pointer,
-            link: p.link,
-            held,
-        },
-        e,
-    )
+    let mut q = p;
+    q.kind = RUNNING;
+    q.pointer = pointer;
+    q.held = held;
+    part(text, scratch, run, place, q, e)
 }

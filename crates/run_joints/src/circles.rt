@@ -5,10 +5,10 @@ ghost use mathlib.Core.List.{[], _∷_};
 ghost use mathlib.Core.Bool.{cond};
 ghost use lib.Dec.{eqb};
 ghost use lib.ListN.{length, getD};
-ghost use Rattle.notation.specs.Limits.{runWords};
+ghost use Rattle.notation.specs.Limits.{runWords, heldLimit, processPlaces};
 ghost use Rattle.calculus.specs.Forest.{linkJoint};
 ghost use Rattle.theory_decision.specs.Circles.{relabelled};
-ghost use Rattle.run_words.specs.Raw.{rawIn, linkOf, Bounded};
+ghost use Rattle.run_words.specs.Raw.{rawIn, linkOf, Bounded, sideRadix};
 ghost use Rattle.run_words.specs.Values.{Moved, endIn, heldIn, processIn};
 ghost use Rattle.run_joints.specs.Answers.{Answers};
 ghost use Rattle.run_joints.specs.Circles.{endJoint, heldJoints, processJoints, jointsFrom, circleFree, Labelled, Joined};
@@ -22,12 +22,15 @@ use run_words::records::End;
 use run_words::records::Far;
 use run_words::records::Held;
 use run_words::records::Process;
+use run_words::shape::PROVIDED;
+use run_words::shape::UNLINKED;
+use run_words::shape::USED;
 
 // Each place has its own label.
-fn own_labels() -> [u32; 128]
+fn own_labels() -> [u32; Script::PROCESS_PLACES]
     ensures { λ r. ⌜ Labelled r (λ x. x) ⌝ }
 {
-    let mut labels = [0u32; 128];
+    let mut labels = [0u32; Script::PROCESS_PLACES];
     let mut k: usize = 0;
     while k < Script::PROCESS_PLACES {
         labels[k] = k as u32;
@@ -44,8 +47,8 @@ fn renamed(label: u32, a: u32, b: u32) -> u32
 }
 
 // The label b becomes a.
-fn relabel(labels: &mut [u32; 128], a: u32, b: u32)
-    ensures { λ r. ⌜ (length (now (labels .entry)) ≡ 128 → Moved (now (labels .entry)) (now (labels .exit)) 0 128 (relabelled a b (λ x. getD (now (labels .entry)) x 0))) ⌝ }
+fn relabel(labels: &mut [u32; Script::PROCESS_PLACES], a: u32, b: u32)
+    ensures { λ r. ⌜ (length (now (labels .entry)) ≡ processPlaces → Moved (now (labels .entry)) (now (labels .exit)) 0 processPlaces (relabelled a b (λ x. getD (now (labels .entry)) x 0))) ⌝ }
 {
     let mut k: usize = 0;
     while k < Script::PROCESS_PLACES {
@@ -56,8 +59,8 @@ fn relabel(labels: &mut [u32; 128], a: u32, b: u32)
 }
 
 // Joins two places: whether they had two labels.
-fn join(labels: &mut [u32; 128], i: usize, j: usize) -> bool
-    requires { ⌜ (i < 128) × (j < 128) ⌝ }
+fn join(labels: &mut [u32; Script::PROCESS_PLACES], i: usize, j: usize) -> bool
+    requires { ⌜ (i < processPlaces) × (j < processPlaces) ⌝ }
     ensures { λ r. ⌜ Joined (now (labels .entry)) (now (labels .exit)) ((i, j) ∷ []) r ⌝ }
 {
     let a = labels[i];
@@ -70,16 +73,16 @@ fn join(labels: &mut [u32; 128], i: usize, j: usize) -> bool
 }
 
 // Joins a place to the far end of an end that it holds, if it provides it to a process.
-fn join_end(labels: &mut [u32; 128], run: &[u32], i: usize, e: End) -> bool
+fn join_end(labels: &mut [u32; Script::PROCESS_PLACES], run: &[u32], i: usize, e: End) -> bool
     requires { ⌜ runWords ≤ length (now run) ⌝ }
     requires { ⌜ Bounded (rawIn (now run)) ⌝ }
-    requires { ⌜ (i < 128) × (e .side < 2) ⌝ }
+    requires { ⌜ (i < processPlaces) × (e .side < sideRadix) ⌝ }
     ensures { λ r. ⌜ Joined (now (labels .entry)) (now (labels .exit)) (endJoint (rawIn (now (run .entry))) i (endIn e)) r ⌝ }
 {
-    if e.side == 1 {
+    if e.side == USED {
         return true;
     }
-    let f = far_end(run, e.channel, 0);
+    let f = far_end(run, e.channel, PROVIDED);
     match f {
         Far::Process(j, _) => join(labels, i, j),
         Far::Outside(_) => true,
@@ -88,10 +91,10 @@ fn join_end(labels: &mut [u32; 128], run: &[u32], i: usize, e: End) -> bool
 }
 
 // Joins a place by what it holds.
-fn join_held(labels: &mut [u32; 128], run: &[u32], i: usize, h: Held) -> bool
+fn join_held(labels: &mut [u32; Script::PROCESS_PLACES], run: &[u32], i: usize, h: Held) -> bool
     requires { ⌜ runWords ≤ length (now run) ⌝ }
     requires { ⌜ Bounded (rawIn (now run)) ⌝ }
-    requires { ⌜ (i < 128) × (h .count ≤ 16) ⌝ }
+    requires { ⌜ (i < processPlaces) × (h .count ≤ heldLimit) ⌝ }
     ensures { λ r. ⌜ Joined (now (labels .entry)) (now (labels .exit)) (heldJoints (rawIn (now (run .entry))) i (heldIn h)) r ⌝ }
 {
     let n = h.count;
@@ -107,21 +110,26 @@ fn join_held(labels: &mut [u32; 128], run: &[u32], i: usize, h: Held) -> bool
 }
 
 // Joins a place by its link.
-fn join_link(labels: &mut [u32; 128], i: usize, link: u32) -> bool
-    requires { ⌜ (i < 128) × (link ≤ 128) ⌝ }
+fn join_link(labels: &mut [u32; Script::PROCESS_PLACES], i: usize, link: u32) -> bool
+    requires { ⌜ (i < processPlaces) × (link ≤ processPlaces) ⌝ }
     ensures { λ r. ⌜ Joined (now (labels .entry)) (now (labels .exit)) (linkJoint i (linkOf link)) r ⌝ }
 {
-    if link == 0 {
+    if link == UNLINKED {
         return true;
     }
     join(labels, i, wide(link) - 1)
 }
 
 // Joins a place by what its process holds, then by its link.
-fn join_process(labels: &mut [u32; 128], run: &[u32], i: usize, p: Process) -> bool
+fn join_process(
+    labels: &mut [u32; Script::PROCESS_PLACES],
+    run: &[u32],
+    i: usize,
+    p: Process,
+) -> bool
     requires { ⌜ runWords ≤ length (now run) ⌝ }
     requires { ⌜ Bounded (rawIn (now run)) ⌝ }
-    requires { ⌜ (i < 128) × (p .link ≤ 128) × (p .held .count ≤ 16) ⌝ }
+    requires { ⌜ (i < processPlaces) × (p .link ≤ processPlaces) × (p .held .count ≤ heldLimit) ⌝ }
     ensures { λ r. ⌜ Joined (now (labels .entry)) (now (labels .exit)) (processJoints (rawIn (now (run .entry))) i (processIn p)) r ⌝ }
 {
     let h = p.held;
@@ -132,7 +140,7 @@ fn join_process(labels: &mut [u32; 128], run: &[u32], i: usize, p: Process) -> b
 }
 
 // Joins the places, each by its process.
-fn join_all(labels: &mut [u32; 128], run: &[u32]) -> bool
+fn join_all(labels: &mut [u32; Script::PROCESS_PLACES], run: &[u32]) -> bool
     requires { ⌜ runWords ≤ length (now run) ⌝ }
     requires { ⌜ Bounded (rawIn (now run)) ⌝ }
     ensures { λ r. ⌜ Joined (now (labels .entry)) (now (labels .exit)) (jointsFrom (rawIn (now (run .entry))) 0 (rawIn (now (run .entry)) .processes)) r ⌝ }
@@ -150,7 +158,7 @@ fn join_all(labels: &mut [u32; 128], run: &[u32]) -> bool
 }
 
 // Whether the joints form a forest.
-pub fn forest(run: &[u32]) -> bool
+pub(crate) fn forest(run: &[u32]) -> bool
     requires { ⌜ runWords ≤ length (now run) ⌝ }
     requires { ⌜ Bounded (rawIn (now run)) ⌝ }
     ensures { λ r. ⌜ Answers r circleFree (rawIn (now (run .entry))) ⌝ }

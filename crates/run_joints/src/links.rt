@@ -2,7 +2,7 @@
 ghost use mathlib.Core.Path.{_≡_};
 ghost use Prim.Native.Nat.{_≤_, _<_};
 ghost use lib.ListN.{length};
-ghost use Rattle.notation.specs.Limits.{runWords};
+ghost use Rattle.notation.specs.Limits.{runWords, processPlaces};
 ghost use Rattle.calculus.specs.Named.{all, any};
 ghost use Rattle.theory_decision.specs.Links.{linksLead, handlersLinked, linkedOnce, linksApart};
 ghost use Rattle.run_words.specs.Raw.{RawProcess, rawIn, linkOf, Bounded};
@@ -12,6 +12,8 @@ ghost use Rattle.run_joints.specs.Links.{leads, linksTo, linkedIfWaiting
 use notation::words::wide;
 use run_words::processes::count;
 use run_words::processes::load;
+use run_words::shape::UNLINKED;
+use run_words::shape::WAITING;
 
 // Whether a link, if it is one, leads to a waiting handler.
 fn link_leads(run: &[u32], link: u32) -> bool
@@ -20,15 +22,15 @@ fn link_leads(run: &[u32], link: u32) -> bool
     requires { ⌜ link ≤ length (rawIn (now run) .processes) ⌝ }
     ensures { λ r. ⌜ leads (rawIn (now (run .entry)) .processes) (linkOf link) ≡ r ⌝ }
 {
-    if link == 0 {
+    if link == UNLINKED {
         return true;
     }
     let p = load(run, wide(link) - 1);
-    p.kind == 2
+    p.kind == WAITING
 }
 
 // Whether every link leads to a waiting handler.
-pub fn links_lead(run: &[u32]) -> bool
+pub(crate) fn links_lead(run: &[u32]) -> bool
     requires { ⌜ runWords ≤ length (now run) ⌝ }
     requires { ⌜ Bounded (rawIn (now run)) ⌝ }
     ensures { λ r. ⌜ Answers r linksLead (rawIn (now (run .entry))) ⌝ }
@@ -49,7 +51,7 @@ pub fn links_lead(run: &[u32]) -> bool
 fn linked_before(run: &[u32], h: usize, n: usize) -> bool
     requires { ⌜ runWords ≤ length (now run) ⌝ }
     requires { ⌜ Bounded (rawIn (now run)) ⌝ }
-    requires { ⌜ (h < 128) × (n ≤ length (rawIn (now run) .processes)) ⌝ }
+    requires { ⌜ (h < processPlaces) × (n ≤ length (rawIn (now run) .processes)) ⌝ }
     ensures { λ r. ⌜ any (linksTo h) (before n (rawIn (now (run .entry)) .processes)) ≡ r ⌝ }
 {
     let mut i = n;
@@ -67,10 +69,10 @@ fn linked_before(run: &[u32], h: usize, n: usize) -> bool
 fn handler_linked(run: &[u32], i: usize, kind: u32) -> bool
     requires { ⌜ runWords ≤ length (now run) ⌝ }
     requires { ⌜ Bounded (rawIn (now run)) ⌝ }
-    requires { ⌜ (i < 128) × (kind < 3) ⌝ }
+    requires { ⌜ (i < processPlaces) × (kind < 3) ⌝ }
     ensures { λ r. ⌜ linkedIfWaiting (rawIn (now (run .entry)) .processes) i kind ≡ r ⌝ }
 {
-    if kind != 2 {
+    if kind != WAITING {
         return true;
     }
     let n = count(run);
@@ -78,7 +80,7 @@ fn handler_linked(run: &[u32], i: usize, kind: u32) -> bool
 }
 
 // Whether every waiting handler is linked.
-pub fn handlers_linked(run: &[u32]) -> bool
+pub(crate) fn handlers_linked(run: &[u32]) -> bool
     requires { ⌜ runWords ≤ length (now run) ⌝ }
     requires { ⌜ Bounded (rawIn (now run)) ⌝ }
     ensures { λ r. ⌜ Answers r handlersLinked (rawIn (now (run .entry))) ⌝ }
@@ -99,17 +101,17 @@ pub fn handlers_linked(run: &[u32]) -> bool
 fn link_new(run: &[u32], link: u32, n: usize) -> bool
     requires { ⌜ runWords ≤ length (now run) ⌝ }
     requires { ⌜ Bounded (rawIn (now run)) ⌝ }
-    requires { ⌜ (link ≤ 128) × (n ≤ length (rawIn (now run) .processes)) ⌝ }
+    requires { ⌜ (link ≤ processPlaces) × (n ≤ length (rawIn (now run) .processes)) ⌝ }
     ensures { λ r. ⌜ all (λ (q : RawProcess). linksApart (linkOf link) (q .link)) (before n (rawIn (now (run .entry)) .processes)) ≡ r ⌝ }
 {
-    if link == 0 {
+    if link == UNLINKED {
         return true;
     }
     !linked_before(run, wide(link) - 1, n)
 }
 
 // Whether no two processes have one link.
-pub fn linked_once(run: &[u32]) -> bool
+pub(crate) fn linked_once(run: &[u32]) -> bool
     requires { ⌜ runWords ≤ length (now run) ⌝ }
     requires { ⌜ Bounded (rawIn (now run)) ⌝ }
     ensures { λ r. ⌜ Answers r linkedOnce (rawIn (now (run .entry))) ⌝ }

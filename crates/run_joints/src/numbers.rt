@@ -10,7 +10,7 @@ use run_words::outside::outside_at;
 use run_words::outside::outside_count;
 
 // Whether each number is below the next.
-pub fn numbers_rise(run: &[u32]) -> bool
+pub(crate) fn numbers_rise(run: &[u32]) -> bool
     requires { ⌜ runWords ≤ length (now run) ⌝ }
     requires { ⌜ Bounded (rawIn (now run)) ⌝ }
     ensures { λ r. ⌜ Answers r numbersRise (rawIn (now (run .entry))) ⌝ }
@@ -30,7 +30,7 @@ pub fn numbers_rise(run: &[u32]) -> bool
 }
 
 // Whether each number was given.
-pub fn numbers_given(run: &[u32]) -> bool
+pub(crate) fn numbers_given(run: &[u32]) -> bool
     requires { ⌜ runWords ≤ length (now run) ⌝ }
     requires { ⌜ Bounded (rawIn (now run)) ⌝ }
     ensures { λ r. ⌜ Answers r numbersGiven (rawIn (now (run .entry))) ⌝ }

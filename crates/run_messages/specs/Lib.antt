@@ -1,6 +1,7 @@
+pub mod Kinds
 pub mod Messages
-pub mod Receiving
 pub mod Sending
 pub mod Meeting
-pub mod Answering
+pub mod Outward
+pub mod Receiving
 pub mod Room

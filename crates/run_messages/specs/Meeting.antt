@@ -1,85 +1,222 @@
--- "A matching send and recv on one channel step together": what the node that receives comes to.
-use Prim.Native.Nat.{ℕ, zero, suc, _+_, _≤_}
-use mathlib.Core.Path.{_≡_, refl, sym, _∙_, ap, subst}
-use mathlib.Core.List.{List}
-use mathlib.Core.Bool.{Bool, true, false, cond}
-use native.Mathlib.Omega.{arith}
-use Rattle.notation.specs.Bytes.{same}
-use Rattle.notation.specs.Token.{nameAt}
-use Rattle.notation.specs.Reader.{nameIn}
-use Rattle.notation.specs.declared.reading.TermNode.{TermNode}
+-- "A matching send and recv on one channel step together": a process that receives, and what its sender's message does to it.
+use Prim.Native.Nat.{_+_, _-_, _<_, _≤_, suc, zero, ℕ}
+use Rattle.calculus.specs.Configuration.{Config, End, Holder, Process, end, goesOn, replaced}
 use Rattle.calculus.specs.Named.{lookup}
 use Rattle.calculus.specs.Program.{Program}
-use Rattle.calculus.specs.Configuration.{End, Process, process, running, Config, Holder}
-use Rattle.calculus.specs.Configuration as calculus
-use Rattle.calculus.specs.Steps.{Outcome, notOpen, Message, onClose, onChannel, onLabel, Turn, sends, receives, alone, turnOf, bothTo, meeting, sending, send, answering, afterReceive, afterMessage, passedEnd, takesClose, takesChannel, takesLabel}
+use Rattle.calculus.specs.Steps.{Message, Outcome, Turn, afterReceive, alone, bothTo, bound, branchOf, meeting, notOpen, onChannel, onClose, onLabel, onward, passedEnd, passedType, receives, sending, sends, takesChannel, takesClose, takesLabel, turnOf}
+use Rattle.calculus.specs.Types.{passing, standing}
+use Rattle.calculus.specs.declared.answers.Seen.the-variants.{Nothing}
+use Rattle.check_contexts.specs.Halves.{append-nil}
+use Rattle.check_contexts.specs.Held.{Brings, Drops, EndIn, FoundIn, HeldIn, Sees, channelsOf, endFound}
+use Rattle.check_contexts.specs.declared.held.Lookup.{Lookup}
+use Rattle.notation.specs.Bytes.{same}
+use Rattle.notation.specs.Reader.{labelIn, nameIn}
+use Rattle.notation.specs.Tables.{Area}
+use Rattle.notation.specs.Token.{nameAt}
+use Rattle.notation.specs.Tree.{Name, Proc}
+use Rattle.notation.specs.declared.reading.Found.{Found}
+use Rattle.notation.specs.declared.reading.TermNode.{TermNode}
+use Rattle.read_tables.specs.Access.{BranchOf, branch-there}
 use Rattle.read_tables.specs.Decode.{processIn}
 use Rattle.read_tables.specs.Program.{plainIn, programIn}
-use Rattle.read_tables.specs.Roots.{branchesIn}
-use Rattle.run_words.specs.Raw.{rawIn, linkOf}
-use Rattle.run_words.specs.DecodeLaws.{FarAs, givenUp}
+use Rattle.read_tables.specs.Roots.{BranchesIn, FirstBranch, ProcessIn, branchesIn}
+use Rattle.read_tables.specs.Search.{placeOf}
+use Rattle.read_tables.specs.Whole.{Tables}
+use Rattle.read_tables.specs.declared.access.Labelled.{Labelled}
+use Rattle.run_messages.specs.Kinds.{recvChannelKind, recvLabelKind, recvOver, recvUnitKind, sendChannelKind, sendLabelKind, sendUnitKind}
+use Rattle.run_alone.specs.Changes.{places-after, places-in, stored, then}
+use Rattle.run_alone.specs.Forwarding.{farOf}
+use Rattle.run_alone.specs.Parting.{endAs}
+use Rattle.run_alone.specs.Run.{Becomes, Carries, ProcessOf, RunOf, StandsAt, configIn, doingAs, processAs}
+use Rattle.run_alone.specs.declared.outcome.Outcome.the-variants.{NotOpen}
+use Rattle.run_alone.specs.declared.outcome.Outcome.{Outcome as OutcomeWords}
+use Rattle.run_messages.specs.Messages.{Heard, MovesOn, SendNode, TypeAfter, heard, message, messageBy, partsBy, turnBy}
+use Rattle.run_messages.specs.declared.messages.Receiver.{Receiver}
+use Rattle.run_messages.specs.declared.messages.Sending.{Sending}
+use Rattle.run_words.specs.DecodeLaws.{atProcess}
+use Rattle.run_words.specs.Raw.{Bounded, rawIn, sideOf}
+use Rattle.run_words.specs.Values.{Changed, endIn}
 use Rattle.run_words.specs.declared.records.End.{End as EndWords}
 use Rattle.run_words.specs.declared.records.Held.{Held}
 use Rattle.run_words.specs.declared.records.Process.{Process as ProcessWords}
-use Rattle.run_words.specs.declared.records.Far.the-variants as far
-use Rattle.check_contexts.specs.Held.{endFound, Sees}
-use Rattle.check_contexts.specs.declared.held.Lookup.{Lookup}
+use lib.ListN.{length, length-set, set}
+use mathlib.Core.Bool.{Bool, cond, false, true}
+use mathlib.Core.List.{List, [], _++_, _∷_}
+use mathlib.Core.Option.{Option, Option·map, some}
+use mathlib.Core.Path.{_∙_, _≡_, ap, refl, subst, sym}
+use native.Mathlib.Omega.{arith}
+use Rattle.calculus.specs.Configuration as calculus
 use Rattle.check_contexts.specs.declared.held.Lookup.the-variants as lookups
-use Rattle.run_alone.specs.declared.outcome.Outcome.{Outcome as OutcomeWords}
-use Rattle.run_alone.specs.declared.outcome.Outcome.the-variants.{NotOpen}
-use Rattle.run_messages.specs.declared.messages.Sending.{Sending}
-use Rattle.run_messages.specs.declared.messages.Receiver.{Receiver}
-use Rattle.run_alone.specs.Run.{configIn, doingAs, processAs, Carries}
-use Rattle.run_alone.specs.Changes.{running-as}
-use Rattle.run_alone.specs.Parting.{endAs, held-none, held-some}
-use Rattle.run_alone.specs.Forwarding.{farRaw, farOf, far-as}
-use Rattle.run_messages.specs.Messages.{message, messageBy, SendNode, TypeAfter, SentHeld, turnBy, heard, Heard}
-use Rattle.run_messages.specs.Sending.{unheardBy, outBy}
-use Rattle.run_messages.specs.Receiving.{bothBy}
+use Rattle.notation.specs.declared.reading.Found.the-variants as found
+use Rattle.run_words.specs.Operations as raw
+use Rattle.run_words.specs.Values as values
+use Rattle.run_messages.specs.Sending.{sendingBy}
+
+-- a process that receives stands at its place, and the numbers of its term are those of the text
+pub record ReceiverIn (s w ws : List ℕ) (to : Receiver) : Type 0 where
+  pub stands : StandsAt s w ws (to .place) (to .process)
+  pub parts : partsBy s w (to .term) (to .term .kind)
+
+pub parts-at : {s w ws : List ℕ} {to : Receiver} → ReceiverIn s w ws to → {k : ℕ} → to .term .kind ≡ k → partsBy s w (to .term) k
+parts-at {s} {w} {to = to} r e = subst (partsBy s w (to .term)) e (r .parts)
+
+-- ── two processes change
+abbrev pub bothSet : Config → ℕ → Process → ℕ → Process → Config
+bothSet C i P j Q = replaced j Q (replaced i P C)
+
+module _ (s w old mid : List ℕ) (t : RunOf s w old) (i j : ℕ) (q r : ProcessWords) (o : ProcessOf s w (length (rawIn old .processes)) q) (u : ProcessOf s w (length (rawIn old .processes)) r)
+    (c : Changed old mid (raw.onProcesses (λ l. set l i (values.processIn q)) (rawIn old))) (b : Bounded (rawIn mid)) where
+  pub first-set : Becomes s w old mid (replaced i (processAs s w q) (configIn s w old))
+  first-set = stored s w old mid t i q o c b
+
+  pub first-many : length (rawIn mid .processes) ≡ length (rawIn old .processes)
+  first-many = places-after first-set ∙ length-set (configIn s w old .processes) i (processAs s w q) ∙ places-in s w old
+
+  pub second-of : ProcessOf s w (length (rawIn mid .processes)) r
+  second-of = subst (λ n. ProcessOf s w n r) (sym first-many) u
+
+  pub both-set : (new : List ℕ) → Changed mid new (raw.onProcesses (λ l. set l j (values.processIn r)) (rawIn mid)) → Bounded (rawIn new) → Becomes s w old new (bothSet (configIn s w old) i (processAs s w q) j (processAs s w r))
+  both-set new d k = then (replaced j (processAs s w r)) first-set (stored s w mid new (first-set .run) j r second-of d k)
+
+-- ── with the end that was passed, if it was found and the receiver's own was
+pub record BringsOver (s w : List ℕ) (h : Held) (own passed : Lookup) (at : ℕ) (r : Held) : Type 0 where
+  pub is : channelsOf s w r ≡ channelsOf s w h ++ bound (programIn s w) (nameAt s at) (endFound s w own) (endFound s w passed)
+  pub fits : HeldIn s w r
+
+module _ (s w : List ℕ) (h : Held) (t : HeldIn s w h) (own passed : Lookup) (at : ℕ) where
+  brings-none : bound (programIn s w) (nameAt s at) (endFound s w own) (endFound s w passed) ≡ [] → BringsOver s w h own passed at h
+  brings-none e = record { is = sym (ap (λ l. channelsOf s w h ++ l) e ∙ append-nil (channelsOf s w h)); fits = t }
+
+  pub brings-unheld : own ≡ lookups.Nothing → BringsOver s w h own passed at h
+  brings-unheld e = brings-none (ap (λ (f : Lookup). bound (programIn s w) (nameAt s at) (endFound s w f) (endFound s w passed)) e)
+
+  module _ {e : EndWords} (z : own ≡ lookups.Found e) where
+    pub brings-nothing : passed ≡ lookups.Nothing → BringsOver s w h own passed at h
+    brings-nothing y = brings-none λ j. bound (programIn s w) (nameAt s at) (endFound s w (z j)) (endFound s w (y j))
+
+    pub brings-over : {d : EndWords} {node : ℕ} {r : Held} → passed ≡ lookups.Found d → TypeAfter s w (passedType (plainIn s w (d .node)) (passing (standing (programIn s w .types) (plainIn s w (e .node))))) node → Brings h at (d .side) node (d .channel) r
+        → BringsOver s w h own passed at r
+    brings-over {d} y u b = record {
+      is = b .is s w ∙ ap (λ A. channelsOf s w h ++ ((nameAt s at, end (sideOf (d .side)) (d .channel) A) ∷ [])) (u .is)
+          ∙ sym λ j. channelsOf s w h ++ bound (programIn s w) (nameAt s at) (endFound s w (z j)) (endFound s w (y j));
+      fits = b .fits s w (u .type) t;
+    }
+
+pub found-in : {s w : List ℕ} {f : Lookup} {d : EndWords} → f ≡ lookups.Found d → FoundIn s w f → EndIn s w (endIn d) × (d .side < 2)
+found-in {s} {w} e o = subst (FoundIn s w) e o
+
+-- ── the branch of a label: a search that has come to n branches before the place e
+pub record BranchIs (s w : List ℕ) (at e n : ℕ) (r : Found) : Type 0 where
+  pub is : branchOf (nameAt s (at + 1)) (branchesIn s w e n) ≡ Option·map (λ x. processIn s w x) (placeOf r)
+  pub process : (x : ℕ) → r ≡ found.At x → ProcessIn s w x
+
+abbrev processThere : List ℕ → List ℕ → Found → Type 0
+processThere s w (found.At x) = ProcessIn s w x
+processThere s w found.Nothing = Unit
+
+module _ (s w : List ℕ) (at e₀ n₀ : ℕ) where
+  abbrev reached : ℕ → ℕ → Option Proc
+  reached e n = branchOf (nameAt s (at + 1)) (branchesIn s w e n)
+
+  pub record Searching (e n : ℕ) : Type 0 where
+    pub owner : ℕ
+    pub there : BranchesIn s w owner e n
+    pub rest : reached e₀ n₀ ≡ reached e n
+
+  pub search-start : (p : ℕ) → BranchesIn s w p e₀ n₀ → Searching e₀ n₀
+  search-start p b = record { owner = p; there = b; rest = refl }
+
+  module _ (e n : ℕ) (l : Searching e n) (h : n ≡ 0 → ⊥) where
+    more : n ≡ suc (n - 1)
+    more = omega (arith, h)
+
+    still : BranchesIn s w (l .owner) e (suc (n - 1))
+    still = subst (BranchesIn s w (l .owner) e) more (l .there)
+
+    pub search-there : Tables s w → Area w × (1 ≤ e) × (e ≤ 1640)
+    search-there t = let (a, b) = branch-there s w t (l .owner) e (n - 1) still in (t .area, a, b)
+
+    module _ (a : Labelled) (o : BranchOf w e a) {b : Bool} (t : b ≡ same (nameAt s (at + 1)) (nameAt s (a .at + 1))) where
+      begins : FirstBranch s w (l .owner) e (n - 1) (a .at) (a .number)
+      begins = o .says s (l .owner) (n - 1) still
+
+      tested : (q : Bool) → b ≡ q → reached e₀ n₀ ≡ cond q (some (processIn s w (a .number))) (reached (e - 1) (n - 1))
+      tested q y =
+          l .rest ∙ ap (reached e) more ∙ ap (branchOf (nameAt s (at + 1))) (begins .is) ∙ ap (λ p. cond p (some (processIn s w (a .number))) (reached (e - 1) (n - 1))) (sym t ∙ y)
+
+      pub search-found : b ≡ true → BranchIs s w at e₀ n₀ (found.At (a .number))
+      search-found y = record { is = tested true y; process = λ x q. subst (processThere s w) q (begins .process) }
+
+      pub search-on : b ≡ false → Searching (e - 1) (n - 1)
+      search-on y = record { owner = l .owner; there = begins .rest; rest = tested false y }
+
+  pub search-end : (e n : ℕ) → Searching e n → n ≡ 0 → BranchIs s w at e₀ n₀ found.Nothing
+  search-end e n l z = record { is = l .rest ∙ ap (reached e) z; process = λ x q. subst (processThere s w) q tt }
+
+-- ── the receiver afterwards
+-- the sender is as its send left it, and the receiver goes on with the term at a pointer and what it holds now
+abbrev pub bothOn : List ℕ → List ℕ → List ℕ → Sending → Receiver → ℕ → Held → Outcome
+bothOn s w old sent to pointer held = bothTo (configIn s w old) (sent .place) (processAs s w (sent .after)) (to .place) (some (processAs s w (values.runningOn pointer held (to .process))))
+
+module _ (s w old : List ℕ) (sent : Sending) (to : Receiver) where
+  abbrev pub bothBy : Option Process → Outcome
+  bothBy o = bothTo (configIn s w old) (sent .place) (processAs s w (sent .after)) (to .place) o
+
+  abbrev receiver : Process
+  receiver = processAs s w (to .process)
+
+  -- the message of the sender's node, were it of the kind k
+  abbrev over : ℕ → List (Name × End)
+  over k = onward (programIn s w) (messageBy s (sent .term .second) k) (nameAt s (to .name)) (channelsOf s w (to .process .held))
+
+  module _ {new : List ℕ} {o : OutcomeWords} (h : Held) (pointer : ℕ) (b : Carries s w old new o (bothOn s w old sent to pointer h)) where
+    -- the receiver has the channels of l
+    with-held : (l : _) → channelsOf s w h ≡ l → Carries s w old new o (bothBy (some (goesOn receiver (processIn s w pointer) l)))
+    with-held l e = subst (λ m. Carries s w old new o (bothBy (some (goesOn receiver (processIn s w pointer) m)))) e b
+
+    pub hears-close : Drops s (to .process .held) (to .name) h → Carries s w old new o (bothBy (takesClose (onClose (processIn s w pointer)) (nameAt s (to .name)) receiver))
+    hears-close d = with-held _ (d .is w)
+
+    pub hears-channel : {name : ℕ} {f g : Lookup} {m : Held} → sent .term .kind ≡ sendChannelKind → Sees s (sent .before .held) (sent .term .second) f → Sees s (to .process .held) (to .name) g
+        → MovesOn s w (to .process .held) (sent .term) (to .name) m → BringsOver s w m g f name h
+        → Carries s w old new o (bothBy (takesChannel (programIn s w) (nameIn s (sent .term .second)) (onChannel (nameIn s name) (processIn s w pointer)) (nameAt s (to .name)) (lookup (nameAt s (sent .term .second)) (channelsOf s w (sent .before .held))) receiver))
+    hears-channel {name} z f g c d =
+        with-held _ (d .is ∙ λ j. (c .is ∙ ap over z) j ++ bound (programIn s w) (nameAt s name) (sym (g .is w) j) (sym (f .is w) j))
+
+    pub hears-label : {e n : ℕ} {k : Found} → sent .term .kind ≡ sendLabelKind → BranchIs s w (sent .term .second) e n k → k ≡ found.At pointer → MovesOn s w (to .process .held) (sent .term) (to .name) h
+        → Carries s w old new o (bothBy (takesLabel (programIn s w) (labelIn s (sent .term .second)) (onLabel (branchesIn s w e n)) (nameAt s (to .name)) receiver))
+    hears-label y f z c =
+        subst (λ p. Carries s w old new o (bothBy (Option·map (λ P. goesOn receiver P (over 3)) p))) (sym (f .is ∙ ap (λ y. Option·map (λ x. processIn s w x) (placeOf y)) z)) (with-held _ (c .is ∙ ap over y))
+
+  pub hears-nothing : {e n : ℕ} {k : Found} → BranchIs s w (sent .term .second) e n k → k ≡ found.Nothing
+      → Carries s w old old NotOpen (bothBy (takesLabel (programIn s w) (labelIn s (sent .term .second)) (onLabel (branchesIn s w e n)) (nameAt s (to .name)) receiver))
+  hears-nothing f z =
+      subst (λ o. Carries s w old old NotOpen (bothBy (Option·map (λ P. goesOn receiver P (over 3)) o))) (sym (f .is ∙ ap (λ y. Option·map (λ x. processIn s w x) (placeOf y)) z)) (record { is = (refl, refl) })
 
 -- a process that receives on the channel of the message, whatever its name for it
-abbrev pub metBy : Program → Config → ℕ → Process → Process → Message → End → Holder → Turn → Outcome
-metBy p C i q q′ m e h (sends c m′ P) = notOpen
-metBy p C i q q′ m e h (receives c v) = bothTo C i q′ (h .place) (afterReceive p m v (h .name) e (passedEnd m (q .held)) (h .process))
-metBy p C i q q′ m e h alone = notOpen
+abbrev pub metBy : Program → Config → ℕ → Process → Process → Message → Holder → Turn → Outcome
+metBy p C i q q′ m h (sends c m′ P) = notOpen
+metBy p C i q q′ m h (receives c v) = bothTo C i q′ (h .place) (afterReceive p m v (h .name) (passedEnd m (q .held)) (h .process))
+metBy p C i q q′ m h alone = notOpen
 
-module _ (p : Program) (C : Config) (i : ℕ) (q q′ : Process) (m : Message) (e : End) (h : Holder) where
-  pub meeting-heard : (T : Turn) → meeting p C i q q′ m e h T ≡ metBy p C i q q′ m e h (heard (h .name) T)
+module _ (p : Program) (C : Config) (i : ℕ) (q q′ : Process) (m : Message) (h : Holder) where
+  pub meeting-heard : (T : Turn) → meeting p C i q q′ m h T ≡ metBy p C i q q′ m h (heard (h .name) T)
   meeting-heard (sends c m′ P) = go (same (c .name) (h .name))
     where
-      go : (b : Bool) → notOpen ≡ metBy p C i q q′ m e h (cond b (sends c m′ P) alone)
+      go : (b : Bool) → notOpen ≡ metBy p C i q q′ m h (cond b (sends c m′ P) alone)
       go true = refl
       go false = refl
   meeting-heard (receives c v) = go (same (c .name) (h .name))
     where
-      go : (b : Bool) → cond b (bothTo C i q′ (h .place) (afterReceive p m v (h .name) e (passedEnd m (q .held)) (h .process))) notOpen ≡ metBy p C i q q′ m e h (cond b (receives c v) alone)
+      go : (b : Bool) → cond b (bothTo C i q′ (h .place) (afterReceive p m v (h .name) (passedEnd m (q .held)) (h .process))) notOpen ≡ metBy p C i q q′ m h (cond b (receives c v) alone)
       go true = refl
       go false = refl
   meeting-heard alone = refl
 
--- a process that sends, whatever its name for the channel
-abbrev pub answeredBy : Program → Config → Holder → Turn → Outcome
-answeredBy p C h (sends c m P) = send p C (h .place) (h .process) c m P
-answeredBy p C h (receives c v) = notOpen
-answeredBy p C h alone = notOpen
-
-pub answering-heard : (p : Program) (C : Config) (h : Holder) (T : Turn) → answering p C h T ≡ answeredBy p C h (heard (h .name) T)
-answering-heard p C h (sends c m P) = go (same (c .name) (h .name))
-  where
-    go : (b : Bool) → cond b (send p C (h .place) (h .process) c m P) notOpen ≡ answeredBy p C h (cond b (sends c m P) alone)
-    go true = refl
-    go false = refl
-answering-heard p C h (receives c v) = go (same (c .name) (h .name))
-  where
-    go : (b : Bool) → notOpen ≡ answeredBy p C h (cond b (receives c v) alone)
-    go true = refl
-    go false = refl
-answering-heard p C h alone = refl
-
 -- ── by the kinds of the two nodes
-module _ (s w : List ℕ) (C : Config) (i : ℕ) (q q′ : Process) (e : End) (h : Holder) (n t : TermNode) where
+module _ (s w : List ℕ) (C : Config) (i : ℕ) (q q′ : Process) (h : Holder) (n t : TermNode) where
   abbrev metKinds : ℕ → ℕ → Outcome
-  metKinds k l = metBy (programIn s w) C i q q′ (messageBy s (n .second) k) e h (turnBy s w t l)
+  metKinds k l = metBy (programIn s w) C i q q′ (messageBy s (n .second) k) h (turnBy s w t l)
 
   -- a recv of another kind
   pub met-other : (k l : ℕ) → 1 ≤ k → k ≤ 3 → (l ≡ k + 5 → ⊥) → metKinds k l ≡ notOpen
@@ -104,44 +241,28 @@ module _ (s w : List ℕ) (C : Config) (i : ℕ) (q q′ : Process) (e : End) (h
   met-other (suc (suc (suc k))) (suc (suc (suc (suc (suc (suc (suc (suc zero)))))))) a b z = let y : k ≡ 0 = omega arith in absurd (z (omega arith))
   met-other k (suc (suc (suc (suc (suc (suc (suc (suc (suc l))))))))) a b z = refl
 
-  -- the recv of the same kind
-  pub met-close : metKinds 1 6 ≡ bothTo C i q′ (h .place) (takesClose (onClose (processIn s w (t .third))) (h .name) (h .process))
-  unfolding afterReceive
-  met-close = refl
-
-  pub met-channel : metKinds 2 7 ≡ bothTo C i q′ (h .place) (takesChannel (onChannel (nameIn s (t .second)) (processIn s w (t .third))) (h .name) (afterMessage (programIn s w) (messageBy s (n .second) 2) (e .type)) (lookup (nameAt s (n .second)) (q .held)) (h .process))
-  unfolding afterReceive
-  met-channel = refl
-
-  pub met-label : metKinds 3 8 ≡ bothTo C i q′ (h .place) (takesLabel (onLabel (branchesIn s w (t .second) (t .third))) (h .name) (afterMessage (programIn s w) (messageBy s (n .second) 3) (e .type)) (nameAt s (n .second + 1)) (h .process))
-  unfolding afterReceive
-  met-label = refl
-
--- ── what the sender's step comes to, by where the far end is
+-- ── what the sender's step comes to, where the far end is at a process that receives
 module _ (s w old : List ℕ) (sent : Sending) where
-  abbrev pub sendingBy : Outcome
-  sendingBy = sending (programIn s w) (configIn s w old) (sent .place) (processAs s w (sent .before)) (processAs s w (sent .after)) (message s (sent .term)) (endAs s w (sent .over)) (farOf s w old (sent .over))
-
   abbrev pub holderBy : Receiver → Holder
   holderBy to = record { place = to .place; process = processAs s w (to .process); name = nameAt s (to .name) }
 
   abbrev pub heardBy : Receiver → Outcome
-  heardBy to = metBy (programIn s w) (configIn s w old) (sent .place) (processAs s w (sent .before)) (processAs s w (sent .after)) (message s (sent .term)) (endAs s w (sent .over)) (holderBy to) (turnBy s w (to .term) (to .term .kind))
+  heardBy to = metBy (programIn s w) (configIn s w old) (sent .place) (processAs s w (sent .before)) (processAs s w (sent .after)) (message s (sent .term)) (holderBy to) (turnBy s w (to .term) (to .term .kind))
 
   abbrev kindsBy : Receiver → ℕ → ℕ → Outcome
-  kindsBy to k l = metBy (programIn s w) (configIn s w old) (sent .place) (processAs s w (sent .before)) (processAs s w (sent .after)) (messageBy s (sent .term .second) k) (endAs s w (sent .over)) (holderBy to) (turnBy s w (to .term) l)
+  kindsBy to k l = metBy (programIn s w) (configIn s w old) (sent .place) (processAs s w (sent .before)) (processAs s w (sent .after)) (messageBy s (sent .term .second) k) (holderBy to) (turnBy s w (to .term) l)
 
   module _ (to : Receiver) (f : farOf s w old (sent .over) ≡ calculus.atProcess (holderBy to)) (g : Heard s w (to .name) (doingAs s w (to .process .kind) (to .process .pointer)) (to .term)) where
-    meets-as : sendingBy ≡ heardBy to
+    meets-as : (sendingBy s w old sent) ≡ heardBy to
     meets-as =
         ap (sending (programIn s w) (configIn s w old) (sent .place) (processAs s w (sent .before)) (processAs s w (sent .after)) (message s (sent .term)) (endAs s w (sent .over))) f
-        ∙ meeting-heard (programIn s w) (configIn s w old) (sent .place) (processAs s w (sent .before)) (processAs s w (sent .after)) (message s (sent .term)) (endAs s w (sent .over)) (holderBy to) (turnOf (doingAs s w (to .process .kind) (to .process .pointer)))
-        ∙ ap (metBy (programIn s w) (configIn s w old) (sent .place) (processAs s w (sent .before)) (processAs s w (sent .after)) (message s (sent .term)) (endAs s w (sent .over)) (holderBy to)) (g .is)
+        ∙ meeting-heard (programIn s w) (configIn s w old) (sent .place) (processAs s w (sent .before)) (processAs s w (sent .after)) (message s (sent .term)) (holderBy to) (turnOf (doingAs s w (to .process .kind) (to .process .pointer)))
+        ∙ ap (metBy (programIn s w) (configIn s w old) (sent .place) (processAs s w (sent .before)) (processAs s w (sent .after)) (message s (sent .term)) (holderBy to)) (g .is)
 
-    pub meets-other : SendNode (sent .term) → (to .term .kind ≡ sent .term .kind + 5 → ⊥) → Carries s w old old NotOpen sendingBy
-    meets-other a z = subst (Carries s w old old NotOpen) (sym (meets-as ∙ met-other s w (configIn s w old) (sent .place) (processAs s w (sent .before)) (processAs s w (sent .after)) (endAs s w (sent .over)) (holderBy to) (sent .term) (to .term) (sent .term .kind) (to .term .kind) (a .low) (a .high) z)) (record { is = (refl, refl) })
+    pub meets-other : SendNode (sent .term) → (to .term .kind ≡ sent .term .kind + recvOver → ⊥) → Carries s w old old NotOpen (sendingBy s w old sent)
+    meets-other a z = subst (Carries s w old old NotOpen) (sym (meets-as ∙ met-other s w (configIn s w old) (sent .place) (processAs s w (sent .before)) (processAs s w (sent .after)) (holderBy to) (sent .term) (to .term) (sent .term .kind) (to .term .kind) (a .low) (a .high) z)) (record { is = (refl, refl) })
 
-    pub meets : {new : List ℕ} {o : OutcomeWords} → Carries s w old new o (heardBy to) → Carries s w old new o sendingBy
+    pub meets : {new : List ℕ} {o : OutcomeWords} → Carries s w old new o (heardBy to) → Carries s w old new o (sendingBy s w old sent)
     meets {new} {o} c = subst (Carries s w old new o) (sym meets-as) c
 
   -- the receiver's node is of the kind that the message wants
@@ -149,50 +270,17 @@ module _ (s w old : List ℕ) (sent : Sending) where
     kinds : (k l : ℕ) → sent .term .kind ≡ k → to .term .kind ≡ l → Carries s w old new o (kindsBy to k l) → Carries s w old new o (heardBy to)
     kinds k l a b c = subst (λ m. Carries s w old new o (kindsBy to m (to .term .kind))) (sym a) (subst (λ m. Carries s w old new o (kindsBy to k m)) (sym b) c)
 
-    pub hears-kind-close : sent .term .kind ≡ 1 → to .term .kind ≡ 6 → Carries s w old new o (bothBy s w old (sent .place) (sent .after) (to .place) (to .process) (to .name) (takesClose (onClose (processIn s w (to .term .third))) (nameAt s (to .name)) (processAs s w (to .process)))) → Carries s w old new o (heardBy to)
+    pub hears-kind-close : sent .term .kind ≡ sendUnitKind → to .term .kind ≡ recvUnitKind → Carries s w old new o (bothBy s w old sent to (takesClose (onClose (processIn s w (to .term .third))) (nameAt s (to .name)) (processAs s w (to .process)))) → Carries s w old new o (heardBy to)
     unfolding afterReceive
     hears-kind-close a b c = kinds 1 6 a b c
 
-    module _ (u : TypeAfter s w (afterMessage (programIn s w) (message s (sent .term)) (plainIn s w (sent .over .node))) (sent .node)) where
-      pub hears-kind-channel : {f : Lookup} → sent .term .kind ≡ 2 → to .term .kind ≡ 7 → Sees s (sent .before .held) (sent .term .second) f
-          → Carries s w old new o (bothBy s w old (sent .place) (sent .after) (to .place) (to .process) (to .name) (takesChannel (onChannel (nameIn s (to .term .second)) (processIn s w (to .term .third))) (nameAt s (to .name)) (plainIn s w (sent .node)) (endFound s w f) (processAs s w (to .process)))) → Carries s w old new o (heardBy to)
-      unfolding afterReceive
-      hears-kind-channel {f} a b g c =
-          kinds 2 7 a b
-          (subst (λ d. Carries s w old new o (bothBy s w old (sent .place) (sent .after) (to .place) (to .process) (to .name) (takesChannel (onChannel (nameIn s (to .term .second)) (processIn s w (to .term .third))) (nameAt s (to .name)) (afterMessage (programIn s w) (messageBy s (sent .term .second) 2) (plainIn s w (sent .over .node))) d (processAs s w (to .process))))) (sym (g .is w))
-          (subst (λ A. Carries s w old new o (bothBy s w old (sent .place) (sent .after) (to .place) (to .process) (to .name) (takesChannel (onChannel (nameIn s (to .term .second)) (processIn s w (to .term .third))) (nameAt s (to .name)) A (endFound s w f) (processAs s w (to .process))))) (u .is ∙ ap (λ k. afterMessage (programIn s w) (messageBy s (sent .term .second) k) (plainIn s w (sent .over .node))) a) c))
+    pub hears-kind-channel : sent .term .kind ≡ sendChannelKind → to .term .kind ≡ recvChannelKind
+        → Carries s w old new o (bothBy s w old sent to (takesChannel (programIn s w) (nameIn s (sent .term .second)) (onChannel (nameIn s (to .term .second)) (processIn s w (to .term .third))) (nameAt s (to .name)) (lookup (nameAt s (sent .term .second)) (channelsOf s w (sent .before .held))) (processAs s w (to .process))))
+        → Carries s w old new o (heardBy to)
+    unfolding afterReceive
+    hears-kind-channel a b c = kinds 2 7 a b c
 
-      pub hears-kind-label : sent .term .kind ≡ 3 → to .term .kind ≡ 8
-          → Carries s w old new o (bothBy s w old (sent .place) (sent .after) (to .place) (to .process) (to .name) (takesLabel (onLabel (branchesIn s w (to .term .second) (to .term .third))) (nameAt s (to .name)) (plainIn s w (sent .node)) (nameAt s (sent .term .second + 1)) (processAs s w (to .process)))) → Carries s w old new o (heardBy to)
-      unfolding afterReceive
-      hears-kind-label a b c =
-          kinds 3 8 a b
-          (subst (λ A. Carries s w old new o (bothBy s w old (sent .place) (sent .after) (to .place) (to .process) (to .name) (takesLabel (onLabel (branchesIn s w (to .term .second) (to .term .third))) (nameAt s (to .name)) A (nameAt s (sent .term .second + 1)) (processAs s w (to .process))))) (u .is ∙ ap (λ k. afterMessage (programIn s w) (messageBy s (sent .term .second) k) (plainIn s w (sent .over .node))) a) c)
-
-  -- the outside; nobody
-  pub sends-out : {new : List ℕ} {o : OutcomeWords} (number : ℕ) → farOf s w old (sent .over) ≡ calculus.atOutside number → Carries s w old new o (outBy s w old sent number) → Carries s w old new o sendingBy
-  sends-out {new} {o} number f c = subst (λ F. Carries s w old new o (sending (programIn s w) (configIn s w old) (sent .place) (processAs s w (sent .before)) (processAs s w (sent .after)) (message s (sent .term)) (endAs s w (sent .over)) F)) (sym f) c
-
-  sends-nobody : {new : List ℕ} {o : OutcomeWords} {F : calculus.Far} → FarAs (nameAt s) (plainIn s w) (processIn s w) (rawIn old) far.GivenUp F → Carries s w old new o (unheardBy s w old sent)
-      → Carries s w old new o (sending (programIn s w) (configIn s w old) (sent .place) (processAs s w (sent .before)) (processAs s w (sent .after)) (message s (sent .term)) (endAs s w (sent .over)) F)
-  sends-nobody givenUp c = c
-
-  pub sends-unheard : {new : List ℕ} {o : OutcomeWords} → far.GivenUp ≡ farRaw s w old (sent .over) → Carries s w old new o (unheardBy s w old sent) → Carries s w old new o sendingBy
-  sends-unheard f c = sends-nobody (far-as s w old (sent .over) far.GivenUp f) c
-
--- ── the rule
-abbrev pub sendBy : List ℕ → List ℕ → List ℕ → ℕ → ProcessWords → TermNode → Outcome
-sendBy s w old i p n = send (programIn s w) (configIn s w old) i (processAs s w p) (nameIn s (n .first)) (message s n) (processIn s w (n .third))
-
-module _ (s w old : List ℕ) (i : ℕ) (p : ProcessWords) (n : TermNode) {f : Lookup} (a : Sees s (p .held) (n .first) f) where
-  pub sends-nothing : f ≡ lookups.Nothing → Carries s w old old NotOpen (sendBy s w old i p n)
-  unfolding send
-  sends-nothing q = held-none a _ q
-
-  pub sends-on : {e : EndWords} {node : ℕ} {h : Held} {new : List ℕ} {o : OutcomeWords} → f ≡ lookups.Found e → TypeAfter s w (afterMessage (programIn s w) (message s n) (plainIn s w (e .node))) node → SentHeld s w (p .held) n node h
-      → Carries s w old new o (sendingBy s w old (record { place = i; before = p; after = running-as (n .third) (p .link) h; term = n; over = e; node = node })) → Carries s w old new o (sendBy s w old i p n)
-  unfolding send
-  sends-on {e} {new = new} {o = o} q u g c =
-      held-some a _ q
-      (subst (λ l. Carries s w old new o (sending (programIn s w) (configIn s w old) i (processAs s w p) (process (running (processIn s w (n .third))) l (linkOf (p .link))) (message s n) (endAs s w e) (farOf s w old e)))
-      (g .is (endAs s w e) (u .is)) c)
+    pub hears-kind-label : sent .term .kind ≡ sendLabelKind → to .term .kind ≡ recvLabelKind
+        → Carries s w old new o (bothBy s w old sent to (takesLabel (programIn s w) (labelIn s (sent .term .second)) (onLabel (branchesIn s w (to .term .second) (to .term .third))) (nameAt s (to .name)) (processAs s w (to .process)))) → Carries s w old new o (heardBy to)
+    unfolding afterReceive
+    hears-kind-label a b c = kinds 3 8 a b c

@@ -1,10 +1,11 @@
 -- What goes over a channel, by the numbers of a term's node.
 use Prim.Native.Nat.{ℕ, zero, suc, _+_, _≤_, _<_}
 use mathlib.Core.Path.{_≡_, refl, sym, _∙_, ap, subst}
-use mathlib.Core.List.{List}
+use mathlib.Core.List.{List, [], _∷_}
 use mathlib.Core.Bool.{Bool, true, false, cond}
-use mathlib.Core.Option.{Option, none, Option·map, Option·getD}
+use mathlib.Core.Option.{Option, some, none, Option·map, Option·getD, Option·none-ne-some}
 use native.Mathlib.Omega.{arith}
+use lib.ListN.{length}
 use Rattle.notation.specs.Bytes.{same}
 use Rattle.notation.specs.Limits.{textLimit, processTermLimit}
 use Rattle.notation.specs.Token.{nameAt}
@@ -14,10 +15,12 @@ use Rattle.notation.specs.Tables.{termNode}
 use Rattle.notation.specs.declared.reading.TermNode.{TermNode}
 use Rattle.notation.specs.declared.reading.Found.{Found}
 use Rattle.notation.specs.declared.reading.Found.the-variants.{At, Nothing}
+use Rattle.calculus.specs.Named.{lookup, changed}
 use Rattle.calculus.specs.Types.{standing, passing, choosing}
 use Rattle.calculus.specs.Configuration.{End, Doing, running}
-use Rattle.calculus.specs.Steps.{Message, closing, passes, chooses, onClose, onChannel, onLabel, Turn, sends, receives, alone, turn, turnOf, afterPassing, afterChoosing, afterMessage, afterSend}
+use Rattle.calculus.specs.Steps.{Message, closing, passes, chooses, onClose, onChannel, onLabel, Turn, sends, receives, alone, turn, turnOf, afterPassing, afterChoosing, afterMessage, passedType, onward, afterSend}
 use Rattle.calculus.specs.Configuration.{retypedEnd}
+use Rattle.theory_ends.specs.Onward.{onward-is}
 use Rattle.read_tables.specs.Access.{TermOf}
 use Rattle.read_tables.specs.Decode.{tallyIn, termAt, termNodeOf, processIn}
 use Rattle.read_tables.specs.Program.{plainIn, programIn}
@@ -33,10 +36,16 @@ use Rattle.check_types.specs.declared.messages.Passing.the-variants as NoPassin
 use Rattle.check_types.specs.declared.messages.Choosing.{Choosing}
 use Rattle.check_types.specs.declared.messages.Choosing.the-variants.{Chooses}
 use Rattle.check_types.specs.declared.messages.Choosing.the-variants as NoChoosing
+use Rattle.run_words.specs.declared.records.End.{End as EndWords}
 use Rattle.run_words.specs.declared.records.Held.{Held}
 use Rattle.run_words.specs.declared.records.Process.{Process as ProcessWords}
-use Rattle.check_contexts.specs.Held.{channelsOf, HeldIn, Drops, Retypes}
-use Rattle.run_alone.specs.Run.{pointerLimit, doingAs, ProcessOf}
+use Rattle.check_contexts.specs.Held.{channelsOf, HeldIn, endFound, Sees, Drops, Retypes}
+use Rattle.check_contexts.specs.declared.held.Lookup.{Lookup}
+use Rattle.check_contexts.specs.declared.held.Lookup.the-variants as lookups
+use Rattle.run_words.specs.Raw.{pointerLimit, runningKind}
+use Rattle.run_messages.specs.Kinds.{sendChannelKind, sendLabelKind, sendUnitKind}
+use Rattle.run_alone.specs.Run.{doingAs, ProcessOf}
+use Rattle.run_alone.specs.Making.{channels-many}
 
 -- the message of a send: kinds 1, 2 and 3
 abbrev pub messageBy : List ℕ → ℕ → ℕ → Message
@@ -50,9 +59,9 @@ message s n = messageBy s (n .second) (n .kind)
 
 -- the node of a send
 pub record SendNode (n : TermNode) : Type 0 where
-  pub low : 1 ≤ n .kind
-  pub high : n .kind ≤ 3
-  pub label : n .kind ≡ 3 → n .second < pointerLimit
+  pub low : sendUnitKind ≤ n .kind
+  pub high : n .kind ≤ sendLabelKind
+  pub label : n .kind ≡ sendLabelKind → n .second < pointerLimit
 
 -- ── the type afterwards
 pub record TypeAfter (s w : List ℕ) (A : Ty Name) (r : ℕ) : Type 0 where
@@ -75,6 +84,17 @@ module _ (s w : List ℕ) (t : Tables s w) (i j : ℕ) (a : TypeIn s w i) (f : S
 
     pub passing-nothing : q ≡ NoPassing.Nothing → TypeAfter s w (afterPassing (plainIn s w i) (passing stood)) i
     passing-nothing e = record { is = sym (ap (afterPassing (plainIn s w i)) (passing-is ∙ ap (passingOf s w) e)); type = a }
+
+    -- what comes over it
+    module _ (k : ℕ) where
+      pub passing-what : (u v x y : ℕ) → q ≡ Passes u v x y → TypeAfter s w (passedType (plainIn s w k) (passing stood)) x
+      passing-what u v x y e = record {
+        is = sym (ap (passedType (plainIn s w k)) (passing-is ∙ ap (passingOf s w) e));
+        type = subst (passedIn s w) e (o .says s t (f .type) .parts) .0;
+      }
+
+      pub passing-as-it-was : TypeIn s w k → q ≡ NoPassing.Nothing → TypeAfter s w (passedType (plainIn s w k) (passing stood)) k
+      passing-as-it-was b e = record { is = sym (ap (passedType (plainIn s w k)) (passing-is ∙ ap (passingOf s w) e)); type = b }
 
   module _ (at : ℕ) (q : Choosing) (o : ChoosingOf w j q) where
     abbrev chosenBy : Ty Name
@@ -105,44 +125,81 @@ module _ (s w : List ℕ) (n : TermNode) (A : Ty Name) where
   sentType = afterMessage (programIn s w) (message s n) A
 
   module _ {r : ℕ} where
-    pub closed-type : n .kind ≡ 1 → TypeAfter s w A r → TypeAfter s w sentType r
+    pub closed-type : n .kind ≡ sendUnitKind → TypeAfter s w A r → TypeAfter s w sentType r
     unfolding afterMessage
     closed-type e h = subst (λ k. TypeAfter s w (afterMessage (programIn s w) (message s (termNode k (n .at) (n .first) (n .second) (n .third))) A) r) (sym e) h
 
-    pub passed-type : n .kind ≡ 2 → TypeAfter s w (afterPassing A (passing (standing (programIn s w .types) A))) r → TypeAfter s w sentType r
+    pub passed-type : n .kind ≡ sendChannelKind → TypeAfter s w (afterPassing A (passing (standing (programIn s w .types) A))) r → TypeAfter s w sentType r
     unfolding afterMessage
     passed-type e h = subst (λ k. TypeAfter s w (afterMessage (programIn s w) (message s (termNode k (n .at) (n .first) (n .second) (n .third))) A) r) (sym e) h
 
-    pub chosen-type : n .kind ≡ 3 → TypeAfter s w (afterChoosing A (nameAt s (n .second + 1)) (choosing (standing (programIn s w .types) A))) r → TypeAfter s w sentType r
+    pub chosen-type : n .kind ≡ sendLabelKind → TypeAfter s w (afterChoosing A (nameAt s (n .second + 1)) (choosing (standing (programIn s w .types) A))) r → TypeAfter s w sentType r
     unfolding afterMessage
     chosen-type e h = subst (λ k. TypeAfter s w (afterMessage (programIn s w) (message s (termNode k (n .at) (n .first) (n .second) (n .third))) A) r) (sym e) h
 
--- ── the sender's channels afterwards, where its end's type is then that of a node
-pub record SentHeld (s w : List ℕ) (h : Held) (n : TermNode) (node : ℕ) (r : Held) : Type 0 where
-  pub is : (e : End) → plainIn s w node ≡ afterMessage (programIn s w) (message s n) (e .type) → channelsOf s w r ≡ afterSend (programIn s w) (nameAt s (n .first)) e (message s n) (channelsOf s w h)
-  pub fits : TypeIn s w node → HeldIn s w h → HeldIn s w r
+-- ── what is held once the message of the send n has gone over the channel under the name at an offset
+pub record MovesOn (s w : List ℕ) (h : Held) (n : TermNode) (at : ℕ) (r : Held) : Type 0 where
+  pub is : channelsOf s w r ≡ onward (programIn s w) (message s n) (nameAt s at) (channelsOf s w h)
+  pub many : r .count ≡ h .count
+  pub fits : HeldIn s w r
 
-module _ (s w : List ℕ) (h : Held) (n : TermNode) (node : ℕ) where
-  abbrev withKind : ℕ → TermNode
-  withKind k = termNode k (n .at) (n .first) (n .second) (n .third)
+-- as many are held as before
+changed-many : (n : Name) (f : End → End) (l : List (Name × End)) → length (changed n f l) ≡ length l
+unfolding changed
+changed-many n f [] = refl
+changed-many n f (e ∷ l) = go (same n (e .0)) (changed-many n f l)
+  where
+    go : (b : Bool) → length (changed n f l) ≡ length l → length (cond b ((e .0, f (e .1)) ∷ l) (e ∷ changed n f l)) ≡ suc (length l)
+    go true h = refl
+    go false h = ap suc h
 
-  pub sent-close : (r : Held) → n .kind ≡ 1 → Drops s h (n .first) r → SentHeld s w h n node r
+-- a name that nothing has changes nothing
+changed-unheld : (n : Name) (f : End → End) (l : List (Name × End)) → lookup n l ≡ none → changed n f l ≡ l
+unfolding lookup changed
+changed-unheld n f [] e = refl
+changed-unheld n f (x ∷ l) e = go (same n (x .0)) e (changed-unheld n f l)
+  where
+    go : (b : Bool) → cond b (some (x .1)) (lookup n l) ≡ none → (lookup n l ≡ none → changed n f l ≡ l) → cond b ((x .0, f (x .1)) ∷ l) (x ∷ changed n f l) ≡ x ∷ l
+    go true z r = absurd (Option·none-ne-some (x .1) (sym z))
+    go false z r = ap (λ m. x ∷ m) (r z)
+
+module _ (s w : List ℕ) (h : Held) (n : TermNode) (at : ℕ) {f : Lookup} (a : Sees s h at f) (t : HeldIn s w h) where
+  pub moves-found : {e : EndWords} {node : ℕ} {r : Held} → f ≡ lookups.Found e → TypeAfter s w (afterMessage (programIn s w) (message s n) (plainIn s w (e .node))) node → Retypes s h at node r → MovesOn s w h n at r
+  moves-found {r = r} z u c = record {
+    is = c .is w ∙ ap (λ A. retypedEnd (nameAt s at) A (channelsOf s w h)) (u .is) ∙ sym (onward-is (programIn s w) (message s n) (nameAt s at) (channelsOf s w h) (a .is w ∙ ap (endFound s w) z));
+    many = sym (channels-many s w r) ∙ ap length (c .is w) ∙ changed-many (nameAt s at) _ (channelsOf s w h) ∙ channels-many s w h;
+    fits = c .fits w (u .type) t;
+  }
+
+  pub moves-nothing : f ≡ lookups.Nothing → MovesOn s w h n at h
+  moves-nothing z = record { is = sym (changed-unheld (nameAt s at) _ (channelsOf s w h) (a .is w ∙ ap (endFound s w) z)); many = refl; fits = t }
+
+-- ── the sender's channels afterwards
+pub record SentHeld (s w : List ℕ) (h : Held) (n : TermNode) (r : Held) : Type 0 where
+  pub is : channelsOf s w r ≡ afterSend (programIn s w) (nameAt s (n .first)) (message s n) (channelsOf s w h)
+  pub fits : HeldIn s w r
+
+module _ (s w : List ℕ) (h : Held) (n : TermNode) where
+  abbrev SentAt : ℕ → Held → Type 0
+  SentAt k r = channelsOf s w r ≡ afterSend (programIn s w) (nameAt s (n .first)) (messageBy s (n .second) k) (channelsOf s w h)
+
+  pub sent-close : (r : Held) → n .kind ≡ sendUnitKind → HeldIn s w h → Drops s h (n .first) r → SentHeld s w h n r
   unfolding afterSend
-  sent-close r e d = subst (λ k. SentHeld s w h (withKind k) node r) (sym e) (record { is = λ x q. d .is w; fits = λ t u. d .fits w u })
+  sent-close r e t d = record { is = subst (λ k. SentAt k r) (sym e) (d .is w); fits = d .fits w t }
 
-  pub sent-channel : (m r : Held) → n .kind ≡ 2 → Drops s h (n .second) m → Retypes s m (n .first) node r → SentHeld s w h n node r
+  pub sent-channel : (m r : Held) → n .kind ≡ sendChannelKind → Drops s h (n .second) m → MovesOn s w m n (n .first) r → SentHeld s w h n r
   unfolding afterSend
-  sent-channel m r e d c = subst (λ k. SentHeld s w h (withKind k) node r) (sym e) (record {
-    is = λ x q. c .is w ∙ λ j. retypedEnd (nameAt s (n .first)) (q j) (d .is w j);
-    fits = λ t u. c .fits w t (d .fits w u);
-  })
+  sent-channel m r e d c = record {
+    is = subst (λ k. SentAt k r) (sym e) (c .is ∙ λ j. onward (programIn s w) (messageBy s (n .second) (e j)) (nameAt s (n .first)) (d .is w j));
+    fits = c .fits;
+  }
 
-  pub sent-label : (r : Held) → n .kind ≡ 3 → Retypes s h (n .first) node r → SentHeld s w h n node r
+  pub sent-label : (r : Held) → n .kind ≡ sendLabelKind → MovesOn s w h n (n .first) r → SentHeld s w h n r
   unfolding afterSend
-  sent-label r e c = subst (λ k. SentHeld s w h (withKind k) node r) (sym e) (record {
-    is = λ x q. c .is w ∙ ap (λ A. retypedEnd (nameAt s (n .first)) A (channelsOf s w h)) q;
-    fits = λ t u. c .fits w t u;
-  })
+  sent-label r e c = record {
+    is = subst (λ k. SentAt k r) (sym e) (c .is ∙ ap (λ k. onward (programIn s w) (messageBy s (n .second) k) (nameAt s (n .first)) (channelsOf s w h)) e);
+    fits = c .fits;
+  }
 
 -- ── a term by its kind
 abbrev pub turnBy : List ℕ → List ℕ → TermNode → ℕ → Turn
@@ -233,7 +290,7 @@ module _ (s w : List ℕ) (x : ℕ) where
   no-turn d e = record { is = ap (heard (nameAt s x)) e; parts = tt }
 
   module _ (r : ProcessWords) {m : ℕ} (o : ProcessOf s w m r) (t : Tables s w) where
-    pub heard-idle : (r .kind ≡ 0 → ⊥) → Heard s w x (doingAs s w (r .kind) (r .pointer)) (termNode 0 0 0 0 0)
+    pub heard-idle : (r .kind ≡ runningKind → ⊥) → Heard s w x (doingAs s w (r .kind) (r .pointer)) (termNode 0 0 0 0 0)
     heard-idle z = no-turn (doingAs s w (r .kind) (r .pointer)) (go (r .kind) z)
       where
         go : (k : ℕ) → (k ≡ 0 → ⊥) → turnOf (doingAs s w k (r .pointer)) ≡ alone
@@ -241,7 +298,7 @@ module _ (s w : List ℕ) (x : ℕ) where
         go (suc zero) z = refl
         go (suc (suc k)) z = refl
 
-    module _ (z : r .kind ≡ 0) where
+    module _ (z : r .kind ≡ runningKind) where
       runs-term : ProcessIn s w (r .pointer)
       runs-term = o .term (λ e. let q : _≡_ {A = ℕ} 0 1 = sym z ∙ e in omega arith)
 

@@ -6,6 +6,7 @@ use mathlib.Core.Bool.{Bool, true, false, true≢false, false≢true, cond}
 use mathlib.Core.Option.{Option·some-injective}
 use native.Mathlib.Omega.{arith}
 use lib.ListN.{length, length-map}
+use Rattle.notation.specs.Limits.{heldLimit}
 use Rattle.notation.specs.Bytes.{same}
 use Rattle.notation.specs.Token.{nameAt}
 use Rattle.notation.specs.Tree.{Name, Proc}
@@ -22,6 +23,7 @@ use Rattle.run_words.specs.Raw.{rawIn, linkOf}
 use Rattle.run_words.specs.Bounds.{Unlinked}
 use Rattle.run_words.specs.declared.records.Process.{Process as ProcessWords}
 use Rattle.check_contexts.specs.Held.{channelsOf}
+use Rattle.run_messages.specs.Kinds.{recvChannelKind}
 use Rattle.run_alone.specs.Run.{configIn, doingAs, processAs, StandsAt}
 use Rattle.run_alone.specs.Making.{channels-many}
 use Rattle.run_messages.specs.Messages.{turnBy, heard, Heard}
@@ -47,7 +49,7 @@ heard-wants x (receives c v) e = go (same (c .name) x) e
     go false e = absurd (false≢true e)
 heard-wants x alone e = absurd (false≢true e)
 
-receiver-room : {p : Program} {G : Context} {link : Bool} {P : Proc} → Typed p G link P → wantsChannel (turn P) ≡ true → length G < 16
+receiver-room : {p : Program} {G : Context} {link : Bool} {P : Proc} → Typed p G link P → wantsChannel (turn P) ≡ true → length G < heldLimit
 receiver-room (sends-unit a d) e = absurd (false≢true e)
 receiver-room (recvs-unit a d) e = absurd (false≢true e)
 receiver-room (sends-channel T A t n b a l m d) e = absurd (false≢true e)
@@ -66,13 +68,13 @@ context-many : (l : List (Name × End)) → length (contextOf l) ≡ length l
 context-many [] = refl
 context-many (e ∷ l) = ap suc (context-many l)
 
-doing-room : (p : Program) (G : Context) (link : Bool) (d : Doing) → TypedAs p G link d → wantsChannel (turnOf d) ≡ true → length G < 16
+doing-room : (p : Program) (G : Context) (link : Bool) (d : Doing) → TypedAs p G link d → wantsChannel (turnOf d) ≡ true → length G < heldLimit
 doing-room p G link (running P) (a, t) e = receiver-room t e
 doing-room p G link folding t e = absurd (false≢true e)
 doing-room p G link (waiting Q) t e = absurd (false≢true e)
 
 module _ (s w ws : List ℕ) (F : WellFormed (programIn s w) (configIn s w ws)) where
-  pub room-to-hear : (j : ℕ) (r : ProcessWords) (x : ℕ) (t : TermNode) → StandsAt s w ws j r → Heard s w x (doingAs s w (r .kind) (r .pointer)) t → t .kind ≡ 7 → r .held .count < 16
+  pub room-to-hear : (j : ℕ) (r : ProcessWords) (x : ℕ) (t : TermNode) → StandsAt s w ws j r → Heard s w x (doingAs s w (r .kind) (r .pointer)) t → t .kind ≡ recvChannelKind → r .held .count < heldLimit
   room-to-hear j r x t u g z =
       let e : wantsChannel (heard (nameAt s x) (turnOf (doingAs s w (r .kind) (r .pointer)))) ≡ true = ap wantsChannel (g .is) ∙ ap (λ k. wantsChannel (turnBy s w t k)) z in
       let l = doing-room (programIn s w) (contextOf (channelsOf s w (r .held))) (isSome (linkOf (r .link))) (doingAs s w (r .kind) (r .pointer)) (F .typed j (processAs s w r) (record { there = u .there })) (heard-wants (nameAt s x) (turnOf (doingAs s w (r .kind) (r .pointer))) e) in

@@ -1,72 +1,65 @@
--- A send: to an end given up, to the outside, or to a process that receives.
-use Prim.Native.Nat.{ℕ, zero, suc, _+_, _≤_, _<_}
-use mathlib.Core.Path.{_≡_, refl, sym, _∙_, ap, subst}
-use mathlib.Core.List.{List, [], _∷_, _++_}
-use mathlib.Core.Bool.{Bool, true, false, cond}
-use mathlib.Core.Option.{some}
-use native.Mathlib.Omega.{arith}
-use borrow.Author.Tests.{lt-ltb, le-ltb}
-use lib.Dec.{eqb}
-use lib.ListN.{length, set, getElem?}
-use Rattle.notation.specs.Limits.{outsideNumbers}
+-- A send, whoever is at the far end.
+use Prim.Native.Nat.{_≤_, suc, zero, ℕ}
+use Rattle.calculus.specs.Configuration.{goesOn, replaced}
+use Rattle.calculus.specs.Steps.{Outcome, parting, send, sending, unheard}
+use Rattle.calculus.specs.declared.answers.Seen.the-variants.{Nothing}
+use Rattle.check_contexts.specs.Held.{Sees}
+use Rattle.check_contexts.specs.declared.held.Lookup.{Lookup}
+use Rattle.notation.specs.Reader.{nameIn}
 use Rattle.notation.specs.Token.{nameAt}
-use Rattle.notation.specs.Tables.{termNode}
+use Rattle.notation.specs.declared.reading.Found.{Found}
 use Rattle.notation.specs.declared.reading.TermNode.{TermNode}
-use Rattle.calculus.specs.Configuration.{End, Config, config, replaced}
-use Rattle.calculus.specs.Configuration as calculus
-use Rattle.calculus.specs.Steps.{Outcome, lacking, unheard, toOutside, passedOut, isGivenUp, parting, afterMessage}
-use Rattle.calculus.specs.declared.answers.Seen.the-variants.{Nothing, Label, Close, Passed}
 use Rattle.read_tables.specs.Decode.{processIn}
 use Rattle.read_tables.specs.Program.{plainIn, programIn}
-use Rattle.read_tables.specs.Roots.{TypeIn}
-use Rattle.run_words.specs.Raw.{RawProcess, RawOutside, RawConfig, rawIn, sideOf, Bounded}
-use Rattle.run_words.specs.Values.{Changed, outsideIn}
-use Rattle.run_words.specs.Operations as raw
-use Rattle.run_words.specs.DecodeLaws.{FarAs, atProcess, atOutside, givenUp, decoded-far-outside}
-use Rattle.run_words.specs.declared.records.End.{End as EndWords}
-use Rattle.run_words.specs.declared.records.Outside.{Outside as OutsideWords}
-use Rattle.run_words.specs.declared.records.Far.{Far}
-use Rattle.run_words.specs.declared.records.Far.the-variants as far
-use Rattle.check_contexts.specs.Held.{Sees}
-use Rattle.check_contexts.specs.Halves.{append-nil}
-use Rattle.check_contexts.specs.declared.held.Lookup.{Lookup}
-use Rattle.check_contexts.specs.declared.held.Lookup.the-variants as lookups
-use Rattle.run_alone.specs.declared.outcome.Outcome.{Outcome as OutcomeWords}
-use Rattle.run_alone.specs.declared.outcome.Outcome.the-variants.{Carried, NotOpen, Lacking}
-use Rattle.run_messages.specs.declared.messages.Sending.{Sending}
-use Rattle.run_alone.specs.Run.{configIn, processAs, RunOf, ProcessOf, StandsAt, Becomes, Carries}
-use Rattle.run_alone.specs.Changes.{then, let-go, retyped, passed-out, given}
+use Rattle.run_messages.specs.Kinds.{sendChannelKind, sendLabelKind, sendUnitKind}
+use Rattle.run_alone.specs.Forwarding.{far-as, farOf, farRaw}
 use Rattle.run_alone.specs.Parting.{endAs, held-none, held-some}
-use Rattle.run_alone.specs.Forwarding.{farRaw, farOf, far-as}
-use Rattle.run_alone.specs.Forwarding as forwarding
-use Rattle.run_messages.specs.Messages.{message, SendNode, TypeAfter}
+use Rattle.run_alone.specs.Run.{Becomes, Carries, ProcessOf, StandsAt, configIn, processAs}
+use Rattle.run_alone.specs.declared.outcome.Outcome.the-variants.{Carried, NotOpen}
+use Rattle.run_alone.specs.declared.outcome.Outcome.{Outcome as OutcomeWords}
+use Rattle.run_messages.specs.Messages.{SendNode, SentHeld, message, messageBy}
+use Rattle.run_messages.specs.declared.messages.Sending.{Sending}
+use Rattle.run_words.specs.DecodeLaws.{FarAs, givenUp}
+use Rattle.run_words.specs.Raw.{rawIn}
+use Rattle.run_words.specs.declared.records.End.{End as EndWords}
+use Rattle.run_words.specs.declared.records.Far.{Far}
+use Rattle.run_words.specs.declared.records.Held.{Held}
+use Rattle.run_words.specs.declared.records.Process.{Process as ProcessWords}
+use lib.ListN.{length}
+use mathlib.Core.List.{List}
+use mathlib.Core.Path.{_≡_, refl, subst, sym}
+use native.Mathlib.Omega.{arith}
+use Rattle.calculus.specs.Configuration as calculus
+use Rattle.check_contexts.specs.declared.held.Lookup.the-variants as lookups
+use Rattle.run_words.specs.Values as values
+use Rattle.run_words.specs.declared.records.Far.the-variants as far
 
--- a send under way: the process stands at its place, and what it will be and the type that the channel will have are those of the text
+-- a send under way: the process stands at its place, and what it will be is of the text
 pub record SendingIn (s w ws : List ℕ) (sent : Sending) : Type 0 where
   pub stands : StandsAt s w ws (sent .place) (sent .before)
   pub after : ProcessOf s w (length (rawIn ws .processes)) (sent .after)
-  pub type : TypeAfter s w (afterMessage (programIn s w) (message s (sent .term)) (plainIn s w (sent .over .node))) (sent .node)
   pub node : SendNode (sent .term)
 
+-- ── what the sender's step comes to, by where the far end is
 module _ (s w old : List ℕ) (sent : Sending) where
-  abbrev withKind : ℕ → TermNode
-  withKind k = termNode k (sent .term .at) (sent .term .first) (sent .term .second) (sent .term .third)
+  abbrev pub sendingBy : Outcome
+  sendingBy = sending (programIn s w) (configIn s w old) (sent .place) (processAs s w (sent .before)) (processAs s w (sent .after)) (message s (sent .term)) (endAs s w (sent .over)) (farOf s w old (sent .over))
 
   -- ── the far end was given up
   abbrev pub unheardBy : Outcome
   unheardBy = unheard (configIn s w old) (sent .place) (processAs s w (sent .before)) (processAs s w (sent .after)) (message s (sent .term))
 
   abbrev unheardAt : ℕ → Outcome
-  unheardAt k = unheard (configIn s w old) (sent .place) (processAs s w (sent .before)) (processAs s w (sent .after)) (message s (withKind k))
+  unheardAt k = unheard (configIn s w old) (sent .place) (processAs s w (sent .before)) (processAs s w (sent .after)) (messageBy s (sent .term .second) k)
 
-  module _ {f : Lookup} (z : sent .term .kind ≡ 2) (a : Sees s (sent .before .held) (sent .term .second) f) where
+  module _ {f : Lookup} (z : sent .term .kind ≡ sendChannelKind) (a : Sees s (sent .before .held) (sent .term .second) f) where
     pub unheard-none : f ≡ lookups.Nothing → Carries s w old old NotOpen unheardBy
     unheard-none y = subst (λ k. Carries s w old old NotOpen (unheardAt k)) (sym z) (held-none a _ y)
 
     pub unheard-parts : {new : List ℕ} {r : OutcomeWords} {d : EndWords} → f ≡ lookups.Found d → Carries s w old new r (parting (configIn s w old) (sent .place) (processAs s w (sent .after)) (endAs s w d)) → Carries s w old new r unheardBy
     unheard-parts {new} {r} y c = subst (λ k. Carries s w old new r (unheardAt k)) (sym z) (held-some a _ y c)
 
-  pub unheard-goes : {new : List ℕ} → 1 ≤ sent .term .kind → sent .term .kind ≤ 3 → (sent .term .kind ≡ 2 → ⊥) → Becomes s w old new (replaced (sent .place) (processAs s w (sent .after)) (configIn s w old)) → Carries s w old new (Carried Nothing) unheardBy
+  pub unheard-goes : {new : List ℕ} → sendUnitKind ≤ sent .term .kind → sent .term .kind ≤ sendLabelKind → (sent .term .kind ≡ sendChannelKind → ⊥) → Becomes s w old new (replaced (sent .place) (processAs s w (sent .after)) (configIn s w old)) → Carries s w old new (Carried Nothing) unheardBy
   unheard-goes {new} l h z b = go (sent .term .kind) l h z
     where
       go : (k : ℕ) → 1 ≤ k → k ≤ 3 → (k ≡ 2 → ⊥) → Carries s w old new (Carried Nothing) (unheardAt k)
@@ -75,112 +68,26 @@ module _ (s w old : List ℕ) (sent : Sending) where
       go (suc (suc zero)) l h z = absurd (z refl)
       go (suc (suc (suc k))) l h z = record { is = (refl, b) }
 
-  -- ── to the outside
-  module _ (number : ℕ) where
-    abbrev pub outBy : Outcome
-    outBy = toOutside (programIn s w) (configIn s w old) (sent .place) (processAs s w (sent .before)) (processAs s w (sent .after)) (message s (sent .term)) (endAs s w (sent .over)) number
+  sends-nobody : {new : List ℕ} {o : OutcomeWords} {F : calculus.Far} → FarAs (nameAt s) (plainIn s w) (processIn s w) (rawIn old) far.GivenUp F → Carries s w old new o unheardBy
+      → Carries s w old new o (sending (programIn s w) (configIn s w old) (sent .place) (processAs s w (sent .before)) (processAs s w (sent .after)) (message s (sent .term)) (endAs s w (sent .over)) F)
+  sends-nobody givenUp c = c
 
-    abbrev outAt : ℕ → Outcome
-    outAt k = toOutside (programIn s w) (configIn s w old) (sent .place) (processAs s w (sent .before)) (processAs s w (sent .after)) (message s (withKind k)) (endAs s w (sent .over)) number
+  pub sends-unheard : {new : List ℕ} {o : OutcomeWords} → far.GivenUp ≡ farRaw s w old (sent .over) → Carries s w old new o unheardBy → Carries s w old new o sendingBy
+  sends-unheard f c = sends-nobody (far-as s w old (sent .over) far.GivenUp f) c
 
-    module _ (mid : List ℕ) (b : Becomes s w old mid (replaced (sent .place) (processAs s w (sent .after)) (configIn s w old))) where
-      pub out-close : (new : List ℕ) → sent .term .kind ≡ 1 → Changed mid new (raw.onOutside (raw.letGo (sent .over .channel)) (rawIn mid)) → Bounded (rawIn new) → Carries s w old new (Carried (Close number)) outBy
-      out-close new z c k = subst (λ m. Carries s w old new (Carried (Close number)) (outAt m)) (sym z)
-          (record { is = (refl, then (λ (D : Config). config (D .processes) (calculus.letGo (sent .over .channel) (D .outside)) (D .given)) b (let-go s w mid new (b .run) (sent .over .channel) c k)) })
+-- ── the rule
+abbrev pub sendBy : List ℕ → List ℕ → List ℕ → ℕ → ProcessWords → TermNode → Outcome
+sendBy s w old i p n = send (programIn s w) (configIn s w old) i (processAs s w p) (nameIn s (n .first)) (message s n) (processIn s w (n .third))
 
-      module _ (u : TypeAfter s w (afterMessage (programIn s w) (message s (sent .term)) (plainIn s w (sent .over .node))) (sent .node)) where
-        pub out-retyped : (new : List ℕ) → Changed mid new (raw.onOutside (raw.changedOutside (sent .over .channel) (raw.retyped (sent .node))) (rawIn mid)) → Bounded (rawIn new)
-            → Becomes s w old new (config (set (configIn s w old .processes) (sent .place) (processAs s w (sent .after))) (calculus.retypedOutside (sent .over .channel) (afterMessage (programIn s w) (message s (sent .term)) (plainIn s w (sent .over .node))) (configIn s w old .outside)) (configIn s w old .given))
-        out-retyped new c k = subst (λ A. Becomes s w old new (config (set (configIn s w old .processes) (sent .place) (processAs s w (sent .after))) (calculus.retypedOutside (sent .over .channel) A (configIn s w old .outside)) (configIn s w old .given))) (u .is)
-            (then (λ (D : Config). config (D .processes) (calculus.retypedOutside (sent .over .channel) (plainIn s w (sent .node)) (D .outside)) (D .given)) b (retyped s w mid new (b .run) (sent .over .channel) (sent .node) (u .type) c k))
+module _ (s w old : List ℕ) (i : ℕ) (p : ProcessWords) (n : TermNode) {f : Lookup} (a : Sees s (p .held) (n .first) f) where
+  pub sends-nothing : f ≡ lookups.Nothing → Carries s w old old NotOpen (sendBy s w old i p n)
+  unfolding send
+  sends-nothing q = held-none a _ q
 
-        abbrev OutLabel : List ℕ → ℕ → Type 0
-        OutLabel new k = Becomes s w old new (config (set (configIn s w old .processes) (sent .place) (processAs s w (sent .after))) (calculus.retypedOutside (sent .over .channel) (afterMessage (programIn s w) (message s (withKind k)) (plainIn s w (sent .over .node))) (configIn s w old .outside)) (configIn s w old .given))
-
-        pub out-label : (new : List ℕ) → sent .term .kind ≡ 3 → Changed mid new (raw.onOutside (raw.changedOutside (sent .over .channel) (raw.retyped (sent .node))) (rawIn mid)) → Bounded (rawIn new) → Carries s w old new (Carried (Label number (sent .term .second))) outBy
-        out-label new z c k = subst (λ m. Carries s w old new (Carried (Label number (sent .term .second))) (outAt m)) (sym z) (record { is = (refl, subst (OutLabel new) z (out-retyped new c k)) })
-
--- the node of a far end at the outside says its number
-module _ (s w old : List ℕ) (e : EndWords) (k : ℕ) (o : OutsideWords) where
-  pub out-number : far.Outside k ≡ farRaw s w old e → getElem? (rawIn old .outside) k ≡ some (outsideIn o) → farOf s w old e ≡ calculus.atOutside (o .number)
-  out-number f g = decoded-far-outside (nameAt s) (plainIn s w) (processIn s w) (rawIn old) (e .channel) (sideOf (e .side)) (plainIn s w (e .node)) k (sym f) g
-
--- what is given up, in numbers and in the calculus
-pub given-up-so : (s w old : List ℕ) (d : EndWords) (f : Far) → f ≡ farRaw s w old d → forwarding.isGivenUp f ≡ isGivenUp (farOf s w old d)
-given-up-so s w old d f e = go f (far-as s w old d f e)
-  where
-    go : (f : Far) {F : calculus.Far} → FarAs (nameAt s) (plainIn s w) (processIn s w) (rawIn old) f F → forwarding.isGivenUp f ≡ isGivenUp F
-    go (far.Process j l) (atProcess g h) = refl
-    go (far.Outside j) (atOutside g) = refl
-    go far.GivenUp givenUp = refl
-
--- ── a channel is passed out
--- the outside's channels and the numbers given, once the end d was passed out; the outside lets go at once of one that was given up
-abbrev pub numbered : Config → End → Bool → Config
-numbered C d gone = config (C .processes) (C .outside ++ cond gone [] (record { number = C .given; channel = d .channel; type = d .type } ∷ [])) (suc (C .given))
-
-module _ (s w old : List ℕ) (t : RunOf s w old) (m : ℕ) (e : m ≡ rawIn old .given) (d : EndWords) where
-  module _ (mid : List ℕ) (k : ℕ) (y : k ≡ m + 1) (c : Changed old mid (raw.withGiven (rawIn old) k)) (b : Bounded (rawIn mid)) where
-    pub one-given : Becomes s w old mid (config (configIn s w old .processes) (configIn s w old .outside) (suc (configIn s w old .given)))
-    one-given =
-        let z : k ≡ suc (rawIn old .given) = omega (arith, e) in
-        subst (λ n. Becomes s w old mid (config (configIn s w old .processes) (configIn s w old .outside) n)) z (given s w old mid t k c b)
-
-    pub few-outside : length (rawIn old .outside) < 32 → length (rawIn mid .outside) < 32
-    few-outside h = subst (λ (C : RawConfig). length (C .outside) < 32) (sym (c .is)) h
-
-    pub numbered-gone : (gone : Bool) → gone ≡ true → Becomes s w old mid (numbered (configIn s w old) (endAs s w d) gone)
-    numbered-gone gone z = subst (λ g. Becomes s w old mid (numbered (configIn s w old) (endAs s w d) g)) (sym z)
-        (subst (λ l. Becomes s w old mid (config (configIn s w old .processes) l (suc (configIn s w old .given)))) (sym (append-nil (configIn s w old .outside))) one-given)
-
-    pub numbered-out : (new : List ℕ) (gone : Bool) → gone ≡ false → TypeIn s w (d .node) → Changed mid new (raw.onOutside (λ l. l ++ (outsideIn (record { number = m; node = d .node; channel = d .channel }) ∷ [])) (rawIn mid)) → Bounded (rawIn new)
-        → Becomes s w old new (numbered (configIn s w old) (endAs s w d) gone)
-    numbered-out new gone z u f k = subst (λ g. Becomes s w old new (numbered (configIn s w old) (endAs s w d) g)) (sym z)
-        (subst (λ n. Becomes s w old new (config (configIn s w old .processes) (configIn s w old .outside ++ (record { number = n; channel = d .channel; type = plainIn s w (d .node) } ∷ [])) (suc (configIn s w old .given)))) e
-        (then (λ (D : Config). config (D .processes) (D .outside ++ (record { number = m; channel = d .channel; type = plainIn s w (d .node) } ∷ [])) (D .given)) one-given (passed-out s w mid new (one-given .run) (record { number = m; node = d .node; channel = d .channel }) u f k)))
-
-module _ (s w old : List ℕ) (sent : Sending) (number : ℕ) where
-  abbrev pub passedBy : EndWords → Bool → Outcome
-  passedBy d gone = passedOut (configIn s w old) (sent .place) (processAs s w (sent .after)) number (sent .over .channel) (afterMessage (programIn s w) (message s (sent .term)) (plainIn s w (sent .over .node))) (endAs s w d) gone
-
-  abbrev PassedAt : ℕ → EndWords → Bool → Outcome
-  PassedAt k d gone = passedOut (configIn s w old) (sent .place) (processAs s w (sent .after)) number (sent .over .channel) (afterMessage (programIn s w) (message s (withKind s w old sent k)) (plainIn s w (sent .over .node))) (endAs s w d) gone
-
-  pub passes-numbered : (mid new : List ℕ) (d : EndWords) (gone : Bool) (m : ℕ) → m ≡ rawIn old .given
-      → Becomes s w old mid (config (set (configIn s w old .processes) (sent .place) (processAs s w (sent .after))) (calculus.retypedOutside (sent .over .channel) (afterMessage (programIn s w) (message s (sent .term)) (plainIn s w (sent .over .node))) (configIn s w old .outside)) (configIn s w old .given))
-      → Becomes s w mid new (numbered (configIn s w mid) (endAs s w d) gone) → Carries s w old new (Carried (Passed number m gone)) (passedBy d gone)
-  passes-numbered mid new d gone m z a b = record { is = (ap (λ k. Carried (Passed number k gone)) z, then (λ (D : Config). numbered D (endAs s w d) gone) a b) }
-
-  module _ {f : Lookup} (z : sent .term .kind ≡ 2) (a : Sees s (sent .before .held) (sent .term .second) f) where
-    pub passes-none : f ≡ lookups.Nothing → Carries s w old old NotOpen (outBy s w old sent number)
-    passes-none y = subst (λ k. Carries s w old old NotOpen (outAt s w old sent number k)) (sym z) (held-none a _ y)
-
-    module _ {d : EndWords} (y : f ≡ lookups.Found d) where
-      abbrev orLacking : Bool → Outcome
-      orLacking b = cond b (PassedAt 2 d (isGivenUp (farOf s w old d))) lacking
-
-      pub passes-lacking : 32 ≤ rawIn old .given → Carries s w old old Lacking (outBy s w old sent number)
-      passes-lacking h = subst (λ k. Carries s w old old Lacking (outAt s w old sent number k)) (sym z)
-          (held-some a _ y (subst (λ b. Carries s w old old Lacking (orLacking b)) (sym (le-ltb (rawIn old .given) outsideNumbers h)) (record { is = (refl, refl) })))
-
-      pub passes-out : {new : List ℕ} {r : OutcomeWords} (x : Far) (gone : Bool) → rawIn old .given < 32 → x ≡ farRaw s w old d → gone ≡ forwarding.isGivenUp x → Carries s w old new r (passedBy d gone) → Carries s w old new r (outBy s w old sent number)
-      passes-out {new} {r} x gone h v g c = subst (λ k. Carries s w old new r (outAt s w old sent number k)) (sym z)
-          (held-some a _ y (subst (λ b. Carries s w old new r (orLacking b)) (sym (lt-ltb (rawIn old .given) outsideNumbers h))
-          (subst (λ b. Carries s w old new r (PassedAt 2 d b)) (g ∙ given-up-so s w old d x v) (subst (λ k. Carries s w old new r (PassedAt k d gone)) z c))))
-
--- a process stored and a type changed leave the numbers given, and how many channels the outside has
-changed-length : (k : ℕ) (f : RawOutside → RawOutside) (l : List RawOutside) → length (raw.changedOutside k f l) ≡ length l
-unfolding raw.changedOutside
-changed-length k f [] = refl
-changed-length k f (o ∷ l) = go (eqb k (o .channel)) (changed-length k f l)
-  where
-    go : (t : Bool) → length (raw.changedOutside k f l) ≡ length l → length (cond t (f o ∷ l) (o ∷ raw.changedOutside k f l)) ≡ suc (length l)
-    go true h = refl
-    go false h = ap suc h
-
-module _ {old mid new : List ℕ} (i : ℕ) (p : RawProcess) (k : ℕ) (f : RawOutside → RawOutside) (a : Changed old mid (raw.onProcesses (λ l. set l i p) (rawIn old))) (b : Changed mid new (raw.onOutside (raw.changedOutside k f) (rawIn mid))) where
-  pub given-kept : rawIn new .given ≡ rawIn old .given
-  given-kept = ap (λ (C : RawConfig). C .given) (b .is) ∙ ap (λ (C : RawConfig). C .given) (a .is)
-
-  pub outside-kept : length (rawIn new .outside) ≡ length (rawIn old .outside)
-  outside-kept = ap (λ (C : RawConfig). length (C .outside)) (b .is) ∙ changed-length k f (rawIn mid .outside) ∙ ap (λ (C : RawConfig). length (C .outside)) (a .is)
+  pub sends-on : {e : EndWords} {h : Held} {new : List ℕ} {o : OutcomeWords} → f ≡ lookups.Found e → SentHeld s w (p .held) n h
+      → Carries s w old new o (sendingBy s w old (record { place = i; before = p; after = values.runningOn (n .third) h p; term = n; over = e })) → Carries s w old new o (sendBy s w old i p n)
+  unfolding send
+  sends-on {e} {new = new} {o = o} q g c =
+      held-some a _ q
+      (subst (λ l. Carries s w old new o (sending (programIn s w) (configIn s w old) i (processAs s w p) (goesOn (processAs s w p) (processIn s w (n .third)) l) (message s n) (endAs s w e) (farOf s w old e)))
+      (g .is) c)

@@ -1,59 +1,219 @@
-// A send, whoever is at the far end.
+// A send meets a recv: the receiver takes the message, and both go on.
 ghost use mathlib.Core.Path.{_≡_};
-ghost use Prim.Native.Nat.{_+_, _<_};
+ghost use Prim.Native.Nat.{_<_, _+_, ℕ};
 ghost use Rattle.calculus.specs.WellFormed.{WellFormed};
 ghost use Rattle.read_tables.specs.Program.{programIn};
-ghost use Rattle.read_tables.specs.Roots.{ProcessIn};
 ghost use Rattle.run_words.specs.declared.records.Far.the-variants as far;
-ghost use Rattle.run_alone.specs.Run.{configIn, RunOf, StandsAt, Carries};
+ghost use Rattle.run_messages.specs.Kinds.{recvChannelKind, recvLabelKind, recvOver, recvUnitKind, sendChannelKind, sendLabelKind, sendUnitKind};
+ghost use Rattle.run_alone.specs.Run.{configIn, processAs, RunOf, Carries, ProcessOf, Becomes};
 ghost use Rattle.run_alone.specs.Forwarding.{farRaw};
-ghost use Rattle.run_messages.specs.Messages.{SendNode};
-ghost use Rattle.run_messages.specs.Sending.{SendingIn};
-ghost use Rattle.run_messages.specs.Receiving.{ReceiverIn};
-ghost use Rattle.run_messages.specs.Meeting.{sendingBy, heardBy, sendBy};
+ghost use Rattle.notation.specs.Limits.{heldLimit, textLimit};
+ghost use Rattle.read_tables.specs.Roots.{ProcessIn, BranchesIn};
+ghost use Rattle.run_messages.specs.Sending.{SendingIn, sendingBy};
+ghost use Rattle.run_messages.specs.Meeting.{ReceiverIn, heardBy, bothSet, bothOn, BringsOver, BranchIs};
+ghost use lib.ListN.{length};
+ghost use Rattle.read_tables.specs.Whole.{Tables};
+ghost use Rattle.run_words.specs.Raw.{rawIn};
+ghost use Rattle.check_contexts.specs.Held.{HeldIn, FoundIn};
 use crate::messages::Receiver;
 use crate::messages::Sending;
-use crate::messages::after_message;
-use crate::messages::after_send;
+use crate::messages::came_over;
+use crate::messages::move_on;
 use crate::messages::turn_on;
-use crate::receiving::hear_channel;
-use crate::receiving::hear_close;
-use crate::receiving::hear_label;
-use crate::sending::pass_out;
-use crate::sending::send_shown;
-use crate::sending::send_unheard;
+use calculus::answers::Seen;
 use check_contexts::held::Lookup;
+use check_contexts::held::bring_end;
+use check_contexts::held::drop_end;
 use check_contexts::held::find_end;
-use notation::reading::TermNode;
+use check_types::acting::labels_equal;
+use notation::kinds::RECV_UNIT;
+use notation::kinds::SEND_LABEL;
+use notation::kinds::SEND_UNIT;
+use notation::reading::Found;
+use read_tables::access::branch;
 use run_alone::outcome::Outcome;
-use run_words::far::far_end;
 use run_words::held::end_at;
-use run_words::outside::outside_at;
 use run_words::processes::load;
-use run_words::records::Far;
+use run_words::processes::store;
+use run_words::records::Held;
 use run_words::records::Process;
+use run_words::shape::RUNNING;
+
+// The recv of what a send sends is of a kind so much higher.
+const RECEIVES: usize = RECV_UNIT - SEND_UNIT;
+
+// The process q at a place, and then r at place j.
+fn store_both(
+    text: &[u8],
+    scratch: &[u32],
+    run: &mut [u32],
+    place: usize,
+    q: Process,
+    j: usize,
+    r: Process,
+)
+    requires { ⌜ RunOf (now text) (now scratch) (now run) ⌝ }
+    requires { ⌜ (place < length (rawIn (now run) .processes)) × (j < length (rawIn (now run) .processes)) ⌝ }
+    requires { ⌜ ProcessOf (now text) (now scratch) (length (rawIn (now run) .processes)) q ⌝ }
+    requires { ⌜ ProcessOf (now text) (now scratch) (length (rawIn (now run) .processes)) r ⌝ }
+    ensures { λ o. ⌜ Becomes (now (text .entry)) (now (scratch .entry)) (now (run .entry)) (now (run .exit)) (bothSet (configIn (now (text .entry)) (now (scratch .entry)) (now (run .entry))) place (processAs (now (text .entry)) (now (scratch .entry)) q) j (processAs (now (text .entry)) (now (scratch .entry)) r)) ⌝ }
+{
+    store(run, place, q);
+    store(run, j, r);
+}
+
+// The sender goes on as its send left it, and the receiver with the term at `pointer` and what it holds now.
+fn go_on(
+    text: &[u8],
+    scratch: &[u32],
+    run: &mut [u32],
+    sent: Sending,
+    to: Receiver,
+    pointer: usize,
+    held: Held,
+) -> Outcome
+    requires { ⌜ RunOf (now text) (now scratch) (now run) ⌝ }
+    requires { ⌜ SendingIn (now text) (now scratch) (now run) sent ⌝ }
+    requires { ⌜ ReceiverIn (now text) (now scratch) (now run) to ⌝ }
+    requires { ⌜ ProcessIn (now text) (now scratch) pointer × HeldIn (now text) (now scratch) held ⌝ }
+    ensures { λ o. ⌜ Carries (now (text .entry)) (now (scratch .entry)) (now (run .entry)) (now (run .exit)) o (bothOn (now (text .entry)) (now (scratch .entry)) (now (run .entry)) sent to pointer held) ⌝ }
+{
+    let q = sent.after;
+    let mut r = to.process;
+    r.kind = RUNNING;
+    r.pointer = pointer as u32;
+    r.held = held;
+    store_both(text, scratch, run, sent.place, q, to.place, r);
+    Outcome::Carried(Seen::Nothing)
+}
+
+// The receiver closes the channel, and goes on.
+fn hear_close(text: &[u8], scratch: &[u32], run: &mut [u32], sent: Sending, to: Receiver) -> Outcome
+    requires { ⌜ RunOf (now text) (now scratch) (now run) ⌝ }
+    requires { ⌜ SendingIn (now text) (now scratch) (now run) sent ⌝ }
+    requires { ⌜ ReceiverIn (now text) (now scratch) (now run) to ⌝ }
+    requires { ⌜ (sent .term .kind ≡ sendUnitKind) × (to .term .kind ≡ recvUnitKind) ⌝ }
+    ensures { λ o. ⌜ Carries (now (text .entry)) (now (scratch .entry)) (now (run .entry)) (now (run .exit)) o (heardBy (now (text .entry)) (now (scratch .entry)) (now (run .entry)) sent to) ⌝ }
+{
+    let r = to.process;
+    let t = to.term;
+    let h = r.held;
+    let held = drop_end(text, h, to.name);
+    go_on(text, scratch, run, sent, to, t.third, held)
+}
+
+// With the end that was passed, if it was found and the receiver's own was: under the name at `at`, and of the type that its own lets over.
+fn bring_over(text: &[u8], scratch: &[u32], h: Held, own: Lookup, passed: Lookup, at: u32) -> Held
+    requires { ⌜ Tables (now text) (now scratch) ⌝ }
+    requires { ⌜ HeldIn (now text) (now scratch) h × (h .count < heldLimit) × (at < textLimit) ⌝ }
+    requires { ⌜ FoundIn (now text) (now scratch) own ⌝ }
+    requires { ⌜ FoundIn (now text) (now scratch) passed ⌝ }
+    ensures { λ r. ⌜ BringsOver (now (text .entry)) (now (scratch .entry)) h own passed at r ⌝ }
+{
+    let Lookup::Found(e) = own else {
+        return h;
+    };
+    let Lookup::Found(d) = passed else {
+        return h;
+    };
+    let node = came_over(text, scratch, e.node as usize, d.node as usize);
+    bring_end(h, at, d.side, node as u32, d.channel)
+}
+
+// The receiver takes the channel that was passed.
+fn hear_channel(
+    text: &[u8],
+    scratch: &[u32],
+    run: &mut [u32],
+    sent: Sending,
+    to: Receiver,
+) -> Outcome
+    requires { ⌜ RunOf (now text) (now scratch) (now run) ⌝ }
+    requires { ⌜ SendingIn (now text) (now scratch) (now run) sent ⌝ }
+    requires { ⌜ ReceiverIn (now text) (now scratch) (now run) to ⌝ }
+    requires { ⌜ (sent .term .kind ≡ sendChannelKind) × (to .term .kind ≡ recvChannelKind) × (to .process .held .count < heldLimit) ⌝ }
+    ensures { λ o. ⌜ Carries (now (text .entry)) (now (scratch .entry)) (now (run .entry)) (now (run .exit)) o (heardBy (now (text .entry)) (now (scratch .entry)) (now (run .entry)) sent to) ⌝ }
+{
+    let n = sent.term;
+    let p = sent.before;
+    let passed = p.held;
+    let f = find_end(text, passed, n.second);
+    let r = to.process;
+    let t = to.term;
+    let h = r.held;
+    let own = find_end(text, h, to.name);
+    let m = move_on(text, scratch, h, n, to.name);
+    let held = bring_over(text, scratch, m, own, f, t.second as u32);
+    go_on(text, scratch, run, sent, to, t.third, held)
+}
+
+// The process of the label whose apostrophe stands at `at`, among the n branches before the place e.
+fn branch_of(text: &[u8], scratch: &[u32], at: usize, e: usize, n: usize) -> Found
+    requires { ⌜ Tables (now text) (now scratch) × ((p : ℕ) × BranchesIn (now text) (now scratch) p e n) ⌝ }
+    ensures { λ r. ⌜ BranchIs (now (text .entry)) (now (scratch .entry)) at e n r ⌝ }
+{
+    let mut place = e;
+    let mut left = n;
+    while left != 0 {
+        let b = branch(scratch, place);
+        let there = b.at;
+        if labels_equal(text, at, there) {
+            return Found::At(b.number);
+        }
+        place -= 1;
+        left -= 1;
+    }
+    Found::Nothing
+}
+
+// The receiver goes on with the branch of the label.
+fn hear_label(text: &[u8], scratch: &[u32], run: &mut [u32], sent: Sending, to: Receiver) -> Outcome
+    requires { ⌜ RunOf (now text) (now scratch) (now run) ⌝ }
+    requires { ⌜ SendingIn (now text) (now scratch) (now run) sent ⌝ }
+    requires { ⌜ ReceiverIn (now text) (now scratch) (now run) to ⌝ }
+    requires { ⌜ (sent .term .kind ≡ sendLabelKind) × (to .term .kind ≡ recvLabelKind) ⌝ }
+    ensures { λ o. ⌜ Carries (now (text .entry)) (now (scratch .entry)) (now (run .entry)) (now (run .exit)) o (heardBy (now (text .entry)) (now (scratch .entry)) (now (run .entry)) sent to) ⌝ }
+{
+    let n = sent.term;
+    let t = to.term;
+    let f = branch_of(text, scratch, n.second, t.second, t.third);
+    let Found::At(pointer) = f else {
+        return Outcome::NotOpen;
+    };
+    let r = to.process;
+    let h = r.held;
+    let held = move_on(text, scratch, h, n, to.name);
+    go_on(text, scratch, run, sent, to, pointer, held)
+}
 
 // The receiver takes the message.
 fn hear(text: &[u8], scratch: &[u32], run: &mut [u32], sent: Sending, to: Receiver) -> Outcome
     requires { ⌜ RunOf (now text) (now scratch) (now run) ⌝ }
     requires { ⌜ SendingIn (now text) (now scratch) (now run) sent ⌝ }
     requires { ⌜ ReceiverIn (now text) (now scratch) (now run) to ⌝ }
-    requires { ⌜ to .term .kind ≡ sent .term .kind + 5 ⌝ }
-    requires { ⌜ (to .term .kind ≡ 7 → to .process .held .count < 16) ⌝ }
+    requires { ⌜ to .term .kind ≡ sent .term .kind + recvOver ⌝ }
+    requires { ⌜ (to .term .kind ≡ recvChannelKind → to .process .held .count < heldLimit) ⌝ }
     ensures { λ o. ⌜ Carries (now (text .entry)) (now (scratch .entry)) (now (run .entry)) (now (run .exit)) o (heardBy (now (text .entry)) (now (scratch .entry)) (now (run .entry)) sent to) ⌝ }
 {
     let n = sent.term;
-    if n.kind == 1 {
+    if n.kind == SEND_UNIT {
         return hear_close(text, scratch, run, sent, to);
     }
-    if n.kind == 3 {
+    if n.kind == SEND_LABEL {
         return hear_label(text, scratch, run, sent, to);
     }
     hear_channel(text, scratch, run, sent, to)
 }
 
 // The far end is at position k of what the process at place j holds.
-fn meet(text: &[u8], scratch: &[u32], run: &mut [u32], sent: Sending, j: usize, k: usize) -> Outcome
+pub(crate) fn meet(
+    text: &[u8],
+    scratch: &[u32],
+    run: &mut [u32],
+    sent: Sending,
+    j: usize,
+    k: usize,
+) -> Outcome
     requires { ⌜ RunOf (now text) (now scratch) (now run) ⌝ }
     requires { ⌜ SendingIn (now text) (now scratch) (now run) sent ⌝ }
     requires { ⌜ WellFormed (programIn (now text) (now scratch)) (configIn (now text) (now scratch) (now run)) ⌝ }
@@ -66,7 +226,7 @@ fn meet(text: &[u8], scratch: &[u32], run: &mut [u32], sent: Sending, j: usize, 
     let x = y.name as usize;
     let t = turn_on(text, scratch, r, x);
     let n = sent.term;
-    if t.kind != n.kind + 5 {
+    if t.kind != n.kind + RECEIVES {
         return Outcome::NotOpen;
     }
     let to = Receiver {
@@ -76,80 +236,4 @@ fn meet(text: &[u8], scratch: &[u32], run: &mut [u32], sent: Sending, j: usize, 
         term: t,
     };
     hear(text, scratch, run, sent, to)
-}
-
-// The far end is the outside's, at position k of its channels.
-fn send_out(text: &[u8], scratch: &[u32], run: &mut [u32], sent: Sending, k: usize) -> Outcome
-    requires { ⌜ RunOf (now text) (now scratch) (now run) ⌝ }
-    requires { ⌜ SendingIn (now text) (now scratch) (now run) sent ⌝ }
-    requires { ⌜ WellFormed (programIn (now text) (now scratch)) (configIn (now text) (now scratch) (now run)) ⌝ }
-    requires { ⌜ farRaw (now text) (now scratch) (now run) (sent .over) ≡ far.Outside k ⌝ }
-    ensures { λ o. ⌜ Carries (now (text .entry)) (now (scratch .entry)) (now (run .entry)) (now (run .exit)) o (sendingBy (now (text .entry)) (now (scratch .entry)) (now (run .entry)) sent) ⌝ }
-{
-    let o = outside_at(run, k);
-    let n = sent.term;
-    if n.kind == 2 {
-        return pass_out(text, scratch, run, sent, o.number);
-    }
-    send_shown(text, scratch, run, sent, o.number)
-}
-
-// The process has sent; who is at the far end?
-fn deliver(text: &[u8], scratch: &[u32], run: &mut [u32], sent: Sending) -> Outcome
-    requires { ⌜ RunOf (now text) (now scratch) (now run) ⌝ }
-    requires { ⌜ SendingIn (now text) (now scratch) (now run) sent ⌝ }
-    requires { ⌜ sent .over .side < 2 ⌝ }
-    requires { ⌜ WellFormed (programIn (now text) (now scratch)) (configIn (now text) (now scratch) (now run)) ⌝ }
-    ensures { λ o. ⌜ Carries (now (text .entry)) (now (scratch .entry)) (now (run .entry)) (now (run .exit)) o (sendingBy (now (text .entry)) (now (scratch .entry)) (now (run .entry)) sent) ⌝ }
-{
-    let e = sent.over;
-    let f = far_end(run, e.channel, e.side);
-    match f {
-        Far::Process(j, k) => return meet(text, scratch, run, sent, j, k),
-        Far::Outside(k) => return send_out(text, scratch, run, sent, k),
-        Far::GivenUp => return send_unheard(text, scratch, run, sent),
-    }
-}
-
-// The send n of the process p at a place.
-pub fn send(
-    text: &[u8],
-    scratch: &[u32],
-    run: &mut [u32],
-    place: usize,
-    p: Process,
-    n: TermNode,
-) -> Outcome
-    requires { ⌜ RunOf (now text) (now scratch) (now run) ⌝ }
-    requires { ⌜ StandsAt (now text) (now scratch) (now run) place p ⌝ }
-    requires { ⌜ SendNode n × ProcessIn (now text) (now scratch) (n .third) ⌝ }
-    requires { ⌜ WellFormed (programIn (now text) (now scratch)) (configIn (now text) (now scratch) (now run)) ⌝ }
-    ensures { λ o. ⌜ Carries (now (text .entry)) (now (scratch .entry)) (now (run .entry)) (now (run .exit)) o (sendBy (now (text .entry)) (now (scratch .entry)) (now (run .entry)) place p n) ⌝ }
-{
-    let h = p.held;
-    let f = find_end(text, h, n.first);
-    let Lookup::Found(e) = f else {
-        return Outcome::NotOpen;
-    };
-    let node = after_message(text, scratch, n, e.node as usize);
-    let held = after_send(text, scratch, h, n, node as u32);
-    let after = Process {
-        kind: 0,
-        pointer: n.third as u32,
-        link: p.link,
-        held,
-    };
-    deliver(
-        text,
-        scratch,
-        run,
-        Sending {
-            place,
-            before: p,
-            after,
-            term: n,
-            over: e,
-            node: node as u32,
-        },
-    )
 }

@@ -4,14 +4,17 @@ ghost use Prim.Native.Nat.{ℕ, _+_, _≤_, _<_};
 ghost use Rattle.notation.specs.Token.{nameAt};
 ghost use Rattle.notation.specs.Tables.{termNode};
 ghost use Rattle.calculus.specs.Types.{standing, passing, choosing};
-ghost use Rattle.calculus.specs.Steps.{afterPassing, afterChoosing, afterMessage};
+ghost use Rattle.calculus.specs.Steps.{afterPassing, afterChoosing, afterMessage, passedType};
 ghost use Rattle.read_tables.specs.Program.{plainIn, programIn};
 ghost use Rattle.read_tables.specs.Roots.{TypeIn};
 ghost use Rattle.read_tables.specs.Whole.{Tables};
 ghost use Rattle.check_contexts.specs.Held.{HeldIn};
+ghost use Rattle.run_messages.specs.Kinds.{sendLabelKind, sendUnitKind};
 ghost use Rattle.run_alone.specs.Run.{doingAs, ProcessOf};
-ghost use Rattle.run_messages.specs.Messages.{message, TypeAfter, SentHeld, Heard};
+ghost use Rattle.run_messages.specs.Messages.{message, TypeAfter, MovesOn, SentHeld, Heard};
+use check_contexts::held::Lookup;
 use check_contexts::held::drop_end;
+use check_contexts::held::find_end;
 use check_contexts::held::retype_end;
 use check_types::acting::choosing;
 use check_types::acting::labelled;
@@ -19,6 +22,9 @@ use check_types::acting::passing;
 use check_types::acting::standing;
 use check_types::messages::Choosing;
 use check_types::messages::Passing;
+use notation::kinds::SEND_CHANNEL;
+use notation::kinds::SEND_LABEL;
+use notation::kinds::SEND_UNIT;
 use notation::reading::Found;
 use notation::reading::TermNode;
 use notation::script::Script;
@@ -27,16 +33,15 @@ use read_tables::access::term_node;
 use run_words::records::End;
 use run_words::records::Held;
 use run_words::records::Process;
+use run_words::shape::RUNNING;
 
-// A send under way: the process at a place before it and after it, its term, the end that it goes over, and the node of the type that
-// the channel then has.
+// A send under way: the process at a place before it and after it, its term, and the end that it goes over.
 pub struct Sending {
     pub place: usize,
     pub before: Process,
     pub after: Process,
     pub term: TermNode,
     pub over: End,
-    pub node: u32,
 }
 
 // A process that receives: its place, where its name for the channel stands, and its term.
@@ -80,44 +85,76 @@ fn after_choosing(text: &[u8], scratch: &[u32], at: usize, i: usize) -> usize
 }
 
 // The type of a channel of the type i, once the message of the send n has gone over it.
-pub fn after_message(text: &[u8], scratch: &[u32], n: TermNode, i: usize) -> usize
+pub(crate) fn after_message(text: &[u8], scratch: &[u32], n: TermNode, i: usize) -> usize
     requires { ⌜ Tables (now text) (now scratch) ⌝ }
     requires { ⌜ TypeIn (now text) (now scratch) i ⌝ }
-    requires { ⌜ (1 ≤ n .kind) × (n .kind ≤ 3) ⌝ }
+    requires { ⌜ (sendUnitKind ≤ n .kind) × (n .kind ≤ sendLabelKind) ⌝ }
     ensures { λ r. ⌜ TypeAfter (now (text .entry)) (now (scratch .entry)) (afterMessage (programIn (now (text .entry)) (now (scratch .entry))) (message (now (text .entry)) n) (plainIn (now (text .entry)) (now (scratch .entry)) i)) r ⌝ }
 {
-    if n.kind == 1 {
+    if n.kind == SEND_UNIT {
         return i;
     }
-    if n.kind == 2 {
+    if n.kind == SEND_CHANNEL {
         return after_passing(text, scratch, i);
     }
     after_choosing(text, scratch, n.second, i)
 }
 
-// What the sender holds after the send n, if its channel is then of the type of a node.
-pub fn after_send(text: &[u8], scratch: &[u32], h: Held, n: TermNode, node: u32) -> Held
-    requires { ⌜ HeldIn (now text) (now scratch) h ⌝ }
-    requires { ⌜ node < 512 ⌝ }
-    requires { ⌜ (1 ≤ n .kind) × (n .kind ≤ 3) ⌝ }
-    ensures { λ r. ⌜ SentHeld (now (text .entry)) (now (scratch .entry)) h n node r ⌝ }
+// The type of an end of the type j that has come over a channel of the type i.
+pub(crate) fn came_over(text: &[u8], scratch: &[u32], i: usize, j: usize) -> usize
+    requires { ⌜ Tables (now text) (now scratch) ⌝ }
+    requires { ⌜ TypeIn (now text) (now scratch) i × TypeIn (now text) (now scratch) j ⌝ }
+    ensures { λ r. ⌜ TypeAfter (now (text .entry)) (now (scratch .entry)) (passedType (plainIn (now (text .entry)) (now (scratch .entry)) j) (passing (standing (programIn (now (text .entry)) (now (scratch .entry)) .types) (plainIn (now (text .entry)) (now (scratch .entry)) i)))) r ⌝ }
 {
-    if n.kind == 1 {
+    let k = standing(text, scratch, i);
+    let q = passing(scratch, k);
+    match q {
+        Passing::Nothing => return j,
+        Passing::Passes(u, v, x, y) => return x,
+    }
+}
+
+// What is held once the message of the send n has gone over the channel whose name is the one at `at`: it moves on from its own type.
+pub(crate) fn move_on(text: &[u8], scratch: &[u32], h: Held, n: TermNode, at: usize) -> Held
+    requires { ⌜ Tables (now text) (now scratch) ⌝ }
+    requires { ⌜ HeldIn (now text) (now scratch) h ⌝ }
+    requires { ⌜ (sendUnitKind ≤ n .kind) × (n .kind ≤ sendLabelKind) ⌝ }
+    ensures { λ r. ⌜ MovesOn (now (text .entry)) (now (scratch .entry)) h n at r ⌝ }
+{
+    let f = find_end(text, h, at);
+    let Lookup::Found(e) = f else {
+        return h;
+    };
+    let node = after_message(text, scratch, n, e.node as usize);
+    retype_end(text, h, at, node as u32)
+}
+
+// What the sender holds after the send n.
+pub(crate) fn after_send(text: &[u8], scratch: &[u32], h: Held, n: TermNode) -> Held
+    requires { ⌜ Tables (now text) (now scratch) ⌝ }
+    requires { ⌜ HeldIn (now text) (now scratch) h ⌝ }
+    requires { ⌜ (sendUnitKind ≤ n .kind) × (n .kind ≤ sendLabelKind) ⌝ }
+    ensures { λ r. ⌜ SentHeld (now (text .entry)) (now (scratch .entry)) h n r ⌝ }
+{
+    if n.kind == SEND_UNIT {
         return drop_end(text, h, n.first);
     }
-    if n.kind == 3 {
-        return retype_end(text, h, n.first, node);
+    if n.kind == SEND_LABEL {
+        return move_on(text, scratch, h, n, n.first);
     }
     let kept = drop_end(text, h, n.second);
-    retype_end(text, kept, n.first, node)
+    move_on(text, scratch, kept, n, n.first)
 }
+
+// The kind of a node that is no turn.
+pub(crate) const IDLE: usize = 0;
 
 // A node that is no turn.
 fn idle() -> TermNode
     ensures { λ r. ⌜ r ≡ termNode 0 0 0 0 0 ⌝ }
 {
     TermNode {
-        kind: 0,
+        kind: IDLE,
         at: 0,
         first: 0,
         second: 0,
@@ -126,12 +163,12 @@ fn idle() -> TermNode
 }
 
 // The node of the term that a process runs, where it acts on the channel whose name is the one at `x`.
-pub fn turn_on(text: &[u8], scratch: &[u32], r: Process, x: usize) -> TermNode
+pub(crate) fn turn_on(text: &[u8], scratch: &[u32], r: Process, x: usize) -> TermNode
     requires { ⌜ Tables (now text) (now scratch) ⌝ }
     requires { ⌜ ((m : ℕ) × ProcessOf (now text) (now scratch) m r) ⌝ }
     ensures { λ t. ⌜ Heard (now (text .entry)) (now (scratch .entry)) x (doingAs (now (text .entry)) (now (scratch .entry)) (r .kind) (r .pointer)) t ⌝ }
 {
-    if r.kind != 0 {
+    if r.kind != RUNNING {
         return idle();
     }
     let p = r.pointer as usize;

@@ -1,186 +1,111 @@
-// A process that receives, and what its sender's message does to it.
+// A recv: as the send at its far end, or with its far end given up.
 ghost use mathlib.Core.Path.{_≡_};
-ghost use Prim.Native.Nat.{ℕ, _<_};
-ghost use lib.ListN.{length};
-ghost use Rattle.read_tables.specs.Roots.{ProcessIn, BranchesIn};
-ghost use Rattle.read_tables.specs.Whole.{Tables};
-ghost use Rattle.run_words.specs.Raw.{rawIn};
-ghost use Rattle.check_contexts.specs.Held.{HeldIn};
-ghost use Rattle.run_alone.specs.Run.{configIn, processAs, RunOf, ProcessOf, Becomes, Carries};
-ghost use Rattle.run_messages.specs.Sending.{SendingIn};
-ghost use Rattle.run_messages.specs.Receiving.{ReceiverIn, bothSet, bothOn, FoundBounded, BringsFound, BranchIs};
-ghost use Rattle.run_messages.specs.Meeting.{heardBy};
-use crate::messages::Receiver;
-use crate::messages::Sending;
+ghost use Prim.Native.Nat.{_<_};
+ghost use Rattle.notation.specs.Reader.{nameIn};
+ghost use Rattle.calculus.specs.Steps.{receive};
+ghost use Rattle.calculus.specs.WellFormed.{WellFormed};
+ghost use Rattle.read_tables.specs.Program.{programIn};
+ghost use Rattle.run_words.specs.declared.records.Far.the-variants as far;
+ghost use Rattle.run_alone.specs.Run.{configIn, processAs, RunOf, StandsAt, Carries};
+ghost use Rattle.run_alone.specs.Forwarding.{farRaw};
+ghost use Rattle.run_messages.specs.Receiving.{receivingBy};
+use crate::messages::IDLE;
+use crate::messages::turn_on;
+use crate::sending::send;
 use calculus::answers::Seen;
 use check_contexts::held::Lookup;
-use check_contexts::held::bring_end;
 use check_contexts::held::drop_end;
 use check_contexts::held::find_end;
-use check_contexts::held::retype_end;
-use check_types::acting::labels_equal;
-use notation::reading::Found;
-use read_tables::access::branch;
+use notation::kinds::SEND_LABEL;
 use run_alone::outcome::Outcome;
+use run_words::far::far_end;
+use run_words::held::end_at;
+use run_words::processes::load;
 use run_words::processes::store;
-use run_words::records::Held;
+use run_words::records::End;
+use run_words::records::Far;
 use run_words::records::Process;
+use run_words::shape::FOLDING;
 
-// The process q at a place, and then r at place j.
-fn store_both(
+// The far end is at position k of what the process at place j holds: the step is that process' send, if it sends there.
+fn answer(
     text: &[u8],
     scratch: &[u32],
     run: &mut [u32],
     place: usize,
-    q: Process,
+    p: Process,
+    c: usize,
+    e: End,
     j: usize,
-    r: Process,
-)
+    k: usize,
+) -> Outcome
     requires { ⌜ RunOf (now text) (now scratch) (now run) ⌝ }
-    requires { ⌜ (place < length (rawIn (now run) .processes)) × (j < length (rawIn (now run) .processes)) ⌝ }
-    requires { ⌜ ProcessOf (now text) (now scratch) (length (rawIn (now run) .processes)) q ⌝ }
-    requires { ⌜ ProcessOf (now text) (now scratch) (length (rawIn (now run) .processes)) r ⌝ }
-    ensures { λ o. ⌜ Becomes (now (text .entry)) (now (scratch .entry)) (now (run .entry)) (now (run .exit)) (bothSet (configIn (now (text .entry)) (now (scratch .entry)) (now (run .entry))) place (processAs (now (text .entry)) (now (scratch .entry)) q) j (processAs (now (text .entry)) (now (scratch .entry)) r)) ⌝ }
+    requires { ⌜ StandsAt (now text) (now scratch) (now run) place p ⌝ }
+    requires { ⌜ WellFormed (programIn (now text) (now scratch)) (configIn (now text) (now scratch) (now run)) ⌝ }
+    requires { ⌜ farRaw (now text) (now scratch) (now run) e ≡ far.Process j k ⌝ }
+    ensures { λ o. ⌜ Carries (now (text .entry)) (now (scratch .entry)) (now (run .entry)) (now (run .exit)) o (receivingBy (now (text .entry)) (now (scratch .entry)) (now (run .entry)) place p c e) ⌝ }
 {
-    store(run, place, q);
-    store(run, j, r);
+    let r = load(run, j);
+    let h = r.held;
+    let y = end_at(h, k);
+    let x = y.name as usize;
+    let t = turn_on(text, scratch, r, x);
+    if t.kind == IDLE {
+        return Outcome::NotOpen;
+    }
+    if SEND_LABEL < t.kind {
+        return Outcome::NotOpen;
+    }
+    send(text, scratch, run, j, r, t)
 }
 
-// The sender goes on as its send left it, and the receiver with the term at `pointer` and what it holds now.
-fn go_on(
+// "a recv drops its channel in that step and folds up".
+fn receive_nothing(
     text: &[u8],
     scratch: &[u32],
     run: &mut [u32],
-    sent: Sending,
-    to: Receiver,
-    pointer: usize,
-    held: Held,
+    place: usize,
+    p: Process,
+    c: usize,
+    e: End,
 ) -> Outcome
     requires { ⌜ RunOf (now text) (now scratch) (now run) ⌝ }
-    requires { ⌜ SendingIn (now text) (now scratch) (now run) sent ⌝ }
-    requires { ⌜ ReceiverIn (now text) (now scratch) (now run) to ⌝ }
-    requires { ⌜ ProcessIn (now text) (now scratch) pointer × HeldIn (now text) (now scratch) held ⌝ }
-    ensures { λ o. ⌜ Carries (now (text .entry)) (now (scratch .entry)) (now (run .entry)) (now (run .exit)) o (bothOn (now (text .entry)) (now (scratch .entry)) (now (run .entry)) sent to pointer held) ⌝ }
+    requires { ⌜ StandsAt (now text) (now scratch) (now run) place p ⌝ }
+    requires { ⌜ farRaw (now text) (now scratch) (now run) e ≡ far.GivenUp ⌝ }
+    ensures { λ o. ⌜ Carries (now (text .entry)) (now (scratch .entry)) (now (run .entry)) (now (run .exit)) o (receivingBy (now (text .entry)) (now (scratch .entry)) (now (run .entry)) place p c e) ⌝ }
 {
-    let q = sent.after;
-    let r = to.process;
-    store_both(
-        text,
-        scratch,
-        run,
-        sent.place,
-        q,
-        to.place,
-        Process {
-            kind: 0,
-            pointer: pointer as u32,
-            link: r.link,
-            held,
-        },
-    );
+    let h = p.held;
+    let held = drop_end(text, h, c);
+    let mut q = p;
+    q.kind = FOLDING;
+    q.held = held;
+    store(run, place, q);
     Outcome::Carried(Seen::Nothing)
 }
 
-// The receiver closes the channel, and goes on.
-pub fn hear_close(
+// A recv on the channel c of the process p at a place.
+pub fn receive(
     text: &[u8],
     scratch: &[u32],
     run: &mut [u32],
-    sent: Sending,
-    to: Receiver,
+    place: usize,
+    p: Process,
+    c: usize,
 ) -> Outcome
     requires { ⌜ RunOf (now text) (now scratch) (now run) ⌝ }
-    requires { ⌜ SendingIn (now text) (now scratch) (now run) sent ⌝ }
-    requires { ⌜ ReceiverIn (now text) (now scratch) (now run) to ⌝ }
-    requires { ⌜ (sent .term .kind ≡ 1) × (to .term .kind ≡ 6) ⌝ }
-    ensures { λ o. ⌜ Carries (now (text .entry)) (now (scratch .entry)) (now (run .entry)) (now (run .exit)) o (heardBy (now (text .entry)) (now (scratch .entry)) (now (run .entry)) sent to) ⌝ }
+    requires { ⌜ StandsAt (now text) (now scratch) (now run) place p ⌝ }
+    requires { ⌜ WellFormed (programIn (now text) (now scratch)) (configIn (now text) (now scratch) (now run)) ⌝ }
+    ensures { λ o. ⌜ Carries (now (text .entry)) (now (scratch .entry)) (now (run .entry)) (now (run .exit)) o (receive (programIn (now (text .entry)) (now (scratch .entry))) (configIn (now (text .entry)) (now (scratch .entry)) (now (run .entry))) place (processAs (now (text .entry)) (now (scratch .entry)) p) (nameIn (now (text .entry)) c)) ⌝ }
 {
-    let r = to.process;
-    let t = to.term;
-    let h = r.held;
-    let held = drop_end(text, h, to.name);
-    go_on(text, scratch, run, sent, to, t.third, held)
-}
-
-// With an end more under the name at `at`, if one was found.
-fn bring_found(h: Held, f: Lookup, at: u32) -> Held
-    requires { ⌜ (h .count < 16) × (at < 8192) ⌝ }
-    requires { ⌜ FoundBounded f ⌝ }
-    ensures { λ r. ⌜ BringsFound h f at r ⌝ }
-{
-    match f {
-        Lookup::Found(d) => return bring_end(h, at, d.side, d.node, d.channel),
-        Lookup::Nothing => return h,
-    }
-}
-
-// The receiver takes the channel that was passed.
-pub fn hear_channel(
-    text: &[u8],
-    scratch: &[u32],
-    run: &mut [u32],
-    sent: Sending,
-    to: Receiver,
-) -> Outcome
-    requires { ⌜ RunOf (now text) (now scratch) (now run) ⌝ }
-    requires { ⌜ SendingIn (now text) (now scratch) (now run) sent ⌝ }
-    requires { ⌜ ReceiverIn (now text) (now scratch) (now run) to ⌝ }
-    requires { ⌜ (sent .term .kind ≡ 2) × (to .term .kind ≡ 7) × (to .process .held .count < 16) ⌝ }
-    ensures { λ o. ⌜ Carries (now (text .entry)) (now (scratch .entry)) (now (run .entry)) (now (run .exit)) o (heardBy (now (text .entry)) (now (scratch .entry)) (now (run .entry)) sent to) ⌝ }
-{
-    let n = sent.term;
-    let p = sent.before;
-    let passed = p.held;
-    let f = find_end(text, passed, n.second);
-    let r = to.process;
-    let t = to.term;
-    let h = r.held;
-    let m = retype_end(text, h, to.name, sent.node);
-    let held = bring_found(m, f, t.second as u32);
-    go_on(text, scratch, run, sent, to, t.third, held)
-}
-
-// The process of the label whose apostrophe stands at `at`, among the n branches before the place e.
-fn branch_of(text: &[u8], scratch: &[u32], at: usize, e: usize, n: usize) -> Found
-    requires { ⌜ Tables (now text) (now scratch) × ((p : ℕ) × BranchesIn (now text) (now scratch) p e n) ⌝ }
-    ensures { λ r. ⌜ BranchIs (now (text .entry)) (now (scratch .entry)) at e n r ⌝ }
-{
-    let mut place = e;
-    let mut left = n;
-    while left != 0 {
-        let b = branch(scratch, place);
-        let there = b.at;
-        if labels_equal(text, at, there) {
-            return Found::At(b.number);
-        }
-        place -= 1;
-        left -= 1;
-    }
-    Found::Nothing
-}
-
-// The receiver goes on with the branch of the label.
-pub fn hear_label(
-    text: &[u8],
-    scratch: &[u32],
-    run: &mut [u32],
-    sent: Sending,
-    to: Receiver,
-) -> Outcome
-    requires { ⌜ RunOf (now text) (now scratch) (now run) ⌝ }
-    requires { ⌜ SendingIn (now text) (now scratch) (now run) sent ⌝ }
-    requires { ⌜ ReceiverIn (now text) (now scratch) (now run) to ⌝ }
-    requires { ⌜ (sent .term .kind ≡ 3) × (to .term .kind ≡ 8) ⌝ }
-    ensures { λ o. ⌜ Carries (now (text .entry)) (now (scratch .entry)) (now (run .entry)) (now (run .exit)) o (heardBy (now (text .entry)) (now (scratch .entry)) (now (run .entry)) sent to) ⌝ }
-{
-    let n = sent.term;
-    let t = to.term;
-    let f = branch_of(text, scratch, n.second, t.second, t.third);
-    let Found::At(pointer) = f else {
+    let h = p.held;
+    let f = find_end(text, h, c);
+    let Lookup::Found(e) = f else {
         return Outcome::NotOpen;
     };
-    let r = to.process;
-    let h = r.held;
-    let held = retype_end(text, h, to.name, sent.node);
-    go_on(text, scratch, run, sent, to, pointer, held)
+    let g = far_end(run, e.channel, e.side);
+    match g {
+        Far::Process(j, k) => return answer(text, scratch, run, place, p, c, e, j, k),
+        Far::Outside(k) => return Outcome::NotOpen,
+        Far::GivenUp => return receive_nothing(text, scratch, run, place, p, c, e),
+    }
 }

@@ -1,43 +1,38 @@
-// A send: to an end given up, to the outside, or to a process that receives.
-ghost use mathlib.Core.Path.{_≡_};
-ghost use Prim.Native.Nat.{_≤_, _<_};
-ghost use lib.ListN.{length};
-ghost use Rattle.run_words.specs.Raw.{rawIn};
-ghost use Rattle.run_alone.specs.Run.{configIn, RunOf, Becomes, Carries};
-ghost use Rattle.check_contexts.specs.Held.{EndIn};
-ghost use Rattle.run_words.specs.Values.{endIn};
-ghost use Rattle.run_alone.specs.Parting.{endAs};
-ghost use Rattle.run_messages.specs.Sending.{SendingIn, unheardBy, outBy, numbered, passedBy};
+// A send, whoever is at the far end.
+ghost use Prim.Native.Nat.{_<_};
+ghost use Rattle.calculus.specs.WellFormed.{WellFormed};
+ghost use Rattle.read_tables.specs.Program.{programIn};
+ghost use Rattle.run_alone.specs.Run.{configIn, RunOf, StandsAt, Carries};
+ghost use Rattle.run_words.specs.Raw.{sideRadix};
+ghost use Rattle.read_tables.specs.Roots.{ProcessIn};
+ghost use Rattle.run_messages.specs.Messages.{SendNode};
+ghost use Rattle.run_messages.specs.Sending.{SendingIn, sendingBy, sendBy, unheardBy};
+use crate::meeting::meet;
 use crate::messages::Sending;
+use crate::messages::after_send;
+use crate::outward::send_out;
 use calculus::answers::Seen;
 use check_contexts::held::Lookup;
 use check_contexts::held::find_end;
-use notation::script::Script;
-use run_alone::forwarding::is_given_up;
+use notation::kinds::SEND_CHANNEL;
+use notation::reading::TermNode;
 use run_alone::outcome::Outcome;
 use run_alone::parting::part;
 use run_words::far::far_end;
-use run_words::outside::append_outside;
-use run_words::outside::given;
-use run_words::outside::let_go;
-use run_words::outside::retype_outside;
-use run_words::outside::set_given;
 use run_words::processes::store;
-use run_words::records::End;
-use run_words::records::Outside;
-
-// The notation's limit, as a word.
-const OUTSIDE_NUMBERS: u32 = Script::OUTSIDE_NUMBERS as u32;
+use run_words::records::Far;
+use run_words::records::Process;
+use run_words::shape::RUNNING;
 
 // "When the far end was given up: a send goes on, and gives up a channel it would have passed".
-pub fn send_unheard(text: &[u8], scratch: &[u32], run: &mut [u32], sent: Sending) -> Outcome
+fn send_unheard(text: &[u8], scratch: &[u32], run: &mut [u32], sent: Sending) -> Outcome
     requires { ⌜ RunOf (now text) (now scratch) (now run) ⌝ }
     requires { ⌜ SendingIn (now text) (now scratch) (now run) sent ⌝ }
     ensures { λ r. ⌜ Carries (now (text .entry)) (now (scratch .entry)) (now (run .entry)) (now (run .exit)) r (unheardBy (now (text .entry)) (now (scratch .entry)) (now (run .entry)) sent) ⌝ }
 {
     let n = sent.term;
     let q = sent.after;
-    if n.kind == 2 {
+    if n.kind == SEND_CHANNEL {
         let p = sent.before;
         let h = p.held;
         let f = find_end(text, h, n.second);
@@ -50,103 +45,58 @@ pub fn send_unheard(text: &[u8], scratch: &[u32], run: &mut [u32], sent: Sending
     Outcome::Carried(Seen::Nothing)
 }
 
-// A close or a label goes to the outside, which knows the channel by a number.
-pub fn send_shown(
-    text: &[u8],
-    scratch: &[u32],
-    run: &mut [u32],
-    sent: Sending,
-    number: u32,
-) -> Outcome
+// The process has sent; who is at the far end?
+fn deliver(text: &[u8], scratch: &[u32], run: &mut [u32], sent: Sending) -> Outcome
     requires { ⌜ RunOf (now text) (now scratch) (now run) ⌝ }
     requires { ⌜ SendingIn (now text) (now scratch) (now run) sent ⌝ }
-    requires { ⌜ (sent .term .kind ≡ 2 → ⊥) ⌝ }
-    ensures { λ r. ⌜ Carries (now (text .entry)) (now (scratch .entry)) (now (run .entry)) (now (run .exit)) r (outBy (now (text .entry)) (now (scratch .entry)) (now (run .entry)) sent number) ⌝ }
+    requires { ⌜ sent .over .side < sideRadix ⌝ }
+    requires { ⌜ WellFormed (programIn (now text) (now scratch)) (configIn (now text) (now scratch) (now run)) ⌝ }
+    ensures { λ o. ⌜ Carries (now (text .entry)) (now (scratch .entry)) (now (run .entry)) (now (run .exit)) o (sendingBy (now (text .entry)) (now (scratch .entry)) (now (run .entry)) sent) ⌝ }
 {
-    let n = sent.term;
-    let q = sent.after;
     let e = sent.over;
-    store(run, sent.place, q);
-    if n.kind == 1 {
-        let_go(run, e.channel);
-        return Outcome::Carried(Seen::Close(number));
+    let f = far_end(run, e.channel, e.side);
+    match f {
+        Far::Process(j, k) => return meet(text, scratch, run, sent, j, k),
+        Far::Outside(k) => return send_out(text, scratch, run, sent, k),
+        Far::GivenUp => return send_unheard(text, scratch, run, sent),
     }
-    retype_outside(run, e.channel, sent.node);
-    Outcome::Carried(Seen::Label(number, n.second as u32))
 }
 
-// The end d is passed out under the number m, the next one; the outside lets go at once of one that was given up.
-fn number_out(text: &[u8], scratch: &[u32], run: &mut [u32], m: u32, d: End, gone: bool)
-    requires { ⌜ RunOf (now text) (now scratch) (now run) ⌝ }
-    requires { ⌜ (m ≡ rawIn (now run) .given) × (m < 32) × (length (rawIn (now run) .outside) < 32) ⌝ }
-    requires { ⌜ EndIn (now text) (now scratch) (endIn d) ⌝ }
-    ensures { λ r. ⌜ Becomes (now (text .entry)) (now (scratch .entry)) (now (run .entry)) (now (run .exit)) (numbered (configIn (now (text .entry)) (now (scratch .entry)) (now (run .entry))) (endAs (now (text .entry)) (now (scratch .entry)) d) gone) ⌝ }
-{
-    set_given(run, m + 1);
-    if gone {
-        return;
-    }
-    append_outside(
-        run,
-        Outside {
-            number: m,
-            node: d.node,
-            channel: d.channel,
-        },
-    );
-}
-
-// The end d is passed out under the number m, over a channel that the outside knows by a number.
-fn pass_numbered(
+// The send n of the process p at a place.
+pub fn send(
     text: &[u8],
     scratch: &[u32],
     run: &mut [u32],
-    sent: Sending,
-    number: u32,
-    m: u32,
-    d: End,
-    gone: bool,
+    place: usize,
+    p: Process,
+    n: TermNode,
 ) -> Outcome
     requires { ⌜ RunOf (now text) (now scratch) (now run) ⌝ }
-    requires { ⌜ SendingIn (now text) (now scratch) (now run) sent ⌝ }
-    requires { ⌜ (m ≡ rawIn (now run) .given) × (m < 32) × (length (rawIn (now run) .outside) < 32) ⌝ }
-    requires { ⌜ EndIn (now text) (now scratch) (endIn d) ⌝ }
-    ensures { λ r. ⌜ Carries (now (text .entry)) (now (scratch .entry)) (now (run .entry)) (now (run .exit)) r (passedBy (now (text .entry)) (now (scratch .entry)) (now (run .entry)) sent number d gone) ⌝ }
+    requires { ⌜ StandsAt (now text) (now scratch) (now run) place p ⌝ }
+    requires { ⌜ SendNode n × ProcessIn (now text) (now scratch) (n .third) ⌝ }
+    requires { ⌜ WellFormed (programIn (now text) (now scratch)) (configIn (now text) (now scratch) (now run)) ⌝ }
+    ensures { λ o. ⌜ Carries (now (text .entry)) (now (scratch .entry)) (now (run .entry)) (now (run .exit)) o (sendBy (now (text .entry)) (now (scratch .entry)) (now (run .entry)) place p n) ⌝ }
 {
-    let q = sent.after;
-    let e = sent.over;
-    store(run, sent.place, q);
-    retype_outside(run, e.channel, sent.node);
-    number_out(text, scratch, run, m, d, gone);
-    Outcome::Carried(Seen::Passed(number, m, gone))
-}
-
-// "a channel passed out takes the next outside number".
-pub fn pass_out(
-    text: &[u8],
-    scratch: &[u32],
-    run: &mut [u32],
-    sent: Sending,
-    number: u32,
-) -> Outcome
-    requires { ⌜ RunOf (now text) (now scratch) (now run) ⌝ }
-    requires { ⌜ SendingIn (now text) (now scratch) (now run) sent ⌝ }
-    requires { ⌜ length (rawIn (now run) .outside) ≤ rawIn (now run) .given ⌝ }
-    requires { ⌜ sent .term .kind ≡ 2 ⌝ }
-    ensures { λ r. ⌜ Carries (now (text .entry)) (now (scratch .entry)) (now (run .entry)) (now (run .exit)) r (outBy (now (text .entry)) (now (scratch .entry)) (now (run .entry)) sent number) ⌝ }
-{
-    let n = sent.term;
-    let p = sent.before;
     let h = p.held;
-    let f = find_end(text, h, n.second);
-    let Lookup::Found(d) = f else {
+    let f = find_end(text, h, n.first);
+    let Lookup::Found(e) = f else {
         return Outcome::NotOpen;
     };
-    let m = given(run);
-    if OUTSIDE_NUMBERS <= m {
-        return Outcome::Lacking;
-    }
-    let far = far_end(run, d.channel, d.side);
-    let gone = is_given_up(far);
-    pass_numbered(text, scratch, run, sent, number, m, d, gone)
+    let held = after_send(text, scratch, h, n);
+    let mut after = p;
+    after.kind = RUNNING;
+    after.pointer = n.third as u32;
+    after.held = held;
+    deliver(
+        text,
+        scratch,
+        run,
+        Sending {
+            place,
+            before: p,
+            after,
+            term: n,
+            over: e,
+        },
+    )
 }

@@ -24,17 +24,18 @@ use Rattle.read_tables.specs.Decode.{typeIn, processIn, argumentsAt}
 use Rattle.read_tables.specs.Names.{CallAt}
 use Rattle.read_tables.specs.Program.{programIn}
 use Rattle.read_tables.specs.Roots.{TypeIn, ProcessIn, Handlers, each-kind, processCases, process-root}
-use Rattle.run_words.specs.Raw.{rawIn, linkOf}
+use Rattle.run_words.specs.Raw.{rawIn, linkOf, pointerLimit, runningKind}
 use Rattle.run_words.specs.declared.records.Process.{Process as ProcessWords}
 use Rattle.check_contexts.specs.Held.{channelsOf}
 use Rattle.calculus.specs.Typing.{Bodies}
+use Rattle.run_messages.specs.Kinds.{callKind, raiseKind, recvLabelKind, recvUnitKind, sendLabelKind, sendUnitKind, spawnKind}
 use Rattle.run_alone.specs.declared.outcome.Outcome.{Outcome as OutcomeWords}
 use Rattle.run_alone.specs.declared.outcome.Outcome.the-variants.{NotOpen}
-use Rattle.run_alone.specs.Run.{pointerLimit, configIn, doingAs, processAs, RunOf, StandsAt, Carries}
+use Rattle.run_alone.specs.Run.{configIn, doingAs, processAs, RunOf, StandsAt, Carries}
 use Rattle.run_alone.specs.Changes.{places-in}
 use Rattle.run_alone.specs.Making.{SpawnIn}
 use Rattle.run_messages.specs.Messages.{messageBy, SendNode, label-small}
-use Rattle.run_messages.specs.Meeting.{sendBy}
+use Rattle.run_messages.specs.Sending.{sendBy}
 use Rattle.run_alone.specs.Calling.{CallIn, names-many}
 
 -- every process of the program has at most 16 channels, as an accepted text's have
@@ -126,7 +127,7 @@ module _ (s w old : List ℕ) (i : ℕ) (q : Process) (p : ℕ) (A : Proc) (G : 
   )
 
 -- the rule of the node of a process that runs
-module _ (s w old : List ℕ) (t : RunOf s w old) (F : WellFormed (programIn s w) (configIn s w old)) (i : ℕ) (p : ProcessWords) (u : StandsAt s w old i p) (z : p .kind ≡ 0) where
+module _ (s w old : List ℕ) (t : RunOf s w old) (F : WellFormed (programIn s w) (configIn s w old)) (i : ℕ) (p : ProcessWords) (u : StandsAt s w old i p) (z : p .kind ≡ runningKind) where
   abbrev context : Context
   context = contextOf (channelsOf s w (p .held))
 
@@ -195,14 +196,14 @@ module _ (s w old : List ℕ) (i : ℕ) (p : ProcessWords) (n : TermNode) (u : R
   facts-send (suc (suc (suc zero))) a b (l, f) = f
   facts-send (suc (suc (suc (suc k)))) a b f = absurd (omega arith)
 
-  pub send-node : 1 ≤ n .kind → n .kind ≤ 3 → SendNode n × ProcessIn s w (n .third)
+  pub send-node : sendUnitKind ≤ n .kind → n .kind ≤ sendLabelKind → SendNode n × ProcessIn s w (n .third)
   send-node a b = (record { low = a; high = b; label = λ e. facts-at 3 e .0 }, facts-send (n .kind) a b (u .facts))
 
   module _ {new : List ℕ} {r : OutcomeWords} where
     pub ruled-as : (k : ℕ) → n .kind ≡ k → Carries s w old new r (ruleBy s w old i (processAs s w p) n k) → Carries s w old new r (termBy s w old i p)
     ruled-as k e c = subst (Carries s w old new r) (sym (u .is ∙ ap (ruleBy s w old i (processAs s w p) n) e)) c
 
-    pub ruled-send : 1 ≤ n .kind → n .kind ≤ 3 → Carries s w old new r (sendBy s w old i p n) → Carries s w old new r (termBy s w old i p)
+    pub ruled-send : sendUnitKind ≤ n .kind → n .kind ≤ sendLabelKind → Carries s w old new r (sendBy s w old i p n) → Carries s w old new r (termBy s w old i p)
     ruled-send a b c = subst (Carries s w old new r) (sym (u .is ∙ sym (go (n .kind) a b))) c
       where
         go : (k : ℕ) → 1 ≤ k → k ≤ 3 → send (programIn s w) (configIn s w old) i (processAs s w p) (nameIn s (n .first)) (messageBy s (n .second) k) (processIn s w (n .third)) ≡ ruleBy s w old i (processAs s w p) n k
@@ -212,7 +213,7 @@ module _ (s w old : List ℕ) (i : ℕ) (p : ProcessWords) (n : TermNode) (u : R
         go (suc (suc (suc zero))) a b = refl
         go (suc (suc (suc (suc k)))) a b = absurd (omega arith)
 
-    pub ruled-receive : 6 ≤ n .kind → n .kind ≤ 8 → Carries s w old new r (receive (programIn s w) (configIn s w old) i (processAs s w p) (nameIn s (n .first))) → Carries s w old new r (termBy s w old i p)
+    pub ruled-receive : recvUnitKind ≤ n .kind → n .kind ≤ recvLabelKind → Carries s w old new r (receive (programIn s w) (configIn s w old) i (processAs s w p) (nameIn s (n .first))) → Carries s w old new r (termBy s w old i p)
     ruled-receive a b c = go (n .kind) refl a b
       where
         go : (k : ℕ) → n .kind ≡ k → 6 ≤ k → k ≤ 8 → Carries s w old new r (termBy s w old i p)
@@ -230,21 +231,21 @@ module _ (s w old : List ℕ) (i : ℕ) (p : ProcessWords) (n : TermNode) (u : R
   facts-last : (k : ℕ) → 11 < k → n .kind ≡ k → factsBy s w (contextOf (channelsOf s w (p .held))) (isSome (linkOf (p .link))) n k → ProcessIn s w (n .second) × ProcessIn s w (n .third)
   facts-last k l e f = let z : k ≡ suc (suc (suc (suc (suc (suc (suc (suc (suc (suc (suc (suc (k - 12)))))))))))) = omega arith in subst (factsBy s w (contextOf (channelsOf s w (p .held))) (isSome (linkOf (p .link))) n) z f
 
-  pub try-parts : 11 < n .kind → ProcessIn s w (n .second) × ProcessIn s w (n .third)
+  pub try-parts : raiseKind < n .kind → ProcessIn s w (n .second) × ProcessIn s w (n .third)
   try-parts l = facts-last (n .kind) l refl (u .facts)
 
-  pub ruled-try : {new : List ℕ} {r : OutcomeWords} → 11 < n .kind → Carries s w old new r (trying (configIn s w old) i (processAs s w p) (processIn s w (n .second)) (processIn s w (n .third))) → Carries s w old new r (termBy s w old i p)
+  pub ruled-try : {new : List ℕ} {r : OutcomeWords} → raiseKind < n .kind → Carries s w old new r (trying (configIn s w old) i (processAs s w p) (processIn s w (n .second)) (processIn s w (n .third))) → Carries s w old new r (termBy s w old i p)
   ruled-try l c = let z : n .kind ≡ suc (suc (suc (suc (suc (suc (suc (suc (suc (suc (suc (suc (n .kind - 12)))))))))))) = omega arith in ruled-as _ z c
 
-  pub spawn-in : n .kind ≡ 5 → SpawnIn s w (record { name = n .at; node = n .first; first = n .second; second = n .third }) (p .held)
+  pub spawn-in : n .kind ≡ spawnKind → SpawnIn s w (record { name = n .at; node = n .first; first = n .second; second = n .third }) (p .held)
   spawn-in e = let (t, f, g, d) = facts-at 5 e in let (a, b) = spawn-room (channelsOf s w (p .held)) d in record { name = u .at; type = t; first = f; second = g; taken = a; left = b }
 
-  pub call-in : SmallSignatures (programIn s w) → n .kind ≡ 10 → CallIn s w (n .first) (n .second)
+  pub call-in : SmallSignatures (programIn s w) → n .kind ≡ callKind → CallIn s w (n .first) (n .second)
   call-in m e = let (c, d) = facts-at 10 e in record { lists = c; fitting = λ g z. (call-fits d g z, m .small _ g z) }
 
 -- ── the step at a place
 module _ (s w old : List ℕ) (t : RunOf s w old) (F : WellFormed (programIn s w) (configIn s w old)) (i : ℕ) (p : ProcessWords) (u : StandsAt s w old i p) where
-  pub node-rules : (n : TermNode) → p .kind ≡ 0 → p .pointer < processTermLimit → TermOf w (p .pointer) n → RuledBy s w old i p n
+  pub node-rules : (n : TermNode) → p .kind ≡ runningKind → p .pointer < processTermLimit → TermOf w (p .pointer) n → RuledBy s w old i p n
   node-rules n z b o = let (e, f) = node-ruled s w old t F i p u z n b o in record { is = e; facts = f; at = o .at }
 
   abbrev doingBy : ℕ → Outcome

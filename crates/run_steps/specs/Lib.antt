@@ -1,6 +1,6 @@
 pub mod Dispatch
 pub mod Choosing
-pub mod Trying
+pub mod Trials
 pub mod Running
 pub mod Within
 pub mod Starting

@@ -21,7 +21,7 @@ pub(crate) fn was_carried(r: Outcome) -> bool
 
 // The step at the first place where one can be carried out; not open where there is no such place. A step that is
 // not carried out leaves the run as it was, so trying is choosing.
-pub fn step_first(text: &[u8], scratch: &[u32], run: &mut [u32]) -> Outcome
+pub(crate) fn step_first(text: &[u8], scratch: &[u32], run: &mut [u32]) -> Outcome
     requires { ⌜ RunOf (now text) (now scratch) (now run) ⌝ }
     requires { ⌜ WellFormed (programIn (now text) (now scratch)) (configIn (now text) (now scratch) (now run)) ⌝ }
     requires { ⌜ SmallSignatures (programIn (now text) (now scratch)) ⌝ }

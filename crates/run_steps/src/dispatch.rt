@@ -4,8 +4,19 @@ ghost use Prim.Native.Nat.{_≤_, _<_};
 ghost use Rattle.calculus.specs.Steps.{step};
 ghost use Rattle.calculus.specs.WellFormed.{WellFormed};
 ghost use Rattle.read_tables.specs.Program.{programIn};
+ghost use Rattle.run_words.specs.Raw.{runningKind};
+ghost use Rattle.run_messages.specs.Kinds.{fwdKind};
 ghost use Rattle.run_alone.specs.Run.{configIn, RunOf, StandsAt, Carries};
 ghost use Rattle.run_steps.specs.Dispatch.{SmallSignatures, RuledBy, termBy};
+use notation::kinds::CALL;
+use notation::kinds::CANCEL;
+use notation::kinds::FWD;
+use notation::kinds::RAISE;
+use notation::kinds::RECV_LABEL;
+use notation::kinds::RECV_UNIT;
+use notation::kinds::SEND_LABEL;
+use notation::kinds::SEND_UNIT;
+use notation::kinds::SPAWN;
 use notation::reading::TermNode;
 use notation::script::Script;
 use read_tables::access::term_node;
@@ -19,11 +30,13 @@ use run_alone::making::try_both;
 use run_alone::outcome::Outcome;
 use run_alone::parting::cancel;
 use run_alone::parting::fold_up;
-use run_messages::answering::receive;
-use run_messages::meeting::send;
+use run_messages::receiving::receive;
+use run_messages::sending::send;
 use run_words::processes::count;
 use run_words::processes::load;
 use run_words::records::Process;
+use run_words::shape::FOLDING;
+use run_words::shape::RUNNING;
 
 // The rule of a term that ends its process.
 fn step_ending(
@@ -37,14 +50,14 @@ fn step_ending(
     requires { ⌜ RunOf (now text) (now scratch) (now run) ⌝ }
     requires { ⌜ StandsAt (now text) (now scratch) (now run) place p ⌝ }
     requires { ⌜ SmallSignatures (programIn (now text) (now scratch)) ⌝ }
-    requires { ⌜ RuledBy (now text) (now scratch) (now run) place p n × (9 ≤ n .kind) ⌝ }
+    requires { ⌜ RuledBy (now text) (now scratch) (now run) place p n × (fwdKind ≤ n .kind) ⌝ }
     ensures { λ r. ⌜ Carries (now (text .entry)) (now (scratch .entry)) (now (run .entry)) (now (run .exit)) r (termBy (now (text .entry)) (now (scratch .entry)) (now (run .entry)) place p) ⌝ }
 {
     let kind = n.kind;
     match kind {
-        9 => return forward(text, scratch, run, place, p, n.first, n.second),
-        10 => return call(text, scratch, run, place, p, n.first, n.second),
-        11 => return raise(text, scratch, run, place, p, n.third as u32),
+        FWD => return forward(text, scratch, run, place, p, n.first, n.second),
+        CALL => return call(text, scratch, run, place, p, n.first, n.second),
+        RAISE => return raise(text, scratch, run, place, p, n.third as u32),
         _ => return try_both(
             text,
             scratch,
@@ -76,9 +89,9 @@ fn step_term(
     let kind = n.kind;
     match kind {
         0 => return Outcome::NotOpen,
-        1..=3 => return send(text, scratch, run, place, p, n),
-        4 => return cancel(text, scratch, run, place, p, n.first, n.third as u32),
-        5 => {
+        SEND_UNIT..=SEND_LABEL => return send(text, scratch, run, place, p, n),
+        CANCEL => return cancel(text, scratch, run, place, p, n.first, n.third as u32),
+        SPAWN => {
             let m = SpawnTerm {
                 name: n.at as u32,
                 node: n.first as u32,
@@ -87,8 +100,8 @@ fn step_term(
             };
             return spawn(text, scratch, run, place, p, m);
         }
-        6..=8 => return receive(text, scratch, run, place, p, n.first),
-        9.. => return step_ending(text, scratch, run, place, p, n),
+        RECV_UNIT..=RECV_LABEL => return receive(text, scratch, run, place, p, n.first),
+        FWD.. => return step_ending(text, scratch, run, place, p, n),
     }
 }
 
@@ -98,7 +111,7 @@ fn step_running(text: &[u8], scratch: &[u32], run: &mut [u32], place: usize, p: 
     requires { ⌜ StandsAt (now text) (now scratch) (now run) place p ⌝ }
     requires { ⌜ WellFormed (programIn (now text) (now scratch)) (configIn (now text) (now scratch) (now run)) ⌝ }
     requires { ⌜ SmallSignatures (programIn (now text) (now scratch)) ⌝ }
-    requires { ⌜ p .kind ≡ 0 ⌝ }
+    requires { ⌜ p .kind ≡ runningKind ⌝ }
     ensures { λ r. ⌜ Carries (now (text .entry)) (now (scratch .entry)) (now (run .entry)) (now (run .exit)) r (termBy (now (text .entry)) (now (scratch .entry)) (now (run .entry)) place p) ⌝ }
 {
     let at = p.pointer as usize;
@@ -120,10 +133,10 @@ pub fn step_at(text: &[u8], scratch: &[u32], run: &mut [u32], place: usize) -> O
         return Outcome::NotOpen;
     }
     let p = load(run, place);
-    if p.kind == 0 {
+    if p.kind == RUNNING {
         return step_running(text, scratch, run, place, p);
     }
-    if p.kind == 1 {
+    if p.kind == FOLDING {
         return fold_up(text, scratch, run, place, p);
     }
     Outcome::NotOpen

@@ -3,4 +3,4 @@ pub mod choosing;
 pub mod dispatch;
 pub mod running;
 pub mod starting;
-pub mod trying;
+pub mod trials;

@@ -11,7 +11,7 @@ ghost use Rattle.run_steps.specs.Dispatch.{SmallSignatures};
 ghost use Rattle.run_steps.specs.Running.{shows, RunsOn};
 ghost use Rattle.run_steps.specs.Within.{RunsWithin};
 use crate::choosing::step_first;
-use crate::trying::can_go_on;
+use crate::trials::can_go_on;
 use calculus::answers::RanOn;
 use calculus::answers::Seen;
 use run_alone::outcome::Outcome;
@@ -36,7 +36,7 @@ fn shows(seen: Seen) -> bool
 }
 
 // The steps of a budget.
-pub fn steps_within(text: &[u8], scratch: &[u32], run: &mut [u32], budget: u32) -> Within
+fn steps_within(text: &[u8], scratch: &[u32], run: &mut [u32], budget: u32) -> Within
     requires { ⌜ RunOf (now text) (now scratch) (now run) ⌝ }
     requires { ⌜ WellFormed (programIn (now text) (now scratch)) (configIn (now text) (now scratch) (now run)) ⌝ }
     requires { ⌜ Bodies (programIn (now text) (now scratch)) ⌝ }

@@ -9,10 +9,9 @@ ghost use Rattle.notation.specs.Tables.{Area};
 ghost use Rattle.read_tables.specs.Program.{programIn};
 ghost use Rattle.read_tables.specs.Whole.{Tables};
 ghost use Rattle.run_words.specs.Lists.{tab};
-ghost use Rattle.run_words.specs.Raw.{rawIn, Bounded};
+ghost use Rattle.run_words.specs.Raw.{rawIn, Bounded, pointerLimit};
 ghost use Rattle.run_words.specs.Operations.{onOutside};
 ghost use Rattle.run_words.specs.Values.{heldIn, Changed};
-ghost use Rattle.run_alone.specs.Run.{pointerLimit};
 ghost use Rattle.run_steps.specs.Dispatch.{SmallSignatures};
 ghost use Rattle.run_steps.specs.Starting.{startEnd, startChannel, EntriesFit, startRaw, Begins};
 use notation::reading::Found;
@@ -31,6 +30,9 @@ use run_words::records::End;
 use run_words::records::Held;
 use run_words::records::Outside;
 use run_words::records::Process;
+use run_words::shape::PROVIDED;
+use run_words::shape::RUNNING;
+use run_words::shape::UNLINKED;
 
 // The ends that a process provides at start: those of n signature entries, on the channels from 0 on.
 fn start_ends(scratch: &[u32], first: usize, n: usize) -> Held
@@ -46,7 +48,7 @@ fn start_ends(scratch: &[u32], first: usize, n: usize) -> Held
             q,
             End {
                 name: e.at as u32,
-                side: 0,
+                side: PROVIDED,
                 node: e.number as u32,
                 channel: k as u32,
             },
@@ -89,9 +91,9 @@ fn begin_process(scratch: &[u32], run: &mut [u32], d: Declared)
     begin(
         run,
         Process {
-            kind: 0,
+            kind: RUNNING,
             pointer: d.body as u32,
-            link: 0,
+            link: UNLINKED,
             held,
         },
     );

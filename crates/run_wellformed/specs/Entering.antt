@@ -14,7 +14,7 @@ use Rattle.run_words.specs.ListLaws.{drop-at}
 use Rattle.run_words.specs.Raw.{RawEnd, RawProcess, RawOutside, sideOf}
 use Rattle.run_words.specs.Values.{endIn}
 use Rattle.run_words.specs.declared.records.End.{End}
-use Rattle.run_wellformed.specs.Kept.{placeOf, farSame, fits, Entered, misfit, added, processEnds, outsideEnd}
+use Rattle.run_wellformed.specs.Kept.{keys, placeOf, farSame, fits, Entered, misfit, added, processEnds, outsideEnd}
 
 -- ── words of an end
 pub place-so : (c x : ℕ) → x < 2 → 2 * c + x ≡ placeOf c (sideOf x)
@@ -54,7 +54,7 @@ module _ (s w ws : List ℕ) (e : End) (short : e .channel < 512) (two : e .side
     pub far-differs : r ≡ false → Entered s w ws ws (endIn e ∷ []) false
     far-differs h = misfit s w ws (endIn e) (fits-as h)
 
-    pub key-kept : r ≡ true → length ws ≡ 1024 → Entered s w ws (set ws here (e .node + 1)) (endIn e ∷ []) true
+    pub key-kept : r ≡ true → length ws ≡ keys → Entered s w ws (set ws here (e .node + 1)) (endIn e ∷ []) true
     key-kept h l =
         subst (λ k. Entered s w ws (set ws k (e .node + 1)) (endIn e ∷ []) true) (sym p)
         (subst (λ n. Entered s w ws (set ws (placeOf (e .channel) (sideOf (e .side))) n) (endIn e ∷ []) true) (sym (add-one (e .node))) (added s w ws (endIn e) short l free (fits-as h)))

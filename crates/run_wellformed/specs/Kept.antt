@@ -69,11 +69,14 @@ abbrev sideWord : Side → ℕ
 sideWord provided = 0
 sideWord used = 1
 
+abbrev pub keys : ℕ
+keys = 1024
+
 abbrev pub placeOf : ℕ → Side → ℕ
 placeOf channel side = 2 * channel + sideWord side
 
 pub record Kept (w ws : List ℕ) : Type 0 where
-  pub long : length ws ≡ 1024
+  pub long : length ws ≡ keys
   pub each : (k : ℕ) → getD ws k 0 ≤ tallyIn w .nodes
 
 module _ (s w : List ℕ) where
@@ -105,14 +108,14 @@ module _ (s w : List ℕ) where
     pub misfit : fits ws (e .channel) (e .side) (e .node) ≡ false → Entered ws ws (e ∷ []) false
     misfit q = record { is = λ seen k. (seen, k, entering q seen k) }
 
-    module _ (short : e .channel < channelPlaces) (long : length ws ≡ 1024) (free : getD ws (placeOf (e .channel) (e .side)) 0 ≡ 0) where
+    module _ (short : e .channel < channelPlaces) (long : length ws ≡ keys) (free : getD ws (placeOf (e .channel) (e .side)) 0 ≡ 0) where
       abbrev new : List ℕ
       new = set ws (placeOf (e .channel) (e .side)) (suc (e .node))
 
       abbrev Turn : ℕ → Side → ℕ → Type 0
       Turn c x n = cond (beside (end x c (plainIn s w n)) (asEnd s w e)) (fits ws c x n) false ≡ fits new c x n
 
-      within : (x : Side) → placeOf (e .channel) x < 1024
+      within : (x : Side) → placeOf (e .channel) x < keys
       within provided = omega arith
       within used = omega arith
 
@@ -190,15 +193,15 @@ module _ (s w : List ℕ) where
   zeros (suc n) zero = refl
   zeros (suc n) (suc k) = zeros n k
 
-  pub keeps-none : Keeps (replicate 1024 0) []
+  pub keeps-none : Keeps (replicate keys 0) []
   keeps-none = record {
-    tells = λ e. sym (λ i. cond (eqb (zeros 1024 (placeOf (e .channel) (e .side)) i) 0) (farSame (e .node) (zeros 1024 (placeOf (e .channel) (other (e .side))) i)) false);
+    tells = λ e. sym (λ i. cond (eqb (zeros keys (placeOf (e .channel) (e .side)) i) 0) (farSame (e .node) (zeros keys (placeOf (e .channel) (other (e .side))) i)) false);
   }
 
-  pub kept-none : Kept w (replicate 1024 0)
-  kept-none = record { long = length-replicate {A = ℕ} 1024 0; each = λ k. omega (arith, zeros 1024 k) }
+  pub kept-none : Kept w (replicate keys 0)
+  kept-none = record { long = length-replicate {A = ℕ} keys 0; each = λ k. omega (arith, zeros keys k) }
 
-  pub kept-more : (ws : List ℕ) (i n : ℕ) → Kept w ws → i < 1024 → n ≤ tallyIn w .nodes → Kept w (set ws i n)
+  pub kept-more : (ws : List ℕ) (i n : ℕ) → Kept w ws → i < keys → n ≤ tallyIn w .nodes → Kept w (set ws i n)
   kept-more ws i n t b h = record { long = length-set ws i n ∙ t .long; each = λ k. go k (decides-cases eqb-decides k i) }
     where
       go : (k : ℕ) → (So (eqb k i) × (k ≡ i)) ⊎ ((eqb k i ≡ false) × (k ≢ i)) → getD (set ws i n) k 0 ≤ tallyIn w .nodes
@@ -227,7 +230,7 @@ module _ (s w : List ℕ) where
         (x .0, x .1, λ rest. ap (pairwise (besideIn s w) seen) (append-assoc l m rest) ∙ x .2 (m ++ rest));
   }
 
-  pub entered-all : {new : List ℕ} {l : List RawEnd} {r : Bool} → Entered (replicate 1024 0) new l r → pairwise (besideIn s w) [] l ≡ r
+  pub entered-all : {new : List ℕ} {l : List RawEnd} {r : Bool} → Entered (replicate keys 0) new l r → pairwise (besideIn s w) [] l ≡ r
   unfolding pairwise
   entered-all {l = l} {r} p =
       let x = p .is [] keeps-none in

@@ -3,17 +3,18 @@ ghost use mathlib.Core.Path.{_≡_};
 ghost use Prim.Native.Nat.{_≤_, _<_};
 ghost use mathlib.Core.List.{[], _∷_, map};
 ghost use lib.ListN.{length};
-ghost use Rattle.notation.specs.Limits.{runWords};
+ghost use Rattle.notation.specs.Limits.{runWords, channelPlaces, heldLimit};
 ghost use Rattle.theory_decision.specs.Lists.{pairwise};
 ghost use Rattle.read_tables.specs.Decode.{tallyIn};
 ghost use Rattle.read_tables.specs.Everywhere.{Everywhere};
 ghost use Rattle.read_tables.specs.Whole.{Tables};
 ghost use Rattle.run_words.specs.Lists.{All};
-ghost use Rattle.run_words.specs.Raw.{rawIn, sideOf, Bounded};
+ghost use Rattle.run_words.specs.Raw.{rawIn, sideOf, Bounded, sideRadix};
 ghost use Rattle.run_words.specs.Values.{endIn, heldIn};
 ghost use Rattle.run_wellformed.specs.OfText.{Node, EndOf, OfText};
-ghost use Rattle.run_wellformed.specs.Kept.{placeOf, Kept, farSame, Entered, outsideEnd, processEnds, rawEnds, besideIn};
+ghost use Rattle.run_wellformed.specs.Kept.{keys, placeOf, Kept, farSame, Entered, outsideEnd, processEnds, rawEnds, besideIn};
 use check_types::equality::same_type;
+use notation::script::Script;
 use notation::words::wide;
 use run_words::held::end_at;
 use run_words::outside::outside_at;
@@ -22,14 +23,20 @@ use run_words::processes::count;
 use run_words::processes::load;
 use run_words::records::End;
 use run_words::records::Held;
+use run_words::shape::USED;
+
+// A key for each side of each channel place.
+const SIDES: usize = 2;
+
+const KEYS: usize = SIDES * Script::CHANNEL_PLACES;
 
 // The place of a key's word.
 fn place(channel: u32, side: u32) -> usize
-    requires { ⌜ (channel < 512) × (side < 2) ⌝ }
+    requires { ⌜ (channel < channelPlaces) × (side < sideRadix) ⌝ }
     ensures { λ r. ⌜ r ≡ placeOf channel (sideOf side) ⌝ }
-    ensures { λ r. ⌜ r < 1024 ⌝ }
+    ensures { λ r. ⌜ r < keys ⌝ }
 {
-    2 * wide(channel) + wide(side)
+    SIDES * wide(channel) + wide(side)
 }
 
 // Whether the far end, if one is kept, has the type of a node.
@@ -45,10 +52,10 @@ fn far_same(text: &[u8], scratch: &[u32], node: u32, kept: u32) -> bool
 }
 
 // Keeps an end, if it fits those kept before.
-fn enter(text: &[u8], scratch: &[u32], seen: &mut [u32; 1024], e: End) -> bool
+fn enter(text: &[u8], scratch: &[u32], seen: &mut [u32; KEYS], e: End) -> bool
     requires { ⌜ Tables (now text) (now scratch) × Everywhere (now text) (now scratch) ⌝ }
     requires { ⌜ Kept (now scratch) (now seen) ⌝ }
-    requires { ⌜ Node (now scratch) (e .node) × (e .channel < 512) × (e .side < 2) ⌝ }
+    requires { ⌜ Node (now scratch) (e .node) × (e .channel < channelPlaces) × (e .side < sideRadix) ⌝ }
     ensures { λ r. ⌜ Entered (now (text .entry)) (now (scratch .entry)) (now (seen .entry)) (now (seen .exit)) (endIn e ∷ []) r ⌝ }
     ensures { λ r. ⌜ Kept (now (scratch .entry)) (now (seen .exit)) ⌝ }
 {
@@ -56,7 +63,7 @@ fn enter(text: &[u8], scratch: &[u32], seen: &mut [u32; 1024], e: End) -> bool
     if seen[here] != 0 {
         return false;
     }
-    let there = place(e.channel, 1 - e.side);
+    let there = place(e.channel, USED - e.side);
     let far = seen[there];
     if !far_same(text, scratch, e.node, far) {
         return false;
@@ -66,10 +73,10 @@ fn enter(text: &[u8], scratch: &[u32], seen: &mut [u32; 1024], e: End) -> bool
 }
 
 // What a process holds.
-fn enter_held(text: &[u8], scratch: &[u32], seen: &mut [u32; 1024], h: Held) -> bool
+fn enter_held(text: &[u8], scratch: &[u32], seen: &mut [u32; KEYS], h: Held) -> bool
     requires { ⌜ Tables (now text) (now scratch) × Everywhere (now text) (now scratch) ⌝ }
     requires { ⌜ Kept (now scratch) (now seen) ⌝ }
-    requires { ⌜ (h .count ≤ 16) × All (EndOf (now scratch)) (heldIn h) ⌝ }
+    requires { ⌜ (h .count ≤ heldLimit) × All (EndOf (now scratch)) (heldIn h) ⌝ }
     ensures { λ r. ⌜ Entered (now (text .entry)) (now (scratch .entry)) (now (seen .entry)) (now (seen .exit)) (heldIn h) r ⌝ }
     ensures { λ r. ⌜ Kept (now (scratch .entry)) (now (seen .exit)) ⌝ }
 {
@@ -86,7 +93,7 @@ fn enter_held(text: &[u8], scratch: &[u32], seen: &mut [u32; 1024], h: Held) -> 
 }
 
 // What the processes hold.
-fn enter_processes(text: &[u8], scratch: &[u32], seen: &mut [u32; 1024], run: &[u32]) -> bool
+fn enter_processes(text: &[u8], scratch: &[u32], seen: &mut [u32; KEYS], run: &[u32]) -> bool
     requires { ⌜ Tables (now text) (now scratch) × Everywhere (now text) (now scratch) ⌝ }
     requires { ⌜ Kept (now scratch) (now seen) ⌝ }
     requires { ⌜ runWords ≤ length (now run) ⌝ }
@@ -108,7 +115,7 @@ fn enter_processes(text: &[u8], scratch: &[u32], seen: &mut [u32; 1024], run: &[
 }
 
 // What the outside uses.
-fn enter_outside(text: &[u8], scratch: &[u32], seen: &mut [u32; 1024], run: &[u32]) -> bool
+fn enter_outside(text: &[u8], scratch: &[u32], seen: &mut [u32; KEYS], run: &[u32]) -> bool
     requires { ⌜ Tables (now text) (now scratch) × Everywhere (now text) (now scratch) ⌝ }
     requires { ⌜ Kept (now scratch) (now seen) ⌝ }
     requires { ⌜ runWords ≤ length (now run) ⌝ }
@@ -121,7 +128,7 @@ fn enter_outside(text: &[u8], scratch: &[u32], seen: &mut [u32; 1024], run: &[u3
         let o = outside_at(run, k);
         let e = End {
             name: 0,
-            side: 1,
+            side: USED,
             node: o.node,
             channel: o.channel,
         };
@@ -134,13 +141,13 @@ fn enter_outside(text: &[u8], scratch: &[u32], seen: &mut [u32; 1024], run: &[u3
 }
 
 // All of them.
-pub fn ends_fit(text: &[u8], scratch: &[u32], run: &[u32]) -> bool
+pub(crate) fn ends_fit(text: &[u8], scratch: &[u32], run: &[u32]) -> bool
     requires { ⌜ Tables (now text) (now scratch) × Everywhere (now text) (now scratch) ⌝ }
     requires { ⌜ runWords ≤ length (now run) ⌝ }
     requires { ⌜ Bounded (rawIn (now run)) × OfText (now scratch) (rawIn (now run)) ⌝ }
     ensures { λ r. ⌜ pairwise (besideIn (now (text .entry)) (now (scratch .entry))) [] (rawEnds (rawIn (now (run .entry)))) ≡ r ⌝ }
 {
-    let mut seen = [0u32; 1024];
+    let mut seen = [0u32; KEYS];
     if !enter_processes(text, scratch, &mut seen, run) {
         return false;
     }

@@ -11,7 +11,7 @@ use crate::fitting::ends_fit;
 use crate::numbers::numbers_stand;
 use crate::outwards::outside_outward;
 use crate::typing::processes_typed;
-use joints::well_joined;
+use run_joints::well_joined;
 use run_words::bounded::bounded;
 
 pub mod fitting;

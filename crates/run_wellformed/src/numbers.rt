@@ -1,7 +1,7 @@
 // Whether the numbers of a run are of this text: its types are nodes of the tables, its processes terms of the tables or empty.
 ghost use Prim.Native.Nat.{_≤_, _<_};
 ghost use lib.ListN.{length};
-ghost use Rattle.notation.specs.Limits.{runWords};
+ghost use Rattle.notation.specs.Limits.{runWords, heldLimit};
 ghost use Rattle.notation.specs.Tables.{Area};
 ghost use Rattle.run_words.specs.Lists.{All};
 ghost use Rattle.run_words.specs.Raw.{rawIn, Bounded};
@@ -18,6 +18,7 @@ use run_words::processes::count;
 use run_words::processes::load;
 use run_words::records::Held;
 use run_words::records::Process;
+use run_words::shape::FOLDING;
 
 // A pointer: to a term, or to the end of a process that is empty.
 fn pointer_stands(scratch: &[u32], p: usize) -> bool
@@ -39,7 +40,7 @@ fn term_stands(scratch: &[u32], kind: u32, pointer: u32) -> bool
     requires { ⌜ Area (now scratch) ⌝ }
     ensures { λ r. ⌜ Decided r (TermOf (now (scratch .entry)) kind pointer) ⌝ }
 {
-    if kind == 1 {
+    if kind == FOLDING {
         return true;
     }
     pointer_stands(scratch, wide(pointer))
@@ -48,7 +49,7 @@ fn term_stands(scratch: &[u32], kind: u32, pointer: u32) -> bool
 // What a process holds.
 fn ends_stand(scratch: &[u32], h: Held) -> bool
     requires { ⌜ Area (now scratch) ⌝ }
-    requires { ⌜ h .count ≤ 16 ⌝ }
+    requires { ⌜ h .count ≤ heldLimit ⌝ }
     ensures { λ r. ⌜ Decided r (All (EndOf (now (scratch .entry))) (heldIn h)) ⌝ }
 {
     let nodes = node_count(scratch);
@@ -66,7 +67,7 @@ fn ends_stand(scratch: &[u32], h: Held) -> bool
 
 fn process_stands(scratch: &[u32], p: Process) -> bool
     requires { ⌜ Area (now scratch) ⌝ }
-    requires { ⌜ p .held .count ≤ 16 ⌝ }
+    requires { ⌜ p .held .count ≤ heldLimit ⌝ }
     ensures { λ r. ⌜ Decided r (ProcessOf (now (scratch .entry)) (processIn p)) ⌝ }
 {
     if !term_stands(scratch, p.kind, p.pointer) {
@@ -114,7 +115,7 @@ fn outside_stands(scratch: &[u32], run: &[u32]) -> bool
 }
 
 // All of them.
-pub fn numbers_stand(scratch: &[u32], run: &[u32]) -> bool
+pub(crate) fn numbers_stand(scratch: &[u32], run: &[u32]) -> bool
     requires { ⌜ Area (now scratch) ⌝ }
     requires { ⌜ runWords ≤ length (now run) ⌝ }
     requires { ⌜ Bounded (rawIn (now run)) ⌝ }

@@ -15,7 +15,7 @@ use notation::words::wide;
 use run_words::outside::outside_at;
 use run_words::outside::outside_count;
 
-pub fn outside_outward(text: &[u8], scratch: &[u32], run: &[u32]) -> bool
+pub(crate) fn outside_outward(text: &[u8], scratch: &[u32], run: &[u32]) -> bool
     requires { ⌜ Tables (now text) (now scratch) × Everywhere (now text) (now scratch) ⌝ }
     requires { ⌜ runWords ≤ length (now run) ⌝ }
     requires { ⌜ Bounded (rawIn (now run)) ⌝ }

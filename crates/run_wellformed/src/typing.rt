@@ -2,7 +2,7 @@
 ghost use mathlib.Core.Path.{_≡_};
 ghost use Prim.Native.Nat.{ℕ, _≤_, _<_};
 ghost use lib.ListN.{length};
-ghost use Rattle.notation.specs.Limits.{runWords};
+ghost use Rattle.notation.specs.Limits.{runWords, heldLimit};
 ghost use Rattle.calculus.specs.Named.{all, isSome};
 ghost use Rattle.theory_decision.specs.Decide.{isFine, typed?};
 ghost use Rattle.read_tables.specs.Decode.{processIn};
@@ -28,10 +28,12 @@ use run_words::processes::count;
 use run_words::processes::load;
 use run_words::records::Held;
 use run_words::records::Process;
+use run_words::shape::FOLDING;
+use run_words::shape::UNLINKED;
 
 // Whether no name comes twice: the first is not among those after it, which are tried likewise.
 fn names_distinct(text: &[u8], h: Held) -> bool
-    requires { ⌜ h .count ≤ 16 ⌝ }
+    requires { ⌜ h .count ≤ heldLimit ⌝ }
     ensures { λ r. ⌜ Distinct (now (text .entry)) h r ⌝ }
 {
     let mut rest = h;
@@ -63,17 +65,17 @@ fn term_typed(text: &[u8], scratch: &[u32], h: Held, link: u32, pointer: u32) ->
     if !names_distinct(text, h) {
         return false;
     }
-    let v = check_process(text, scratch, h, link != 0, wide(pointer));
+    let v = check_process(text, scratch, h, link != UNLINKED, wide(pointer));
     is_fine(v)
 }
 
 // Whether a process is typed, as one that folds up always is.
 fn process_typed(text: &[u8], scratch: &[u32], p: Process) -> bool
     requires { ⌜ Tables (now text) (now scratch) × Everywhere (now text) (now scratch) ⌝ }
-    requires { ⌜ ProcessOf (now scratch) (runs.processIn p) × ((n : ℕ) × BoundedProcess n (runs.processIn p)) × (p .held .count ≤ 16) ⌝ }
+    requires { ⌜ ProcessOf (now scratch) (runs.processIn p) × ((n : ℕ) × BoundedProcess n (runs.processIn p)) × (p .held .count ≤ heldLimit) ⌝ }
     ensures { λ r. ⌜ r ≡ typedIn (now (text .entry)) (now (scratch .entry)) (runs.processIn p) ⌝ }
 {
-    if p.kind == 1 {
+    if p.kind == FOLDING {
         return true;
     }
     let h = p.held;
@@ -81,7 +83,7 @@ fn process_typed(text: &[u8], scratch: &[u32], p: Process) -> bool
 }
 
 // Whether all are.
-pub fn processes_typed(text: &[u8], scratch: &[u32], run: &[u32]) -> bool
+pub(crate) fn processes_typed(text: &[u8], scratch: &[u32], run: &[u32]) -> bool
     requires { ⌜ Tables (now text) (now scratch) × Everywhere (now text) (now scratch) ⌝ }
     requires { ⌜ runWords ≤ length (now run) ⌝ }
     requires { ⌜ Bounded (rawIn (now run)) ⌝ }

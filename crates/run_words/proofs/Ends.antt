@@ -10,7 +10,7 @@ use borrow.Author.Tests.{eq-eqb}
 use Rattle.calculus.specs.Types.{sameSide}
 use Rattle.run_words.specs.Lists.{removeAt}
 use Rattle.run_words.specs.ListLaws.{at-tab}
-use Rattle.run_words.specs.Raw.{RawEnd, sideOf, rows, endOf}
+use Rattle.run_words.specs.Raw.{RawEnd, sideOf, rows, endBy, endOf}
 use Rattle.run_words.specs.Values.{Moved, Written}
 use Rattle.run_words.specs.RowLaws.{end-of, end-local, rows-set, rows-append, rows-remove}
 
@@ -19,7 +19,7 @@ abbrev pub ends : List ℕ → ℕ → List RawEnd
 ends ws n = rows endOf 2 0 n (λ k. getD ws k 0)
 
 pub end-here : (ws : List ℕ) (n k a b : ℕ) → k < n → a ≡ getD ws (2 * k) 0 → b ≡ getD ws (2 * k + 1) 0
-    → getElem? (ends ws n) k ≡ some (record { name = a / 2; side = sideOf (a % 2); node = b / 512; channel = b % 512 })
+    → getElem? (ends ws n) k ≡ some (endBy a b)
 end-here ws n k a b h p q =
     let x : 0 + 2 * k + 0 ≡ 2 * k = omega arith in
     let y : 0 + 2 * k + 1 ≡ 2 * k + 1 = omega arith in

@@ -14,7 +14,7 @@ use Rattle.calculus.specs.Configuration.{among, freeFrom}
 use Rattle.run_words.specs.ListLaws.{drop-at}
 use Rattle.run_words.specs.Values.{Marked}
 use Rattle.run_words.specs.Raw.{RawEnd, RawProcess, RawOutside}
-use Rattle.run_words.specs.Operations.{heldChannels, processChannels, busyFrom}
+use Rattle.run_words.specs.Operations.{heldChannels, processChannels}
 
 pub unmarked : Marked (replicate 512 0) []
 unmarked = record { long = length-replicate {A = ℕ} 512 0; each = λ k h. getD-replicate {A = ℕ} 512 k 0 0 h }
@@ -77,20 +77,3 @@ module _ (m l : List ℕ) (a : Marked m l) (k : ℕ) (h : k < 512) where
 
   pub free-on : (getD m k 0 ≡ 0 → ⊥) → freeFrom l k (512 - k) ≡ freeFrom l (k + 1) (512 - (k + 1))
   free-on e = free-turn l k h ∙ ap (λ t. cond t (freeFrom l (k + 1) (512 - (k + 1))) (some k)) (mark-busy m l a k h e)
-
-  -- counted from the end
-  pub busy-turn : (i n : ℕ) → i ≡ suc k → n ≡ busyFrom l i (512 - i) → n + getD m k 0 ≡ busyFrom l k (512 - k)
-  busy-turn i n p e =
-      let q : 512 - k ≡ suc (512 - i) = omega arith in
-      sym (ap (busyFrom l k) q ∙ ap (λ j. cond (among k l) (suc (busyFrom l j (512 - i))) (busyFrom l j (512 - i))) (sym p) ∙ go (among k l) (a .each k h))
-    where
-      go : (t : Bool) → getD m k 0 ≡ cond t 1 0 → cond t (suc (busyFrom l i (512 - i))) (busyFrom l i (512 - i)) ≡ n + getD m k 0
-      go true q = omega arith
-      go false q = omega arith
-
-  pub mark-small : getD m k 0 ≤ 1
-  mark-small = go (among k l) (a .each k h)
-    where
-      go : (t : Bool) → getD m k 0 ≡ cond t 1 0 → getD m k 0 ≤ 1
-      go true q = omega arith
-      go false q = omega arith

@@ -11,11 +11,11 @@ use lib.ListN.{length, getElem?, drop}
 use Rattle.calculus.specs.Types.{Side, provided, used, other}
 use Rattle.run_words.specs.Lists.{scan}
 use Rattle.run_words.specs.ListLaws.{length-tab, at-tab, scan-step, scan-end}
-use Rattle.run_words.specs.Raw.{RawEnd, RawProcess, RawConfig, sideOf, endOf, processOf}
+use Rattle.run_words.specs.Raw.{RawEnd, RawProcess, RawConfig, sideOf, endOf, processOf, processRow, placesAt, placeWords, endsFrom, endWords, sideRadix, heldCount, endBy}
 use Rattle.run_words.specs.Values.{endIn}
 use Rattle.run_words.specs.Operations.{firstStep, isEnd, heldAt, holderHere, holderStep, holderOf, outsideAt, orOutside, farFrom, farEnd}
 use Rattle.run_words.specs.RowLaws.{end-of}
-use Rattle.run_words.specs.SliceLaws.{word, processRow}
+use Rattle.run_words.specs.SliceLaws.{word}
 use Rattle.run_words.specs.declared.records.End.{End}
 use Rattle.notation.specs.declared.reading.Found.{Found}
 use Rattle.notation.specs.declared.reading.Found.the-variants as found
@@ -60,25 +60,21 @@ heldFrom channel side ws i k = firstFrom (isEnd channel (sideOf side)) (heldTher
 pub length-there : (ws : List ℕ) (i : ℕ) → length (heldThere ws i) ≡ processRow ws i 2
 length-there ws i = length-tab (λ j. endOf (λ t. processRow ws i (3 + 2 * j + t))) (processRow ws i 2)
 
-module _ (ws : List ℕ) (i k at : ℕ) (h : k < processRow ws i 2) (e : at ≡ 83 + 40 * i + 2 * k) where
-  abbrev endThere : End
-  endThere = record { name = word ws at / 2; side = word ws at % 2; node = word ws (at + 1) / 512; channel = word ws (at + 1) % 512 }
+pub end-there : (ws : List ℕ) (i k at : ℕ) → k < heldCount ws i → at ≡ placesAt + endsFrom + placeWords * i + endWords * k → getElem? (heldThere ws i) k ≡ some (endBy (word ws at) (word ws (at + 1)))
+end-there ws i k at h e =
+    let x : placesAt + placeWords * i + (endsFrom + endWords * k + 0) ≡ at = omega arith in
+    let y : placesAt + placeWords * i + (endsFrom + endWords * k + 1) ≡ at + 1 = omega arith in
+    at-tab _ (heldCount ws i) k h ∙ ap {B = Option RawEnd} some (end-of (λ t. processRow ws i (endsFrom + endWords * k + t)) (ap (word ws) x) (ap (word ws) y))
 
-  pub end-there : getElem? (heldThere ws i) k ≡ some (endIn endThere)
-  end-there =
-      let x : 80 + 40 * i + (3 + 2 * k + 0) ≡ at = omega arith in
-      let y : 80 + 40 * i + (3 + 2 * k + 1) ≡ at + 1 = omega arith in
-      at-tab _ (processRow ws i 2) k h ∙ ap {B = Option RawEnd} some (end-of (λ t. processRow ws i (3 + 2 * k + t)) (ap (word ws) x) (ap (word ws) y))
+module _ (ws : List ℕ) (i k : ℕ) (e : End) (g : getElem? (heldThere ws i) k ≡ some (endIn e)) (b : e .side < sideRadix) (channel side : ℕ) (s : side < sideRadix) where
+  pub there-stops : channel ≡ e .channel → side ≡ e .side → heldFrom channel side ws i k ≡ found.At k
+  there-stops p q = stops-here (isEnd channel (sideOf side)) (heldThere ws i) k g (end-found channel side e s b p q)
 
-  module _ (channel side : ℕ) (s : side < 2) where
-    pub there-stops : channel ≡ word ws (at + 1) % 512 → side ≡ word ws at % 2 → heldFrom channel side ws i k ≡ found.At k
-    there-stops p q = stops-here (isEnd channel (sideOf side)) (heldThere ws i) k end-there (end-found channel side endThere s (omega arith) p q)
+  pub there-other-side : channel ≡ e .channel → (side ≡ e .side → ⊥) → heldFrom channel side ws i k ≡ heldFrom channel side ws i (k + 1)
+  there-other-side p q = goes-on (isEnd channel (sideOf side)) (heldThere ws i) k g (end-other-side channel side e s b p q)
 
-    pub there-other-side : channel ≡ word ws (at + 1) % 512 → (side ≡ word ws at % 2 → ⊥) → heldFrom channel side ws i k ≡ heldFrom channel side ws i (k + 1)
-    there-other-side p q = goes-on (isEnd channel (sideOf side)) (heldThere ws i) k end-there (end-other-side channel side endThere s (omega arith) p q)
-
-    pub there-elsewhere : (channel ≡ word ws (at + 1) % 512 → ⊥) → heldFrom channel side ws i k ≡ heldFrom channel side ws i (k + 1)
-    there-elsewhere p = goes-on (isEnd channel (sideOf side)) (heldThere ws i) k end-there (end-elsewhere channel side endThere s (omega arith) p)
+  pub there-elsewhere : (channel ≡ e .channel → ⊥) → heldFrom channel side ws i k ≡ heldFrom channel side ws i (k + 1)
+  there-elsewhere p = goes-on (isEnd channel (sideOf side)) (heldThere ws i) k g (end-elsewhere channel side e s b p)
 
 pub there-ends : (channel side : ℕ) (ws : List ℕ) (i k : ℕ) → processRow ws i 2 ≤ k → heldFrom channel side ws i k ≡ found.Nothing
 there-ends channel side ws i k h =

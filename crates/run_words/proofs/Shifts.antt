@@ -13,12 +13,12 @@ use lib.Seq.{getD-set-same, getD-set-other}
 use Rattle.calculus.specs.Configuration.{movedUp, movedDown}
 use Rattle.run_words.specs.Lists.{All, insertAt, removeAt}
 use Rattle.run_words.specs.ListLaws.{tab-same, map-tab, all-map, all-at}
-use Rattle.run_words.specs.Raw.{RawProcess, RawConfig, linkOf, linksBelow, rows, processOf, rawIn, Bounded}
+use Rattle.run_words.specs.Raw.{RawProcess, RawConfig, linkOf, linksBelow, rows, processOf, rawIn, Bounded, processRow}
 use Rattle.run_words.specs.Values.{Changed, Moved, Written}
 use Rattle.run_words.specs.Operations.{withProcesses, moved, movedWord, relinked, inserted, removed}
 use Rattle.run_words.specs.Bounds.{after, link-moved, link-word}
 use Rattle.run_words.specs.RowLaws.{rows-insert, rows-remove}
-use Rattle.run_words.specs.SliceLaws.{word, counted, processRow, process-at, process-linked, Sixteen, sixteen, processes-local, held-few}
+use Rattle.run_words.specs.SliceLaws.{word, counted, process-at, process-linked, Sixteen, sixteen, processes-local, held-few}
 use Rattle.run_words.proofs.Slices.{processes-changed}
 
 -- ── links

@@ -7,11 +7,11 @@ use native.Mathlib.Omega.{arith}
 use lib.ListN.{length, getD, getElem?, set, length-set}
 use lib.Seq.{getD-set-same, getD-set-other}
 use Rattle.run_words.specs.ListLaws.{all-at}
-use Rattle.run_words.specs.Raw.{RawProcess, RawOutside, linkOf, rows, endOf, processOf, outsideOf, rawIn, BoundedProcess, Bounded}
+use Rattle.run_words.specs.Raw.{RawProcess, RawOutside, linkOf, rows, endOf, processOf, outsideOf, rawIn, BoundedProcess, Bounded, processRow}
 use Rattle.run_words.specs.Values.{Changed, Moved, Written}
 use Rattle.run_words.specs.Operations.{single, withProcesses, withOutside, withGiven}
 use Rattle.run_words.specs.RowLaws.{outside-local, rows-same, rows-set}
-use Rattle.run_words.specs.SliceLaws.{word, ends-moved, counted, counted-outside, processRow, process-at, processes-local, sixteen}
+use Rattle.run_words.specs.SliceLaws.{word, ends-moved, counted, counted-outside, process-at, processes-local, sixteen}
 use Rattle.run_words.proofs.Rows.{drop-same}
 use Rattle.run_words.proofs.Ends.{ends}
 

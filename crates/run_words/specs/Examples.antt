@@ -5,7 +5,7 @@ use mathlib.Core.Path.{_≡_, refl}
 use mathlib.Core.Option.{none}
 use lib.ListN.{getD, replicate}
 use Rattle.calculus.specs.Types.{provided}
-use Rattle.run_words.specs.Raw.{RawConfig, rawOf}
+use Rattle.run_words.specs.Raw.{RawConfig, runningKind, rawProcess, rawOf}
 
 words : List ℕ
 words =
@@ -15,7 +15,7 @@ words =
 
 meant : RawConfig
 meant = record {
-  processes = record { kind = 0; pointer = 5; held = record { name = 12; side = provided; node = 3; channel = 7 } ∷ []; link = none } ∷ [];
+  processes = rawProcess runningKind 5 (record { name = 12; side = provided; node = 3; channel = 7 } ∷ []) none ∷ [];
   outside = record { number = 0; node = 3; channel = 7 } ∷ [];
   given = 1;
 }

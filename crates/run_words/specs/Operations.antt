@@ -6,9 +6,9 @@ use mathlib.Core.Option.{Option, some, none, Option·map}
 use lib.Dec.{eqb, ltb}
 use Rattle.notation.specs.Limits.{channelPlaces}
 use Rattle.calculus.specs.Types.{Side, provided, used, other, sameSide}
-use Rattle.calculus.specs.Configuration.{movedUp, movedDown, among, freeFrom}
+use Rattle.calculus.specs.Configuration.{movedUp, movedDown, freeFrom}
 use Rattle.run_words.specs.Lists.{insertAt, removeAt, scan}
-use Rattle.run_words.specs.Raw.{RawEnd, RawProcess, RawOutside, RawConfig}
+use Rattle.run_words.specs.Raw.{RawEnd, RawProcess, RawOutside, RawConfig, linkedTo}
 use Rattle.notation.specs.declared.reading.Found.{Found}
 use Rattle.notation.specs.declared.reading.Found.the-variants as found
 use Rattle.run_words.specs.declared.records.Change.{Change}
@@ -40,7 +40,7 @@ abbrev pub single : RawProcess → RawConfig
 single p = record { processes = p ∷ []; outside = []; given = 0 }
 
 abbrev pub relinked : (ℕ → ℕ) → RawProcess → RawProcess
-relinked f p = record { kind = p .kind; pointer = p .pointer; held = p .held; link = Option·map f (p .link) }
+relinked f p = linkedTo (Option·map f (p .link)) p
 
 -- a place, and a link's word, once the places after i have moved up or down by one
 abbrev pub moved : Bool → ℕ → ℕ → ℕ
@@ -102,6 +102,11 @@ farFrom holder.Nobody f = f
 unfoldable pub farEnd : RawConfig → ℕ → Side → Far
 farEnd C k s = farFrom (holderOf k (other s) (C .processes)) (orOutside s (outsideAt k (C .outside)))
 
+abbrev pub wasGivenUp : Far → Bool
+wasGivenUp (far.Process i j) = false
+wasGivenUp (far.Outside j) = false
+wasGivenUp far.GivenUp = true
+
 -- ── channel places
 abbrev pub heldChannels : List RawEnd → List ℕ → List ℕ
 heldChannels [] r = r
@@ -116,14 +121,6 @@ channelsHeld C = processChannels (C .processes) (map (λ (o : RawOutside). o .ch
 
 unfoldable pub freshChannel : RawConfig → Option ℕ
 freshChannel C = freeFrom (channelsHeld C) 0 channelPlaces
-
--- of n places from k on, those of which an end is held
-abbrev pub busyFrom : List ℕ → ℕ → ℕ → ℕ
-busyFrom busy k zero = 0
-busyFrom busy k (suc n) = let r = busyFrom busy (suc k) n in cond (among k busy) (suc r) r
-
-unfoldable pub busyPlaces : RawConfig → ℕ
-busyPlaces C = busyFrom (channelsHeld C) 0 channelPlaces
 
 -- the same, as the code answers
 abbrev pub foundIn : Option ℕ → Found

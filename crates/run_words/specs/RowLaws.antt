@@ -8,14 +8,14 @@ use native.Mathlib.Decide.{decLt}
 use lib.ListN.{set}
 use Rattle.run_words.specs.Lists.{insertAt, removeAt}
 use Rattle.run_words.specs.ListLaws.{tab-same, tab-set, tab-insert, tab-remove, tab-append}
-use Rattle.run_words.specs.Raw.{sideOf, rows, endOf, outsideOf}
+use Rattle.run_words.specs.Raw.{rows, endOf, outsideOf, endBy}
 
 -- a row is read from its own words alone
 pub record Local {A : Type 0} (read : (ℕ → ℕ) → A) (width : ℕ) (w : ℕ → ℕ) : Type 0 where
   pub same : (v : ℕ → ℕ) → ((t : ℕ) → t < width → v t ≡ w t) → read v ≡ read w
 
-pub end-of : (v : ℕ → ℕ) {a b : ℕ} → v 0 ≡ a → v 1 ≡ b → endOf v ≡ record { name = a / 2; side = sideOf (a % 2); node = b / 512; channel = b % 512 }
-end-of v p q = λ i. record { name = p i / 2; side = sideOf (p i % 2); node = q i / 512; channel = q i % 512 }
+pub end-of : (v : ℕ → ℕ) {a b : ℕ} → v 0 ≡ a → v 1 ≡ b → endOf v ≡ endBy a b
+end-of v p q = λ i. endBy (p i) (q i)
 
 pub outside-of : (v : ℕ → ℕ) {a b : ℕ} → v 0 ≡ a → v 1 ≡ b → outsideOf v ≡ record { number = a; node = b / 512; channel = b % 512 }
 outside-of v p q = λ i. record { number = p i; node = q i / 512; channel = q i % 512 }

@@ -1,4 +1,4 @@
--- From the words of a slice to its configuration: words that agree below 6,144 are one configuration.
+-- From the words of a slice to its configuration: words that agree of a run are one configuration.
 use Prim.Native.Nat.{ℕ, _+_, _*_, _/_, _%_, _≤_, _<_}
 use mathlib.Core.List.{List}
 use mathlib.Core.Path.{_≡_, refl, sym, ap, _∙_}
@@ -6,35 +6,35 @@ use mathlib.Core.Option.{Option, some}
 use native.Mathlib.Omega.{arith}
 use lib.ListN.{length, getD, getElem?, take}
 use lib.Seq.{getD-take}
-use Rattle.notation.specs.Limits.{runWords}
+use Rattle.notation.specs.Limits.{heldLimit, runWords}
 use Rattle.run_words.specs.Lists.{All}
 use Rattle.run_words.specs.ListLaws.{length-tab, at-tab, tab-same, all-at, all-weaken}
-use Rattle.run_words.specs.Raw.{linkOf, rows, endOf, processOf, outsideOf, rawIn, Bounded}
+use Rattle.run_words.specs.Raw.{outsidesAt, outsideWords, placesAt, placeWords, endsFrom, endWords, heldWords, kindRadix, linkedTo, linkOf, rows, endOf, processOf, outsideOf, rawIn, processRow, heldCount, Bounded}
 use Rattle.run_words.specs.RowLaws.{Local, end-of, outside-local, rows-same}
 
 abbrev pub word : List ℕ → ℕ → ℕ
 word ws k = getD ws k 0
 
 -- ── a process from its words
-pub ends-moved : (a b n : ℕ) (v w : ℕ → ℕ) → n ≤ 16 → ((k : ℕ) → k < 32 → v (a + k) ≡ w (b + k)) → rows endOf 2 a n v ≡ rows endOf 2 b n w
+pub ends-moved : (a b n : ℕ) (v w : ℕ → ℕ) → n ≤ heldLimit → ((k : ℕ) → k < heldWords → v (a + k) ≡ w (b + k)) → rows endOf endWords a n v ≡ rows endOf endWords b n w
 ends-moved a b n v w h e = tab-same _ _ n (λ k l. end-of (λ t. v (a + 2 * k + t)) (here k 0 (omega arith)) (here k 1 (omega arith)))
   where
-    here : (k t : ℕ) → 2 * k + t < 32 → v (a + 2 * k + t) ≡ w (b + 2 * k + t)
+    here : (k t : ℕ) → 2 * k + t < heldWords → v (a + 2 * k + t) ≡ w (b + 2 * k + t)
     here k t l =
         let x : a + 2 * k + t ≡ a + (2 * k + t) = omega arith in
         let y : b + (2 * k + t) ≡ b + 2 * k + t = omega arith in
         ap v x ∙ e (2 * k + t) l ∙ ap w y
 
 -- words that agree but for the link
-pub process-linked : (v w : ℕ → ℕ) (o : Option ℕ) → w 2 ≤ 16 → ((t : ℕ) → t < 40 → (t ≡ 1 → ⊥) → v t ≡ w t) → linkOf (v 1) ≡ o
-    → processOf v ≡ record { kind = w 0 % 4; pointer = w 0 / 4; held = rows endOf 2 3 (w 2) w; link = o }
+pub process-linked : (v w : ℕ → ℕ) (o : Option ℕ) → w 2 ≤ heldLimit → ((t : ℕ) → t < placeWords → (t ≡ 1 → ⊥) → v t ≡ w t) → linkOf (v 1) ≡ o
+    → processOf v ≡ linkedTo o (processOf w)
 process-linked v w o h e q =
     let p = e 0 (omega arith) (λ z. omega arith) in
     let r = e 2 (omega arith) (λ z. omega arith) in
-    let held : rows endOf 2 3 (v 2) v ≡ rows endOf 2 3 (w 2) w = ap (λ m. rows endOf 2 3 m v) r ∙ ends-moved 3 3 (w 2) v w h (λ k l. e (3 + k) (omega arith) (λ z. omega arith)) in
-    λ i. record { kind = p i % 4; pointer = p i / 4; held = held i; link = q i }
+    let held : rows endOf endWords endsFrom (v 2) v ≡ rows endOf endWords endsFrom (w 2) w = ap (λ m. rows endOf endWords endsFrom m v) r ∙ ends-moved 3 3 (w 2) v w h (λ k l. e (3 + k) (omega arith) (λ z. omega arith)) in
+    λ i. record { kind = p i % kindRadix; pointer = p i / kindRadix; held = held i; link = q i }
 
-process-local : (w : ℕ → ℕ) → w 2 ≤ 16 → Local processOf 40 w
+process-local : (w : ℕ → ℕ) → w 2 ≤ heldLimit → Local processOf placeWords w
 process-local w h = record { same = λ v e. process-linked v w (linkOf (w 1)) h (λ t l q. e t l) (ap linkOf (e 1 (omega arith))) }
 
 -- ── the configuration of a slice
@@ -50,9 +50,6 @@ pub numbered : (ws : List ℕ) → rawIn ws .given ≡ getD ws 1 0
 unfolding rawIn
 numbered ws = refl
 
-abbrev pub processRow : List ℕ → ℕ → ℕ → ℕ
-processRow ws i t = getD ws (80 + 40 * i + t) 0
-
 pub process-at : (ws : List ℕ) (i : ℕ) → i < length (rawIn ws .processes) → getElem? (rawIn ws .processes) i ≡ some (processOf (processRow ws i))
 unfolding rawIn
 process-at ws i h = at-tab _ (getD ws 0 0) i (omega (arith, counted ws))
@@ -64,26 +61,26 @@ held-count ws i n a h =
     omega (arith, b, length-tab (λ k. endOf (λ t. processRow ws i (3 + 2 * k + t))) (processRow ws i 2))
 
 pub record Sixteen (ws : List ℕ) : Type 0 where
-  pub each : All (λ p. length (p .held) ≤ 16) (rawIn ws .processes)
+  pub each : All (λ p. length (p .held) ≤ heldLimit) (rawIn ws .processes)
 
-pub processes-local : (ws : List ℕ) → Sixteen ws → (j : ℕ) → j < getD ws 0 0 → Local processOf 40 (processRow ws j)
+pub processes-local : (ws : List ℕ) → Sixteen ws → (j : ℕ) → j < getD ws 0 0 → Local processOf placeWords (processRow ws j)
 processes-local ws s j h = process-local (processRow ws j) (held-count ws j 16 (s .each) h)
 
 pub sixteen : (ws : List ℕ) → Bounded (rawIn ws) → Sixteen ws
 sixteen ws b = record { each = all-weaken _ _ (λ p q. q .many) (rawIn ws .processes) (b .processes) }
 
-pub held-few : (ws : List ℕ) (i : ℕ) → Bounded (rawIn ws) → i < length (rawIn ws .processes) → processRow ws i 2 ≤ 16
+pub held-few : (ws : List ℕ) (i : ℕ) → Bounded (rawIn ws) → i < length (rawIn ws .processes) → heldCount ws i ≤ heldLimit
 held-few ws i b h = held-count ws i 16 (sixteen ws b .each) (omega (arith, counted ws))
 
--- ── words that agree below 6,144
+-- ── words that agree of a run
 pub raw-same : (old new : List ℕ) → Bounded (rawIn old) → ((k : ℕ) → k < runWords → getD new k 0 ≡ getD old k 0) → rawIn new ≡ rawIn old
 unfolding rawIn
 raw-same old new b e =
-    let p : rows processOf 40 80 (getD new 0 0) (word new) ≡ rows processOf 40 80 (getD old 0 0) (word old) =
-    ap (λ n. rows processOf 40 80 n (word new)) (e 0 (omega arith))
-    ∙ rows-same processOf 40 80 (word old) (word new) (getD old 0 0) (processes-local old (sixteen old b)) (λ k x y. e k (omega (arith, b .places, counted old))) in
-    let o : rows outsideOf 2 16 (getD new 2 0) (word new) ≡ rows outsideOf 2 16 (getD old 2 0) (word old) =
-    ap (λ n. rows outsideOf 2 16 n (word new)) (e 2 (omega arith))
+    let p : rows processOf placeWords placesAt (getD new 0 0) (word new) ≡ rows processOf placeWords placesAt (getD old 0 0) (word old) =
+    ap (λ n. rows processOf placeWords placesAt n (word new)) (e 0 (omega arith))
+    ∙ rows-same processOf placeWords 80 (word old) (word new) (getD old 0 0) (processes-local old (sixteen old b)) (λ k x y. e k (omega (arith, b .places, counted old))) in
+    let o : rows outsideOf outsideWords outsidesAt (getD new 2 0) (word new) ≡ rows outsideOf outsideWords outsidesAt (getD old 2 0) (word old) =
+    ap (λ n. rows outsideOf outsideWords outsidesAt n (word new)) (e 2 (omega arith))
     ∙ rows-same outsideOf 2 16 (word old) (word new) (getD old 2 0) (λ j l. outside-local _) (λ k x y. e k (omega (arith, b .channels, counted-outside old))) in
     let g : getD new 1 0 ≡ getD old 1 0 = e 1 (omega arith) in
     λ i. record { processes = p i; outside = o i; given = g i }

@@ -7,7 +7,7 @@ use lib.ListN.{length, getD, drop}
 use Rattle.notation.specs.Limits.{channelPlaces, runWords}
 use Rattle.calculus.specs.Configuration.{among}
 use Rattle.run_words.specs.ListLaws.{length-tab}
-use Rattle.run_words.specs.Raw.{RawEnd, RawProcess, RawOutside, RawConfig, sideOf, linkOf, rows, endOf, rawIn}
+use Rattle.run_words.specs.Raw.{RawEnd, RawProcess, RawOutside, RawConfig, endWords, runningKind, foldingKind, sideOf, linkOf, rows, endOf, rawIn}
 use Rattle.run_words.specs.declared.records.End.{End}
 use Rattle.run_words.specs.declared.records.Held.{Held}
 use Rattle.run_words.specs.declared.records.Process.{Process}
@@ -18,10 +18,34 @@ abbrev pub endIn : End → RawEnd
 endIn e = record { name = e .name; side = sideOf (e .side); node = e .node; channel = e .channel }
 
 unfoldable pub heldIn : Held → List RawEnd
-heldIn h = rows endOf 2 0 (h .count) (λ k. getD (h .words) k 0)
+heldIn h = rows endOf endWords 0 (h .count) (λ k. getD (h .words) k 0)
 
 abbrev pub processIn : Process → RawProcess
 processIn p = record { kind = p .kind; pointer = p .pointer; held = heldIn (p .held); link = linkOf (p .link) }
+
+-- a process by value that is new; one that goes on, and keeps what is not named
+abbrev pub newProcess : ℕ → ℕ → ℕ → Held → Process
+newProcess kind pointer link held = record { kind = kind; pointer = pointer; link = link; held = held }
+
+abbrev pub remade : ℕ → ℕ → ℕ → Held → Process → Process
+remade kind pointer link held p = record { kind = kind; pointer = pointer; link = link; held = held }
+
+-- of another kind; with another link; with other ends
+abbrev pub ofKind : ℕ → Process → Process
+ofKind kind p = remade kind (p .pointer) (p .link) (p .held) p
+
+abbrev pub ofLink : ℕ → Process → Process
+ofLink link p = remade (p .kind) (p .pointer) link (p .held) p
+
+abbrev pub ofHeld : Held → Process → Process
+ofHeld held p = remade (p .kind) (p .pointer) (p .link) held p
+
+-- it runs the term at a pointer; it folds up
+abbrev pub runningOn : ℕ → Held → Process → Process
+runningOn pointer held p = remade runningKind pointer (p .link) held p
+
+abbrev pub foldingUp : Held → Process → Process
+foldingUp held p = ofHeld held (ofKind foldingKind p)
 
 abbrev pub outsideIn : Outside → RawOutside
 outsideIn o = record { number = o .number; node = o .node; channel = o .channel }

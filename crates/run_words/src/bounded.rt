@@ -1,9 +1,9 @@
 // Whether the words of a slice keep the bounds.
 ghost use Prim.Native.Nat.{ℕ, _+_, _*_, _≤_, _<_};
-ghost use lib.ListN.{length, getD};
-ghost use Rattle.notation.specs.Limits.{runWords};
+ghost use lib.ListN.{length};
+ghost use Rattle.notation.specs.Limits.{runWords, heldLimit, outsideNumbers, processPlaces};
 ghost use Rattle.run_words.specs.Lists.{All};
-ghost use Rattle.run_words.specs.Raw.{rawIn, processOf, BoundedEnd, BoundedProcess, BoundedOutside, Bounded};
+ghost use Rattle.run_words.specs.Raw.{rawIn, processOf, BoundedEnd, BoundedProcess, BoundedOutside, Bounded, processRow};
 ghost use Rattle.run_words.specs.Values.{heldIn, Decided};
 use crate::held::end_at;
 use crate::outside::get_outside;
@@ -11,6 +11,14 @@ use crate::outside::outside_count;
 use crate::processes::count;
 use crate::processes::get;
 use crate::records::Held;
+use crate::shape::COUNT;
+use crate::shape::GIVEN;
+use crate::shape::HELD_COUNT;
+use crate::shape::OUTSIDE_COUNT;
+use crate::shape::PLACE_WORDS;
+use crate::shape::PLACES_AT;
+use crate::shape::POINTER_LIMIT;
+use crate::shape::WAITING;
 use notation::script::Script;
 
 // The notation's limits, as words.
@@ -26,7 +34,7 @@ const OUTSIDE_NUMBERS: u32 = Script::OUTSIDE_NUMBERS as u32;
 
 // What a process holds.
 fn ends_bounded(h: Held) -> bool
-    requires { ⌜ h .count ≤ 16 ⌝ }
+    requires { ⌜ h .count ≤ heldLimit ⌝ }
     ensures { λ r. ⌜ Decided r (All BoundedEnd (heldIn h)) ⌝ }
 {
     let n = h.count;
@@ -46,17 +54,17 @@ fn ends_bounded(h: Held) -> bool
 
 // A process, which is one of n.
 fn process_bounded(run: &[u32], i: usize, n: u32) -> bool
-    requires { ⌜ (runWords ≤ length (now run)) × (i < 128) ⌝ }
-    ensures { λ r. ⌜ Decided r (BoundedProcess n (processOf (λ t. getD (now (run .entry)) (80 + 40 * i + t) 0))) ⌝ }
+    requires { ⌜ (runWords ≤ length (now run)) × (i < processPlaces) ⌝ }
+    ensures { λ r. ⌜ Decided r (BoundedProcess n (processOf (processRow (now (run .entry)) i))) ⌝ }
 {
-    if HELD < run[80 + 40 * i + 2] {
+    if HELD < run[PLACES_AT + PLACE_WORDS * i + HELD_COUNT] {
         return false;
     }
     let p = get(run, i);
-    if 2 < p.kind {
+    if WAITING < p.kind {
         return false;
     }
-    if 16384 <= p.pointer {
+    if POINTER_LIMIT <= p.pointer {
         return false;
     }
     if n < p.link {
@@ -69,7 +77,7 @@ fn process_bounded(run: &[u32], i: usize, n: u32) -> bool
 // The processes.
 fn processes_bounded(run: &[u32]) -> bool
     requires { ⌜ runWords ≤ length (now run) ⌝ }
-    requires { ⌜ length (rawIn (now run) .processes) ≤ 128 ⌝ }
+    requires { ⌜ length (rawIn (now run) .processes) ≤ processPlaces ⌝ }
     ensures { λ r. ⌜ Decided r (All (BoundedProcess (length (rawIn (now (run .entry)) .processes))) (rawIn (now (run .entry)) .processes)) ⌝ }
 {
     let n = count(run);
@@ -87,7 +95,7 @@ fn processes_bounded(run: &[u32]) -> bool
 // The outside's channels.
 fn outside_bounded(run: &[u32]) -> bool
     requires { ⌜ runWords ≤ length (now run) ⌝ }
-    requires { ⌜ length (rawIn (now run) .outside) ≤ 32 ⌝ }
+    requires { ⌜ length (rawIn (now run) .outside) ≤ outsideNumbers ⌝ }
     ensures { λ r. ⌜ Decided r (All BoundedOutside (rawIn (now (run .entry)) .outside)) ⌝ }
 {
     let n = outside_count(run);
@@ -110,13 +118,13 @@ pub fn bounded(run: &[u32]) -> bool
     requires { ⌜ runWords ≤ length (now run) ⌝ }
     ensures { λ r. ⌜ Decided r (Bounded (rawIn (now (run .entry)))) ⌝ }
 {
-    if PROCESS_PLACES < run[0] {
+    if PROCESS_PLACES < run[COUNT] {
         return false;
     }
-    if OUTSIDE_NUMBERS < run[1] {
+    if OUTSIDE_NUMBERS < run[GIVEN] {
         return false;
     }
-    if OUTSIDE_NUMBERS < run[2] {
+    if OUTSIDE_NUMBERS < run[OUTSIDE_COUNT] {
         return false;
     }
     if !processes_bounded(run) {

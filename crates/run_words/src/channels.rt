@@ -1,21 +1,23 @@
-// Channel places: the lowest that is free, and of how many an end is held.
+// Channel places: the lowest that is free.
 ghost use mathlib.Core.Path.{_≡_};
 ghost use Prim.Native.Nat.{ℕ, _+_, _*_, _≤_, _<_};
 ghost use mathlib.Core.List.{List, [], map};
-ghost use lib.ListN.{length, getD};
-ghost use Rattle.notation.specs.Limits.{runWords};
-ghost use Rattle.run_words.specs.Raw.{RawOutside, rawIn, processOf, Bounded};
+ghost use lib.ListN.{length};
+ghost use Rattle.notation.specs.Limits.{runWords, heldLimit, processPlaces};
+ghost use Rattle.run_words.specs.Raw.{RawOutside, rawIn, processOf, Bounded, heldCount, processRow};
 ghost use Rattle.run_words.specs.Values.{Marked};
-ghost use Rattle.run_words.specs.Operations.{heldChannels, processChannels, channelsHeld, freshChannel, busyPlaces, foundIn};
+ghost use Rattle.run_words.specs.Operations.{heldChannels, processChannels, channelsHeld, freshChannel, foundIn};
 use crate::outside::outside_at;
 use crate::outside::outside_count;
 use crate::processes::count;
+use crate::processes::held_count;
+use crate::processes::held_end;
 use notation::reading::Found;
 use notation::script::Script;
 use notation::words::wide;
 
 // Marks the channels of the outside.
-fn mark_outside(marks: &mut [u32; 512], run: &[u32])
+fn mark_outside(marks: &mut [u32; Script::CHANNEL_PLACES], run: &[u32])
     requires { ⌜ runWords ≤ length (now run) ⌝ }
     requires { ⌜ Bounded (rawIn (now run)) ⌝ }
     ensures { λ r. ⌜ (Marked (now (marks .entry)) [] → Marked (now (marks .exit)) (map (λ (o : RawOutside). o .channel) (rawIn (now (run .entry)) .outside))) ⌝ }
@@ -29,21 +31,21 @@ fn mark_outside(marks: &mut [u32; 512], run: &[u32])
 }
 
 // Marks the channels that the process at a place holds, read off its words.
-fn mark_held(marks: &mut [u32; 512], run: &[u32], i: usize)
-    requires { ⌜ (runWords ≤ length (now run)) × (i < 128) ⌝ }
-    requires { ⌜ getD (now run) (80 + 40 * i + 2) 0 ≤ 16 ⌝ }
-    ensures { λ r. ⌜ ((l : List ℕ) → Marked (now (marks .entry)) l → Marked (now (marks .exit)) (heldChannels (processOf (λ t. getD (now (run .entry)) (80 + 40 * i + t) 0) .held) l)) ⌝ }
+fn mark_held(marks: &mut [u32; Script::CHANNEL_PLACES], run: &[u32], i: usize)
+    requires { ⌜ (runWords ≤ length (now run)) × (i < processPlaces) ⌝ }
+    requires { ⌜ heldCount (now run) i ≤ heldLimit ⌝ }
+    ensures { λ r. ⌜ ((l : List ℕ) → Marked (now (marks .entry)) l → Marked (now (marks .exit)) (heldChannels (processOf (processRow (now (run .entry)) i) .held) l)) ⌝ }
 {
-    let mut k = wide(run[80 + 40 * i + 2]);
+    let mut k = held_count(run, i);
     while 0 < k {
         k -= 1;
-        let at = 83 + 40 * i + 2 * k;
-        marks[wide(run[at + 1] % 512)] = 1;
+        let e = held_end(run, i, k);
+        marks[wide(e.channel)] = 1;
     }
 }
 
 // Marks the channels that the processes hold.
-fn mark_processes(marks: &mut [u32; 512], run: &[u32])
+fn mark_processes(marks: &mut [u32; Script::CHANNEL_PLACES], run: &[u32])
     requires { ⌜ runWords ≤ length (now run) ⌝ }
     requires { ⌜ Bounded (rawIn (now run)) ⌝ }
     ensures { λ r. ⌜ ((l : List ℕ) → Marked (now (marks .entry)) l → Marked (now (marks .exit)) (processChannels (rawIn (now (run .entry)) .processes) l)) ⌝ }
@@ -56,12 +58,12 @@ fn mark_processes(marks: &mut [u32; 512], run: &[u32])
 }
 
 // A mark for each channel of which an end is held.
-fn marked(run: &[u32]) -> [u32; 512]
+fn marked(run: &[u32]) -> [u32; Script::CHANNEL_PLACES]
     requires { ⌜ runWords ≤ length (now run) ⌝ }
     requires { ⌜ Bounded (rawIn (now run)) ⌝ }
     ensures { λ r. ⌜ Marked r (channelsHeld (rawIn (now (run .entry)))) ⌝ }
 {
-    let mut marks = [0u32; 512];
+    let mut marks = [0u32; Script::CHANNEL_PLACES];
     mark_outside(&mut marks, run);
     mark_processes(&mut marks, run);
     marks
@@ -82,20 +84,4 @@ pub fn fresh_channel(run: &[u32]) -> Found
         k += 1;
     }
     Found::Nothing
-}
-
-// Of how many channels an end is held.
-pub fn busy_places(run: &[u32]) -> usize
-    requires { ⌜ runWords ≤ length (now run) ⌝ }
-    requires { ⌜ Bounded (rawIn (now run)) ⌝ }
-    ensures { λ r. ⌜ r ≡ busyPlaces (rawIn (now (run .entry))) ⌝ }
-{
-    let marks = marked(run);
-    let mut n: usize = 0;
-    let mut k: usize = Script::CHANNEL_PLACES;
-    while 0 < k {
-        k -= 1;
-        n += wide(marks[k]);
-    }
-    n
 }

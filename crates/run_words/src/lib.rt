@@ -7,4 +7,5 @@ pub mod outside;
 pub mod places;
 pub mod processes;
 pub mod records;
+pub mod shape;
 pub mod words;

@@ -3,13 +3,18 @@ ghost use mathlib.Core.Path.{_≡_};
 ghost use Prim.Native.Nat.{ℕ, _+_, _*_, _≤_, _<_};
 ghost use mathlib.Core.List.{[], _∷_, _++_};
 ghost use mathlib.Core.Option.{some};
-ghost use lib.ListN.{length, getD, getElem?, set};
-ghost use Rattle.notation.specs.Limits.{runWords};
-ghost use Rattle.run_words.specs.Raw.{rawIn, outsideOf, RawOutside, BoundedOutside, Bounded};
+ghost use lib.ListN.{length, getElem?, set};
+ghost use Rattle.notation.specs.Limits.{runWords, channelPlaces, outsideNumbers, typeTermLimit};
+ghost use Rattle.run_words.specs.Raw.{rawIn, outsideOf, RawOutside, BoundedOutside, Bounded, outsideRow, outsideWords, outsidesAt};
 ghost use Rattle.run_words.specs.Values.{outsideIn, Changed, Written};
 ghost use Rattle.run_words.specs.Operations.{onOutside, withGiven, outsideAt, letGo, changedOutside, retyped, rerouted, changedBy};
 use crate::records::Change;
 use crate::records::Outside;
+use crate::shape::CHANNEL_RADIX;
+use crate::shape::GIVEN;
+use crate::shape::OUTSIDE_COUNT;
+use crate::shape::OUTSIDE_WORDS;
+use crate::shape::OUTSIDES_AT;
 use notation::reading::Found;
 use notation::words::wide;
 
@@ -18,7 +23,7 @@ pub fn outside_count(run: &[u32]) -> usize
     requires { ⌜ runWords ≤ length (now run) ⌝ }
     ensures { λ r. ⌜ r ≡ length (rawIn (now (run .entry)) .outside) ⌝ }
 {
-    wide(run[2])
+    wide(run[OUTSIDE_COUNT])
 }
 
 // How many numbers were given.
@@ -26,33 +31,33 @@ pub fn given(run: &[u32]) -> u32
     requires { ⌜ runWords ≤ length (now run) ⌝ }
     ensures { λ r. ⌜ r ≡ rawIn (now (run .entry)) .given ⌝ }
 {
-    run[1]
+    run[GIVEN]
 }
 
 // So many numbers were given.
 pub fn set_given(run: &mut [u32], n: u32)
     requires { ⌜ runWords ≤ length (now run) ⌝ }
     requires { ⌜ Bounded (rawIn (now run)) ⌝ }
-    requires { ⌜ n ≤ 32 ⌝ }
+    requires { ⌜ n ≤ outsideNumbers ⌝ }
     ensures { λ r. ⌜ Changed (now (run .entry)) (now (run .exit)) (withGiven (rawIn (now (run .entry))) n) ⌝ }
     ensures { λ r. ⌜ Bounded (rawIn (now (run .exit))) ⌝ }
 {
-    run[1] = n;
+    run[GIVEN] = n;
 }
 
 // What the words of a channel at a position say.
 pub(crate) fn get_outside(run: &[u32], k: usize) -> Outside
-    requires { ⌜ (runWords ≤ length (now run)) × (k < 32) ⌝ }
-    ensures { λ r. ⌜ outsideIn r ≡ outsideOf (λ t. getD (now (run .entry)) (16 + 2 * k + t) 0) ⌝ }
-    ensures { λ r. ⌜ r .channel < 512 ⌝ }
+    requires { ⌜ (runWords ≤ length (now run)) × (k < outsideNumbers) ⌝ }
+    ensures { λ r. ⌜ outsideIn r ≡ outsideOf (outsideRow (now (run .entry)) k) ⌝ }
+    ensures { λ r. ⌜ r .channel < channelPlaces ⌝ }
 {
-    let at = 16 + 2 * k;
+    let at = OUTSIDES_AT + OUTSIDE_WORDS * k;
     let a = run[at];
     let b = run[at + 1];
     Outside {
         number: a,
-        node: b / 512,
-        channel: b % 512,
+        node: b / CHANNEL_RADIX,
+        channel: b % CHANNEL_RADIX,
     }
 }
 
@@ -68,7 +73,7 @@ pub fn outside_at(run: &[u32], k: usize) -> Outside
 }
 
 // The first position with a channel.
-pub fn find_outside(run: &[u32], channel: u32) -> Found
+pub(crate) fn find_outside(run: &[u32], channel: u32) -> Found
     requires { ⌜ runWords ≤ length (now run) ⌝ }
     requires { ⌜ Bounded (rawIn (now run)) ⌝ }
     ensures { λ r. ⌜ r ≡ outsideAt channel (rawIn (now (run .entry)) .outside) ⌝ }
@@ -87,17 +92,17 @@ pub fn find_outside(run: &[u32], channel: u32) -> Found
 
 // The words of a channel at a position.
 fn put_outside(run: &mut [u32], k: usize, o: Outside)
-    requires { ⌜ (runWords ≤ length (now run)) × (k < 32) ⌝ }
+    requires { ⌜ (runWords ≤ length (now run)) × (k < outsideNumbers) ⌝ }
     requires { ⌜ BoundedOutside (outsideIn o) ⌝ }
-    ensures { λ r. ⌜ Written outsideOf 2 (now (run .entry)) (now (run .exit)) (16 + 2 * k) (outsideIn o) ⌝ }
+    ensures { λ r. ⌜ Written outsideOf outsideWords (now (run .entry)) (now (run .exit)) (outsidesAt + outsideWords * k) (outsideIn o) ⌝ }
 {
-    let at = 16 + 2 * k;
+    let at = OUTSIDES_AT + OUTSIDE_WORDS * k;
     run[at] = o.number;
-    run[at + 1] = o.node * 512 + o.channel;
+    run[at + 1] = o.node * CHANNEL_RADIX + o.channel;
 }
 
 // Another channel at a position.
-pub fn set_outside(run: &mut [u32], k: usize, o: Outside)
+fn set_outside(run: &mut [u32], k: usize, o: Outside)
     requires { ⌜ runWords ≤ length (now run) ⌝ }
     requires { ⌜ Bounded (rawIn (now run)) ⌝ }
     requires { ⌜ k < length (rawIn (now run) .outside) ⌝ }
@@ -112,14 +117,14 @@ pub fn set_outside(run: &mut [u32], k: usize, o: Outside)
 pub fn append_outside(run: &mut [u32], o: Outside)
     requires { ⌜ runWords ≤ length (now run) ⌝ }
     requires { ⌜ Bounded (rawIn (now run)) ⌝ }
-    requires { ⌜ length (rawIn (now run) .outside) < 32 ⌝ }
+    requires { ⌜ length (rawIn (now run) .outside) < outsideNumbers ⌝ }
     requires { ⌜ BoundedOutside (outsideIn o) ⌝ }
     ensures { λ r. ⌜ Changed (now (run .entry)) (now (run .exit)) (onOutside (λ l. l ++ (outsideIn o ∷ [])) (rawIn (now (run .entry)))) ⌝ }
     ensures { λ r. ⌜ Bounded (rawIn (now (run .exit))) ⌝ }
 {
     let n = outside_count(run);
     put_outside(run, n, o);
-    run[2] = (n + 1) as u32;
+    run[OUTSIDE_COUNT] = (n + 1) as u32;
 }
 
 // The outside lets go of a channel: the others keep their order.
@@ -140,7 +145,7 @@ pub fn let_go(run: &mut [u32], channel: u32)
         }
         k += 1;
     }
-    run[2] = j as u32;
+    run[OUTSIDE_COUNT] = j as u32;
 }
 
 // With a change.
@@ -182,7 +187,7 @@ fn change_outside(run: &mut [u32], channel: u32, change: Change)
 pub fn retype_outside(run: &mut [u32], channel: u32, node: u32)
     requires { ⌜ runWords ≤ length (now run) ⌝ }
     requires { ⌜ Bounded (rawIn (now run)) ⌝ }
-    requires { ⌜ node < 512 ⌝ }
+    requires { ⌜ node < typeTermLimit ⌝ }
     ensures { λ r. ⌜ Changed (now (run .entry)) (now (run .exit)) (onOutside (changedOutside channel (retyped node)) (rawIn (now (run .entry)))) ⌝ }
     ensures { λ r. ⌜ Bounded (rawIn (now (run .exit))) ⌝ }
 {
@@ -193,7 +198,7 @@ pub fn retype_outside(run: &mut [u32], channel: u32, node: u32)
 pub fn reroute_outside(run: &mut [u32], channel: u32, target: u32)
     requires { ⌜ runWords ≤ length (now run) ⌝ }
     requires { ⌜ Bounded (rawIn (now run)) ⌝ }
-    requires { ⌜ target < 512 ⌝ }
+    requires { ⌜ target < channelPlaces ⌝ }
     ensures { λ r. ⌜ Changed (now (run .entry)) (now (run .exit)) (onOutside (changedOutside channel (rerouted target)) (rawIn (now (run .entry)))) ⌝ }
     ensures { λ r. ⌜ Bounded (rawIn (now (run .exit))) ⌝ }
 {

@@ -3,7 +3,7 @@ ghost use mathlib.Core.Path.{_≡_};
 ghost use Prim.Native.Nat.{ℕ, suc, _+_, _≤_, _<_};
 ghost use mathlib.Core.List.{map};
 ghost use lib.ListN.{length};
-ghost use Rattle.notation.specs.Limits.{runWords};
+ghost use Rattle.notation.specs.Limits.{runWords, processPlaces};
 ghost use Rattle.run_words.specs.Raw.{rawIn, BoundedProcess, Bounded};
 ghost use Rattle.run_words.specs.Values.{processIn, Changed};
 ghost use Rattle.run_words.specs.Operations.{single, onProcesses, moved, movedWord, relinked, inserted, removed};
@@ -11,13 +11,20 @@ ghost use Rattle.run_words.specs.Bounds.{Unlinked};
 use crate::processes::count;
 use crate::processes::put;
 use crate::records::Process;
+use crate::shape::COUNT;
+use crate::shape::GIVEN;
+use crate::shape::LINKS_AT;
+use crate::shape::OUTSIDE_COUNT;
+use crate::shape::PLACE_WORDS;
+use crate::shape::PLACES_AT;
+use crate::shape::SECOND_PLACE_AT;
 use crate::words::move_down;
 use crate::words::move_up;
 use notation::words::wide;
 
 // A link's word once the places after `i` have moved.
 pub fn moved_link(link: u32, i: usize, up: bool) -> u32
-    requires { ⌜ (link ≤ 128) × (i < 128) ⌝ }
+    requires { ⌜ (link ≤ processPlaces) × (i < processPlaces) ⌝ }
     ensures { λ r. ⌜ r ≡ movedWord up i link ⌝ }
 {
     if i + 1 < wide(link) {
@@ -29,14 +36,14 @@ pub fn moved_link(link: u32, i: usize, up: bool) -> u32
 
 // Every link, once the places after `i` have moved.
 fn relink(run: &mut [u32], i: usize, up: bool)
-    requires { ⌜ (runWords ≤ length (now run)) × (i < 128) ⌝ }
+    requires { ⌜ (runWords ≤ length (now run)) × (i < processPlaces) ⌝ }
     requires { ⌜ Bounded (rawIn (now run)) ⌝ }
     ensures { λ r. ⌜ Changed (now (run .entry)) (now (run .exit)) (onProcesses (map (relinked (moved up i))) (rawIn (now (run .entry)))) ⌝ }
 {
     let n = count(run);
     let mut k: usize = 0;
     while k < n {
-        let at = 81 + 40 * k;
+        let at = LINKS_AT + PLACE_WORDS * k;
         let link = moved_link(run[at], i, up);
         run[at] = link;
         k += 1;
@@ -50,26 +57,31 @@ pub fn begin(run: &mut [u32], p: Process)
     ensures { λ r. ⌜ Changed (now (run .entry)) (now (run .exit)) (single (processIn p)) ⌝ }
     ensures { λ r. ⌜ Bounded (rawIn (now (run .exit))) ⌝ }
 {
-    run[0] = 1;
-    run[1] = 0;
-    run[2] = 0;
-    put(run, 80, p);
+    run[COUNT] = 1;
+    run[GIVEN] = 0;
+    run[OUTSIDE_COUNT] = 0;
+    put(run, PLACES_AT, p);
 }
 
 // A process comes to stand directly after the one at a place.
 pub fn insert(run: &mut [u32], i: usize, p: Process)
     requires { ⌜ runWords ≤ length (now run) ⌝ }
     requires { ⌜ Bounded (rawIn (now run)) ⌝ }
-    requires { ⌜ (i < length (rawIn (now run) .processes)) × (length (rawIn (now run) .processes) < 128) ⌝ }
+    requires { ⌜ (i < length (rawIn (now run) .processes)) × (length (rawIn (now run) .processes) < processPlaces) ⌝ }
     requires { ⌜ BoundedProcess (suc (length (rawIn (now run) .processes))) (processIn p) ⌝ }
     ensures { λ r. ⌜ Changed (now (run .entry)) (now (run .exit)) (onProcesses (inserted i (processIn p)) (rawIn (now (run .entry)))) ⌝ }
     ensures { λ r. ⌜ Bounded (rawIn (now (run .exit))) ⌝ }
 {
     let n = count(run);
     relink(run, i, true);
-    move_up(run, 120 + 40 * i, 80 + 40 * n, 40);
-    put(run, 120 + 40 * i, p);
-    run[0] = (n + 1) as u32;
+    move_up(
+        run,
+        SECOND_PLACE_AT + PLACE_WORDS * i,
+        PLACES_AT + PLACE_WORDS * n,
+        PLACE_WORDS,
+    );
+    put(run, SECOND_PLACE_AT + PLACE_WORDS * i, p);
+    run[COUNT] = (n + 1) as u32;
 }
 
 // The process at a place leaves; nobody's link is its place.
@@ -83,6 +95,11 @@ pub fn remove(run: &mut [u32], i: usize)
 {
     let n = count(run);
     relink(run, i, false);
-    move_down(run, 120 + 40 * i, 80 + 40 * n, 40);
-    run[0] = (n - 1) as u32;
+    move_down(
+        run,
+        SECOND_PLACE_AT + PLACE_WORDS * i,
+        PLACES_AT + PLACE_WORDS * n,
+        PLACE_WORDS,
+    );
+    run[COUNT] = (n - 1) as u32;
 }

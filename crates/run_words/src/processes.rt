@@ -2,13 +2,25 @@
 ghost use mathlib.Core.Path.{_≡_};
 ghost use Prim.Native.Nat.{ℕ, _+_, _*_, _≤_, _<_};
 ghost use mathlib.Core.Option.{some};
-ghost use lib.ListN.{length, getD, getElem?, set};
-ghost use Rattle.notation.specs.Limits.{runWords};
-ghost use Rattle.run_words.specs.Raw.{rawIn, processOf, BoundedProcess, Bounded};
-ghost use Rattle.run_words.specs.Values.{processIn, Changed, Written};
+ghost use lib.ListN.{length, getElem?, set};
+ghost use Rattle.notation.specs.Limits.{runWords, heldLimit, processPlaces, channelPlaces};
+ghost use Rattle.run_words.specs.Raw.{rawIn, processOf, BoundedProcess, Bounded, heldCount, placeWords, pointerLimit, processRow, sideRadix};
+ghost use Rattle.run_words.specs.Values.{endIn, processIn, Changed, Written};
 ghost use Rattle.run_words.specs.Operations.{onProcesses};
+use crate::held::unpacked;
+use crate::records::End;
 use crate::records::Held;
 use crate::records::Process;
+use crate::shape::COUNT;
+use crate::shape::END_WORDS;
+use crate::shape::ENDS;
+use crate::shape::ENDS_AT;
+use crate::shape::HELD_COUNT;
+use crate::shape::HELD_WORDS;
+use crate::shape::KIND_RADIX;
+use crate::shape::LINK;
+use crate::shape::PLACE_WORDS;
+use crate::shape::PLACES_AT;
 use crate::words::copy_out;
 use crate::words::copy_words;
 use notation::words::wide;
@@ -18,28 +30,49 @@ pub fn count(run: &[u32]) -> usize
     requires { ⌜ runWords ≤ length (now run) ⌝ }
     ensures { λ r. ⌜ r ≡ length (rawIn (now (run .entry)) .processes) ⌝ }
 {
-    wide(run[0])
+    wide(run[COUNT])
 }
 
 // What the words of a process say, of which at most 16 channels are held.
 pub(crate) fn get(run: &[u32], i: usize) -> Process
-    requires { ⌜ (runWords ≤ length (now run)) × (i < 128) ⌝ }
-    requires { ⌜ getD (now run) (80 + 40 * i + 2) 0 ≤ 16 ⌝ }
-    ensures { λ r. ⌜ processOf (λ t. getD (now (run .entry)) (80 + 40 * i + t) 0) ≡ processIn r ⌝ }
-    ensures { λ r. ⌜ r .held .count ≤ 16 ⌝ }
+    requires { ⌜ (runWords ≤ length (now run)) × (i < processPlaces) ⌝ }
+    requires { ⌜ heldCount (now run) i ≤ heldLimit ⌝ }
+    ensures { λ r. ⌜ processOf (processRow (now (run .entry)) i) ≡ processIn r ⌝ }
+    ensures { λ r. ⌜ r .held .count ≤ heldLimit ⌝ }
 {
-    let at = 80 + 40 * i;
+    let at = PLACES_AT + PLACE_WORDS * i;
     let doing = run[at];
-    let link = run[at + 1];
-    let n = wide(run[at + 2]);
-    let w = copy_out(run, at + 3);
+    let link = run[at + LINK];
+    let n = wide(run[at + HELD_COUNT]);
+    let w = copy_out(run, at + ENDS);
     let held = Held { count: n, words: w };
     Process {
-        kind: doing % 4,
-        pointer: doing / 4,
+        kind: doing % KIND_RADIX,
+        pointer: doing / KIND_RADIX,
         link: link,
         held: held,
     }
+}
+
+// How many ends the process at a place holds, read off its words: to load the process would copy them all.
+pub(crate) fn held_count(run: &[u32], i: usize) -> usize
+    requires { ⌜ (runWords ≤ length (now run)) × (i < processPlaces) ⌝ }
+    ensures { λ r. ⌜ r ≡ heldCount (now (run .entry)) i ⌝ }
+{
+    wide(run[PLACES_AT + PLACE_WORDS * i + HELD_COUNT])
+}
+
+// One of these ends, by its position.
+pub(crate) fn held_end(run: &[u32], i: usize, k: usize) -> End
+    requires { ⌜ (runWords ≤ length (now run)) × (i < processPlaces) × (k < heldLimit) ⌝ }
+    requires { ⌜ k < heldCount (now run) i ⌝ }
+    ensures { λ r. ⌜ getElem? (processOf (processRow (now (run .entry)) i) .held) k ≡ some (endIn r) ⌝ }
+    ensures { λ r. ⌜ (r .side < sideRadix) × (r .channel < channelPlaces) ⌝ }
+{
+    let at = ENDS_AT + PLACE_WORDS * i + END_WORDS * k;
+    let a = run[at];
+    let b = run[at + 1];
+    unpacked(a, b)
 }
 
 // The process at a place.
@@ -49,23 +82,23 @@ pub fn load(run: &[u32], i: usize) -> Process
     requires { ⌜ i < length (rawIn (now run) .processes) ⌝ }
     ensures { λ r. ⌜ getElem? (rawIn (now (run .entry)) .processes) i ≡ some (processIn r) ⌝ }
     ensures { λ r. ⌜ BoundedProcess (length (rawIn (now (run .entry)) .processes)) (processIn r) ⌝ }
-    ensures { λ r. ⌜ r .held .count ≤ 16 ⌝ }
+    ensures { λ r. ⌜ r .held .count ≤ heldLimit ⌝ }
 {
     get(run, i)
 }
 
 // The words of a process, from `at` on.
 pub(crate) fn put(run: &mut [u32], at: usize, p: Process)
-    requires { ⌜ at + 40 ≤ length (now run) ⌝ }
-    requires { ⌜ (p .kind < 3) × (p .pointer < 16384) × (p .held .count ≤ 16) ⌝ }
-    ensures { λ r. ⌜ Written processOf 40 (now (run .entry)) (now (run .exit)) at (processIn p) ⌝ }
+    requires { ⌜ at + placeWords ≤ length (now run) ⌝ }
+    requires { ⌜ (p .kind < 3) × (p .pointer < pointerLimit) × (p .held .count ≤ heldLimit) ⌝ }
+    ensures { λ r. ⌜ Written processOf placeWords (now (run .entry)) (now (run .exit)) at (processIn p) ⌝ }
 {
-    run[at] = p.pointer * 4 + p.kind;
-    run[at + 1] = p.link;
+    run[at] = p.pointer * KIND_RADIX + p.kind;
+    run[at + LINK] = p.link;
     let h = p.held;
-    run[at + 2] = h.count as u32;
+    run[at + HELD_COUNT] = h.count as u32;
     let w = h.words;
-    copy_words(&w, 0, run, at + 3, 32);
+    copy_words(&w, 0, run, at + ENDS, HELD_WORDS);
 }
 
 // Another process at a place.
@@ -77,5 +110,5 @@ pub fn store(run: &mut [u32], i: usize, p: Process)
     ensures { λ r. ⌜ Changed (now (run .entry)) (now (run .exit)) (onProcesses (λ l. set l i (processIn p)) (rawIn (now (run .entry)))) ⌝ }
     ensures { λ r. ⌜ Bounded (rawIn (now (run .exit))) ⌝ }
 {
-    put(run, 80 + 40 * i, p);
+    put(run, PLACES_AT + PLACE_WORDS * i, p);
 }

@@ -1,6 +1,7 @@
 // The parts of a run, by value.
+use crate::shape::HELD_WORDS;
 
-// An end that a process holds: the offset of its name, its side (0 provided, 1 used), the node of its type, its channel.
+// An end that a process holds: the offset of its name, its side (PROVIDED or USED), the node of its type, its channel.
 pub struct End {
     pub name: u32,
     pub side: u32,
@@ -11,10 +12,10 @@ pub struct End {
 // What a process holds, oldest first, as two words for each end.
 pub struct Held {
     pub count: usize,
-    pub words: [u32; 32],
+    pub words: [u32; HELD_WORDS],
 }
 
-// A process: 0 it runs, 1 it folds up, 2 it waits as a handler; its term; its link, which is 0 for none and else 1 + place; what it holds.
+// A process: what it does (RUNNING, FOLDING or WAITING as a handler); its term; its link, which is UNLINKED or 1 + place; what it holds.
 pub struct Process {
     pub kind: u32,
     pub pointer: u32,

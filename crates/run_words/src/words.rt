@@ -1,8 +1,10 @@
 // Words that are copied and moved.
+ghost use Rattle.run_words.specs.Raw.{heldWords};
 ghost use mathlib.Core.Path.{_≡_};
 ghost use Prim.Native.Nat.{ℕ, _+_, _-_, _≤_, _<_};
 ghost use lib.ListN.{length, getD};
 ghost use Rattle.run_words.specs.Values.{Moved};
+use crate::shape::HELD_WORDS;
 
 // The n words of `from` at a place and after it, to a place of `to` and after it.
 pub fn copy_words(from: &[u32], at: usize, to: &mut [u32], into: usize, n: usize)
@@ -16,13 +18,13 @@ pub fn copy_words(from: &[u32], at: usize, to: &mut [u32], into: usize, n: usize
     }
 }
 
-// The 32 words from `at` on.
-pub(crate) fn copy_out(run: &[u32], at: usize) -> [u32; 32]
-    requires { ⌜ at + 32 ≤ length (now run) ⌝ }
-    ensures { λ r. ⌜ ((k : ℕ) → k < 32 → getD r k 0 ≡ getD (now (run .entry)) (at + k) 0) ⌝ }
+// The words of what is held, from `at` on.
+pub(crate) fn copy_out(run: &[u32], at: usize) -> [u32; HELD_WORDS]
+    requires { ⌜ at + heldWords ≤ length (now run) ⌝ }
+    ensures { λ r. ⌜ ((k : ℕ) → k < heldWords → getD r k 0 ≡ getD (now (run .entry)) (at + k) 0) ⌝ }
 {
-    let mut w = [0u32; 32];
-    copy_words(run, at, &mut w, 0, 32);
+    let mut w = [0u32; HELD_WORDS];
+    copy_words(run, at, &mut w, 0, HELD_WORDS);
     w
 }
 

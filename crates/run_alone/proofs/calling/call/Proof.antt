@@ -1,6 +1,8 @@
+use mathlib.Core.Path.{refl}
 use native.Mathlib.Omega.{arith}
 use Rattle.run_alone.specs.Calling.{calls-nothing, signature-in, call-few, calls-on}
 use Rattle.run_alone.specs.Changes.{stored, bounded-of, runs-on, pointer-small}
+use Rattle.run_words.specs.Values.{runningOn}
 use borrow.Author.Needs.{needs}
 use Rattle.run_alone.proofs.calling.call.Statement.{statement}
 use Rattle.run_alone.proofs.calling.call.Tie as tie
@@ -29,18 +31,18 @@ enter-call-requires c κs =
     let s = c .before .before .before .before .before .before .before .before .before in
     ((s .pre .0 .tables, (signature-in (s .args .text .now) (s .args .scratch .now) (s .args .run .now) (s .args .place) (s .args .p) (s .args .name) (s .args .bracket) (c .before .before .before .before .before .find-process .ensures) _ (c .before .before .before .f .given .1) (c .before .declared-process .result) (c .before .declared-process .ensures) (s .pre .0 .tables) (s .pre .1 .1))), (s .pre .1 .0 .is .held, call-few (s .args .text .now) (s .args .scratch .now) (s .args .run .now) (s .args .place) (s .args .p) (s .args .name) (s .args .bracket) (c .before .before .before .before .before .find-process .ensures) _ (c .before .before .before .f .given .1) (c .before .declared-process .result) (c .before .declared-process .ensures) (s .pre .0 .tables) (s .pre .1 .1)))
 
-cast-t16 : tie.Need-cast-t16
-cast-t16 c =
-    let after-f = c .before .before .before .before .before .before in
+cast-q : tie.Need-cast-q
+cast-q c =
+    let after-f = c .before .before .before .before .before in
     let entry = after-f .before .before .before .before .before .before in
-    omega (arith, pointer-small (entry .args .text .now) (entry .args .scratch .now) _ (entry .pre .0 .tables) ((signature-in (entry .args .text .now) (entry .args .scratch .now) (entry .args .run .now) (entry .args .place) (entry .args .p) (entry .args .name) (entry .args .bracket) (after-f .before .before .find-process .ensures) _ (after-f .f .given .1) (c .before .before .before .before .declared-process .result) (c .before .before .before .before .declared-process .ensures) (entry .pre .0 .tables) (entry .pre .1 .1)) .body))
+    omega (arith, pointer-small (entry .args .text .now) (entry .args .scratch .now) _ (entry .pre .0 .tables) ((signature-in (entry .args .text .now) (entry .args .scratch .now) (entry .args .run .now) (entry .args .place) (entry .args .p) (entry .args .name) (entry .args .bracket) (after-f .before .before .find-process .ensures) _ (after-f .f .given .1) (c .before .before .before .declared-process .result) (c .before .before .before .declared-process .ensures) (entry .pre .0 .tables) (entry .pre .1 .1)) .body))
 
 store-requires : tie.Need-store-requires
 store-requires c κs =
     let declared-process = c .before .before .before .before .declared-process in
     let after-f = c .before .before .before .before .before .before in
     let entry = after-f .before .before .before .before .before .before in
-    (entry .pre .0 .wide, (entry .pre .0 .bounds, (entry .pre .1 .0 .below, bounded-of (entry .args .text .now) (entry .args .scratch .now) (runs-on (entry .pre .0 .tables) (declared-process .result .body) (entry .args .p .link) (c .before .before .enter-call .result) (entry .pre .1 .0 .is .link) ((signature-in (entry .args .text .now) (entry .args .scratch .now) (entry .args .run .now) (entry .args .place) (entry .args .p) (entry .args .name) (entry .args .bracket) (after-f .before .before .find-process .ensures) _ (after-f .f .given .1) (declared-process .result) (declared-process .ensures) (entry .pre .0 .tables) (entry .pre .1 .1)) .body) (c .before .before .enter-call .ensures .fits)))))
+    (entry .pre .0 .wide, (entry .pre .0 .bounds, (entry .pre .1 .0 .below, bounded-of (entry .args .text .now) (entry .args .scratch .now) (runs-on (entry .pre .0 .tables) (runningOn (declared-process .result .body) (c .before .before .enter-call .result) (entry .args .p)) refl (entry .pre .1 .0 .is .link) ((signature-in (entry .args .text .now) (entry .args .scratch .now) (entry .args .run .now) (entry .args .place) (entry .args .p) (entry .args .name) (entry .args .bracket) (after-f .before .before .find-process .ensures) _ (after-f .f .given .1) (declared-process .result) (declared-process .ensures) (entry .pre .0 .tables) (entry .pre .1 .1)) .body) (c .before .before .enter-call .ensures .fits)))))
 
 same-length : tie.Need-same-length
 same-length c = search needs
@@ -58,7 +60,7 @@ returns-2 c =
     let run = entry .args .run .now in
     let place = entry .args .place in
     let p = entry .args .p in
-    calls-on text scratch run place p (entry .args .name) (entry .args .bracket) (find-process .ensures) _ (f .given .1) (declared-process .result) (declared-process .ensures) (entry .pre .0 .tables) (entry .pre .1 .1) _ (enter-call .result) (enter-call .ensures) (stored text scratch run _ (entry .pre .0) place _ (runs-on (entry .pre .0 .tables) (declared-process .result .body) (p .link) (enter-call .result) (entry .pre .1 .0 .is .link) ((signature-in text scratch run place p (entry .args .name) (entry .args .bracket) (find-process .ensures) _ (f .given .1) (declared-process .result) (declared-process .ensures) (entry .pre .0 .tables) (entry .pre .1 .1)) .body) (enter-call .ensures .fits)) (c .before .before .store .ensures .0) (c .before .before .store .ensures .1))
+    calls-on text scratch run place p (entry .args .name) (entry .args .bracket) (find-process .ensures) _ (f .given .1) (declared-process .result) (declared-process .ensures) (entry .pre .0 .tables) (entry .pre .1 .1) _ (enter-call .result) (enter-call .ensures) (stored text scratch run _ (entry .pre .0) place _ (runs-on (entry .pre .0 .tables) (runningOn (declared-process .result .body) (enter-call .result) (entry .args .p)) refl (entry .pre .1 .0 .is .link) ((signature-in text scratch run place p (entry .args .name) (entry .args .bracket) (find-process .ensures) _ (f .given .1) (declared-process .result) (declared-process .ensures) (entry .pre .0 .tables) (entry .pre .1 .1)) .body) (enter-call .ensures .fits)) (c .before .before .store .ensures .0) (c .before .before .store .ensures .1))
 
 pub call-spec : {M : Type 1} → statement M
 call-spec =
@@ -70,7 +72,7 @@ call-spec =
     returns
     declared-process-requires
     enter-call-requires
-    cast-t16
+    cast-q
     store-requires
     same-length
     returns-2)

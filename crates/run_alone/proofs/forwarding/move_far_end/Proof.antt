@@ -1,6 +1,6 @@
 use mathlib.Core.Path.{sym, subst}
 use native.Mathlib.Omega.{arith}
-use Rattle.run_alone.specs.Forwarding.{far-place, far-position, far-holder, far-moved, far-held, remade, remade-of, mid-becomes, mid-many, moves-far}
+use Rattle.run_alone.specs.Forwarding.{far-place, far-position, far-holder, far-moved, far-held, regained, regained-of, mid-becomes, mid-many, moves-far}
 use Rattle.run_alone.specs.Changes.{stands-at, bounded-of}
 use Rattle.run_words.specs.ListLaws.{all-at}
 use Rattle.run_words.specs.Values.{heldIn}
@@ -40,9 +40,9 @@ store-requires-2 c κs =
     let store = c .before .before .before .store in
     let after-replaced = c .before .before .before .before .before in
     let replaced = after-replaced .replaced in
-    let end-at = after-replaced .before .end-at in
-    let load = after-replaced .before .before .before .load in
-    let entry = after-replaced .before .before .before .before .before .before .before .before in
+    let end-at = c .before .before .before .before .before .before .end-at in
+    let load = c .before .before .before .before .before .before .before .before .load in
+    let entry = c .before .before .before .before .before .before .before .before .before .before .before .before .before in
     let text = entry .args .text .now in
     let scratch = entry .args .scratch .now in
     let run = entry .args .run .now in
@@ -52,7 +52,7 @@ store-requires-2 c κs =
     let place = entry .args .place in
     let q = entry .args .q in
     let d = entry .args .d in
-    (mid-becomes text scratch run e j k (entry .pre .1 .1 .1 .0) (entry .pre .0) place q (load .result) (end-at .result) d (replaced .result) _ (entry .pre .1 .1 .0) (store .ensures .0) (store .ensures .1) .run .wide, (store .ensures .1, (omega (arith, mid-many text scratch run e j k (entry .pre .1 .1 .1 .0) (entry .pre .0) place q (load .result) (end-at .result) d (replaced .result) _ (entry .pre .1 .1 .0) (store .ensures .0) (store .ensures .1), far-place text scratch run e j k (entry .pre .1 .1 .1 .0)), bounded-of text scratch (subst (λ n. ProcessOf text scratch n (remade text scratch run e j k (entry .pre .1 .1 .1 .0) (entry .pre .0) place q (load .result) (end-at .result) d (replaced .result))) (sym (mid-many text scratch run e j k (entry .pre .1 .1 .1 .0) (entry .pre .0) place q (load .result) (end-at .result) d (replaced .result) _ (entry .pre .1 .1 .0) (store .ensures .0) (store .ensures .1))) (remade-of text scratch run e j k (entry .pre .1 .1 .1 .0) (entry .pre .0) place q (load .result) (end-at .result) d (replaced .result) (stands-at text scratch run j (load .result) (entry .pre .0) (load .ensures .0) (load .ensures .1 .0) (load .ensures .1 .1)) (far-held text scratch run e j k (entry .pre .1 .1 .1 .0) (load .result) (load .ensures .0) (end-at .result) (end-at .ensures .0) (d .channel) _ (replaced .ensures .0) (replaced .ensures .1) ((stands-at text scratch run j (load .result) (entry .pre .0) (load .ensures .0) (load .ensures .1 .0) (load .ensures .1 .1)) .is .held) (entry .pre .1 .1 .1 .1)))))))
+    (mid-becomes text scratch run e j k (entry .pre .1 .1 .1 .0) (entry .pre .0) place q (load .result) (end-at .result) d (replaced .result) _ (entry .pre .1 .1 .0) (store .ensures .0) (store .ensures .1) .run .wide, (store .ensures .1, (omega (arith, mid-many text scratch run e j k (entry .pre .1 .1 .1 .0) (entry .pre .0) place q (load .result) (end-at .result) d (replaced .result) _ (entry .pre .1 .1 .0) (store .ensures .0) (store .ensures .1), far-place text scratch run e j k (entry .pre .1 .1 .1 .0)), bounded-of text scratch (subst (λ n. ProcessOf text scratch n (regained text scratch run e j k (entry .pre .1 .1 .1 .0) (entry .pre .0) place q (load .result) (end-at .result) d (replaced .result))) (sym (mid-many text scratch run e j k (entry .pre .1 .1 .1 .0) (entry .pre .0) place q (load .result) (end-at .result) d (replaced .result) _ (entry .pre .1 .1 .0) (store .ensures .0) (store .ensures .1))) (regained-of text scratch run e j k (entry .pre .1 .1 .1 .0) (entry .pre .0) place q (load .result) (end-at .result) d (replaced .result) (stands-at text scratch run j (load .result) (entry .pre .0) (load .ensures .0) (load .ensures .1 .0) (load .ensures .1 .1)) (far-held text scratch run e j k (entry .pre .1 .1 .1 .0) (load .result) (load .ensures .0) (end-at .result) (end-at .ensures .0) (d .channel) _ (replaced .ensures .0) (replaced .ensures .1) ((stands-at text scratch run j (load .result) (entry .pre .0) (load .ensures .0) (load .ensures .1 .0) (load .ensures .1 .1)) .is .held) (entry .pre .1 .1 .1 .1)))))))
 
 same-length : tie.Need-same-length
 same-length c = search needs
@@ -74,7 +74,7 @@ returns c =
     let place = entry .args .place in
     let q = entry .args .q in
     let d = entry .args .d in
-    moves-far text scratch run e j k (entry .pre .1 .1 .1 .0) (entry .pre .0) place q (load .result) (end-at .result) d (replaced .result) _ (entry .pre .1 .1 .0) (store .ensures .0) (store .ensures .1) _ (subst (λ n. ProcessOf text scratch n (remade text scratch run e j k (entry .pre .1 .1 .1 .0) (entry .pre .0) place q (load .result) (end-at .result) d (replaced .result))) (sym (mid-many text scratch run e j k (entry .pre .1 .1 .1 .0) (entry .pre .0) place q (load .result) (end-at .result) d (replaced .result) _ (entry .pre .1 .1 .0) (store .ensures .0) (store .ensures .1))) (remade-of text scratch run e j k (entry .pre .1 .1 .1 .0) (entry .pre .0) place q (load .result) (end-at .result) d (replaced .result) (stands-at text scratch run j (load .result) (entry .pre .0) (load .ensures .0) (load .ensures .1 .0) (load .ensures .1 .1)) (far-held text scratch run e j k (entry .pre .1 .1 .1 .0) (load .result) (load .ensures .0) (end-at .result) (end-at .ensures .0) (d .channel) _ (replaced .ensures .0) (replaced .ensures .1) ((stands-at text scratch run j (load .result) (entry .pre .0) (load .ensures .0) (load .ensures .1 .0) (load .ensures .1 .1)) .is .held) (entry .pre .1 .1 .1 .1)))) (far-moved text scratch run e j k (entry .pre .1 .1 .1 .0) (load .result) (load .ensures .0) (end-at .result) (end-at .ensures .0) (d .channel) _ (replaced .ensures .0)) (far-holder text scratch run e j k (entry .pre .1 .1 .1 .0) (load .result) (load .ensures .0) (end-at .result) (end-at .ensures .0)) (c .before .before .store2 .ensures .0) (c .before .before .store2 .ensures .1)
+    moves-far text scratch run e j k (entry .pre .1 .1 .1 .0) (entry .pre .0) place q (load .result) (end-at .result) d (replaced .result) _ (entry .pre .1 .1 .0) (store .ensures .0) (store .ensures .1) _ (subst (λ n. ProcessOf text scratch n (regained text scratch run e j k (entry .pre .1 .1 .1 .0) (entry .pre .0) place q (load .result) (end-at .result) d (replaced .result))) (sym (mid-many text scratch run e j k (entry .pre .1 .1 .1 .0) (entry .pre .0) place q (load .result) (end-at .result) d (replaced .result) _ (entry .pre .1 .1 .0) (store .ensures .0) (store .ensures .1))) (regained-of text scratch run e j k (entry .pre .1 .1 .1 .0) (entry .pre .0) place q (load .result) (end-at .result) d (replaced .result) (stands-at text scratch run j (load .result) (entry .pre .0) (load .ensures .0) (load .ensures .1 .0) (load .ensures .1 .1)) (far-held text scratch run e j k (entry .pre .1 .1 .1 .0) (load .result) (load .ensures .0) (end-at .result) (end-at .ensures .0) (d .channel) _ (replaced .ensures .0) (replaced .ensures .1) ((stands-at text scratch run j (load .result) (entry .pre .0) (load .ensures .0) (load .ensures .1 .0) (load .ensures .1 .1)) .is .held) (entry .pre .1 .1 .1 .1)))) (far-moved text scratch run e j k (entry .pre .1 .1 .1 .0) (load .result) (load .ensures .0) (end-at .result) (end-at .ensures .0) (d .channel) _ (replaced .ensures .0)) (far-holder text scratch run e j k (entry .pre .1 .1 .1 .0) (load .result) (load .ensures .0) (end-at .result) (end-at .ensures .0)) (c .before .before .store2 .ensures .0) (c .before .before .store2 .ensures .1)
 
 pub move-far-end-spec : {M : Type 1} → statement M
 move-far-end-spec =

@@ -25,8 +25,8 @@ handler-kind-requires c κs = search needs
 
 store-requires : tie.Need-store-requires
 store-requires c κs =
-    let load = c .before .before .before .load in
-    let after-wide = c .before .before .before .before .before in
+    let load = c .before .before .load in
+    let after-wide = c .before .before .before .before in
     let wide = after-wide .wide in
     let entry = after-wide .before .before .before .before .before in
     let text = entry .args .text .now in
@@ -41,7 +41,7 @@ same-length c = search needs
 
 returns-2 : tie.Need-returns-2
 returns-2 c =
-    let after-load = c .before .before .before .before .before .before in
+    let after-load = c .before .before .before .before .before in
     let load = after-load .load in
     let wide = after-load .before .before .wide in
     let entry = after-load .before .before .before .before .before .before .before in

@@ -38,14 +38,14 @@ insert-requires c κs =
     let s = c .before .before .before .before .before .before .before .before .before .before .before in
     (s .pre .0 .wide, (s .pre .0 .bounds, ((s .pre .1 .0 .below, (omega (arith, c .before .before .before .before .before .if1 .left, c .before .before .before .before .before .before .count .ensures))), bounded-of (s .args .text .now) (s .args .scratch .now) (handler-of (s .args .text .now) (s .args .scratch .now) (s .args .run .now) (s .pre .0) (s .args .place) (s .args .p) (s .pre .1 .0) (s .args .first) (s .args .second) (s .pre .1 .1 .0) (s .pre .1 .1 .1) _ _ (c .before .moved-link .ensures) (c .before .before .try-half2 .ensures .fits)))))
 
-add-t12 : tie.Need-add-t12
-add-t12 c =
-    let s = c .before .before .before .before .before .before .before .before .before .before .before .before .before .before .before in
+add-q : tie.Need-add-q
+add-q c =
+    let s = c .before .before .before .before .before .before .before .before .before .before .before .before .before .before in
     omega (arith, s .pre .1 .0 .below, s .pre .0 .bounds .places)
 
-cast-t22 : tie.Need-cast-t22
-cast-t22 c =
-    let s = c .before .before .before .before .before .before .before .before .before .before .before .before .before .before .before in
+cast-q : tie.Need-cast-q
+cast-q c =
+    let s = c .before .before .before .before .before .before .before .before .before .before .before .before .before .before in
     omega (arith, s .pre .1 .0 .below, s .pre .0 .bounds .places)
 
 store-requires : tie.Need-store-requires
@@ -87,8 +87,8 @@ try-both-spec =
     try-half-requires-2
     moved-link-requires
     insert-requires
-    add-t12
-    cast-t22
+    add-q
+    cast-q
     store-requires
     same-length-2
     returns-2)

@@ -1,5 +1,7 @@
 use Rattle.run_alone.specs.Parting.{end-found, cancels, cancels-nothing}
 use Rattle.run_alone.specs.Changes.{runs-on}
+use Rattle.run_words.specs.Values.{runningOn}
+use mathlib.Core.Path.{refl}
 use borrow.Author.Needs.{needs}
 use Rattle.run_alone.proofs.parting.cancel.Statement.{statement}
 use Rattle.run_alone.proofs.parting.cancel.Tie as tie
@@ -24,7 +26,7 @@ drop-end-requires c κs = c .before .before .before .before .before .before .bef
 part-requires : tie.Need-part-requires
 part-requires c κs =
     let s = c .before .before .before .before .before .before .before .before .before .before in
-    (s .pre .0, (s .pre .1 .0 .below, (runs-on (s .pre .0 .tables) (s .args .pointer) (s .args .p .link) (c .before .drop-end .result) (s .pre .1 .0 .is .link) (s .pre .1 .1) (c .before .drop-end .ensures .fits (s .args .scratch .now) (s .pre .1 .0 .is .held)), end-found {w = (s .args .scratch .now)} (c .before .before .before .before .before .find-end .ensures) (c .before .before .before .f .given .1) (s .pre .1 .0 .is .held) .1)))
+    (s .pre .0, (s .pre .1 .0 .below, (runs-on (s .pre .0 .tables) (runningOn (s .args .pointer) (c .before .drop-end .result) (s .args .p)) refl (s .pre .1 .0 .is .link) (s .pre .1 .1) (c .before .drop-end .ensures .fits (s .args .scratch .now) (s .pre .1 .0 .is .held)), end-found {w = (s .args .scratch .now)} (c .before .before .before .before .before .find-end .ensures) (c .before .before .before .f .given .1) (s .pre .1 .0 .is .held) .1)))
 
 same-length : tie.Need-same-length
 same-length c = search needs

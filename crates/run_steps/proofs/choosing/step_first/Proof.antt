@@ -8,8 +8,6 @@ use Rattle.run_alone.specs.Run.{configIn, RunOf}
 use Rattle.run_steps.specs.Choosing.{Skipped, skipped-none, from-same, skips, carries-first, carries-none}
 use Rattle.run_steps.proofs.choosing.step_first.Statement.{statement}
 use Rattle.run_steps.proofs.choosing.step_first.Tie as tie
-use Rattle.run_steps.proofs.choosing.step_first.Reads as reads
-use Rattle.run_steps.proofs.choosing.step_first.Lts as lts
 use Rattle.run_steps.proofs.choosing.was_carried.Reads as was-carried-reads
 use Rattle.run_steps.proofs.dispatch.step_at.Reads as step-at-reads
 use Rattle.run_words.proofs.processes.count.Reads as count-reads

@@ -4,8 +4,6 @@ use Rattle.run_alone.specs.Changes.{pointer-small}
 use borrow.Author.Needs.{needs}
 use Rattle.run_steps.proofs.dispatch.step_ending.Statement.{statement}
 use Rattle.run_steps.proofs.dispatch.step_ending.Tie as tie
-use Rattle.run_steps.proofs.dispatch.step_ending.Reads as reads
-use Rattle.run_steps.proofs.dispatch.step_ending.Lts as lts
 use Rattle.run_alone.proofs.calling.call.Reads as call-reads
 use Rattle.run_alone.proofs.forwarding.forward.Reads as forward-reads
 use Rattle.run_alone.proofs.handlers.raise.Reads as raise-reads

@@ -5,12 +5,10 @@ use Rattle.read_tables.specs.Access.{node-there}
 use borrow.Author.Needs.{needs}
 use Rattle.run_steps.proofs.dispatch.step_term.Statement.{statement}
 use Rattle.run_steps.proofs.dispatch.step_term.Tie as tie
-use Rattle.run_steps.proofs.dispatch.step_term.Reads as reads
-use Rattle.run_steps.proofs.dispatch.step_term.Lts as lts
-use Rattle.run_messages.proofs.answering.receive.Reads as receive-reads
+use Rattle.run_messages.proofs.receiving.receive.Reads as receive-reads
 use Rattle.run_steps.proofs.dispatch.step_ending.Reads as step-ending-reads
 use Rattle.run_alone.proofs.making.spawn.Reads as spawn-reads
-use Rattle.run_messages.proofs.meeting.send.Reads as send-reads
+use Rattle.run_messages.proofs.sending.send.Reads as send-reads
 use Rattle.run_alone.proofs.parting.cancel.Reads as cancel-reads
 
 returns : tie.Need-returns

@@ -1,5 +1,5 @@
 use Prim.Native.Nat.{_-_, _≤_}
-use mathlib.Core.Path.{_≡_, refl, sym, _∙_, ap, subst}
+use mathlib.Core.Path.{sym, _∙_, ap, subst}
 use borrow.Author.Needs.{needs}
 use native.Mathlib.Omega.{arith}
 use Rattle.run_steps.specs.Dispatch.{small-signatures}
@@ -7,8 +7,6 @@ use Rattle.run_steps.specs.Choosing.{wasCarried}
 use Rattle.run_steps.specs.Running.{Running, running-start, ends-done, ends-full, ends-shown, running-on}
 use Rattle.run_steps.proofs.running.steps_within.Statement.{statement}
 use Rattle.run_steps.proofs.running.steps_within.Tie as tie
-use Rattle.run_steps.proofs.running.steps_within.Reads as reads
-use Rattle.run_steps.proofs.running.steps_within.Lts as lts
 use Rattle.run_steps.proofs.choosing.step_first.Reads as step-first-reads
 use Rattle.run_steps.proofs.running.shows.Reads as shows-reads
 use Rattle.run_words.proofs.processes.count.Reads as count-reads

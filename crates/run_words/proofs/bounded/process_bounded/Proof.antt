@@ -1,6 +1,6 @@
 use borrow.Author.Needs.{needs}
+use Rattle.run_words.specs.Raw.{processRow}
 use native.Mathlib.Omega.{arith}
-use Rattle.run_words.specs.SliceLaws.{processRow}
 use Rattle.run_words.proofs.Decisions.{refused, many-words, process-refused, link-refused, process-decided}
 use Rattle.run_words.proofs.bounded.process_bounded.Statement.{statement}
 use Rattle.run_words.proofs.bounded.process_bounded.Tie as tie

@@ -5,8 +5,8 @@ use Prim.Native.Nat.{ℕ, _-_}
 use mathlib.Core.Path.{_≡_, sym, subst}
 use lib.ListN.{length, take}
 use Rattle.run_words.specs.Lists.{All}
-use Rattle.run_words.specs.Raw.{rawIn, processOf, BoundedProcess}
-use Rattle.run_words.specs.SliceLaws.{processRow, process-at}
+use Rattle.run_words.specs.Raw.{rawIn, processOf, BoundedProcess, processRow}
+use Rattle.run_words.specs.SliceLaws.{process-at}
 use Rattle.run_words.proofs.Decisions.{so-far, whole, refused-at}
 use Rattle.run_words.proofs.bounded.processes_bounded.Statement.{statement}
 use Rattle.run_words.proofs.bounded.processes_bounded.Tie as tie

@@ -1,6 +1,7 @@
 use borrow.Author.Needs.{needs}
 use native.Mathlib.Omega.{arith}
-use mathlib.Core.Path.{refl}
+use mathlib.Core.Path.{refl, sym, ap, _∙_}
+use mathlib.Core.Option.{some}
 use Rattle.run_words.specs.Values.{heldIn}
 use Rattle.run_words.proofs.Ends.{end-here}
 use Rattle.run_words.proofs.held.end_at.Statement.{statement}
@@ -27,13 +28,26 @@ mul-b-2 c = search needs
 element-copy-out-b : tie.Need-element-copy-out-b
 element-copy-out-b c = search needs
 
+unpacked-requires : tie.Need-unpacked-requires
+unpacked-requires c κs = search needs
+
 returns : tie.Need-returns
 unfolding heldIn
 returns c =
-    let a = c .before .before .args in
-    (end-here (a .t1 .words) (a .t1 .count) (a .k) _ _ (omega arith) refl refl, (omega arith, omega arith))
+    let a = c .before .before .before .args in
+    let e = c .unpacked in
+    (end-here (a .t1 .words) (a .t1 .count) (a .k) _ _ (omega arith) refl refl ∙ ap some (sym (e .ensures .0)), e .ensures .1)
 
 pub end-at-spec : {M : Type 1} → statement M
 end-at-spec =
     tie.close
-    (tie.spec mul-a mul-a-2 element-copy-out-a mul-b add-b mul-b-2 element-copy-out-b returns)
+    (tie.spec
+    mul-a
+    mul-a-2
+    element-copy-out-a
+    mul-b
+    add-b
+    mul-b-2
+    element-copy-out-b
+    unpacked-requires
+    returns)

@@ -1,0 +1,51 @@
+-- Steps that are only tried, on a copy of the run: the run itself stays as it is.
+use Prim.Native.Nat.{ℕ, _<_}
+use mathlib.Core.Path.{_≡_, sym, _∙_, ap, subst}
+use mathlib.Core.List.{List}
+use native.Mathlib.Omega.{arith}
+use lib.ListN.{length, getD}
+use Rattle.notation.specs.Limits.{runWords}
+use Rattle.notation.specs.Token.{nameAt}
+use Rattle.calculus.specs.Named.{isSome}
+use Rattle.calculus.specs.Runs.{choosePlace}
+use Rattle.calculus.specs.WellFormed.{WellFormed}
+use Rattle.read_tables.specs.Decode.{processIn}
+use Rattle.read_tables.specs.Program.{plainIn, programIn}
+use Rattle.read_tables.specs.Roots.{TypeIn}
+use Rattle.run_words.specs.Lists.{All}
+use Rattle.run_words.specs.Raw.{RawOutside, RawConfig, rawIn, Bounded}
+use Rattle.run_words.specs.Decode.{decoded}
+use Rattle.run_words.specs.SliceLaws.{raw-same}
+use Rattle.run_alone.specs.declared.outcome.Outcome.{Outcome as OutcomeWords}
+use Rattle.run_alone.specs.Run.{configIn, Fits, RunOf, Carries}
+use Rattle.run_steps.specs.Choosing.{wasCarried, stepFirst, first-carried, answers-so}
+
+-- the words of a run that are decoded
+pub record CopyOf (ws copy : List ℕ) : Type 0 where
+  pub long : length copy ≡ runWords
+  pub same : (k : ℕ) → k < runWords → getD copy k 0 ≡ getD ws k 0
+
+module _ {s w ws copy : List ℕ} (r : RunOf s w ws) (c : CopyOf ws copy) where
+  raw-copied : rawIn copy ≡ rawIn ws
+  raw-copied = raw-same ws copy (r .bounds) (c .same)
+
+  config-copied : configIn s w copy ≡ configIn s w ws
+  config-copied = ap (decoded (nameAt s) (plainIn s w) (processIn s w)) raw-copied
+
+  pub run-copied : RunOf s w copy
+  run-copied = record {
+    tables = r .tables;
+    wide = omega (arith, c .long);
+    bounds = subst Bounded (sym raw-copied) (r .bounds);
+    processes = subst (λ (R : RawConfig). All (Fits s w) (R .processes)) (sym raw-copied) (r .processes);
+    outside = subst (λ (R : RawConfig). All (λ (o : RawOutside). TypeIn s w (o .node)) (R .outside)) (sym raw-copied) (r .outside);
+  }
+
+  pub formed-copied : WellFormed (programIn s w) (configIn s w ws) → WellFormed (programIn s w) (configIn s w copy)
+  formed-copied f = subst (WellFormed (programIn s w)) (sym config-copied) f
+
+  pub can-go-on-so : {new : List ℕ} {a : OutcomeWords} → Carries s w copy new a (stepFirst (programIn s w) (configIn s w copy)) → wasCarried a ≡ isSome (choosePlace (programIn s w) (configIn s w ws))
+  can-go-on-so k =
+      sym (answers-so s w copy (stepFirst (programIn s w) (configIn s w copy)) k)
+      ∙ first-carried (programIn s w) (configIn s w copy)
+      ∙ ap (λ C. isSome (choosePlace (programIn s w) C)) config-copied
