@@ -7,6 +7,8 @@ use run_words::held::no_ends;
 use run_words::held::with;
 use run_words::records::End;
 use run_words::records::Held;
+use run_words::shape::PROVIDED;
+use run_words::shape::USED;
 ghost use Rattle.notation.specs.Limits.{heldLimit};
 ghost use mathlib.Core.Path.{_≡_};
 ghost use Prim.Native.Nat.{ℕ, _+_, _≤_, _<_};
@@ -31,9 +33,9 @@ pub fn side_of(first: bool) -> u32
     ensures { λ r. ⌜ r < 2 ⌝ }
 {
     if first {
-        return 0;
+        return PROVIDED;
     }
-    1
+    USED
 }
 
 // The half takes the held channel whose name is the one at `at`.

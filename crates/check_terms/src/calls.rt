@@ -14,6 +14,8 @@ use read_tables::arguments::list_start;
 use read_tables::arguments::next_argument;
 use read_tables::search::find_process;
 use run_words::records::Held;
+use run_words::shape::PROVIDED;
+use run_words::shape::USED;
 ghost use mathlib.Core.Path.{_≡_};
 ghost use mathlib.Core.List.{List};
 ghost use Prim.Native.Nat.{ℕ, _<_, _≤_};
@@ -175,10 +177,10 @@ fn lists_fit(text: &[u8], scratch: &[u32], h: Held, q: usize, a: usize, b: usize
         return false;
     };
     let e = declared_process(scratch, k);
-    if !list_fits(text, scratch, h, a, 0, e.first, e.provided) {
+    if !list_fits(text, scratch, h, a, PROVIDED, e.first, e.provided) {
         return false;
     }
-    list_fits(text, scratch, h, b, 1, e.first + e.provided, e.used)
+    list_fits(text, scratch, h, b, USED, e.first + e.provided, e.used)
 }
 
 // Each name of the two lists is held.

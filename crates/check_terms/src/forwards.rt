@@ -6,6 +6,8 @@ use check_types::equality::same_type;
 use notation::words::wide;
 use run_words::records::End;
 use run_words::records::Held;
+use run_words::shape::PROVIDED;
+use run_words::shape::USED;
 ghost use mathlib.Core.Path.{_≡_};
 ghost use mathlib.Core.Bool.{_&&_};
 ghost use Prim.Native.Nat.{ℕ, _<_};
@@ -24,10 +26,10 @@ fn may_join(text: &[u8], scratch: &[u32], x: End, c: End) -> bool
     requires { ⌜ Tables (now text) (now scratch) × EndIn (now text) (now scratch) (endIn x) × EndIn (now text) (now scratch) (endIn c) × (x .side < 2) × (c .side < 2) ⌝ }
     ensures { λ r. ⌜ r ≡ joins (slotIn (now (text .entry)) (now (scratch .entry)) x) (slotIn (now (text .entry)) (now (scratch .entry)) c) ⌝ }
 {
-    if x.side != 0 {
+    if x.side != PROVIDED {
         return false;
     }
-    if c.side != 1 {
+    if c.side != USED {
         return false;
     }
     let i = wide(c.node);

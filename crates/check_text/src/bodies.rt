@@ -11,6 +11,8 @@ use read_tables::access::entry;
 use read_tables::access::process_count;
 use run_words::held::no_ends;
 use run_words::records::Held;
+use run_words::shape::PROVIDED;
+use run_words::shape::USED;
 ghost use mathlib.Core.Path.{_≡_};
 ghost use Prim.Native.Nat.{ℕ, _+_, _-_, _<_, _≤_};
 ghost use Rattle.calculus.specs.Checking.{checkDeclaration, typed};
@@ -48,8 +50,8 @@ fn signature_held(text: &[u8], scratch: &[u32], e: Declared) -> Held
     ensures { λ r. ⌜ SignatureHeld (now (text .entry)) (now (scratch .entry)) (asEntry e) r ⌝ }
 {
     let none = no_ends();
-    let provided = with_entries(text, scratch, none, e.first, e.provided, 0);
-    with_entries(text, scratch, provided, e.first + e.provided, e.used, 1)
+    let provided = with_entries(text, scratch, none, e.first, e.provided, PROVIDED);
+    with_entries(text, scratch, provided, e.first + e.provided, e.used, USED)
 }
 
 // The check of the process i of the script.

@@ -17,6 +17,8 @@ use notation::reading::TermNode;
 use notation::script::Script;
 use notation::words::narrow;
 use run_words::records::Held;
+use run_words::shape::PROVIDED;
+use run_words::shape::USED;
 ghost use mathlib.Core.Path.{_≡_};
 ghost use Prim.Native.Nat.{ℕ, _<_, _≤_};
 ghost use Rattle.notation.specs.Limits.{textLimit};
@@ -36,7 +38,7 @@ pub(crate) fn send_next(text: &[u8], scratch: &[u32], h: Held, n: TermNode) -> N
     ensures { λ r. ⌜ Goes (now (text .entry)) (now (scratch .entry)) r (sendStep (now (text .entry)) (now (scratch .entry)) n (contextIn (now (text .entry)) (now (scratch .entry)) h)) ⌝ }
 {
     if n.kind == kinds::SEND_UNIT {
-        return close_next(text, scratch, h, n.first, 0);
+        return close_next(text, scratch, h, n.first, PROVIDED);
     }
     if n.kind == kinds::SEND_CHANNEL {
         return pass_next(text, scratch, h, n.first, n.second);
@@ -50,7 +52,7 @@ pub(crate) fn receive_one(text: &[u8], scratch: &[u32], h: Held, n: TermNode) ->
     ensures { λ r. ⌜ Goes (now (text .entry)) (now (scratch .entry)) r (receiveStep (now (text .entry)) (now (scratch .entry)) n (contextIn (now (text .entry)) (now (scratch .entry)) h)) ⌝ }
 {
     if n.kind == kinds::RECV_UNIT {
-        return close_next(text, scratch, h, n.first, 1);
+        return close_next(text, scratch, h, n.first, USED);
     }
     receive_next(text, scratch, h, n.first, n.second)
 }

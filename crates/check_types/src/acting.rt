@@ -8,6 +8,8 @@ use read_tables::access::alternative;
 use read_tables::access::declared_type;
 use read_tables::access::type_node;
 use read_tables::search::find_type;
+use run_words::shape::PROVIDED;
+use run_words::shape::USED;
 ghost use mathlib.Core.Path.{_≡_};
 ghost use Prim.Native.Nat.{ℕ, _+_, _<_};
 ghost use Rattle.notation.specs.Bytes.{same};
@@ -45,9 +47,9 @@ pub fn passing(scratch: &[u32], i: usize) -> Passing
     let n = type_node(scratch, i);
     let kind = n.kind;
     match kind {
-        kinds::TENSOR => Passing::Passes(0, 1, n.first, n.second),
-        kinds::PAR => Passing::Passes(1, 0, n.first, n.second),
-        kinds::LOLLI => Passing::Passes(1, 1, n.first, n.second),
+        kinds::TENSOR => Passing::Passes(PROVIDED, USED, n.first, n.second),
+        kinds::PAR => Passing::Passes(USED, PROVIDED, n.first, n.second),
+        kinds::LOLLI => Passing::Passes(USED, USED, n.first, n.second),
         _ => Passing::Nothing,
     }
 }
@@ -60,8 +62,8 @@ pub fn choosing(scratch: &[u32], i: usize) -> Choosing
     let n = type_node(scratch, i);
     let kind = n.kind;
     match kind {
-        kinds::PLUS => Choosing::Chooses(0, n.first, n.second),
-        kinds::WITH => Choosing::Chooses(1, n.first, n.second),
+        kinds::PLUS => Choosing::Chooses(PROVIDED, n.first, n.second),
+        kinds::WITH => Choosing::Chooses(USED, n.first, n.second),
         _ => Choosing::Nothing,
     }
 }
