@@ -26,6 +26,7 @@ use run_words::places::moved_link;
 use run_words::processes::count;
 use run_words::processes::store;
 use run_words::records::Held;
+use run_words::records::NEW;
 use run_words::records::Process;
 use run_words::shape::RUNNING;
 use run_words::shape::UNLINKED;
@@ -73,16 +74,12 @@ pub fn try_both(
     let ours = try_half(text, scratch, h, first);
     let theirs = try_half(text, scratch, h, second);
     let link = moved_link(p.link, place, true);
-    insert(
-        run,
-        place,
-        Process {
-            kind: WAITING,
-            pointer: second,
-            link,
-            held: theirs,
-        },
-    );
+    let mut handler = NEW;
+    handler.kind = WAITING;
+    handler.pointer = second;
+    handler.link = link;
+    handler.held = theirs;
+    insert(run, place, handler);
     let mut q = p;
     q.kind = RUNNING;
     q.pointer = first;
@@ -130,12 +127,12 @@ fn spawn_on(
     ensures { λ r. ⌜ Carries (now (text .entry)) (now (scratch .entry)) (now (run .entry)) (now (run .exit)) r (spawnedBy (now (text .entry)) (now (scratch .entry)) (now (run .entry)) place p m (some channel)) ⌝ }
 {
     let h = p.held;
-    let made = Process {
-        kind: RUNNING,
-        pointer: m.first,
-        link: UNLINKED,
-        held: spawn_half(text, scratch, h, m, true, channel),
-    };
+    let ours = spawn_half(text, scratch, h, m, true, channel);
+    let mut made = NEW;
+    made.kind = RUNNING;
+    made.pointer = m.first;
+    made.link = UNLINKED;
+    made.held = ours;
     let theirs = spawn_half(text, scratch, h, m, false, channel);
     let mut maker = p;
     maker.kind = RUNNING;

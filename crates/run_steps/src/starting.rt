@@ -28,6 +28,7 @@ use run_words::outside::set_given;
 use run_words::places::begin;
 use run_words::records::End;
 use run_words::records::Held;
+use run_words::records::NEW;
 use run_words::records::Outside;
 use run_words::records::Process;
 use run_words::shape::PROVIDED;
@@ -88,15 +89,12 @@ fn begin_process(scratch: &[u32], run: &mut [u32], d: Declared)
     ensures { λ r. ⌜ Bounded (rawIn (now (run .exit))) ⌝ }
 {
     let held = start_ends(scratch, d.first, d.provided);
-    begin(
-        run,
-        Process {
-            kind: RUNNING,
-            pointer: d.body as u32,
-            link: UNLINKED,
-            held,
-        },
-    );
+    let mut first = NEW;
+    first.kind = RUNNING;
+    first.pointer = d.body as u32;
+    first.link = UNLINKED;
+    first.held = held;
+    begin(run, first);
     use_channels(scratch, run, d.first, d.provided);
     set_given(run, d.provided as u32);
 }

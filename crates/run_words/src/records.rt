@@ -1,5 +1,7 @@
 // The parts of a run, by value.
 use crate::shape::HELD_WORDS;
+use crate::shape::RUNNING;
+use crate::shape::UNLINKED;
 
 // An end that a process holds: the offset of its name, its side (PROVIDED or USED), the node of its type, its channel.
 pub struct End {
@@ -22,6 +24,20 @@ pub struct Process {
     pub link: u32,
     pub held: Held,
 }
+
+// Nothing is held.
+const NOTHING: Held = Held {
+    count: 0,
+    words: [0; HELD_WORDS],
+};
+
+// A new process, of which is still to be said what it does, its link and what it holds.
+pub const NEW: Process = Process {
+    kind: RUNNING,
+    pointer: 0,
+    link: UNLINKED,
+    held: NOTHING,
+};
 
 // A channel that the outside uses.
 pub struct Outside {

@@ -20,7 +20,7 @@ same-length : tie.Need-same-length
 same-length c = search needs
 
 returns : tie.Need-returns
-returns c = channel-put _ (c .before .before .before .before .before .before .put-number .ensures) (c .before .before .put .ensures)
+returns c = channel-put _ (c .before .before .before .before .before .before .before .put-number .ensures) (c .before .before .put .ensures)
 
 pub put-channel-spec : {M : Type 1} → statement M
 put-channel-spec =

@@ -24,7 +24,9 @@ same-length : tie.Need-same-length
 same-length c = search needs
 
 returns : tie.Need-returns
-returns c = passed-put _ _ (c .before .before .before .before .before .before .before .before .before .put-channel .ensures) (c .before .before .before .before .before .before .put-number .ensures) (c .before .before .put .ensures)
+returns c =
+    let after-put-number = c .before .before .before .before .before .before .before in
+    passed-put _ _ (after-put-number .before .before .before .before .put-channel .ensures) (after-put-number .put-number .ensures) (c .before .before .put .ensures)
 
 pub put-channel-passed-spec : {M : Type 1} → statement M
 put-channel-passed-spec =

@@ -10,8 +10,8 @@ use Rattle.run_steps.proofs.starting.begin_process.Tie as tie
 start-ends-requires : tie.Need-start-ends-requires
 start-ends-requires c κs = (c .before .before .pre .0 .0, c .before .before .pre .0 .1, c .before .before .pre .0 .2)
 
-cast-set-given : tie.Need-cast-set-given
-cast-set-given c = omega (arith, c .before .before .before .before .before .pre .0 .3)
+cast-first : tie.Need-cast-first
+cast-first c = omega (arith, c .before .before .before .before .pre .0 .3)
 
 begin-requires : tie.Need-begin-requires
 begin-requires c κs =
@@ -25,8 +25,8 @@ use-channels-requires c κs =
     let entry = c .before .before .before .before .before .before .before .before .before in
     ((entry .pre .0 .0, entry .pre .0 .1), (omega (arith, entry .pre .1, begin .ensures .0 .long), begin .ensures .1, omega (arith, entry .pre .0 .2, ap (λ (C : RawConfig). length (C .outside)) (begin .ensures .0 .is))))
 
-cast-set-given-2 : tie.Need-cast-set-given-2
-cast-set-given-2 c = omega (arith, c .before .before .before .before .before .before .before .before .before .before .before .before .before .before .pre .0 .2)
+cast-set-given : tie.Need-cast-set-given
+cast-set-given c = omega (arith, c .before .before .before .before .before .before .before .before .before .before .before .before .before .before .pre .0 .2)
 
 set-given-requires : tie.Need-set-given-requires
 set-given-requires c κs =
@@ -49,10 +49,10 @@ begin-process-spec =
     tie.close
     (tie.spec
     start-ends-requires
-    cast-set-given
+    cast-first
     begin-requires
     use-channels-requires
-    cast-set-given-2
+    cast-set-given
     set-given-requires
     same-length
     returns)
