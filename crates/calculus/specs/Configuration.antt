@@ -56,6 +56,7 @@ pub record Config : Type 0 where
   pub outside : List Outside
   pub given : ℕ
 
+-- a new configuration, and a new process
 abbrev pub config : List Process → List Outside → ℕ → Config
 config l o n = record { processes = l; outside = o; given = n }
 
@@ -80,24 +81,24 @@ oneMoreGiven C = withGiven (suc (C .given)) C
 abbrev pub replaced : ℕ → Process → Config → Config
 replaced i q C = withProcesses (set (C .processes) i q) C
 
--- ── what a process does next, and holds then, its link kept; another link
-abbrev pub goesOn : Process → Proc → List (Name × End) → Process
-goesOn q P l = process (running P) l (q .link)
-
-abbrev pub foldsUp : Process → List (Name × End) → Process
-foldsUp q l = process folding l (q .link)
-
+-- ── a process goes on: it does and holds something else; its link is another; the rest as it was
 abbrev pub becoming : Doing → List (Name × End) → Process → Process
-becoming d l q = process d l (q .link)
-
-abbrev pub doingNow : Doing → Process → Process
-doingNow d q = process d (q .held) (q .link)
-
-abbrev pub holding : List (Name × End) → Process → Process
-holding l q = process (q .doing) l (q .link)
+becoming d l q = record { doing = d; held = l; link = q .link }
 
 abbrev pub linkedBy : Option ℕ → Process → Process
-linkedBy h q = process (q .doing) (q .held) h
+linkedBy h q = record { doing = q .doing; held = q .held; link = h }
+
+abbrev pub goesOn : Process → Proc → List (Name × End) → Process
+goesOn q P l = becoming (running P) l q
+
+abbrev pub foldsUp : Process → List (Name × End) → Process
+foldsUp q l = becoming folding l q
+
+abbrev pub doingNow : Doing → Process → Process
+doingNow d q = becoming d (q .held) q
+
+abbrev pub holding : List (Name × End) → Process → Process
+holding l q = becoming (q .doing) l q
 
 -- the process at a place
 abbrev pub at : Config → ℕ → Option Process

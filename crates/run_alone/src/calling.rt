@@ -26,10 +26,10 @@ use read_tables::search::find_process;
 use run_words::held::no_ends;
 use run_words::processes::store;
 use run_words::records::Held;
+use run_words::records::PROVIDED;
 use run_words::records::Process;
-use run_words::shape::PROVIDED;
-use run_words::shape::RUNNING;
-use run_words::shape::USED;
+use run_words::records::RUNNING;
+use run_words::records::USED;
 
 // With the end that h holds under the name at `a`, if it holds one: under the name at `at`, and with the type of a node.
 fn enter_end(

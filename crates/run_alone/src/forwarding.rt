@@ -24,9 +24,9 @@ use run_words::outside::reroute_outside;
 use run_words::processes::load;
 use run_words::processes::store;
 use run_words::records::End;
+use run_words::records::FOLDING;
 use run_words::records::Far;
 use run_words::records::Process;
-use run_words::shape::FOLDING;
 
 // A process that is left empty.
 fn emptied(p: Process) -> Process

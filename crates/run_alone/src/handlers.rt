@@ -14,11 +14,11 @@ use notation::words::wide;
 use run_words::places::remove;
 use run_words::processes::load;
 use run_words::processes::store;
+use run_words::records::FOLDING;
 use run_words::records::Process;
-use run_words::shape::FOLDING;
-use run_words::shape::RUNNING;
-use run_words::shape::UNLINKED;
-use run_words::shape::WAITING;
+use run_words::records::RUNNING;
+use run_words::records::UNLINKED;
+use run_words::records::WAITING;
 
 // What a handler does once its process raises, or leaves the list.
 fn handler_kind(kind: u32, raised: bool) -> u32

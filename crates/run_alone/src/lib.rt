@@ -1,4 +1,3 @@
-// The rules of the terms that step alone, and of folding up and leaving, on the run slice.
 pub mod calling;
 pub mod forwarding;
 pub mod handlers;

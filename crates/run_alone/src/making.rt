@@ -28,9 +28,9 @@ use run_words::processes::store;
 use run_words::records::Held;
 use run_words::records::NEW;
 use run_words::records::Process;
-use run_words::shape::RUNNING;
-use run_words::shape::UNLINKED;
-use run_words::shape::WAITING;
+use run_words::records::RUNNING;
+use run_words::records::UNLINKED;
+use run_words::records::WAITING;
 
 // A spawn: where the new name stands, the node of its type, the pointers of its halves.
 pub struct SpawnTerm {

@@ -23,10 +23,10 @@ use run_words::outside::let_go;
 use run_words::outside::outside_at;
 use run_words::processes::store;
 use run_words::records::End;
+use run_words::records::FOLDING;
 use run_words::records::Far;
 use run_words::records::Process;
-use run_words::shape::FOLDING;
-use run_words::shape::RUNNING;
+use run_words::records::RUNNING;
 
 // The outside lets go of the channel of an end that is given up, if the far end is the outside's; what that shows.
 fn give_up(text: &[u8], scratch: &[u32], run: &mut [u32], e: End) -> Seen

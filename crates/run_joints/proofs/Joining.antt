@@ -77,7 +77,12 @@ module _ (ws : List ℕ) (i j : ℕ) (a : i < 128) (b : j < 128) where
 
   pub apart : (new : List ℕ) → (getD ws i 0 ≡ getD ws j 0 → ⊥) → (length ws ≡ 128 → OneLabel ws new i j) → Joined ws new ((i, j) ∷ []) true
   apart new n m = record {
-    is = λ label l. (relabelled (label i) (label j) label, joins-one new label l (m (l .long)), λ K. joins-first label i j K (ne-eqb (label i) (label j) (λ e. n (l .each i a ∙ e ∙ sym (l .each j b)))));
+    is = λ label l. (
+      relabelled (label i) (label j) label,
+      joins-one new label l (m (l .long)),
+      λ K. joins-first label i j K
+          (ne-eqb (label i) (label j) (λ e. n (l .each i a ∙ e ∙ sym (l .each j b)))),
+    );
   }
 
 -- ── the joint of an end that is held at place i
@@ -85,7 +90,8 @@ module _ (C : RawConfig) (i : ℕ) (e : End) {old : List ℕ} where
   pub joined-used : e .side ≡ 1 → Joined old old (endJoint C i (endIn e)) true
   joined-used p = joined-as (ap (λ (s : ℕ). jointOf i (sideOf s) (farEnd C (e .channel) (sideOf s))) p) (joined-none old)
 
-  pub joined-provided : {new : List ℕ} {f : Far} {r : Bool} → e .side < 2 → (e .side ≡ 1 → ⊥) → farEnd C (e .channel) provided ≡ f → Joined old new (jointOf i provided f) r → Joined old new (endJoint C i (endIn e)) r
+  pub joined-provided : {new : List ℕ} {f : Far} {r : Bool} → e .side < 2 → (e .side ≡ 1 → ⊥) → farEnd C (e .channel) provided ≡ f → Joined old new (jointOf i provided f) r → Joined old new
+      (endJoint C i (endIn e)) r
   joined-provided h n q =
       let z : e .side ≡ 0 = omega arith in
       joined-as (ap (λ (s : ℕ). jointOf i (sideOf s) (farEnd C (e .channel) (sideOf s))) z ∙ ap (jointOf i provided) q)

@@ -21,10 +21,10 @@ use run_words::processes::load;
 use run_words::records::End;
 use run_words::records::Far;
 use run_words::records::Held;
+use run_words::records::PROVIDED;
 use run_words::records::Process;
-use run_words::shape::PROVIDED;
-use run_words::shape::UNLINKED;
-use run_words::shape::USED;
+use run_words::records::UNLINKED;
+use run_words::records::USED;
 
 // Each place has its own label.
 fn own_labels() -> [u32; Script::PROCESS_PLACES]

@@ -1,4 +1,3 @@
-// Joints: what refusal 18 asks of links, joints and outside numbers, for which no tables are read.
 ghost use Prim.Native.Nat.{_≤_};
 ghost use lib.ListN.{length};
 ghost use Rattle.notation.specs.Limits.{runWords};

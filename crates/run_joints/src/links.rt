@@ -12,8 +12,8 @@ ghost use Rattle.run_joints.specs.Links.{leads, linksTo, linkedIfWaiting
 use notation::words::wide;
 use run_words::processes::count;
 use run_words::processes::load;
-use run_words::shape::UNLINKED;
-use run_words::shape::WAITING;
+use run_words::records::UNLINKED;
+use run_words::records::WAITING;
 
 // Whether a link, if it is one, leads to a waiting handler.
 fn link_leads(run: &[u32], link: u32) -> bool

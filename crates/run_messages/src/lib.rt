@@ -1,4 +1,3 @@
-// The rules of sends and receives, on the run slice.
 pub mod meeting;
 pub mod messages;
 pub mod outward;

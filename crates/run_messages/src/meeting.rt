@@ -37,7 +37,7 @@ use run_words::processes::load;
 use run_words::processes::store;
 use run_words::records::Held;
 use run_words::records::Process;
-use run_words::shape::RUNNING;
+use run_words::records::RUNNING;
 
 // The recv of what a send sends is of a kind so much higher.
 const RECEIVES: usize = RECV_UNIT - SEND_UNIT;

@@ -33,7 +33,7 @@ use read_tables::access::term_node;
 use run_words::records::End;
 use run_words::records::Held;
 use run_words::records::Process;
-use run_words::shape::RUNNING;
+use run_words::records::RUNNING;
 
 // A send under way: the process at a place before it and after it, its term, and the end that it goes over.
 pub struct Sending {

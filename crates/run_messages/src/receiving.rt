@@ -23,9 +23,9 @@ use run_words::held::end_at;
 use run_words::processes::load;
 use run_words::processes::store;
 use run_words::records::End;
+use run_words::records::FOLDING;
 use run_words::records::Far;
 use run_words::records::Process;
-use run_words::shape::FOLDING;
 
 // The far end is at position k of what the process at place j holds: the step is that process' send, if it sends there.
 fn answer(

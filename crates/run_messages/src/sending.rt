@@ -22,7 +22,7 @@ use run_words::far::far_end;
 use run_words::processes::store;
 use run_words::records::Far;
 use run_words::records::Process;
-use run_words::shape::RUNNING;
+use run_words::records::RUNNING;
 
 // "When the far end was given up: a send goes on, and gives up a channel it would have passed".
 fn send_unheard(text: &[u8], scratch: &[u32], run: &mut [u32], sent: Sending) -> Outcome

@@ -34,9 +34,9 @@ use run_messages::receiving::receive;
 use run_messages::sending::send;
 use run_words::processes::count;
 use run_words::processes::load;
+use run_words::records::FOLDING;
 use run_words::records::Process;
-use run_words::shape::FOLDING;
-use run_words::shape::RUNNING;
+use run_words::records::RUNNING;
 
 // The rule of a term that ends its process.
 fn step_ending(

@@ -1,4 +1,3 @@
-// The step at a place, run-on and start, on the run slice.
 pub mod choosing;
 pub mod dispatch;
 pub mod running;

@@ -30,10 +30,10 @@ use run_words::records::End;
 use run_words::records::Held;
 use run_words::records::NEW;
 use run_words::records::Outside;
+use run_words::records::PROVIDED;
 use run_words::records::Process;
-use run_words::shape::PROVIDED;
-use run_words::shape::RUNNING;
-use run_words::shape::UNLINKED;
+use run_words::records::RUNNING;
+use run_words::records::UNLINKED;
 
 // The ends that a process provides at start: those of n signature entries, on the channels from 0 on.
 fn start_ends(scratch: &[u32], first: usize, n: usize) -> Held

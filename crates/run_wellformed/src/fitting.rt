@@ -23,7 +23,7 @@ use run_words::processes::count;
 use run_words::processes::load;
 use run_words::records::End;
 use run_words::records::Held;
-use run_words::shape::USED;
+use run_words::records::USED;
 
 // A key for each side of each channel place.
 const SIDES: usize = 2;

@@ -1,4 +1,3 @@
-// Well-formed: the test of refusal 18, for any words whatever.
 ghost use Prim.Native.Nat.{_≤_};
 ghost use lib.ListN.{length};
 ghost use Rattle.notation.specs.Limits.{runWords};

@@ -16,9 +16,9 @@ use run_words::outside::outside_at;
 use run_words::outside::outside_count;
 use run_words::processes::count;
 use run_words::processes::load;
+use run_words::records::FOLDING;
 use run_words::records::Held;
 use run_words::records::Process;
-use run_words::shape::FOLDING;
 
 // A pointer: to a term, or to the end of a process that is empty.
 fn pointer_stands(scratch: &[u32], p: usize) -> bool

@@ -26,10 +26,10 @@ use run_words::held::end_at;
 use run_words::held::without;
 use run_words::processes::count;
 use run_words::processes::load;
+use run_words::records::FOLDING;
 use run_words::records::Held;
 use run_words::records::Process;
-use run_words::shape::FOLDING;
-use run_words::shape::UNLINKED;
+use run_words::records::UNLINKED;
 
 // Whether no name comes twice: the first is not among those after it, which are tried likewise.
 fn names_distinct(text: &[u8], h: Held) -> bool

@@ -47,7 +47,8 @@ pub outside-turn : (l : List RawOutside) (j k c : ℕ) {o : RawOutside} → getE
     → c ∷ map (λ (o : RawOutside). o .channel) (drop k l) ≡ map (λ (o : RawOutside). o .channel) (drop j l)
 outside-turn l j k c g q p = ap (λ (x : ℕ). x ∷ map (λ (o : RawOutside). o .channel) (drop k l)) p ∙ ap (map (λ (o : RawOutside). o .channel)) (sym (drop-turn l j k g q))
 
-pub process-turn : (l : List RawProcess) (j k : ℕ) (r : List ℕ) {p : RawProcess} → getElem? l j ≡ some p → k ≡ suc j → heldChannels (p .held) (processChannels (drop k l) r) ≡ processChannels (drop j l) r
+pub process-turn : (l : List RawProcess) (j k : ℕ) (r : List ℕ) {p : RawProcess} → getElem? l j ≡ some p → k ≡ suc j → heldChannels (p .held) (processChannels (drop k l) r) ≡ processChannels
+    (drop j l) r
 process-turn l j k r g q = ap (λ d. processChannels d r) (sym (drop-turn l j k g q))
 
 -- ── what a mark says

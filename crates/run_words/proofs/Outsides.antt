@@ -122,10 +122,12 @@ module _ (old new : List ℕ) (c j k : ℕ) (h : Letting old new c j k) (b : Bou
     long = h .long;
     low = h .low;
     high = λ x p. h .high x (omega arith);
-    kept = h .kept ∙ sym (ap (λ m. letGo c (take m (rawIn old .outside))) (add-one k) ∙ letGo-step c (rawIn old .outside) k g ∙ ap (λ v. cond v (letGo c (take k (rawIn old .outside))) (letGo c (take k (rawIn old .outside)) ++ (o ∷ []))) t);
+    kept = h .kept ∙ sym (ap (λ m. letGo c (take m (rawIn old .outside))) (add-one k) ∙ letGo-step c (rawIn old .outside) k g ∙
+        ap (λ v. cond v (letGo c (take k (rawIn old .outside))) (letGo c (take k (rawIn old .outside)) ++ (o ∷ []))) t);
   }
 
-  pub letting-kept : (next : List ℕ) (o : RawOutside) → getElem? (rawIn old .outside) k ≡ some o → eqb c (o .channel) ≡ false → Written outsideOf 2 new next (16 + 2 * j) o → Letting old next c (j + 1) (k + 1)
+  pub letting-kept : (next : List ℕ) (o : RawOutside) → getElem? (rawIn old .outside) k ≡ some o → eqb c (o .channel) ≡ false → Written outsideOf 2 new next (16 + 2 * j) o → Letting old next c
+      (j + 1) (k + 1)
   letting-kept next o g t w = record {
     order = omega (arith, h .order);
     long = w .long ∙ h .long;
@@ -134,10 +136,12 @@ module _ (old new : List ℕ) (c j k : ℕ) (h : Letting old new c j k) (b : Bou
     kept =
         rows-append outsideOf 2 16 (word new) (word next) j (λ i q. outside-local _) j (λ i p q. w .below i q) (j + 1) o refl (omega arith) (w .row)
         ∙ ap (λ (m : List RawOutside). m ++ (o ∷ [])) (h .kept)
-        ∙ sym (ap (λ m. letGo c (take m (rawIn old .outside))) (add-one k) ∙ letGo-step c (rawIn old .outside) k g ∙ ap (λ v. cond v (letGo c (take k (rawIn old .outside))) (letGo c (take k (rawIn old .outside)) ++ (o ∷ []))) t);
+        ∙ sym (ap (λ m. letGo c (take m (rawIn old .outside))) (add-one k) ∙ letGo-step c (rawIn old .outside) k g ∙
+        ap (λ v. cond v (letGo c (take k (rawIn old .outside))) (letGo c (take k (rawIn old .outside)) ++ (o ∷ []))) t);
   }
 
-pub letting-done : (old new : List ℕ) (c j k : ℕ) → Letting old new c j k → 6144 ≤ length old → Bounded (rawIn old) → k ≡ length (rawIn old .outside) → Changed old (set new 2 j) (withOutside (rawIn old) (letGo c (rawIn old .outside)))
+pub letting-done : (old new : List ℕ) (c j k : ℕ) → Letting old new c j k → 6144 ≤ length old → Bounded (rawIn old) → k ≡ length (rawIn old .outside) → Changed old (set new 2 j)
+    (withOutside (rawIn old) (letGo c (rawIn old .outside)))
 letting-done old new c j k h l b e =
     let last = set new 2 j in
     let other : (x : ℕ) → (x ≡ 2 → ⊥) → getD last x 0 ≡ getD new x 0 = λ x p. getD-set-other new 2 x j 0 p in

@@ -84,7 +84,8 @@ there-ends channel side ws i k h =
 abbrev pub holderFrom : ℕ → Side → List RawProcess → ℕ → Holder
 holderFrom k s l i = scan (holderStep k s) holder.Nobody i (drop i l)
 
-pub holder-turn : (k : ℕ) (s : Side) (l : List RawProcess) (i : ℕ) {p : RawProcess} (f : Found) → getElem? l i ≡ some p → heldAt k s (p .held) ≡ f → holderFrom k s l i ≡ holderHere i f (holderFrom k s l (i + 1))
+pub holder-turn : (k : ℕ) (s : Side) (l : List RawProcess) (i : ℕ) {p : RawProcess} (f : Found) → getElem? l i ≡ some p → heldAt k s (p .held) ≡ f → holderFrom k s l i ≡ holderHere i f
+    (holderFrom k s l (i + 1))
 holder-turn k s l i f e q = scan-step (holderStep k s) holder.Nobody l i e ∙ ap (λ x. holderHere i x (holderFrom k s l (i + 1))) q
 
 pub holder-end : (k : ℕ) (s : Side) (l : List RawProcess) (i : ℕ) → length l ≤ i → holderFrom k s l i ≡ holder.Nobody

@@ -106,6 +106,7 @@ begun old new p l w =
     let long : length new ≡ length old = w .long ∙ length-set o2 2 0 ∙ l2 ∙ l1 in
     record {
       is = λ i. record { processes = ps i; outside = os i; given = first i };
-      past = drop-same 6144 new old long (λ k a. w .above k (omega arith) ∙ getD-set-other o2 2 k 0 0 (omega arith) ∙ getD-set-other o1 1 k 0 0 (omega arith) ∙ getD-set-other old 0 k 1 0 (omega arith));
+      past = drop-same 6144 new old long (λ k a. w .above k (omega arith) ∙ getD-set-other o2 2 k 0 0 (omega arith) ∙ getD-set-other o1 1 k 0 0 (omega arith) ∙ getD-set-other old 0 k 1 0
+          (omega arith));
       long = long;
     }

@@ -10,15 +10,15 @@ use crate::outside::get_outside;
 use crate::outside::outside_count;
 use crate::processes::count;
 use crate::processes::get;
+use crate::records::COUNT;
+use crate::records::GIVEN;
+use crate::records::HELD_COUNT;
 use crate::records::Held;
-use crate::shape::COUNT;
-use crate::shape::GIVEN;
-use crate::shape::HELD_COUNT;
-use crate::shape::OUTSIDE_COUNT;
-use crate::shape::PLACE_WORDS;
-use crate::shape::PLACES_AT;
-use crate::shape::POINTER_LIMIT;
-use crate::shape::WAITING;
+use crate::records::OUTSIDE_COUNT;
+use crate::records::PLACE_WORDS;
+use crate::records::PLACES_AT;
+use crate::records::POINTER_LIMIT;
+use crate::records::WAITING;
 use notation::script::Script;
 
 // The notation's limits, as words.

@@ -11,7 +11,7 @@ use crate::processes::held_count;
 use crate::processes::held_end;
 use crate::records::Far;
 use crate::records::Holder;
-use crate::shape::USED;
+use crate::records::USED;
 use notation::reading::Found;
 
 // The first position at which the process at a place holds an end.

@@ -8,12 +8,12 @@ ghost use lib.ListN.{getElem?, set};
 ghost use Rattle.run_words.specs.Lists.{removeAt};
 ghost use Rattle.run_words.specs.Raw.{BoundedEnd, endOf, endWords, sideRadix, endBy};
 ghost use Rattle.run_words.specs.Values.{endIn, heldIn, Written};
+use crate::records::CHANNEL_RADIX;
+use crate::records::END_WORDS;
 use crate::records::End;
+use crate::records::HELD_WORDS;
 use crate::records::Held;
-use crate::shape::CHANNEL_RADIX;
-use crate::shape::END_WORDS;
-use crate::shape::HELD_WORDS;
-use crate::shape::SIDE_RADIX;
+use crate::records::SIDE_RADIX;
 
 // Nothing held.
 pub fn no_ends() -> Held

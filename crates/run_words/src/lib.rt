@@ -1,4 +1,3 @@
-// Runs: the records of the run slice.
 pub mod bounded;
 pub mod channels;
 pub mod far;
@@ -7,5 +6,4 @@ pub mod outside;
 pub mod places;
 pub mod processes;
 pub mod records;
-pub mod shape;
 pub mod words;

@@ -8,13 +8,13 @@ ghost use Rattle.notation.specs.Limits.{runWords, channelPlaces, outsideNumbers
 ghost use Rattle.run_words.specs.Raw.{rawIn, outsideOf, RawOutside, BoundedOutside, Bounded, outsideRow, outsideWords, outsidesAt};
 ghost use Rattle.run_words.specs.Values.{outsideIn, Changed, Written};
 ghost use Rattle.run_words.specs.Operations.{onOutside, withGiven, outsideAt, letGo, changedOutside, retyped, rerouted, changedBy};
+use crate::records::CHANNEL_RADIX;
 use crate::records::Change;
+use crate::records::GIVEN;
+use crate::records::OUTSIDE_COUNT;
+use crate::records::OUTSIDE_WORDS;
+use crate::records::OUTSIDES_AT;
 use crate::records::Outside;
-use crate::shape::CHANNEL_RADIX;
-use crate::shape::GIVEN;
-use crate::shape::OUTSIDE_COUNT;
-use crate::shape::OUTSIDE_WORDS;
-use crate::shape::OUTSIDES_AT;
 use notation::reading::Found;
 use notation::words::wide;
 

@@ -4,7 +4,7 @@ ghost use mathlib.Core.Path.{_≡_};
 ghost use Prim.Native.Nat.{ℕ, _+_, _-_, _≤_, _<_};
 ghost use lib.ListN.{length, getD};
 ghost use Rattle.run_words.specs.Values.{Moved};
-use crate::shape::HELD_WORDS;
+use crate::records::HELD_WORDS;
 
 // The n words of `from` at a place and after it, to a place of `to` and after it.
 pub fn copy_words(from: &[u32], at: usize, to: &mut [u32], into: usize, n: usize)

@@ -23,19 +23,38 @@ returns-2 c = refused (λ f. c .before .numbers-stand .ensures .no (not-true _ (
 
 processes-typed-requires : tie.Need-processes-typed-requires
 processes-typed-requires c κs =
-    let entry = c .before .before .before .before .before .before .before in
-    (entry .pre .0, (entry .pre .1, (c .before .before .before .bounded .ensures .yes (not-false _ (c .before .before .if1 .left)), c .before .numbers-stand .ensures .yes (not-false _ (c .if2 .left)))))
+    let entry = c .before .before .before .before .before .before .before in (
+      entry .pre .0,
+      (
+        entry .pre .1,
+        (
+          c .before .before .before .bounded .ensures .yes (not-false _ (c .before .before .if1 .left)),
+          c .before .numbers-stand .ensures .yes
+              (not-false _ (c .if2 .left)),
+        ),
+      ),
+    )
 
 returns-3 : tie.Need-returns-3
 returns-3 c =
     let entry = c .before .before .before .before .before .before .before .before .before in
-    refused (λ f. true≢false (sym (parts (entry .args .text .now) (entry .args .scratch .now) (rawIn (entry .args .run .now)) f .typed) ∙ sym (c .before .processes-typed .ensures) ∙ not-true _ (c .if3 .taken)))
+    refused (λ f. true≢false (sym (parts (entry .args .text .now) (entry .args .scratch .now) (rawIn (entry .args .run .now)) f .typed) ∙ sym (c .before .processes-typed .ensures) ∙ not-true _
+    (c .if3 .taken)))
 
 ends-fit-requires : tie.Need-ends-fit-requires
 ends-fit-requires c κs =
     let after-if1 = c .before .before .before .before in
-    let entry = after-if1 .before .before .before .before .before in
-    (entry .pre .0, (entry .pre .1, (after-if1 .before .bounded .ensures .yes (not-false _ (after-if1 .if1 .left)), c .before .before .before .numbers-stand .ensures .yes (not-false _ (c .before .before .if2 .left)))))
+    let entry = after-if1 .before .before .before .before .before in (
+      entry .pre .0,
+      (
+        entry .pre .1,
+        (
+          after-if1 .before .bounded .ensures .yes (not-false _ (after-if1 .if1 .left)),
+          c .before .before .before .numbers-stand .ensures .yes
+              (not-false _ (c .before .before .if2 .left)),
+        ),
+      ),
+    )
 
 returns-4 : tie.Need-returns-4
 returns-4 c =
@@ -45,13 +64,23 @@ returns-4 c =
 outside-outward-requires : tie.Need-outside-outward-requires
 outside-outward-requires c κs =
     let after-if2 = c .before .before .before .before in
-    let entry = after-if2 .before .before .before .before .before .before .before in
-    (entry .pre .0, (entry .pre .1, (after-if2 .before .before .before .bounded .ensures .yes (not-false _ (after-if2 .before .before .if1 .left)), after-if2 .before .numbers-stand .ensures .yes (not-false _ (after-if2 .if2 .left)))))
+    let entry = after-if2 .before .before .before .before .before .before .before in (
+      entry .pre .0,
+      (
+        entry .pre .1,
+        (
+          after-if2 .before .before .before .bounded .ensures .yes (not-false _ (after-if2 .before .before .if1 .left)),
+          after-if2 .before .numbers-stand .ensures .yes
+              (not-false _ (after-if2 .if2 .left)),
+        ),
+      ),
+    )
 
 returns-5 : tie.Need-returns-5
 returns-5 c =
     let entry = c .before .before .before .before .before .before .before .before .before .before .before .before .before in
-    refused (λ f. true≢false (sym (parts (entry .args .text .now) (entry .args .scratch .now) (rawIn (entry .args .run .now)) f .outwards) ∙ sym (c .before .outside-outward .ensures) ∙ not-true _ (c .if5 .taken)))
+    refused (λ f. true≢false (sym (parts (entry .args .text .now) (entry .args .scratch .now) (rawIn (entry .args .run .now)) f .outwards) ∙ sym (c .before .outside-outward .ensures) ∙ not-true _
+    (c .if5 .taken)))
 
 well-joined-requires : tie.Need-well-joined-requires
 well-joined-requires c κs =
@@ -64,7 +93,12 @@ returns-6 c =
     let after-if4 = c .before .before .before in
     let after-if2 = after-if4 .before .before .before .before in
     let entry = after-if2 .before .before .before .before .before .before .before in
-    decided (entry .args .text .now) (entry .args .scratch .now) (rawIn (entry .args .run .now)) (after-if2 .before .before .before .bounded .ensures .yes (not-false _ (after-if2 .before .before .if1 .left))) (after-if2 .before .numbers-stand .ensures .yes (not-false _ (after-if2 .if2 .left))) (sym (after-if4 .before .before .before .processes-typed .ensures) ∙ not-false _ (after-if4 .before .before .if3 .left)) (after-if4 .before .ends-fit .ensures ∙ not-false _ (after-if4 .if4 .left)) (sym (c .before .before .outside-outward .ensures) ∙ not-false _ (c .before .if5 .left)) (c .well-joined .ensures)
+    decided (entry .args .text .now) (entry .args .scratch .now) (rawIn (entry .args .run .now))
+    (after-if2 .before .before .before .bounded .ensures .yes (not-false _ (after-if2 .before .before .if1 .left)))
+    (after-if2 .before .numbers-stand .ensures .yes (not-false _ (after-if2 .if2 .left)))
+    (sym (after-if4 .before .before .before .processes-typed .ensures) ∙ not-false _ (after-if4 .before .before .if3 .left))
+    (after-if4 .before .ends-fit .ensures ∙ not-false _ (after-if4 .if4 .left)) (sym (c .before .before .outside-outward .ensures) ∙ not-false _ (c .before .if5 .left)) (c .well-joined .ensures)
 
 pub well-formed-spec : {M : Type 1} → statement M
-well-formed-spec = tie.close (tie.spec bounded-requires returns numbers-stand-requires returns-2 processes-typed-requires returns-3 ends-fit-requires returns-4 outside-outward-requires returns-5 well-joined-requires returns-6)
+well-formed-spec = tie.close (tie.spec bounded-requires returns numbers-stand-requires returns-2 processes-typed-requires returns-3 ends-fit-requires returns-4 outside-outward-requires returns-5
+    well-joined-requires returns-6)

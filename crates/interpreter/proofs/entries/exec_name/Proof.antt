@@ -35,7 +35,12 @@ part-name-in-end c =
     let check = c .before .before .before .before .before .check in
     let entry = c .before .before .before .before .before .before .before .before .before in
     let l : length (check .last .1 .0) ≡ length (entry .args .scratch .now) = search needs in
-    let h : scratchWords ≤ length (check .last .1 .0) = omega (arith, l, scratch-enough (entry .args .text .now) (entry .args .scratch .now) (check .last .1 .0) _ (check .ensures) (c .before .enum-told .given .1)) in
+    let h : scratchWords ≤ length (check .last .1 .0) = omega (
+      arith,
+      l,
+      scratch-enough (entry .args .text .now) (entry .args .scratch .now) (check .last .1 .0) _ (check .ensures)
+          (c .before .enum-told .given .1),
+    ) in
     search needs
 
 name-in-requires : tie.Need-name-in-requires
@@ -54,7 +59,8 @@ returns c =
     let after-check = c .before .before .before .before .before .before .before .before .before in
     let check = after-check .check in
     let entry = after-check .before .before .before .before in
-    answers-accepted (entry .args .text .now) (entry .args .scratch .now) (check .last .1 .0) _ (check .ensures) (toName (entry .args .line)) [] (c .before .before .before .before .before .enum-told .given .1) (c .name-in .ensures)
+    answers-accepted (entry .args .text .now) (entry .args .scratch .now) (check .last .1 .0) _ (check .ensures) (toName (entry .args .line)) []
+    (c .before .before .before .before .before .enum-told .given .1) (c .name-in .ensures)
 
 sub-result : tie.Need-sub-result
 sub-result c = search needs

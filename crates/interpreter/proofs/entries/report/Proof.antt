@@ -36,7 +36,12 @@ part-report-in-end c =
     let check = c .before .before .before .before .before .check in
     let entry = c .before .before .before .before .before .before .before .before .before .before in
     let l : length (check .last .1 .0) ≡ length (entry .args .scratch .now) = search needs in
-    let h : scratchWords ≤ length (check .last .1 .0) = omega (arith, l, scratch-enough (entry .args .text .now) (entry .args .scratch .now) (check .last .1 .0) _ (check .ensures) (c .before .enum-told .given .1)) in
+    let h : scratchWords ≤ length (check .last .1 .0) = omega (
+      arith,
+      l,
+      scratch-enough (entry .args .text .now) (entry .args .scratch .now) (check .last .1 .0) _ (check .ensures)
+          (c .before .enum-told .given .1),
+    ) in
     search needs
 
 report-in-requires : tie.Need-report-in-requires
@@ -54,7 +59,11 @@ returns c =
     let check = c .before .before .before .before .before .before .before .check in
     let entry = c .before .before .before .before .before .before .before .before .before .before .before .before in
     let run = entry .args .run .now in
-    record { answers = answers-accepted (entry .args .text .now) (entry .args .scratch .now) (check .last .1 .0) _ (check .ensures) toReport run (c .before .before .before .enum-told .given .1) (c .report-in .ensures .answers); rest = c .report-in .ensures .rest }
+    record {
+      answers = answers-accepted (entry .args .text .now) (entry .args .scratch .now) (check .last .1 .0) _ (check .ensures) toReport run (c .before .before .before .enum-told .given .1)
+          (c .report-in .ensures .answers);
+      rest = c .report-in .ensures .rest;
+    }
 
 no-report-requires : tie.Need-no-report-requires
 no-report-requires c κs = search needs
@@ -68,7 +77,8 @@ returns-2 c =
     let check = c .before .before .before .before .before .before .check in
     let entry = c .before .before .before .before .before .before .before .before .before .before .before in
     let run = entry .args .run .now in
-    text-refused-report (entry .args .text .now) (entry .args .scratch .now) run (check .last .1 .0) (v .given .0 .0) (v .given .0 .1 .0) _ (c .no-report .ensures) (answers-refused (entry .args .text .now) (entry .args .scratch .now) (check .last .1 .0) _ (check .ensures) toReport run (v .given .0 .0) (v .given .0 .1 .0) (v .given .1))
+    text-refused-report (entry .args .text .now) (entry .args .scratch .now) run (check .last .1 .0) (v .given .0 .0) (v .given .0 .1 .0) _ (c .no-report .ensures)
+    (answers-refused (entry .args .text .now) (entry .args .scratch .now) (check .last .1 .0) _ (check .ensures) toReport run (v .given .0 .0) (v .given .0 .1 .0) (v .given .1))
 
 pub report-spec : {M : Type 1} → statement M
 report-spec =

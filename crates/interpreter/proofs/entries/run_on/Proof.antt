@@ -34,7 +34,12 @@ part-run-on-in-end c =
     let check = c .before .before .before .before .before .check in
     let entry = c .before .before .before .before .before .before .before .before .before .before in
     let l : length (check .last .1 .0) ≡ length (entry .args .scratch .now) = search needs in
-    let h : scratchWords ≤ length (check .last .1 .0) = omega (arith, l, scratch-enough (entry .args .text .now) (entry .args .scratch .now) (check .last .1 .0) _ (check .ensures) (c .before .enum-told .given .1)) in
+    let h : scratchWords ≤ length (check .last .1 .0) = omega (
+      arith,
+      l,
+      scratch-enough (entry .args .text .now) (entry .args .scratch .now) (check .last .1 .0) _ (check .ensures)
+          (c .before .enum-told .given .1),
+    ) in
     search needs
 
 run-on-in-requires : tie.Need-run-on-in-requires
@@ -56,7 +61,8 @@ returns c =
     let check = after-check .check in
     let entry = after-check .before .before .before .before .before in
     let run = entry .args .run .now in
-    answers-accepted (entry .args .text .now) (entry .args .scratch .now) (check .last .1 .0) _ (check .ensures) (toRunOn (entry .args .budget)) run (c .before .before .before .before .before .before .enum-told .given .1) (c .before .before .run-on-in .ensures)
+    answers-accepted (entry .args .text .now) (entry .args .scratch .now) (check .last .1 .0) _ (check .ensures) (toRunOn (entry .args .budget)) run
+    (c .before .before .before .before .before .before .enum-told .given .1) (c .before .before .run-on-in .ensures)
 
 same-length-3 : tie.Need-same-length-3
 same-length-3 c = search needs

@@ -34,7 +34,12 @@ part-start-in-end c =
     let check = c .before .before .before .before .before .check in
     let entry = c .before .before .before .before .before .before .before .before .before .before in
     let l : length (check .last .1 .0) ≡ length (entry .args .scratch .now) = search needs in
-    let h : scratchWords ≤ length (check .last .1 .0) = omega (arith, l, scratch-enough (entry .args .text .now) (entry .args .scratch .now) (check .last .1 .0) _ (check .ensures) (c .before .enum-told .given .1)) in
+    let h : scratchWords ≤ length (check .last .1 .0) = omega (
+      arith,
+      l,
+      scratch-enough (entry .args .text .now) (entry .args .scratch .now) (check .last .1 .0) _ (check .ensures)
+          (c .before .enum-told .given .1),
+    ) in
     search needs
 
 start-in-requires : tie.Need-start-in-requires
@@ -55,7 +60,8 @@ returns c =
     let after-check = c .before .before .before .before .before .before .before .before .before .before in
     let check = after-check .check in
     let entry = after-check .before .before .before .before .before in
-    answers-accepted (entry .args .text .now) (entry .args .scratch .now) (check .last .1 .0) _ (check .ensures) (toStart (entry .args .line)) (entry .args .run .now) (c .before .before .before .before .before .before .enum-told .given .1) (c .before .before .start-in .ensures)
+    answers-accepted (entry .args .text .now) (entry .args .scratch .now) (check .last .1 .0) _ (check .ensures) (toStart (entry .args .line)) (entry .args .run .now)
+    (c .before .before .before .before .before .before .enum-told .given .1) (c .before .before .start-in .ensures)
 
 same-length-3 : tie.Need-same-length-3
 same-length-3 c = search needs
@@ -65,7 +71,8 @@ returns-2 c =
     let v = c .before .v in
     let check = c .before .before .before .before .before .check in
     let entry = c .before .before .before .before .before .before .before .before .before .before in
-    answers-refused (entry .args .text .now) (entry .args .scratch .now) (check .last .1 .0) _ (check .ensures) (toStart (entry .args .line)) (entry .args .run .now) (v .given .0 .0) (v .given .0 .1 .0) (v .given .1)
+    answers-refused (entry .args .text .now) (entry .args .scratch .now) (check .last .1 .0) _ (check .ensures) (toStart (entry .args .line)) (entry .args .run .now) (v .given .0 .0)
+    (v .given .0 .1 .0) (v .given .1)
 
 pub start-spec : {M : Type 1} → statement M
 start-spec =

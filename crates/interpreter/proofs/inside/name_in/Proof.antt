@@ -29,7 +29,10 @@ returns c =
     name-none (entry .pre) (omega (arith, execs-many (entry .args .text .now) (entry .args .tables .now), c .before .before .exec-count .ensures, c .before .if1 .taken))
 
 exec-at-requires : tie.Need-exec-at-requires
-exec-at-requires c κs = (tables-in (c .before .before .before .before .pre) .area, omega (arith, tables-in (c .before .before .before .before .pre) .within, c .before .exec-count .ensures, c .if1 .left))
+exec-at-requires c κs = (
+  tables-in (c .before .before .before .before .pre) .area,
+  omega (arith, tables-in (c .before .before .before .before .pre) .within, c .before .exec-count .ensures, c .if1 .left),
+)
 
 name-of-requires : tie.Need-name-of-requires
 name-of-requires c κs = search needs
@@ -37,7 +40,8 @@ name-of-requires c κs = search needs
 returns-2 : tie.Need-returns-2
 returns-2 c =
     let entry = c .before .before .before .before .before .before in
-    name-told (entry .pre) _ (exec-name (entry .args .text .now) (entry .args .tables .now) (entry .args .line) _ (omega (arith, c .before .before .before .exec-count .ensures, c .before .before .if1 .left)) (c .before .exec-at .ensures)) (c .name-of .ensures)
+    name-told (entry .pre) _ (exec-name (entry .args .text .now) (entry .args .tables .now) (entry .args .line) _
+    (omega (arith, c .before .before .before .exec-count .ensures, c .before .before .if1 .left)) (c .before .exec-at .ensures)) (c .name-of .ensures)
 
 pub name-in-spec : {M : Type 1} → statement M
 name-in-spec =

@@ -31,7 +31,8 @@ returns-2 : tie.Need-returns-2
 returns-2 c =
     let after-if2 = c .before .before .before .before in
     let entry = after-if2 .before .before .before .before .before .before .before in
-    run-told (entry .pre) (after-if2 .before .before .before .if1 .left) (holds-in (entry .pre) _ (after-if2 .before .well-formed .ensures .yes (after-if2 .if2 .taken))) (c .before .before .steps-until .ensures)
+    run-told (entry .pre) (after-if2 .before .before .before .if1 .left) (holds-in (entry .pre) _ (after-if2 .before .well-formed .ensures .yes (after-if2 .if2 .taken)))
+    (c .before .before .steps-until .ensures)
 
 same-length-2 : tie.Need-same-length-2
 same-length-2 c = search needs

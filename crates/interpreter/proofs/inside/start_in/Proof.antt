@@ -21,13 +21,15 @@ same-length : tie.Need-same-length
 same-length c = search needs
 
 returns-2 : tie.Need-returns-2
-returns-2 c = start-told (c .before .before .before .before .before .before .before .before .before .pre) (c .before .before .before .before .before .if1 .left) (c .before .before .before .begin-line .ensures) (c .if2 .taken)
+returns-2 c = start-told (c .before .before .before .before .before .before .before .before .before .pre) (c .before .before .before .before .before .if1 .left)
+    (c .before .before .before .begin-line .ensures) (c .if2 .taken)
 
 same-length-2 : tie.Need-same-length-2
 same-length-2 c = search needs
 
 returns-3 : tie.Need-returns-3
-returns-3 c = start-told (c .before .before .before .before .before .before .before .before .before .pre) (c .before .before .before .before .before .if1 .left) (c .before .before .before .begin-line .ensures) (c .if2 .left)
+returns-3 c = start-told (c .before .before .before .before .before .before .before .before .before .pre) (c .before .before .before .before .before .if1 .left)
+    (c .before .before .before .begin-line .ensures) (c .if2 .left)
 
 pub start-in-spec : {M : Type 1} → statement M
 start-in-spec =

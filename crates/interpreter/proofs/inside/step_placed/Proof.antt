@@ -35,7 +35,8 @@ returns-2 : tie.Need-returns-2
 returns-2 c =
     let after-if1 = c .before .before .before .before .before .before .before in
     let entry = after-if1 .before .before .before .before .before .before in
-    step-told (entry .pre .0) (entry .pre .1 .0) (entry .pre .1 .1) (omega (arith, after-if1 .before .count .ensures, after-if1 .if1 .left)) (c .before .before .before .before .before .step-at .ensures) (c .before .o .given .1)
+    step-told (entry .pre .0) (entry .pre .1 .0) (entry .pre .1 .1) (omega (arith, after-if1 .before .count .ensures, after-if1 .if1 .left))
+    (c .before .before .before .before .before .step-at .ensures) (c .before .o .given .1)
 
 enum-told : tie.Need-enum-told
 enum-told c = search needs
@@ -47,7 +48,8 @@ returns-3 : tie.Need-returns-3
 returns-3 c =
     let after-if1 = c .before .before .before .before .before .before in
     let entry = after-if1 .before .before .before .before .before .before in
-    step-told (entry .pre .0) (entry .pre .1 .0) (entry .pre .1 .1) (omega (arith, after-if1 .before .count .ensures, after-if1 .if1 .left)) (c .before .before .before .before .step-at .ensures) (c .enum-told .given .1)
+    step-told (entry .pre .0) (entry .pre .1 .0) (entry .pre .1 .1) (omega (arith, after-if1 .before .count .ensures, after-if1 .if1 .left)) (c .before .before .before .before .step-at .ensures)
+    (c .enum-told .given .1)
 
 enum-told-2 : tie.Need-enum-told-2
 enum-told-2 c = search needs
@@ -59,7 +61,8 @@ returns-4 : tie.Need-returns-4
 returns-4 c =
     let after-if1 = c .before .before .before .before .before .before in
     let entry = after-if1 .before .before .before .before .before .before in
-    step-told (entry .pre .0) (entry .pre .1 .0) (entry .pre .1 .1) (omega (arith, after-if1 .before .count .ensures, after-if1 .if1 .left)) (c .before .before .before .before .step-at .ensures) (c .enum-told2 .given .1)
+    step-told (entry .pre .0) (entry .pre .1 .0) (entry .pre .1 .1) (omega (arith, after-if1 .before .count .ensures, after-if1 .if1 .left)) (c .before .before .before .before .step-at .ensures)
+    (c .enum-told2 .given .1)
 
 pub step-placed-spec : {M : Type 1} → statement M
 step-placed-spec =

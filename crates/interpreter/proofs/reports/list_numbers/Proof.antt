@@ -31,7 +31,13 @@ mul-numbers : tie.Need-mul-numbers Inv-loop μ-loop
 mul-numbers c = search needs
 
 array-write-numbers : tie.Need-array-write-numbers Inv-loop μ-loop
-array-write-numbers c = omega (arith, c .before .before .loop .inv .0 .long, c .before .loop-test .taken, c .before .before .before .outside-count .ensures, c .before .before .before .before .before .pre .1 .channels)
+array-write-numbers c = omega (
+  arith,
+  c .before .before .loop .inv .0 .long,
+  c .before .loop-test .taken,
+  c .before .before .before .outside-count .ensures,
+  c .before .before .before .before .before .pre .1 .channels,
+)
 
 add-k : tie.Need-add-k Inv-loop μ-loop
 add-k c = search needs
@@ -41,11 +47,15 @@ loop-less c = search needs
 
 loop-again : tie.Need-loop-again Inv-loop μ-loop
 loop-again c =
-    let entry = c .before .before .before .before .before in
-    (listing-on (rawIn (entry .args .run .now)) _ _ (c .before .before .loop .inv .0) (omega (arith, c .before .loop-test .taken, c .before .before .before .outside-count .ensures)) (entry .pre .1 .channels) (c .outside-at .ensures .0) refl, omega (arith, c .before .loop-test .taken))
+    let entry = c .before .before .before .before .before in (
+      listing-on (rawIn (entry .args .run .now)) _ _ (c .before .before .loop .inv .0) (omega (arith, c .before .loop-test .taken, c .before .before .before .outside-count .ensures))
+          (entry .pre .1 .channels) (c .outside-at .ensures .0) refl,
+      omega (arith, c .before .loop-test .taken),
+    )
 
 returns : tie.Need-returns Inv-loop μ-loop
-returns c = listing-end (rawIn (c .before .before .before .before .args .run .now)) _ _ (c .before .loop .inv .0) (omega (arith, c .loop-test .left, c .before .before .outside-count .ensures)) (omega (arith, c .before .loop .inv .1, c .before .before .outside-count .ensures))
+returns c = listing-end (rawIn (c .before .before .before .before .args .run .now)) _ _ (c .before .loop .inv .0) (omega (arith, c .loop-test .left, c .before .before .outside-count .ensures))
+    (omega (arith, c .before .loop .inv .1, c .before .before .outside-count .ensures))
 
 pub list-numbers-spec : {M : Type 1} → statement M
 list-numbers-spec =

@@ -32,7 +32,8 @@ cast-t9 c = omega (arith, c .outside-count .ensures, c .before .before .before .
 returns-2 : tie.Need-returns-2
 returns-2 c =
     let entry = c .before .before .before .before .before .before .before .before in
-    report-open (entry .pre) (c .before .before .before .before .if1 .left) (holds-in (entry .pre) _ (c .before .before .before .well-formed .ensures .yes (c .before .before .if2 .taken))) (c .outside-count .ensures) (c .before .list-numbers .ensures)
+    report-open (entry .pre) (c .before .before .before .before .if1 .left) (holds-in (entry .pre) _ (c .before .before .before .well-formed .ensures .yes (c .before .before .if2 .taken)))
+    (c .outside-count .ensures) (c .before .list-numbers .ensures)
 
 no-report-requires-2 : tie.Need-no-report-requires-2
 no-report-requires-2 c κs = search needs

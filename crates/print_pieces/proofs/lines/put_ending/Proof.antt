@@ -31,7 +31,8 @@ same-length c = search needs
 returns : tie.Need-returns
 returns c =
     let after-put2 = c .before .before .before .before .before .before .before .before .before .before .before in
-    ending-put _ _ (after-put2 .before .before .before .before .before .put .ensures) (after-put2 .put2 .ensures) (c .before .before .before .before .before .before .before .put-decimal .ensures .0) (c .before .before .put3 .ensures)
+    ending-put _ _ (after-put2 .before .before .before .before .before .put .ensures) (after-put2 .put2 .ensures) (c .before .before .before .before .before .before .before .put-decimal .ensures .0)
+    (c .before .before .put3 .ensures)
 
 pub put-ending-spec : {M : Type 1} → statement M
 put-ending-spec =

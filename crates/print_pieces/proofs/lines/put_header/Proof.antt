@@ -18,7 +18,12 @@ name-of-requires : tie.Need-name-of-requires
 name-of-requires c κs = search needs
 
 put-requires-2 : tie.Need-put-requires-2
-put-requires-2 c κs = omega (arith, name-within (c .before .before .before .before .before .before .before .before .before .args .text .now) _ (c .name-of .ensures), c .before .before .before .before .put .ensures .ends, c .before .before .before .before .put .ensures .long)
+put-requires-2 c κs = omega (
+  arith,
+  name-within (c .before .before .before .before .before .before .before .before .before .args .text .now) _ (c .name-of .ensures),
+  c .before .before .before .before .put .ensures .ends,
+  c .before .before .before .before .put .ensures .long,
+)
 
 slice-aggregate-put-2 : tie.Need-slice-aggregate-put-2
 slice-aggregate-put-2 c = search needs

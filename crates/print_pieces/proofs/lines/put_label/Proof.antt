@@ -43,7 +43,16 @@ put-requires-3 c κs =
     let put = after-put .put in
     let put-channel = after-put .before .before .before .before .before .put-channel in
     let entry = after-put .before .before .before .before .before .before .before .before .before in
-    omega (arith, name-within (entry .args .text .now) _ (after-put2 .before .name-of .ensures), put2 .ensures .ends, put2 .ensures .long, put .ensures .ends, put .ensures .long, put-channel .ensures .0 .long, put-channel .ensures .1)
+    omega (
+      arith,
+      name-within (entry .args .text .now) _ (after-put2 .before .name-of .ensures),
+      put2 .ensures .ends,
+      put2 .ensures .long,
+      put .ensures .ends,
+      put .ensures .long,
+      put-channel .ensures .0 .long,
+      put-channel .ensures .1,
+    )
 
 same-length : tie.Need-same-length
 same-length c = search needs
@@ -51,7 +60,8 @@ same-length c = search needs
 returns : tie.Need-returns
 returns c =
     let after-put2 = c .before .before .before .before .before .before .before in
-    label-put _ (after-put2 .before .before .before .before .before .before .before .before .before .before .put-channel .ensures .0) (after-put2 .before .before .before .before .before .put .ensures) (after-put2 .before .name-of .ensures) (after-put2 .put2 .ensures) (c .before .before .put3 .ensures)
+    label-put _ (after-put2 .before .before .before .before .before .before .before .before .before .before .put-channel .ensures .0)
+    (after-put2 .before .before .before .before .before .put .ensures) (after-put2 .before .name-of .ensures) (after-put2 .put2 .ensures) (c .before .before .put3 .ensures)
 
 pub put-label-spec : {M : Type 1} → statement M
 put-label-spec =

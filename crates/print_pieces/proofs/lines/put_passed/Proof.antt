@@ -20,7 +20,8 @@ same-length : tie.Need-same-length
 same-length c = search needs
 
 returns : tie.Need-returns
-returns c = passed-gone _ _ (c .before .before .before .before .before .if1 .taken) (c .before .before .before .before .before .before .before .before .put-channel-passed .ensures .0) (c .before .before .put-shows .ensures)
+returns c = passed-gone _ _ (c .before .before .before .before .before .if1 .taken) (c .before .before .before .before .before .before .before .before .put-channel-passed .ensures .0)
+    (c .before .before .put-shows .ensures)
 
 same-length-2 : tie.Need-same-length-2
 same-length-2 c = search needs

@@ -37,7 +37,8 @@ same-length c = search needs
 returns : tie.Need-returns
 returns c =
     let after-put2 = c .before .before .before .before .before .before .before .before .before .before .before in
-    refusal-put _ _ (after-put2 .before .before .before .before .before .before .before .before .before .put .ensures) (after-put2 .before .before .before .before .before .put-decimal .ensures .0) (after-put2 .put2 .ensures) (c .before .before .before .before .before .before .before .put-decimal2 .ensures .0) (c .before .before .put3 .ensures)
+    refusal-put _ _ (after-put2 .before .before .before .before .before .before .before .before .before .put .ensures) (after-put2 .before .before .before .before .before .put-decimal .ensures .0)
+    (after-put2 .put2 .ensures) (c .before .before .before .before .before .before .before .put-decimal2 .ensures .0) (c .before .before .put3 .ensures)
 
 pub put-refusal-spec : {M : Type 1} → statement M
 put-refusal-spec =

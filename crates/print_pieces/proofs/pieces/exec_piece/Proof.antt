@@ -45,7 +45,8 @@ returns-2 c =
     let after-if2 = c .before .before .before .before .before in
     let after-if1 = after-if2 .before .before .before .before .before in
     let entry = after-if1 .before .before .before .before .before .before in
-    exec-begun _ _ (entry .pre .0) _ _ (omega (arith, after-if1 .before .exec-count .ensures, after-if1 .if1 .left)) (c .before .before .before .before .exec-at .ensures) (after-if2 .before .before .before .begin-line .ensures) (after-if2 .if2 .taken) (c .before .before .put-header .ensures)
+    exec-begun _ _ (entry .pre .0) _ _ (omega (arith, after-if1 .before .exec-count .ensures, after-if1 .if1 .left)) (c .before .before .before .before .exec-at .ensures)
+    (after-if2 .before .before .before .begin-line .ensures) (after-if2 .if2 .taken) (c .before .before .put-header .ensures)
 
 add-t8 : tie.Need-add-t8
 add-t8 c = search needs

@@ -29,7 +29,8 @@ same-length-2 : tie.Need-same-length-2
 same-length-2 c = search needs
 
 returns : tie.Need-returns
-returns c = running-next _ _ _ _ _ (c .before .before .before .before .before .before .before .before .before .before .before .before .pre .0) (c .before .before .before .before .before .before .steps-until .ensures) (c .before .before .told-piece .ensures)
+returns c = running-next _ _ _ _ _ (c .before .before .before .before .before .before .before .before .before .before .before .before .pre .0)
+    (c .before .before .before .before .before .before .steps-until .ensures) (c .before .before .told-piece .ensures)
 
 pub running-piece-spec : {M : Type 1} → statement M
 running-piece-spec =

@@ -26,7 +26,8 @@ slice-write-digits : tie.Need-slice-write-digits Inv-loop μ-loop
 slice-write-digits c = search needs
 
 same-length : tie.Need-same-length Inv-loop μ-loop
-same-length c = spelling-last _ _ _ _ (c .before .digit .ensures) _ (c .before .before .before .loop .inv) (c .before .before .loop-test .taken) (c .if1 .taken) .long ∙ sym (c .before .before .before .before .before .pre)
+same-length c = spelling-last _ _ _ _ (c .before .digit .ensures) _ (c .before .before .before .loop .inv) (c .before .before .loop-test .taken) (c .if1 .taken) .long ∙ sym
+    (c .before .before .before .before .before .pre)
 
 returns : tie.Need-returns Inv-loop μ-loop
 returns c = spelling-last _ _ _ _ (c .before .digit .ensures) _ (c .before .before .before .loop .inv) (c .before .before .loop-test .taken) (c .if1 .taken)

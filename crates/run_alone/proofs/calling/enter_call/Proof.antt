@@ -15,8 +15,13 @@ no-ends-requires c κs = search needs
 
 enter-list-requires : tie.Need-enter-list-requires
 enter-list-requires c κs =
-    let s = c .before .before .before .before in
-    ((s .pre .0 .0, (s .pre .0 .1) .provides), ((s .pre .1 .0, (held-nothing (s .args .text .now) (s .args .scratch .now) _ (c .no-ends .ensures .0) (c .no-ends .ensures .1))), (omega (arith, c .no-ends .ensures .1, s .pre .1 .1), omega arith)))
+    let s = c .before .before .before .before in (
+      (s .pre .0 .0, (s .pre .0 .1) .provides),
+      (
+        (s .pre .1 .0, (held-nothing (s .args .text .now) (s .args .scratch .now) _ (c .no-ends .ensures .0) (c .no-ends .ensures .1))),
+        (omega (arith, c .no-ends .ensures .1, s .pre .1 .1), omega arith),
+      ),
+    )
 
 list-end-requires : tie.Need-list-end-requires
 list-end-requires c κs = search needs
@@ -31,8 +36,13 @@ past-entries-requires c κs =
 
 enter-list-requires-2 : tie.Need-enter-list-requires-2
 enter-list-requires-2 c κs =
-    let s = c .before .before .before .before .before .before .before .before in
-    ((s .pre .0 .0, subst (λ i. EntriesIn (s .args .text .now) (s .args .scratch .now) i (s .args .d .used)) (sym (c .past-entries .ensures)) ((s .pre .0 .1) .uses)), ((s .pre .1 .0, c .before .before .before .enter-list .ensures .fits), (omega (arith, c .before .before .before .enter-list .ensures .few, c .before .before .before .before .no-ends .ensures .1, s .pre .1 .1), omega arith)))
+    let s = c .before .before .before .before .before .before .before .before in (
+      (s .pre .0 .0, subst (λ i. EntriesIn (s .args .text .now) (s .args .scratch .now) i (s .args .d .used)) (sym (c .past-entries .ensures)) ((s .pre .0 .1) .uses)),
+      (
+        (s .pre .1 .0, c .before .before .before .enter-list .ensures .fits),
+        (omega (arith, c .before .before .before .enter-list .ensures .few, c .before .before .before .before .no-ends .ensures .1, s .pre .1 .1), omega arith),
+      ),
+    )
 
 returns : tie.Need-returns
 returns c =
@@ -42,7 +52,10 @@ returns c =
     let entry = after-no-ends .before .before .before .before in
     let text = entry .args .text .now in
     let scratch = entry .args .scratch .now in
-    enters-call text scratch (entry .args .h) (entry .args .bracket) (entry .args .d) _ _ _ (no-ends .result) (enter-list .result) (c .enter-list2 .result) (none-held text scratch _ (no-ends .ensures .1)) (after-no-ends .before .list-start .ensures) (c .before .before .before .list-end .ensures) (c .before .before .list-start2 .ensures) (enter-list .ensures) (subst (λ i. EntersList text scratch (entry .args .h) (enter-list .result) (c .before .before .list-start2 .result) 1 i (entry .args .d .used) (c .enter-list2 .result)) (c .before .past-entries .ensures) (c .enter-list2 .ensures))
+    enters-call text scratch (entry .args .h) (entry .args .bracket) (entry .args .d) _ _ _ (no-ends .result) (enter-list .result) (c .enter-list2 .result)
+    (none-held text scratch _ (no-ends .ensures .1)) (after-no-ends .before .list-start .ensures) (c .before .before .before .list-end .ensures) (c .before .before .list-start2 .ensures)
+    (enter-list .ensures) (subst (λ i. EntersList text scratch (entry .args .h) (enter-list .result) (c .before .before .list-start2 .result) 1 i (entry .args .d .used) (c .enter-list2 .result))
+    (c .before .past-entries .ensures) (c .enter-list2 .ensures))
 
 pub enter-call-spec : {M : Type 1} → statement M
 enter-call-spec =

@@ -16,17 +16,25 @@ enum-told c = search needs
 returns : tie.Need-returns
 returns c =
     let s = c .before .before .before .before .before in
-    enters-none (s .args .text .now) (s .args .scratch .now) (s .args .h) (s .args .r) (s .args .a) (s .args .at) (s .args .side) (s .args .node) (c .before .before .find-end .ensures) (s .pre .0 .1) (c .enum-told .given .1)
+    enters-none (s .args .text .now) (s .args .scratch .now) (s .args .h) (s .args .r) (s .args .a) (s .args .at) (s .args .side) (s .args .node) (c .before .before .find-end .ensures) (s .pre .0 .1)
+    (c .enum-told .given .1)
 
 bring-end-requires : tie.Need-bring-end-requires
 bring-end-requires c κs =
-    let s = c .before .before .before .before .before .before in
-    (s .pre .1 .0, s .pre .1 .1, s .pre .1 .2, s .pre .1 .3, end-found {w = (s .args .scratch .now)} (c .before .before .before .find-end .ensures) (c .before .f .given .1) (s .pre .0 .0) .0 .bounds .channel)
+    let s = c .before .before .before .before .before .before in (
+      s .pre .1 .0,
+      s .pre .1 .1,
+      s .pre .1 .2,
+      s .pre .1 .3,
+      end-found {w = (s .args .scratch .now)} (c .before .before .before .find-end .ensures) (c .before .f .given .1)
+          (s .pre .0 .0) .0 .bounds .channel,
+    )
 
 returns-2 : tie.Need-returns-2
 returns-2 c =
     let s = c .before .before .before .before .before .before .before in
-    enters-found (s .args .text .now) (s .args .scratch .now) (s .args .h) (s .args .r) (s .args .a) (s .args .at) (s .args .side) (s .args .node) (c .before .before .before .before .find-end .ensures) (s .pre .0 .1) _ _ (c .before .before .f .given .1) (s .pre .0 .2) (c .bring-end .ensures)
+    enters-found (s .args .text .now) (s .args .scratch .now) (s .args .h) (s .args .r) (s .args .a) (s .args .at) (s .args .side) (s .args .node)
+    (c .before .before .before .before .find-end .ensures) (s .pre .0 .1) _ _ (c .before .before .f .given .1) (s .pre .0 .2) (c .bring-end .ensures)
 
 pub enter-end-spec : {M : Type 1} → statement M
 enter-end-spec =

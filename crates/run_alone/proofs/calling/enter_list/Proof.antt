@@ -30,13 +30,17 @@ returns : tie.Need-returns Inv-loop μ-loop
 returns c =
     let loop = c .before .before .before .before .loop in
     let entry = c .before .before .before .before .before .before .before in
-    entering-ended (entry .args .text .now) (entry .args .scratch .now) (entry .args .h) (entry .args .r) (entry .args .from) (entry .args .side) (entry .args .first) (entry .args .n) (loop .q) (loop .at) (loop .i) (loop .left) (loop .inv) _ (sym (c .before .before .next-argument .ensures .0) ∙ c .enum-told .given .1)
+    entering-ended (entry .args .text .now) (entry .args .scratch .now) (entry .args .h) (entry .args .r) (entry .args .from) (entry .args .side) (entry .args .first) (entry .args .n) (loop .q)
+    (loop .at) (loop .i) (loop .left) (loop .inv) _ (sym (c .before .before .next-argument .ensures .0) ∙ c .enum-told .given .1)
 
 entry-requires : tie.Need-entry-requires Inv-loop μ-loop
 entry-requires c κs =
     let loop = c .before .before .before .before .before .loop in
-    let entry = c .before .before .before .before .before .before .before .before in
-    (entry .pre .0 .0 .area, entering-there (entry .args .text .now) (entry .args .scratch .now) (entry .args .h) (entry .args .r) (entry .args .from) (entry .args .side) (entry .args .first) (entry .args .n) (loop .q) (loop .at) (loop .i) (loop .left) (loop .inv) (c .before .before .before .before .loop-test .taken) (entry .pre .0 .0))
+    let entry = c .before .before .before .before .before .before .before .before in (
+      entry .pre .0 .0 .area,
+      entering-there (entry .args .text .now) (entry .args .scratch .now) (entry .args .h) (entry .args .r) (entry .args .from) (entry .args .side) (entry .args .first)
+          (entry .args .n) (loop .q) (loop .at) (loop .i) (loop .left) (loop .inv) (c .before .before .before .before .loop-test .taken) (entry .pre .0 .0),
+    )
 
 cast-enter-end : tie.Need-cast-enter-end Inv-loop μ-loop
 cast-enter-end c = omega (arith, c .before .entry .ensures .at)
@@ -46,7 +50,12 @@ cast-enter-end-2 c =
     let after-loop-test = c .before .before .before .before .before .before .before in
     let loop = after-loop-test .before .loop in
     let entry = after-loop-test .before .before .before .before in
-    omega (arith, (node-there (entry .args .text .now) (entry .args .scratch .now) (entry .pre .0 .0) _ (entering-type (entry .args .text .now) (entry .args .scratch .now) (entry .args .h) (entry .args .r) (entry .args .from) (entry .args .side) (entry .args .first) (entry .args .n) (loop .q) (loop .at) (loop .i) (loop .left) (loop .inv) (after-loop-test .loop-test .taken) (c .before .before .entry .result) (c .before .before .entry .ensures))))
+    omega (
+      arith,
+      (node-there (entry .args .text .now) (entry .args .scratch .now) (entry .pre .0 .0) _
+          (entering-type (entry .args .text .now) (entry .args .scratch .now) (entry .args .h) (entry .args .r) (entry .args .from) (entry .args .side) (entry .args .first) (entry .args .n) (loop .q)
+          (loop .at) (loop .i) (loop .left) (loop .inv) (after-loop-test .loop-test .taken) (c .before .before .entry .result) (c .before .before .entry .ensures))),
+    )
 
 enter-end-requires : tie.Need-enter-end-requires Inv-loop μ-loop
 enter-end-requires c κs =
@@ -57,14 +66,27 @@ enter-end-requires c κs =
     let entry-frame = after-loop-test .before .before .before .before in
     let text = entry-frame .args .text .now in
     let scratch = entry-frame .args .scratch .now in
-    ((entry-frame .pre .1 .0 .0, loop .inv .fits, (entering-type text scratch (entry-frame .args .h) (entry-frame .args .r) (entry-frame .args .from) (entry-frame .args .side) (entry-frame .args .first) (entry-frame .args .n) (loop .q) (loop .at) (loop .i) (loop .left) (loop .inv) (loop-test .taken) (entry .result) (entry .ensures))), (omega (arith, loop .inv .few, loop-test .taken, entry-frame .pre .1 .1 .0), entry .ensures .at, entry-frame .pre .1 .1 .1, (node-there text scratch (entry-frame .pre .0 .0) _ (entering-type text scratch (entry-frame .args .h) (entry-frame .args .r) (entry-frame .args .from) (entry-frame .args .side) (entry-frame .args .first) (entry-frame .args .n) (loop .q) (loop .at) (loop .i) (loop .left) (loop .inv) (loop-test .taken) (entry .result) (entry .ensures)))))
+    let entering-type′ = entering-type text scratch (entry-frame .args .h) (entry-frame .args .r) (entry-frame .args .from) (entry-frame .args .side) (entry-frame .args .first) (entry-frame .args .n)
+    (loop .q) (loop .at) (loop .i) (loop .left) (loop .inv) (loop-test .taken) (entry .result) (entry .ensures) in (
+      (entry-frame .pre .1 .0 .0, loop .inv .fits, entering-type′),
+      (
+        omega (arith, loop .inv .few, loop-test .taken, entry-frame .pre .1 .1 .0),
+        entry .ensures .at,
+        entry-frame .pre .1 .1 .1,
+        (node-there text scratch (entry-frame .pre .0 .0) _ entering-type′),
+      ),
+    )
 
 add-i : tie.Need-add-i Inv-loop μ-loop
 add-i c =
     let after-loop-test = c .before .before .before .before .before .before .before .before in
     let loop = after-loop-test .before .loop in
     let entry = after-loop-test .before .before .before .before in
-    omega (arith, entering-there (entry .args .text .now) (entry .args .scratch .now) (entry .args .h) (entry .args .r) (entry .args .from) (entry .args .side) (entry .args .first) (entry .args .n) (loop .q) (loop .at) (loop .i) (loop .left) (loop .inv) (after-loop-test .loop-test .taken) (entry .pre .0 .0))
+    omega (
+      arith,
+      entering-there (entry .args .text .now) (entry .args .scratch .now) (entry .args .h) (entry .args .r) (entry .args .from) (entry .args .side) (entry .args .first) (entry .args .n)
+          (loop .q) (loop .at) (loop .i) (loop .left) (loop .inv) (after-loop-test .loop-test .taken) (entry .pre .0 .0),
+    )
 
 sub-left : tie.Need-sub-left Inv-loop μ-loop
 sub-left c = omega (arith, c .before .before .before .before .before .before .before .before .loop-test .taken)
@@ -78,12 +100,15 @@ loop-again c =
     let after-a = c .before .before .before .before .before in
     let loop = after-a .before .before .before .before .loop in
     let entry-frame = after-a .before .before .before .before .before .before .before in
-    entering-on (entry-frame .args .text .now) (entry-frame .args .scratch .now) (entry-frame .args .h) (entry-frame .args .r) (entry-frame .args .from) (entry-frame .args .side) (entry-frame .args .first) (entry-frame .args .n) (loop .q) (loop .at) (loop .i) (loop .left) (loop .inv) (after-a .before .before .before .loop-test .taken) (entry .result) (entry .ensures) _ _ _ (sym (after-a .before .before .next-argument .ensures .0) ∙ after-a .a .given .1) (c .enter-end .ensures)
+    entering-on (entry-frame .args .text .now) (entry-frame .args .scratch .now) (entry-frame .args .h) (entry-frame .args .r) (entry-frame .args .from) (entry-frame .args .side)
+    (entry-frame .args .first) (entry-frame .args .n) (loop .q) (loop .at) (loop .i) (loop .left) (loop .inv) (after-a .before .before .before .loop-test .taken) (entry .result) (entry .ensures) _ _
+    _ (sym (after-a .before .before .next-argument .ensures .0) ∙ after-a .a .given .1) (c .enter-end .ensures)
 
 returns-2 : tie.Need-returns-2 Inv-loop μ-loop
 returns-2 c =
     let s = c .before .before .before .before in
-    entering-done (s .args .text .now) (s .args .scratch .now) (s .args .h) (s .args .r) (s .args .from) (s .args .side) (s .args .first) (s .args .n) (c .before .loop .q) (c .before .loop .at) (c .before .loop .i) (c .before .loop .left) (c .before .loop .inv) (c .loop-test .left)
+    entering-done (s .args .text .now) (s .args .scratch .now) (s .args .h) (s .args .r) (s .args .from) (s .args .side) (s .args .first) (s .args .n) (c .before .loop .q) (c .before .loop .at)
+    (c .before .loop .i) (c .before .loop .left) (c .before .loop .inv) (c .loop-test .left)
 
 pub enter-list-spec : {M : Type 1} → statement M
 enter-list-spec =

@@ -31,12 +31,19 @@ enum-told-2 c = search needs
 returns-2 : tie.Need-returns-2
 returns-2 c =
     let s = c .before .before .before .before .before .before .before .before .before .before .before in
-    no-used (s .args .text .now) (s .args .scratch .now) (s .args .run .now) (s .args .place) (s .args .p) (s .args .x) (s .args .c) (c .before .before .before .before .before .before .find-end .ensures) (c .before .before .before .before .f .given .1) (c .before .before .find-end2 .ensures) (c .enum-told2 .given .1)
+    no-used (s .args .text .now) (s .args .scratch .now) (s .args .run .now) (s .args .place) (s .args .p) (s .args .x) (s .args .c)
+    (c .before .before .before .before .before .before .find-end .ensures) (c .before .before .before .before .f .given .1) (c .before .before .find-end2 .ensures) (c .enum-told2 .given .1)
 
 far-end-requires : tie.Need-far-end-requires
 far-end-requires c κs =
-    let s = c .before .before .before .before .before .before .before .before .before .before .before .before .before in
-    ((s .pre .0 .wide), ((s .pre .0 .bounds), (end-found {w = (s .args .scratch .now)} (c .before .before .before .before .find-end2 .ensures) (c .before .before .g .given .1) (s .pre .1 .is .held)) .1))
+    let s = c .before .before .before .before .before .before .before .before .before .before .before .before .before in (
+      (s .pre .0 .wide),
+      (
+        (s .pre .0 .bounds),
+        (end-found {w = (s .args .scratch .now)} (c .before .before .before .before .find-end2 .ensures) (c .before .before .g .given .1)
+            (s .pre .1 .is .held)) .1,
+      ),
+    )
 
 is-given-up-requires : tie.Need-is-given-up-requires
 is-given-up-requires c κs = search needs
@@ -47,8 +54,16 @@ emptied-requires c κs = search needs
 part-requires : tie.Need-part-requires
 part-requires c κs =
     let after-f = c .before .before .before .before .before .before .before .before .before .before .before in
-    let entry = after-f .before .before .before .before .before .before .before in
-    (entry .pre .0, (entry .pre .1 .below, (c .before .emptied .ensures .fits (entry .args .text .now) (entry .args .scratch .now) _ (entry .pre .1 .is), (end-found {w = (entry .args .scratch .now)} (after-f .before .before .find-end .ensures) (after-f .f .given .1) (entry .pre .1 .is .held)) .1)))
+    let entry = after-f .before .before .before .before .before .before .before in (
+      entry .pre .0,
+      (
+        entry .pre .1 .below,
+        (
+          c .before .emptied .ensures .fits (entry .args .text .now) (entry .args .scratch .now) _ (entry .pre .1 .is),
+          (end-found {w = (entry .args .scratch .now)} (after-f .before .before .find-end .ensures) (after-f .f .given .1) (entry .pre .1 .is .held)) .1,
+        ),
+      ),
+    )
 
 same-length : tie.Need-same-length
 same-length c = search needs
@@ -59,14 +74,24 @@ returns-3 c =
     let after-g = after-if1 .before .before .before .before .before in
     let after-f = after-g .before .before .before .before in
     let entry = after-f .before .before .before .before .before .before .before in
-    forwards-parted (entry .args .text .now) (entry .args .scratch .now) (entry .args .run .now) (entry .args .place) (entry .args .p) (entry .args .x) (entry .args .c) (after-f .before .before .find-end .ensures) (after-f .f .given .1) (after-g .before .before .find-end2 .ensures) (after-g .g .given .1) _ _ (after-if1 .before .before .far-end .ensures) (sym (after-if1 .before .is-given-up .ensures) ∙ after-if1 .if1 .taken) (c .before .before .before .before .emptied .ensures) (c .before .before .part .ensures)
+    forwards-parted (entry .args .text .now) (entry .args .scratch .now) (entry .args .run .now) (entry .args .place) (entry .args .p) (entry .args .x) (entry .args .c)
+    (after-f .before .before .find-end .ensures) (after-f .f .given .1) (after-g .before .before .find-end2 .ensures) (after-g .g .given .1) _ _ (after-if1 .before .before .far-end .ensures)
+    (sym (after-if1 .before .is-given-up .ensures) ∙ after-if1 .if1 .taken) (c .before .before .before .before .emptied .ensures) (c .before .before .part .ensures)
 
 join-requires : tie.Need-join-requires
 join-requires c κs =
     let after-g = c .before .before .before .before .before .before in
     let after-f = after-g .before .before .before .before in
-    let entry = after-f .before .before .before .before .before .before .before in
-    (entry .pre .0, (entry .pre .1, ((end-found {w = (entry .args .scratch .now)} (after-f .before .before .find-end .ensures) (after-f .f .given .1) (entry .pre .1 .is .held)) .1, (end-found {w = (entry .args .scratch .now)} (after-g .before .before .find-end2 .ensures) (after-g .g .given .1) (entry .pre .1 .is .held)) .0 .bounds .channel)))
+    let entry = after-f .before .before .before .before .before .before .before in (
+      entry .pre .0,
+      (
+        entry .pre .1,
+        (
+          (end-found {w = (entry .args .scratch .now)} (after-f .before .before .find-end .ensures) (after-f .f .given .1) (entry .pre .1 .is .held)) .1,
+          (end-found {w = (entry .args .scratch .now)} (after-g .before .before .find-end2 .ensures) (after-g .g .given .1) (entry .pre .1 .is .held)) .0 .bounds .channel,
+        ),
+      ),
+    )
 
 same-length-2 : tie.Need-same-length-2
 same-length-2 c = search needs
@@ -77,7 +102,9 @@ returns-4 c =
     let after-g = after-if1 .before .before .before .before .before in
     let after-f = after-g .before .before .before .before in
     let entry = after-f .before .before .before .before .before .before .before in
-    forwards-joined (entry .args .text .now) (entry .args .scratch .now) (entry .args .run .now) (entry .args .place) (entry .args .p) (entry .args .x) (entry .args .c) (after-f .before .before .find-end .ensures) (after-f .f .given .1) (after-g .before .before .find-end2 .ensures) (after-g .g .given .1) _ (after-if1 .before .before .far-end .ensures) (sym (after-if1 .before .is-given-up .ensures) ∙ after-if1 .if1 .left) (c .before .before .join .ensures)
+    forwards-joined (entry .args .text .now) (entry .args .scratch .now) (entry .args .run .now) (entry .args .place) (entry .args .p) (entry .args .x) (entry .args .c)
+    (after-f .before .before .find-end .ensures) (after-f .f .given .1) (after-g .before .before .find-end2 .ensures) (after-g .g .given .1) _ (after-if1 .before .before .far-end .ensures)
+    (sym (after-if1 .before .is-given-up .ensures) ∙ after-if1 .if1 .left) (c .before .before .join .ensures)
 
 pub forward-spec : {M : Type 1} → statement M
 forward-spec =

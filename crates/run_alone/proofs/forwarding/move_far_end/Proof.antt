@@ -17,8 +17,11 @@ load-requires c κs =
 
 end-at-requires : tie.Need-end-at-requires
 end-at-requires c κs =
-    let s = c .before .before .before .before .before .before in
-    (c .before .load .ensures .1 .1, (far-position (s .args .text .now) (s .args .scratch .now) (s .args .run .now) (s .args .e) (s .args .j) (s .args .k) (s .pre .1 .1 .1 .0) (c .before .load .result) (c .before .load .ensures .0)))
+    let s = c .before .before .before .before .before .before in (
+      c .before .load .ensures .1 .1,
+      (far-position (s .args .text .now) (s .args .scratch .now) (s .args .run .now) (s .args .e) (s .args .j) (s .args .k) (s .pre .1 .1 .1 .0)
+          (c .before .load .result) (c .before .load .ensures .0)),
+    )
 
 replaced-requires : tie.Need-replaced-requires
 replaced-requires c κs =
@@ -27,8 +30,11 @@ replaced-requires c κs =
     let text = entry .args .text .now in
     let scratch = entry .args .scratch .now in
     let run = entry .args .run .now in
-    let o = all-at (EndIn text scratch) (heldIn (load .result .held)) (entry .args .k) ((stands-at text scratch run (entry .args .j) (load .result) (entry .pre .0) (load .ensures .0) (load .ensures .1 .0) (load .ensures .1 .1)) .is .held .each) (c .end-at .ensures .0) in
-    ((load .ensures .1 .1, (far-position text scratch run (entry .args .e) (entry .args .j) (entry .args .k) (entry .pre .1 .1 .1 .0) (load .result) (load .ensures .0))), (record { name = o .bounds .name; node = o .bounds .node; channel = entry .pre .1 .1 .1 .1 }, c .end-at .ensures .1 .0))
+    let o = all-at (EndIn text scratch) (heldIn (load .result .held)) (entry .args .k)
+    ((stands-at text scratch run (entry .args .j) (load .result) (entry .pre .0) (load .ensures .0) (load .ensures .1 .0) (load .ensures .1 .1)) .is .held .each) (c .end-at .ensures .0) in (
+      (load .ensures .1 .1, (far-position text scratch run (entry .args .e) (entry .args .j) (entry .args .k) (entry .pre .1 .1 .1 .0) (load .result) (load .ensures .0))),
+      (record { name = o .bounds .name; node = o .bounds .node; channel = entry .pre .1 .1 .1 .1 }, c .end-at .ensures .1 .0),
+    )
 
 store-requires : tie.Need-store-requires
 store-requires c κs =
@@ -52,7 +58,27 @@ store-requires-2 c κs =
     let place = entry .args .place in
     let q = entry .args .q in
     let d = entry .args .d in
-    (mid-becomes text scratch run e j k (entry .pre .1 .1 .1 .0) (entry .pre .0) place q (load .result) (end-at .result) d (replaced .result) _ (entry .pre .1 .1 .0) (store .ensures .0) (store .ensures .1) .run .wide, (store .ensures .1, (omega (arith, mid-many text scratch run e j k (entry .pre .1 .1 .1 .0) (entry .pre .0) place q (load .result) (end-at .result) d (replaced .result) _ (entry .pre .1 .1 .0) (store .ensures .0) (store .ensures .1), far-place text scratch run e j k (entry .pre .1 .1 .1 .0)), bounded-of text scratch (subst (λ n. ProcessOf text scratch n (regained text scratch run e j k (entry .pre .1 .1 .1 .0) (entry .pre .0) place q (load .result) (end-at .result) d (replaced .result))) (sym (mid-many text scratch run e j k (entry .pre .1 .1 .1 .0) (entry .pre .0) place q (load .result) (end-at .result) d (replaced .result) _ (entry .pre .1 .1 .0) (store .ensures .0) (store .ensures .1))) (regained-of text scratch run e j k (entry .pre .1 .1 .1 .0) (entry .pre .0) place q (load .result) (end-at .result) d (replaced .result) (stands-at text scratch run j (load .result) (entry .pre .0) (load .ensures .0) (load .ensures .1 .0) (load .ensures .1 .1)) (far-held text scratch run e j k (entry .pre .1 .1 .1 .0) (load .result) (load .ensures .0) (end-at .result) (end-at .ensures .0) (d .channel) _ (replaced .ensures .0) (replaced .ensures .1) ((stands-at text scratch run j (load .result) (entry .pre .0) (load .ensures .0) (load .ensures .1 .0) (load .ensures .1 .1)) .is .held) (entry .pre .1 .1 .1 .1)))))))
+    let stands-at′ = stands-at text scratch run j (load .result) (entry .pre .0) (load .ensures .0) (load .ensures .1 .0) (load .ensures .1 .1) in (
+      mid-becomes text scratch run e j k (entry .pre .1 .1 .1 .0) (entry .pre .0) place q (load .result) (end-at .result) d (replaced .result) _ (entry .pre .1 .1 .0) (store .ensures .0)
+          (store .ensures .1) .run .wide,
+      (
+        store .ensures .1,
+        (
+          omega (
+            arith,
+            mid-many text scratch run e j k (entry .pre .1 .1 .1 .0) (entry .pre .0) place q (load .result) (end-at .result) d
+                (replaced .result) _ (entry .pre .1 .1 .0) (store .ensures .0) (store .ensures .1),
+            far-place text scratch run e j k (entry .pre .1 .1 .1 .0),
+          ),
+          bounded-of text scratch (subst
+              (λ n. ProcessOf text scratch n (regained text scratch run e j k (entry .pre .1 .1 .1 .0) (entry .pre .0) place q (load .result) (end-at .result) d (replaced .result)))
+              (sym (mid-many text scratch run e j k (entry .pre .1 .1 .1 .0) (entry .pre .0) place q (load .result) (end-at .result) d (replaced .result) _ (entry .pre .1 .1 .0) (store .ensures .0)
+              (store .ensures .1))) (regained-of text scratch run e j k (entry .pre .1 .1 .1 .0) (entry .pre .0) place q (load .result) (end-at .result) d (replaced .result) stands-at′ (far-held text scratch
+              run e j k (entry .pre .1 .1 .1 .0) (load .result) (load .ensures .0) (end-at .result) (end-at .ensures .0) (d .channel) _ (replaced .ensures .0) (replaced .ensures .1) (stands-at′ .is .held)
+              (entry .pre .1 .1 .1 .1)))),
+        ),
+      ),
+    )
 
 same-length : tie.Need-same-length
 same-length c = search needs
@@ -74,7 +100,15 @@ returns c =
     let place = entry .args .place in
     let q = entry .args .q in
     let d = entry .args .d in
-    moves-far text scratch run e j k (entry .pre .1 .1 .1 .0) (entry .pre .0) place q (load .result) (end-at .result) d (replaced .result) _ (entry .pre .1 .1 .0) (store .ensures .0) (store .ensures .1) _ (subst (λ n. ProcessOf text scratch n (regained text scratch run e j k (entry .pre .1 .1 .1 .0) (entry .pre .0) place q (load .result) (end-at .result) d (replaced .result))) (sym (mid-many text scratch run e j k (entry .pre .1 .1 .1 .0) (entry .pre .0) place q (load .result) (end-at .result) d (replaced .result) _ (entry .pre .1 .1 .0) (store .ensures .0) (store .ensures .1))) (regained-of text scratch run e j k (entry .pre .1 .1 .1 .0) (entry .pre .0) place q (load .result) (end-at .result) d (replaced .result) (stands-at text scratch run j (load .result) (entry .pre .0) (load .ensures .0) (load .ensures .1 .0) (load .ensures .1 .1)) (far-held text scratch run e j k (entry .pre .1 .1 .1 .0) (load .result) (load .ensures .0) (end-at .result) (end-at .ensures .0) (d .channel) _ (replaced .ensures .0) (replaced .ensures .1) ((stands-at text scratch run j (load .result) (entry .pre .0) (load .ensures .0) (load .ensures .1 .0) (load .ensures .1 .1)) .is .held) (entry .pre .1 .1 .1 .1)))) (far-moved text scratch run e j k (entry .pre .1 .1 .1 .0) (load .result) (load .ensures .0) (end-at .result) (end-at .ensures .0) (d .channel) _ (replaced .ensures .0)) (far-holder text scratch run e j k (entry .pre .1 .1 .1 .0) (load .result) (load .ensures .0) (end-at .result) (end-at .ensures .0)) (c .before .before .store2 .ensures .0) (c .before .before .store2 .ensures .1)
+    let stands-at′ = stands-at text scratch run j (load .result) (entry .pre .0) (load .ensures .0) (load .ensures .1 .0) (load .ensures .1 .1) in
+    moves-far text scratch run e j k (entry .pre .1 .1 .1 .0) (entry .pre .0) place q (load .result) (end-at .result) d (replaced .result) _ (entry .pre .1 .1 .0) (store .ensures .0)
+    (store .ensures .1) _ (subst (λ n. ProcessOf text scratch n (regained text scratch run e j k (entry .pre .1 .1 .1 .0) (entry .pre .0) place q (load .result) (end-at .result) d
+    (replaced .result))) (sym (mid-many text scratch run e j k (entry .pre .1 .1 .1 .0) (entry .pre .0) place q (load .result) (end-at .result) d (replaced .result) _ (entry .pre .1 .1 .0)
+    (store .ensures .0) (store .ensures .1))) (regained-of text scratch run e j k (entry .pre .1 .1 .1 .0) (entry .pre .0) place q (load .result) (end-at .result) d (replaced .result) stands-at′
+    (far-held text scratch run e j k (entry .pre .1 .1 .1 .0) (load .result) (load .ensures .0) (end-at .result) (end-at .ensures .0) (d .channel) _ (replaced .ensures .0) (replaced .ensures .1)
+    (stands-at′ .is .held) (entry .pre .1 .1 .1 .1)))) (far-moved text scratch run e j k (entry .pre .1 .1 .1 .0) (load .result) (load .ensures .0) (end-at .result) (end-at .ensures .0) (d .channel)
+    _ (replaced .ensures .0)) (far-holder text scratch run e j k (entry .pre .1 .1 .1 .0) (load .result) (load .ensures .0) (end-at .result) (end-at .ensures .0))
+    (c .before .before .store2 .ensures .0) (c .before .before .store2 .ensures .1)
 
 pub move-far-end-spec : {M : Type 1} → statement M
 move-far-end-spec =

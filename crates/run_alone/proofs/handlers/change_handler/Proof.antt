@@ -17,8 +17,15 @@ wide-requires c κs = search needs
 
 load-requires : tie.Need-load-requires
 load-requires c κs =
-    let s = c .before .before .before .before .before .before in
-    (s .pre .0 .wide, (s .pre .0 .bounds, handler-below (s .args .text .now) (s .args .scratch .now) (s .args .run .now) (s .args .run .now) (s .pre .0) (s .args .raised) (s .args .link) (c .before .wide .result) _ (handler-place (s .args .text .now) (s .args .scratch .now) (s .args .run .now) (s .args .run .now) (s .pre .0) (s .args .raised) (s .args .link) (c .before .wide .result) (c .before .before .if1 .left) (c .before .wide .ensures .0)) (s .pre .1)))
+    let s = c .before .before .before .before .before .before in (
+      s .pre .0 .wide,
+      (
+        s .pre .0 .bounds,
+        handler-below (s .args .text .now) (s .args .scratch .now) (s .args .run .now) (s .args .run .now) (s .pre .0) (s .args .raised) (s .args .link)
+            (c .before .wide .result) _ (handler-place (s .args .text .now) (s .args .scratch .now) (s .args .run .now) (s .args .run .now) (s .pre .0) (s .args .raised) (s .args .link)
+            (c .before .wide .result) (c .before .before .if1 .left) (c .before .wide .ensures .0)) (s .pre .1),
+      ),
+    )
 
 handler-kind-requires : tie.Need-handler-kind-requires
 handler-kind-requires c κs = search needs
@@ -33,8 +40,19 @@ store-requires c κs =
     let scratch = entry .args .scratch .now in
     let run = entry .args .run .now in
     let raised = entry .args .raised in
-    let link = entry .args .link in
-    (entry .pre .0 .wide, (entry .pre .0 .bounds, (handler-below text scratch run run (entry .pre .0) raised link (wide .result) _ (handler-place text scratch run run (entry .pre .0) raised link (wide .result) (after-wide .before .if1 .left) (wide .ensures .0)) (entry .pre .1), bounded-of _ _ (handler-fine text scratch run run (entry .pre .0) raised link (wide .result) (load .result) (stands-at text scratch run (wide .result) (load .result) (entry .pre .0) (load .ensures .0) (load .ensures .1 .0) (load .ensures .1 .1)) _ (c .before .handler-kind .ensures)))))
+    let link = entry .args .link in (
+      entry .pre .0 .wide,
+      (
+        entry .pre .0 .bounds,
+        (
+          handler-below text scratch run run (entry .pre .0) raised link (wide .result) _
+              (handler-place text scratch run run (entry .pre .0) raised link (wide .result) (after-wide .before .if1 .left) (wide .ensures .0)) (entry .pre .1),
+          bounded-of _ _
+              (handler-fine text scratch run run (entry .pre .0) raised link (wide .result) (load .result)
+              (stands-at text scratch run (wide .result) (load .result) (entry .pre .0) (load .ensures .0) (load .ensures .1 .0) (load .ensures .1 .1)) _ (c .before .handler-kind .ensures)),
+        ),
+      ),
+    )
 
 same-length : tie.Need-same-length
 same-length c = search needs
@@ -48,7 +66,10 @@ returns-2 c =
     let text = entry .args .text .now in
     let scratch = entry .args .scratch .now in
     let run = entry .args .run .now in
-    handler-changed text scratch run _ (entry .pre .0) (entry .args .raised) (entry .args .link) (wide .result) (load .result) (stands-at text scratch run (wide .result) (load .result) (entry .pre .0) (load .ensures .0) (load .ensures .1 .0) (load .ensures .1 .1)) _ (c .before .before .before .before .handler-kind .ensures) (handler-place text scratch run run (entry .pre .0) (entry .args .raised) (entry .args .link) (wide .result) (after-load .before .before .before .if1 .left) (wide .ensures .0)) (c .before .before .store .ensures .0) (c .before .before .store .ensures .1)
+    handler-changed text scratch run _ (entry .pre .0) (entry .args .raised) (entry .args .link) (wide .result) (load .result)
+    (stands-at text scratch run (wide .result) (load .result) (entry .pre .0) (load .ensures .0) (load .ensures .1 .0) (load .ensures .1 .1)) _
+    (c .before .before .before .before .handler-kind .ensures) (handler-place text scratch run run (entry .pre .0) (entry .args .raised) (entry .args .link) (wide .result)
+    (after-load .before .before .before .if1 .left) (wide .ensures .0)) (c .before .before .store .ensures .0) (c .before .before .store .ensures .1)
 
 pub change-handler-spec : {M : Type 1} → statement M
 change-handler-spec =

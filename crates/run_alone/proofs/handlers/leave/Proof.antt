@@ -12,8 +12,16 @@ change-handler-requires c κs =
 
 remove-requires : tie.Need-remove-requires
 remove-requires c κs =
-    let s = c .before .before .before .before .before .before .before .before in
-    ((c .before .before .before .change-handler .ensures) .run .wide, ((c .before .before .before .change-handler .ensures) .run .bounds, (omega (arith, as-many (s .args .text .now) (s .args .scratch .now) (s .args .run .now) _ false (s .args .p .link) (c .before .before .before .change-handler .ensures), s .pre .1 .0 .below), unlinked-still (s .args .text .now) (s .args .scratch .now) (s .args .run .now) _ false (s .args .p .link) (c .before .before .before .change-handler .ensures) (s .args .place) (s .pre .1 .1))))
+    let s = c .before .before .before .before .before .before .before .before in (
+      (c .before .before .before .change-handler .ensures) .run .wide,
+      (
+        (c .before .before .before .change-handler .ensures) .run .bounds,
+        (
+          omega (arith, as-many (s .args .text .now) (s .args .scratch .now) (s .args .run .now) _ false (s .args .p .link) (c .before .before .before .change-handler .ensures), s .pre .1 .0 .below),
+          unlinked-still (s .args .text .now) (s .args .scratch .now) (s .args .run .now) _ false (s .args .p .link) (c .before .before .before .change-handler .ensures) (s .args .place) (s .pre .1 .1),
+        ),
+      ),
+    )
 
 same-length : tie.Need-same-length
 same-length c = search needs
@@ -21,7 +29,8 @@ same-length c = search needs
 returns : tie.Need-returns
 returns c =
     let s = c .before .before .before .before .before .before .before .before .before .before .before in
-    leaves (s .args .text .now) (s .args .scratch .now) (s .args .run .now) _ _ (s .args .place) (s .args .p) (c .before .before .before .before .before .before .change-handler .ensures) (c .before .before .remove .ensures .0) (c .before .before .remove .ensures .1)
+    leaves (s .args .text .now) (s .args .scratch .now) (s .args .run .now) _ _ (s .args .place) (s .args .p) (c .before .before .before .before .before .before .change-handler .ensures)
+    (c .before .before .remove .ensures .0) (c .before .before .remove .ensures .1)
 
 pub leave-spec : {M : Type 1} → statement M
 leave-spec = tie.close (tie.spec change-handler-requires remove-requires same-length returns)

@@ -32,18 +32,35 @@ same-length-2 c = search needs
 returns-2 : tie.Need-returns-2
 returns-2 c =
     let s = c .before .before .before .before .before .before .before .before .before .before in
-    no-channel (s .args .text .now) (s .args .scratch .now) (s .args .run .now) (s .args .place) (s .args .p) (s .args .m) (c .before .before .fresh-channel .ensures) (omega (arith, c .before .before .before .before .if1 .left, c .before .before .before .before .before .count .ensures)) (c .enum-told .given .1)
+    no-channel (s .args .text .now) (s .args .scratch .now) (s .args .run .now) (s .args .place) (s .args .p) (s .args .m) (c .before .before .fresh-channel .ensures)
+    (omega (arith, c .before .before .before .before .if1 .left, c .before .before .before .before .before .count .ensures)) (c .enum-told .given .1)
 
 cast-spawn-on : tie.Need-cast-spawn-on
 cast-spawn-on c =
     let s = c .before .before .before .before .before .before .before .before .before .before .before .before in
-    omega (arith, fresh-small (s .args .text .now) (s .args .scratch .now) (s .args .run .now) (s .args .place) (s .args .p) (s .args .m) (c .before .before .before .before .fresh-channel .ensures) (c .before .before .f .given .1))
+    omega (
+      arith,
+      fresh-small (s .args .text .now) (s .args .scratch .now) (s .args .run .now) (s .args .place) (s .args .p) (s .args .m) (c .before .before .before .before .fresh-channel .ensures)
+          (c .before .before .f .given .1),
+    )
 
 spawn-on-requires : tie.Need-spawn-on-requires
 spawn-on-requires c κs =
     let after-if1 = c .before .before .before .before .before .before in
-    let entry = after-if1 .before .before .before .before .before .before in
-    (entry .pre .0, (entry .pre .1 .0, (entry .pre .1 .1, ((omega (arith, after-if1 .if1 .left, after-if1 .before .count .ensures)), fresh-small (entry .args .text .now) (entry .args .scratch .now) (entry .args .run .now) (entry .args .place) (entry .args .p) (entry .args .m) (c .before .before .before .before .fresh-channel .ensures) (c .before .before .f .given .1)))))
+    let entry = after-if1 .before .before .before .before .before .before in (
+      entry .pre .0,
+      (
+        entry .pre .1 .0,
+        (
+          entry .pre .1 .1,
+          (
+            (omega (arith, after-if1 .if1 .left, after-if1 .before .count .ensures)),
+            fresh-small (entry .args .text .now) (entry .args .scratch .now)
+                (entry .args .run .now) (entry .args .place) (entry .args .p) (entry .args .m) (c .before .before .before .before .fresh-channel .ensures) (c .before .before .f .given .1),
+          ),
+        ),
+      ),
+    )
 
 same-length-3 : tie.Need-same-length-3
 same-length-3 c = search needs
@@ -53,7 +70,8 @@ returns-3 c =
     let after-f = c .before .before .before .before .before in
     let after-if1 = after-f .before .before .before .before in
     let entry = after-if1 .before .before .before .before .before .before in
-    a-channel (entry .args .text .now) (entry .args .scratch .now) (entry .args .run .now) (entry .args .place) (entry .args .p) (entry .args .m) (after-f .before .before .fresh-channel .ensures) (omega (arith, after-if1 .if1 .left, after-if1 .before .count .ensures)) (after-f .f .given .1) (c .before .before .spawn-on .ensures)
+    a-channel (entry .args .text .now) (entry .args .scratch .now) (entry .args .run .now) (entry .args .place) (entry .args .p) (entry .args .m) (after-f .before .before .fresh-channel .ensures)
+    (omega (arith, after-if1 .if1 .left, after-if1 .before .count .ensures)) (after-f .f .given .1) (c .before .before .spawn-on .ensures)
 
 pub spawn-spec : {M : Type 1} → statement M
 spawn-spec =

@@ -16,7 +16,8 @@ same-length c = search needs
 returns : tie.Need-returns
 returns c =
     let s = c .before .before .before .before .before .before in
-    tries-nowhere (s .args .text .now) (s .args .scratch .now) (s .args .run .now) (s .pre .0) (s .args .place) (s .args .p) (s .pre .1 .0) (s .args .first) (s .args .second) (s .pre .1 .1 .0) (s .pre .1 .1 .1) (omega (arith, c .if1 .taken, c .before .count .ensures))
+    tries-nowhere (s .args .text .now) (s .args .scratch .now) (s .args .run .now) (s .pre .0) (s .args .place) (s .args .p) (s .pre .1 .0) (s .args .first) (s .args .second) (s .pre .1 .1 .0)
+    (s .pre .1 .1 .1) (omega (arith, c .if1 .taken, c .before .count .ensures))
 
 try-half-requires : tie.Need-try-half-requires
 try-half-requires c κs =
@@ -35,8 +36,25 @@ moved-link-requires c κs =
 
 insert-requires : tie.Need-insert-requires
 insert-requires c κs =
-    let s = c .before .before .before .before .before .before .before .before .before .before .before in
-    (s .pre .0 .wide, (s .pre .0 .bounds, ((s .pre .1 .0 .below, (omega (arith, c .before .before .before .before .before .if1 .left, c .before .before .before .before .before .before .count .ensures))), bounded-of (s .args .text .now) (s .args .scratch .now) (handler-of (s .args .text .now) (s .args .scratch .now) (s .args .run .now) (s .pre .0) (s .args .place) (s .args .p) (s .pre .1 .0) (s .args .first) (s .args .second) (s .pre .1 .1 .0) (s .pre .1 .1 .1) _ _ (c .before .moved-link .ensures) (c .before .before .try-half2 .ensures .fits)))))
+    let s = c .before .before .before .before .before .before .before .before .before .before .before in (
+      s .pre .0 .wide,
+      (
+        s .pre .0 .bounds,
+        (
+          (
+            s .pre .1 .0 .below,
+            (omega (
+              arith,
+              c .before .before .before .before .before .if1 .left,
+              c .before .before .before .before .before .before .count .ensures,
+            )),
+          ),
+          bounded-of (s .args .text .now) (s .args .scratch .now) (handler-of (s .args .text .now) (s .args .scratch .now)
+              (s .args .run .now) (s .pre .0) (s .args .place) (s .args .p) (s .pre .1 .0) (s .args .first) (s .args .second) (s .pre .1 .1 .0) (s .pre .1 .1 .1) _ _ (c .before .moved-link .ensures)
+              (c .before .before .try-half2 .ensures .fits)),
+        ),
+      ),
+    )
 
 add-q : tie.Need-add-q
 add-q c =
@@ -62,8 +80,24 @@ store-requires c κs =
     let place = entry .args .place in
     let p = entry .args .p in
     let first = entry .args .first in
-    let second = entry .args .second in
-    (handler-came text scratch run (entry .pre .0) place p (entry .pre .1 .0) first second (entry .pre .1 .1 .0) (entry .pre .1 .1 .1) _ _ _ _ (moved-link .ensures) (try-half .ensures) (try-half2 .ensures) (insert .ensures .0) (insert .ensures .1) .run .wide, (insert .ensures .1, (omega (arith, one-more text scratch run (entry .pre .0) place p (entry .pre .1 .0) first second (entry .pre .1 .1 .0) (entry .pre .1 .1 .1) _ _ _ _ (moved-link .ensures) (try-half .ensures) (try-half2 .ensures) (insert .ensures .0) (insert .ensures .1), entry .pre .1 .0 .below), bounded-of text scratch (tried-of text scratch run (entry .pre .0) place p (entry .pre .1 .0) first second (entry .pre .1 .1 .0) (entry .pre .1 .1 .1) _ _ _ _ (moved-link .ensures) (try-half .ensures) (try-half2 .ensures) (insert .ensures .0) (insert .ensures .1) _ refl))))
+    let second = entry .args .second in (
+      handler-came text scratch run (entry .pre .0) place p (entry .pre .1 .0) first second (entry .pre .1 .1 .0) (entry .pre .1 .1 .1) _ _ _ _ (moved-link .ensures) (try-half .ensures)
+          (try-half2 .ensures) (insert .ensures .0) (insert .ensures .1) .run .wide,
+      (
+        insert .ensures .1,
+        (
+          omega (
+            arith,
+            one-more text scratch run (entry .pre .0) place p (entry .pre .1 .0) first second (entry .pre .1 .1 .0) (entry .pre .1 .1 .1) _ _ _ _ (moved-link .ensures)
+                (try-half .ensures) (try-half2 .ensures) (insert .ensures .0) (insert .ensures .1),
+            entry .pre .1 .0 .below,
+          ),
+          bounded-of text scratch (tried-of text scratch run (entry .pre .0) place p
+              (entry .pre .1 .0) first second (entry .pre .1 .1 .0) (entry .pre .1 .1 .1) _ _ _ _ (moved-link .ensures) (try-half .ensures) (try-half2 .ensures) (insert .ensures .0) (insert .ensures .1) _
+              refl),
+        ),
+      ),
+    )
 
 same-length-2 : tie.Need-same-length-2
 same-length-2 c = search needs
@@ -74,7 +108,10 @@ returns-2 c =
     let insert = after-insert .insert in
     let after-if1 = after-insert .before .before .before .before .before .before in
     let entry = after-if1 .before .before .before .before .before .before in
-    tries (entry .args .text .now) (entry .args .scratch .now) (entry .args .run .now) (entry .pre .0) (entry .args .place) (entry .args .p) (entry .pre .1 .0) (entry .args .first) (entry .args .second) (entry .pre .1 .1 .0) (entry .pre .1 .1 .1) _ _ _ _ (after-insert .before .before .moved-link .ensures) (after-insert .before .before .before .before .try-half .ensures) (after-insert .before .before .before .try-half2 .ensures) (insert .ensures .0) (insert .ensures .1) _ _ refl (omega (arith, after-if1 .if1 .left, after-if1 .before .count .ensures)) (c .before .before .store .ensures .0) (c .before .before .store .ensures .1)
+    tries (entry .args .text .now) (entry .args .scratch .now) (entry .args .run .now) (entry .pre .0) (entry .args .place) (entry .args .p) (entry .pre .1 .0) (entry .args .first)
+    (entry .args .second) (entry .pre .1 .1 .0) (entry .pre .1 .1 .1) _ _ _ _ (after-insert .before .before .moved-link .ensures) (after-insert .before .before .before .before .try-half .ensures)
+    (after-insert .before .before .before .try-half2 .ensures) (insert .ensures .0) (insert .ensures .1) _ _ refl (omega (arith, after-if1 .if1 .left, after-if1 .before .count .ensures))
+    (c .before .before .store .ensures .0) (c .before .before .store .ensures .1)
 
 pub try-both-spec : {M : Type 1} → statement M
 try-both-spec =

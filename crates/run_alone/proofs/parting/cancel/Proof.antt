@@ -18,15 +18,26 @@ enum-told c = search needs
 returns : tie.Need-returns
 returns c =
     let s = c .before .before .before .before .before .before .before in
-    cancels-nothing (s .args .text .now) (s .args .scratch .now) (s .args .run .now) (s .args .place) (s .args .p) (s .args .c) (s .args .pointer) (c .before .before .find-end .ensures) (c .enum-told .given .1)
+    cancels-nothing (s .args .text .now) (s .args .scratch .now) (s .args .run .now) (s .args .place) (s .args .p) (s .args .c) (s .args .pointer) (c .before .before .find-end .ensures)
+    (c .enum-told .given .1)
 
 drop-end-requires : tie.Need-drop-end-requires
 drop-end-requires c κs = c .before .before .before .before .before .before .before .before .pre .1 .0 .is .held .many
 
 part-requires : tie.Need-part-requires
 part-requires c κs =
-    let s = c .before .before .before .before .before .before .before .before .before .before in
-    (s .pre .0, (s .pre .1 .0 .below, (runs-on (s .pre .0 .tables) (runningOn (s .args .pointer) (c .before .drop-end .result) (s .args .p)) refl (s .pre .1 .0 .is .link) (s .pre .1 .1) (c .before .drop-end .ensures .fits (s .args .scratch .now) (s .pre .1 .0 .is .held)), end-found {w = (s .args .scratch .now)} (c .before .before .before .before .before .find-end .ensures) (c .before .before .before .f .given .1) (s .pre .1 .0 .is .held) .1)))
+    let s = c .before .before .before .before .before .before .before .before .before .before in (
+      s .pre .0,
+      (
+        s .pre .1 .0 .below,
+        (
+          runs-on (s .pre .0 .tables) (runningOn (s .args .pointer) (c .before .drop-end .result) (s .args .p)) refl (s .pre .1 .0 .is .link) (s .pre .1 .1)
+              (c .before .drop-end .ensures .fits (s .args .scratch .now) (s .pre .1 .0 .is .held)),
+          end-found {w = (s .args .scratch .now)} (c .before .before .before .before .before .find-end .ensures)
+              (c .before .before .before .f .given .1) (s .pre .1 .0 .is .held) .1,
+        ),
+      ),
+    )
 
 same-length : tie.Need-same-length
 same-length c = search needs
@@ -35,7 +46,8 @@ returns-2 : tie.Need-returns-2
 returns-2 c =
     let after-f = c .before .before .before .before .before .before in
     let entry = after-f .before .before .before .before .before .before .before in
-    cancels (entry .args .text .now) (entry .args .scratch .now) (entry .args .run .now) _ (entry .args .place) (entry .args .p) (entry .args .c) (entry .args .pointer) (after-f .before .before .find-end .ensures) (after-f .f .given .1) (c .before .before .before .before .drop-end .ensures) (c .before .before .part .ensures)
+    cancels (entry .args .text .now) (entry .args .scratch .now) (entry .args .run .now) _ (entry .args .place) (entry .args .p) (entry .args .c) (entry .args .pointer)
+    (after-f .before .before .find-end .ensures) (after-f .f .given .1) (c .before .before .before .before .drop-end .ensures) (c .before .before .part .ensures)
 
 pub cancel-spec : {M : Type 1} → statement M
 cancel-spec =

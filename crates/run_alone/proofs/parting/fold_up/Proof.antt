@@ -23,8 +23,18 @@ without-requires c κs = (c .before .before .before .before .before .before .bef
 
 part-requires : tie.Need-part-requires
 part-requires c κs =
-    let s = c .before .before .before .before .before .before .before .before .before in
-    (s .pre .0, (s .pre .1 .0 .below, (folds (s .args .text .now) (s .args .scratch .now) (s .args .p) (c .before .without .result) (s .pre .1 .0 .is) (oldest-held (s .args .text .now) (s .args .scratch .now) (s .args .p .held) (c .before .before .end-at .result) (c .before .before .end-at .ensures .0) (c .before .without .result) (c .before .without .ensures .0) (c .before .without .ensures .1) (s .pre .1 .0 .is .held)), c .before .before .end-at .ensures .1 .0)))
+    let s = c .before .before .before .before .before .before .before .before .before in (
+      s .pre .0,
+      (
+        s .pre .1 .0 .below,
+        (
+          folds (s .args .text .now) (s .args .scratch .now) (s .args .p) (c .before .without .result) (s .pre .1 .0 .is)
+              (oldest-held (s .args .text .now) (s .args .scratch .now) (s .args .p .held) (c .before .before .end-at .result) (c .before .before .end-at .ensures .0) (c .before .without .result)
+              (c .before .without .ensures .0) (c .before .without .ensures .1) (s .pre .1 .0 .is .held)),
+          c .before .before .end-at .ensures .1 .0,
+        ),
+      ),
+    )
 
 same-length-2 : tie.Need-same-length-2
 same-length-2 c = search needs
@@ -32,7 +42,9 @@ same-length-2 c = search needs
 returns-2 : tie.Need-returns-2
 returns-2 c =
     let s = c .before .before .before .before .before .before .before .before .before .before .before .before in
-    folds-oldest (s .args .text .now) (s .args .scratch .now) (s .args .run .now) _ (s .args .place) (s .args .p) _ (c .before .before .before .before .before .end-at .result) (c .before .before .before .before .without .result) (c .before .before .before .before .before .end-at .ensures .0) (c .before .before .before .before .without .ensures .0) (c .before .before .part .ensures)
+    folds-oldest (s .args .text .now) (s .args .scratch .now) (s .args .run .now) _ (s .args .place) (s .args .p) _ (c .before .before .before .before .before .end-at .result)
+    (c .before .before .before .before .without .result) (c .before .before .before .before .before .end-at .ensures .0) (c .before .before .before .before .without .ensures .0)
+    (c .before .before .part .ensures)
 
 pub fold-up-spec : {M : Type 1} → statement M
 fold-up-spec =

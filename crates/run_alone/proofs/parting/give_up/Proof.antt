@@ -25,8 +25,14 @@ enum-known-f-2 c = search needs
 
 outside-at-requires : tie.Need-outside-at-requires
 outside-at-requires c κs =
-    let s = c .before .before .before .before .before .before .before .before .before in
-    (s .pre .0 .wide, (s .pre .0 .bounds, outside-there-below (s .args .text .now) (s .args .scratch .now) (s .args .run .now) (s .args .e) _ (sym (c .before .before .before .before .far-end .ensures) ∙ c .before .before .f2 .given .1)))
+    let s = c .before .before .before .before .before .before .before .before .before in (
+      s .pre .0 .wide,
+      (
+        s .pre .0 .bounds,
+        outside-there-below (s .args .text .now) (s .args .scratch .now) (s .args .run .now) (s .args .e) _
+            (sym (c .before .before .before .before .far-end .ensures) ∙ c .before .before .f2 .given .1),
+      ),
+    )
 
 let-go-requires : tie.Need-let-go-requires
 let-go-requires c κs =
@@ -40,7 +46,9 @@ returns-2 : tie.Need-returns-2
 returns-2 c =
     let after-f2 = c .before .before .before .before .before .before .before in
     let entry = after-f2 .before .before .before .before .before .before .before in
-    gives-outside (entry .args .text .now) (entry .args .scratch .now) (entry .args .run .now) (entry .args .e) _ _ (c .before .before .before .before .outside-at .result) (entry .pre .0) (sym (after-f2 .before .before .far-end .ensures) ∙ after-f2 .f2 .given .1) (c .before .before .before .before .outside-at .ensures .0) (c .before .before .let-go .ensures .0) (c .before .before .let-go .ensures .1)
+    gives-outside (entry .args .text .now) (entry .args .scratch .now) (entry .args .run .now) (entry .args .e) _ _ (c .before .before .before .before .outside-at .result) (entry .pre .0)
+    (sym (after-f2 .before .before .far-end .ensures) ∙ after-f2 .f2 .given .1) (c .before .before .before .before .outside-at .ensures .0) (c .before .before .let-go .ensures .0)
+    (c .before .before .let-go .ensures .1)
 
 enum-told : tie.Need-enum-told
 enum-told c = search needs

@@ -19,7 +19,13 @@ store-requires c κs =
     let text = entry .args .text .now in
     let scratch = entry .args .scratch .now in
     let run = entry .args .run .now in
-    (give-up .ensures .becomes .run .wide, (give-up .ensures .becomes .run .bounds, (omega (arith, (places-after (give-up .ensures .becomes) ∙ places-in text scratch run), entry .pre .1 .0), bounded-of text scratch (subst (λ n. ProcessOf text scratch n (entry .args .p)) (sym (places-after (give-up .ensures .becomes) ∙ places-in text scratch run)) (entry .pre .1 .1 .0)))))
+    let places-after′ = places-after (give-up .ensures .becomes) ∙ places-in text scratch run in (
+      give-up .ensures .becomes .run .wide,
+      (
+        give-up .ensures .becomes .run .bounds,
+        (omega (arith, places-after′, entry .pre .1 .0), bounded-of text scratch (subst (λ n. ProcessOf text scratch n (entry .args .p)) (sym places-after′) (entry .pre .1 .1 .0))),
+      ),
+    )
 
 same-length : tie.Need-same-length
 same-length c = search needs
@@ -31,7 +37,9 @@ returns c =
     let text = entry .args .text .now in
     let scratch = entry .args .scratch .now in
     let run = entry .args .run .now in
-    parts text scratch run _ _ (entry .args .place) (entry .args .p) (entry .args .e) _ (give-up .ensures) (subst (λ n. ProcessOf text scratch n (entry .args .p)) (sym (places-after (give-up .ensures .becomes) ∙ places-in text scratch run)) (entry .pre .1 .1 .0)) (c .before .before .store .ensures .0) (c .before .before .store .ensures .1)
+    parts text scratch run _ _ (entry .args .place) (entry .args .p) (entry .args .e) _ (give-up .ensures)
+    (subst (λ n. ProcessOf text scratch n (entry .args .p)) (sym (places-after (give-up .ensures .becomes) ∙ places-in text scratch run)) (entry .pre .1 .1 .0)) (c .before .before .store .ensures .0)
+    (c .before .before .store .ensures .1)
 
 pub part-spec : {M : Type 1} → statement M
 part-spec = tie.close (tie.spec give-up-requires store-requires same-length returns)

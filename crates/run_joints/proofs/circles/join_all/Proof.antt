@@ -13,7 +13,8 @@ use Rattle.run_joints.proofs.circles.join_all.Statement.{statement}
 use Rattle.run_joints.proofs.circles.join_all.Tie as tie
 
 abbrev Inv-loop : tie.InvT-loop
-Inv-loop labels₀ run n i₀ labels i = (n ≡ length (rawIn run .processes)) × Left labels₀ labels (jointsFrom (rawIn run) 0 (rawIn run .processes)) (jointsFrom (rawIn run) i (drop i (rawIn run .processes)))
+Inv-loop labels₀ run n i₀ labels i = (n ≡ length (rawIn run .processes)) × Left labels₀ labels (jointsFrom (rawIn run) 0 (rawIn run .processes))
+    (jointsFrom (rawIn run) i (drop i (rawIn run .processes)))
 
 abbrev μ-loop : tie.MeasureT-loop
 μ-loop labels₀ run n i₀ labels i = n - i
@@ -30,14 +31,24 @@ load-requires c κs = search needs
 join-process-requires : tie.Need-join-process-requires Inv-loop μ-loop
 join-process-requires c κs =
     let s = c .before .before .before .before .before .before in
-    let p = c .before .load in
-    (s .pre .0, (s .pre .1, (omega (arith, s .pre .1 .places), omega (arith, s .pre .1 .places, link-word (length (rawIn (s .args .run .now) .processes)) (p .result .link) (p .ensures .1 .0 .link)), p .ensures .1 .1)))
+    let p = c .before .load in (
+      s .pre .0,
+      (
+        s .pre .1,
+        (
+          omega (arith, s .pre .1 .places),
+          omega (arith, s .pre .1 .places, link-word (length (rawIn (s .args .run .now) .processes)) (p .result .link) (p .ensures .1 .0 .link)),
+          p .ensures .1 .1,
+        ),
+      ),
+    )
 
 returns : tie.Need-returns Inv-loop μ-loop
 returns c =
     let a = c .before .before .before .before .before .before .before .before .args in
     let b = c .before .before .before .before .before .loop in
-    left-stop (b .inv .1) _ _ (process-turn (rawIn (a .run .now)) (rawIn (a .run .now) .processes) (b .i) (c .before .before .before .load .ensures .0)) (not-true _ (c .if1 .taken)) (c .before .join-process .ensures)
+    left-stop (b .inv .1) _ _ (process-turn (rawIn (a .run .now)) (rawIn (a .run .now) .processes) (b .i) (c .before .before .before .load .ensures .0)) (not-true _ (c .if1 .taken))
+    (c .before .join-process .ensures)
 
 add-i : tie.Need-add-i Inv-loop μ-loop
 add-i c = search needs
@@ -48,8 +59,11 @@ loop-less c = search needs
 loop-again : tie.Need-loop-again Inv-loop μ-loop
 loop-again c =
     let a = c .before .before .before .before .before .before .before .before .args in
-    let b = c .before .before .before .before .before .loop in
-    (b .inv .0, left-next (b .inv .1) _ _ (process-turn (rawIn (a .run .now)) (rawIn (a .run .now) .processes) (b .i) (c .before .before .before .load .ensures .0)) (not-false _ (c .if1 .left)) (c .before .join-process .ensures))
+    let b = c .before .before .before .before .before .loop in (
+      b .inv .0,
+      left-next (b .inv .1) _ _ (process-turn (rawIn (a .run .now)) (rawIn (a .run .now) .processes) (b .i) (c .before .before .before .load .ensures .0)) (not-false _ (c .if1 .left))
+          (c .before .join-process .ensures),
+    )
 
 returns-2 : tie.Need-returns-2 Inv-loop μ-loop
 returns-2 c =

@@ -31,17 +31,20 @@ returns-2 : tie.Need-returns-2
 returns-2 c =
     let after-f = c .before .before .before in
     let entry = after-f .before .before .before .before .before .before in
-    joined-provided (rawIn (entry .args .run .now)) (entry .args .i) (entry .args .e) (entry .pre .1 .1 .1) (after-f .before .before .before .if1 .left) (sym (after-f .before .before .far-end .ensures) ∙ after-f .f .given .1) (c .join .ensures)
+    joined-provided (rawIn (entry .args .run .now)) (entry .args .i) (entry .args .e) (entry .pre .1 .1 .1) (after-f .before .before .before .if1 .left)
+    (sym (after-f .before .before .far-end .ensures) ∙ after-f .f .given .1) (c .join .ensures)
 
 returns-3 : tie.Need-returns-3
 returns-3 c =
     let s = c .before .before .before .before .before .before in
-    joined-provided (rawIn (s .args .run .now)) (s .args .i) (s .args .e) (s .pre .1 .1 .1) (c .before .before .before .if1 .left) (sym (c .before .before .far-end .ensures) ∙ c .enum-told .given .1) (joined-none _)
+    joined-provided (rawIn (s .args .run .now)) (s .args .i) (s .args .e) (s .pre .1 .1 .1) (c .before .before .before .if1 .left) (sym (c .before .before .far-end .ensures) ∙ c .enum-told .given .1)
+    (joined-none _)
 
 returns-4 : tie.Need-returns-4
 returns-4 c =
     let s = c .before .before .before .before .before .before in
-    joined-provided (rawIn (s .args .run .now)) (s .args .i) (s .args .e) (s .pre .1 .1 .1) (c .before .before .before .if1 .left) (sym (c .before .before .far-end .ensures) ∙ c .enum-told2 .given .1) (joined-none _)
+    joined-provided (rawIn (s .args .run .now)) (s .args .i) (s .args .e) (s .pre .1 .1 .1) (c .before .before .before .if1 .left)
+    (sym (c .before .before .far-end .ensures) ∙ c .enum-told2 .given .1) (joined-none _)
 
 pub join-end-spec : {M : Type 1} → statement M
 join-end-spec =

@@ -31,7 +31,8 @@ returns : tie.Need-returns Inv-loop μ-loop
 returns c =
     let a = c .before .before .before .before .before .before .before .args in
     let b = c .before .before .before .before .before .loop in
-    left-stop (b .inv .1) _ _ (held-turn (rawIn (a .run .now)) (a .i) (heldIn (a .h)) (b .k) (c .before .before .before .end-at .ensures .0)) (not-true _ (c .if1 .taken)) (c .before .join-end .ensures)
+    left-stop (b .inv .1) _ _ (held-turn (rawIn (a .run .now)) (a .i) (heldIn (a .h)) (b .k) (c .before .before .before .end-at .ensures .0)) (not-true _ (c .if1 .taken))
+    (c .before .join-end .ensures)
 
 add-k : tie.Need-add-k Inv-loop μ-loop
 add-k c = search needs
@@ -42,8 +43,11 @@ loop-less c = search needs
 loop-again : tie.Need-loop-again Inv-loop μ-loop
 loop-again c =
     let a = c .before .before .before .before .before .before .before .args in
-    let b = c .before .before .before .before .before .loop in
-    (b .inv .0, left-next (b .inv .1) _ _ (held-turn (rawIn (a .run .now)) (a .i) (heldIn (a .h)) (b .k) (c .before .before .before .end-at .ensures .0)) (not-false _ (c .if1 .left)) (c .before .join-end .ensures))
+    let b = c .before .before .before .before .before .loop in (
+      b .inv .0,
+      left-next (b .inv .1) _ _ (held-turn (rawIn (a .run .now)) (a .i) (heldIn (a .h)) (b .k) (c .before .before .before .end-at .ensures .0)) (not-false _ (c .if1 .left))
+          (c .before .join-end .ensures),
+    )
 
 returns-2 : tie.Need-returns-2 Inv-loop μ-loop
 returns-2 c =

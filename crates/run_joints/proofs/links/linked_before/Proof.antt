@@ -45,8 +45,11 @@ loop-again : tie.Need-loop-again Inv-loop μ-loop
 loop-again c =
     let a = c .before .before .before .before .before .before .args in
     let b = c .before .before .before .before .loop in
-    let p = c .before .before .load in
-    (omega arith, b .inv .1 ∙ any-on (linksTo (a .h)) (rawIn (a .run .now) .processes) (b .i - 1) (b .i) (omega arith) (p .ensures .0) (link-not (a .h) (p .result .link) (λ e. c .if1 .left (omega arith))))
+    let p = c .before .before .load in (
+      omega arith,
+      b .inv .1 ∙ any-on (linksTo (a .h)) (rawIn (a .run .now) .processes) (b .i - 1) (b .i) (omega arith) (p .ensures .0)
+          (link-not (a .h) (p .result .link) (λ e. c .if1 .left (omega arith))),
+    )
 
 returns-2 : tie.Need-returns-2 Inv-loop μ-loop
 returns-2 c =

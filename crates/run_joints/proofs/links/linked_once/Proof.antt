@@ -29,8 +29,16 @@ load-requires c κs = search needs
 link-new-requires : tie.Need-link-new-requires Inv-loop μ-loop
 link-new-requires c κs =
     let s = c .before .before .before .before .before in
-    let b = c .before .before .loop in
-    (s .pre .0, (s .pre .1, (omega (arith, link-word (length (rawIn (s .args .run .now) .processes)) (c .load .result .link) (c .load .ensures .1 .0 .link), s .pre .1 .places), omega (arith, b .inv .many))))
+    let b = c .before .before .loop in (
+      s .pre .0,
+      (
+        s .pre .1,
+        (
+          omega (arith, link-word (length (rawIn (s .args .run .now) .processes)) (c .load .result .link) (c .load .ensures .1 .0 .link), s .pre .1 .places),
+          omega (arith, b .inv .many),
+        ),
+      ),
+    )
 
 returns : tie.Need-returns Inv-loop μ-loop
 returns c = answers-once _ (pairs-failed (c .before .before .before .before .loop .inv) (c .before .before .load .ensures .0) (c .before .link-new .ensures ∙ not-true _ (c .if1 .taken)))

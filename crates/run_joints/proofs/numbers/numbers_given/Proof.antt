@@ -31,7 +31,8 @@ outside-at-requires c κs =
 returns : tie.Need-returns Inv-loop μ-loop
 returns c =
     let o = c .before .before .outside-at in
-    answers-given _ (each-failed (c .before .before .before .before .loop .inv) (o .ensures .0) (le-ltb (o .result .number) _ (rw (← c .before .before .before .before .before .given .ensures) (c .if1 .taken))))
+    answers-given _ (each-failed (c .before .before .before .before .loop .inv) (o .ensures .0)
+    (le-ltb (o .result .number) _ (rw (← c .before .before .before .before .before .given .ensures) (c .if1 .taken))))
 
 add-k : tie.Need-add-k Inv-loop μ-loop
 add-k c = search needs

@@ -20,10 +20,15 @@ labels-equal-requires : tie.Need-labels-equal-requires Inv-loop μ-loop
 labels-equal-requires c κs = search needs
 
 returns : tie.Need-returns Inv-loop μ-loop
-returns c = search-found _ _ _ _ _ _ _ (c .before .before .before .before .loop .inv) (c .before .before .before .loop-test .taken) _ (c .before .before .branch .ensures) (c .before .labels-equal .ensures) (c .if1 .taken)
+returns c = search-found _ _ _ _ _ _ _ (c .before .before .before .before .loop .inv) (c .before .before .before .loop-test .taken) _ (c .before .before .branch .ensures)
+    (c .before .labels-equal .ensures) (c .if1 .taken)
 
 sub-place : tie.Need-sub-place Inv-loop μ-loop
-sub-place c = omega (arith, search-there _ _ _ _ _ _ _ (c .before .before .before .before .loop .inv) (c .before .before .before .loop-test .taken) (c .before .before .before .before .before .before .before .pre .0))
+sub-place c = omega (
+  arith,
+  search-there _ _ _ _ _ _ _ (c .before .before .before .before .loop .inv) (c .before .before .before .loop-test .taken)
+      (c .before .before .before .before .before .before .before .pre .0),
+)
 
 sub-left : tie.Need-sub-left Inv-loop μ-loop
 sub-left c = omega arith
@@ -32,7 +37,8 @@ loop-less : tie.Need-loop-less Inv-loop μ-loop
 loop-less c = omega arith
 
 loop-again : tie.Need-loop-again Inv-loop μ-loop
-loop-again c = search-on _ _ _ _ _ _ _ (c .before .before .before .before .loop .inv) (c .before .before .before .loop-test .taken) _ (c .before .before .branch .ensures) (c .before .labels-equal .ensures) (c .if1 .left)
+loop-again c = search-on _ _ _ _ _ _ _ (c .before .before .before .before .loop .inv) (c .before .before .before .loop-test .taken) _ (c .before .before .branch .ensures)
+    (c .before .labels-equal .ensures) (c .if1 .left)
 
 returns-2 : tie.Need-returns-2 Inv-loop μ-loop
 returns-2 c = search-end _ _ _ _ _ _ _ (c .before .loop .inv) (c .loop-test .left)

@@ -25,7 +25,8 @@ enum-told-2 c = search needs
 returns-2 : tie.Need-returns-2
 returns-2 c =
     let s = c .before .before .before .before .before .before .before in
-    brings-nothing (s .args .text .now) (s .args .scratch .now) (s .args .h) (s .pre .1 .0 .0) (s .args .own) (s .args .passed) (s .args .at) (c .before .before .before .own .given .1) (c .enum-told2 .given .1)
+    brings-nothing (s .args .text .now) (s .args .scratch .now) (s .args .h) (s .pre .1 .0 .0) (s .args .own) (s .args .passed) (s .args .at) (c .before .before .before .own .given .1)
+    (c .enum-told2 .given .1)
 
 cast-came-over : tie.Need-cast-came-over
 cast-came-over c = search needs
@@ -35,8 +36,14 @@ cast-came-over-2 c = search needs
 
 came-over-requires : tie.Need-came-over-requires
 came-over-requires c κs =
-    let s = c .before .before .before .before .before .before .before .before .before .before in
-    (s .pre .0, (found-in (c .before .before .before .before .before .before .own .given .1) (s .pre .1 .1 .0) .0 .type, found-in (c .before .before .before .passed .given .1) (s .pre .1 .1 .1) .0 .type))
+    let s = c .before .before .before .before .before .before .before .before .before .before in (
+      s .pre .0,
+      (
+        found-in (c .before .before .before .before .before .before .own .given .1) (s .pre .1 .1 .0) .0 .type,
+        found-in (c .before .before .before .passed .given .1)
+            (s .pre .1 .1 .1) .0 .type,
+      ),
+    )
 
 cast-bring-end : tie.Need-cast-bring-end
 cast-bring-end c =
@@ -52,7 +59,9 @@ bring-end-requires c κs =
 returns-3 : tie.Need-returns-3
 returns-3 c =
     let s = c .before .before .before .before .before .before .before .before .before .before .before .before in
-    brings-over (s .args .text .now) (s .args .scratch .now) (s .args .h) (s .pre .1 .0 .0) (s .args .own) (s .args .passed) (s .args .at) (c .before .before .before .before .before .before .before .before .own .given .1) (c .before .before .before .before .before .passed .given .1) (c .before .came-over .ensures) (c .bring-end .ensures)
+    brings-over (s .args .text .now) (s .args .scratch .now) (s .args .h) (s .pre .1 .0 .0) (s .args .own) (s .args .passed) (s .args .at)
+    (c .before .before .before .before .before .before .before .before .own .given .1) (c .before .before .before .before .before .passed .given .1) (c .before .came-over .ensures)
+    (c .bring-end .ensures)
 
 pub bring-over-spec : {M : Type 1} → statement M
 bring-over-spec =

@@ -13,8 +13,17 @@ cast-r c =
 store-both-requires : tie.Need-store-both-requires
 store-both-requires c κs =
     let s = c .before .before .before .before .before .before in
-    let r = s .pre .1 .1 .0 .stands in
-    (s .pre .0, ((s .pre .1 .0 .stands .below, r .below), (s .pre .1 .0 .after, runs-on (s .pre .0 .tables) (runningOn (s .args .pointer) (s .args .held) (s .args .to .process)) refl (r .is .link) (s .pre .1 .1 .1 .0) (s .pre .1 .1 .1 .1))))
+    let r = s .pre .1 .1 .0 .stands in (
+      s .pre .0,
+      (
+        (s .pre .1 .0 .stands .below, r .below),
+        (
+          s .pre .1 .0 .after,
+          runs-on (s .pre .0 .tables) (runningOn (s .args .pointer) (s .args .held) (s .args .to .process)) refl (r .is .link)
+              (s .pre .1 .1 .1 .0) (s .pre .1 .1 .1 .1),
+        ),
+      ),
+    )
 
 same-length : tie.Need-same-length
 same-length c = search needs

@@ -21,7 +21,8 @@ returns c =
     let a = s .args in
     let k = s .pre .1 .1 .1 in
     hears-kind-close (a .text .now) (a .scratch .now) (a .run .now) (a .sent) (a .to) (k .0) (k .1)
-    (hears-close (a .text .now) (a .scratch .now) (a .run .now) (a .sent) (a .to) (c .before .before .before .before .drop-end .result) (a .to .term .third) (c .before .before .go-on .ensures) (c .before .before .before .before .drop-end .ensures))
+    (hears-close (a .text .now) (a .scratch .now) (a .run .now) (a .sent) (a .to) (c .before .before .before .before .drop-end .result) (a .to .term .third) (c .before .before .go-on .ensures)
+    (c .before .before .before .before .drop-end .ensures))
 
 pub hear-close-spec : {M : Type 1} → statement M
 hear-close-spec = tie.close (tie.spec drop-end-requires go-on-requires same-length returns)

@@ -14,8 +14,11 @@ load-requires c κs =
 
 end-at-requires : tie.Need-end-at-requires
 end-at-requires c κs =
-    let s = c .before .before .before .before .before .before in
-    (c .before .load .ensures .1 .1, (far-position (s .args .text .now) (s .args .scratch .now) (s .args .run .now) (s .args .sent .over) (s .args .j) (s .args .k) (s .pre .1 .1 .1) (c .before .load .result) (c .before .load .ensures .0)))
+    let s = c .before .before .before .before .before .before in (
+      c .before .load .ensures .1 .1,
+      (far-position (s .args .text .now) (s .args .scratch .now) (s .args .run .now) (s .args .sent .over) (s .args .j) (s .args .k) (s .pre .1 .1 .1)
+          (c .before .load .result) (c .before .load .ensures .0)),
+    )
 
 cast-x : tie.Need-cast-x
 cast-x c = search needs
@@ -23,8 +26,14 @@ cast-x c = search needs
 turn-on-requires : tie.Need-turn-on-requires
 turn-on-requires c κs =
     let load = c .before .before .before .load in
-    let entry = c .before .before .before .before .before .before .before .before in
-    (entry .pre .0 .tables, (_, (stands-at (entry .args .text .now) (entry .args .scratch .now) (entry .args .run .now) (entry .args .j) (load .result) (entry .pre .0) (load .ensures .0) (load .ensures .1 .0) (load .ensures .1 .1)) .is))
+    let entry = c .before .before .before .before .before .before .before .before in (
+      entry .pre .0 .tables,
+      (
+        _,
+        (stands-at (entry .args .text .now) (entry .args .scratch .now) (entry .args .run .now) (entry .args .j) (load .result) (entry .pre .0) (load .ensures .0)
+            (load .ensures .1 .0) (load .ensures .1 .1)) .is,
+      ),
+    )
 
 add-if1 : tie.Need-add-if1
 add-if1 c = omega (arith, (c .before .before .before .before .before .before .before .before .before .before .before .pre .1 .0 .node) .high)
@@ -40,7 +49,10 @@ returns c =
     let load = after-end-at .before .before .load in
     let entry = after-end-at .before .before .before .before .before .before .before in
     let run = entry .args .run .now in
-    meets-other (entry .args .text .now) (entry .args .scratch .now) run (entry .args .sent) (record { place = entry .args .j; process = load .result; name = end-at .result .name; term = turn-on .result }) (far-holder (entry .args .text .now) (entry .args .scratch .now) run (entry .args .sent .over) (entry .args .j) (entry .args .k) (entry .pre .1 .1 .1) (load .result) (load .ensures .0) (end-at .result) (end-at .ensures .0)) (turn-on .ensures) (entry .pre .1 .0 .node) (c .if1 .taken)
+    meets-other (entry .args .text .now) (entry .args .scratch .now) run (entry .args .sent)
+    (record { place = entry .args .j; process = load .result; name = end-at .result .name; term = turn-on .result })
+    (far-holder (entry .args .text .now) (entry .args .scratch .now) run (entry .args .sent .over) (entry .args .j) (entry .args .k) (entry .pre .1 .1 .1) (load .result) (load .ensures .0)
+    (end-at .result) (end-at .ensures .0)) (turn-on .ensures) (entry .pre .1 .0 .node) (c .if1 .taken)
 
 hear-requires : tie.Need-hear-requires
 hear-requires c κs =
@@ -49,8 +61,16 @@ hear-requires c κs =
     let load = after-load .load in
     let entry = after-load .before .before .before .before .before in
     let run = entry .args .run .now in
-    let r = stands-at (entry .args .text .now) (entry .args .scratch .now) run (entry .args .j) (load .result) (entry .pre .0) (load .ensures .0) (load .ensures .1 .0) (load .ensures .1 .1) in
-    (entry .pre .0, (entry .pre .1 .0, (record { stands = r; parts = turn-on .ensures .parts }, (c .before .if1 .left, room-to-hear (entry .args .text .now) (entry .args .scratch .now) run (entry .pre .1 .1 .0) (entry .args .j) (load .result) _ (turn-on .result) r (turn-on .ensures)))))
+    let r = stands-at (entry .args .text .now) (entry .args .scratch .now) run (entry .args .j) (load .result) (entry .pre .0) (load .ensures .0) (load .ensures .1 .0) (load .ensures .1 .1) in (
+      entry .pre .0,
+      (
+        entry .pre .1 .0,
+        (
+          record { stands = r; parts = turn-on .ensures .parts },
+          (c .before .if1 .left, room-to-hear (entry .args .text .now) (entry .args .scratch .now) run (entry .pre .1 .1 .0) (entry .args .j) (load .result) _ (turn-on .result) r (turn-on .ensures)),
+        ),
+      ),
+    )
 
 same-length-2 : tie.Need-same-length-2
 same-length-2 c = search needs
@@ -63,7 +83,9 @@ returns-2 c =
     let load = after-turn-on .before .before .before .before .load in
     let entry = after-turn-on .before .before .before .before .before .before .before .before .before in
     let run = entry .args .run .now in
-    meets (entry .args .text .now) (entry .args .scratch .now) run (entry .args .sent) (record { place = entry .args .j; process = load .result; name = end-at .result .name; term = turn-on .result }) (far-holder (entry .args .text .now) (entry .args .scratch .now) run (entry .args .sent .over) (entry .args .j) (entry .args .k) (entry .pre .1 .1 .1) (load .result) (load .ensures .0) (end-at .result) (end-at .ensures .0)) (turn-on .ensures) (c .before .before .hear .ensures)
+    meets (entry .args .text .now) (entry .args .scratch .now) run (entry .args .sent) (record { place = entry .args .j; process = load .result; name = end-at .result .name; term = turn-on .result })
+    (far-holder (entry .args .text .now) (entry .args .scratch .now) run (entry .args .sent .over) (entry .args .j) (entry .args .k) (entry .pre .1 .1 .1) (load .result) (load .ensures .0)
+    (end-at .result) (end-at .ensures .0)) (turn-on .ensures) (c .before .before .hear .ensures)
 
 pub meet-spec : {M : Type 1} → statement M
 meet-spec =

@@ -20,8 +20,20 @@ store-requires-2 c κs =
     let place = entry .args .place in
     let j = entry .args .j in
     let q = entry .args .q in
-    let r = entry .args .r in
-    (first-set text scratch run _ (entry .pre .0) place j q r (entry .pre .1 .1 .0) (entry .pre .1 .1 .1) (store .ensures .0) (store .ensures .1) .run .wide, (store .ensures .1, (omega (arith, first-many text scratch run _ (entry .pre .0) place j q r (entry .pre .1 .1 .0) (entry .pre .1 .1 .1) (store .ensures .0) (store .ensures .1), entry .pre .1 .0 .1), bounded-of text scratch (second-of text scratch run _ (entry .pre .0) place j q r (entry .pre .1 .1 .0) (entry .pre .1 .1 .1) (store .ensures .0) (store .ensures .1)))))
+    let r = entry .args .r in (
+      first-set text scratch run _ (entry .pre .0) place j q r (entry .pre .1 .1 .0) (entry .pre .1 .1 .1) (store .ensures .0) (store .ensures .1) .run .wide,
+      (
+        store .ensures .1,
+        (
+          omega (
+            arith,
+            first-many text scratch run _ (entry .pre .0) place j q r (entry .pre .1 .1 .0) (entry .pre .1 .1 .1) (store .ensures .0) (store .ensures .1),
+            entry .pre .1 .0 .1,
+          ),
+          bounded-of text scratch (second-of text scratch run _ (entry .pre .0) place j q r (entry .pre .1 .1 .0) (entry .pre .1 .1 .1) (store .ensures .0) (store .ensures .1)),
+        ),
+      ),
+    )
 
 same-length : tie.Need-same-length
 same-length c = search needs
@@ -29,7 +41,9 @@ same-length c = search needs
 returns : tie.Need-returns
 returns c =
     let s = c .before .before .before .before .before .before .before .before .before .before .before in
-    both-set (s .args .text .now) (s .args .scratch .now) (s .args .run .now) _ (s .pre .0) (s .args .place) (s .args .j) (s .args .q) (s .args .r) (s .pre .1 .1 .0) (s .pre .1 .1 .1) (c .before .before .before .before .before .before .store .ensures .0) (c .before .before .before .before .before .before .store .ensures .1) _ (c .before .before .store2 .ensures .0) (c .before .before .store2 .ensures .1)
+    both-set (s .args .text .now) (s .args .scratch .now) (s .args .run .now) _ (s .pre .0) (s .args .place) (s .args .j) (s .args .q) (s .args .r) (s .pre .1 .1 .0) (s .pre .1 .1 .1)
+    (c .before .before .before .before .before .before .store .ensures .0) (c .before .before .before .before .before .before .store .ensures .1) _ (c .before .before .store2 .ensures .0)
+    (c .before .before .store2 .ensures .1)
 
 pub store-both-spec : {M : Type 1} → statement M
 store-both-spec = tie.close (tie.spec store-requires store-requires-2 same-length returns)

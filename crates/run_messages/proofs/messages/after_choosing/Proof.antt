@@ -21,12 +21,19 @@ enum-told c = search needs
 returns : tie.Need-returns
 returns c =
     let s = c .before .before .before .before .before .before in
-    choosing-nothing (s .args .text .now) (s .args .scratch .now) (s .pre .0) (s .args .i) _ (s .pre .1) (c .before .before .before .standing .ensures) (s .args .at) _ (c .before .before .choosing .ensures) (c .enum-told .given .1)
+    choosing-nothing (s .args .text .now) (s .args .scratch .now) (s .pre .0) (s .args .i) _ (s .pre .1) (c .before .before .before .standing .ensures) (s .args .at) _
+    (c .before .before .choosing .ensures) (c .enum-told .given .1)
 
 labelled-requires : tie.Need-labelled-requires
 labelled-requires c κs =
-    let s = c .before .before .before .before .before .before .before in
-    (s .pre .0, (c .before .before .before .before .standing .result, choosing-labels (s .args .text .now) (s .args .scratch .now) (s .pre .0) (s .args .i) _ (s .pre .1) (c .before .before .before .before .standing .ensures) (s .args .at) _ (c .before .before .before .choosing .ensures) _ _ _ (c .before .q .given .1)))
+    let s = c .before .before .before .before .before .before .before in (
+      s .pre .0,
+      (
+        c .before .before .before .before .standing .result,
+        choosing-labels (s .args .text .now) (s .args .scratch .now) (s .pre .0) (s .args .i) _ (s .pre .1)
+            (c .before .before .before .before .standing .ensures) (s .args .at) _ (c .before .before .before .choosing .ensures) _ _ _ (c .before .q .given .1),
+      ),
+    )
 
 enum-known-f : tie.Need-enum-known-f
 enum-known-f c = search needs
@@ -35,7 +42,8 @@ returns-2 : tie.Need-returns-2
 returns-2 c =
     let after-q = c .before .before .before .before .before in
     let entry = after-q .before .before .before .before .before .before in
-    choosing-after (entry .args .text .now) (entry .args .scratch .now) (entry .pre .0) (entry .args .i) _ (entry .pre .1) (after-q .before .before .before .standing .ensures) (entry .args .at) _ (after-q .before .before .choosing .ensures) _ _ _ (after-q .q .given .1) _ _ (c .before .before .before .labelled .ensures) (c .before .f .given .1)
+    choosing-after (entry .args .text .now) (entry .args .scratch .now) (entry .pre .0) (entry .args .i) _ (entry .pre .1) (after-q .before .before .before .standing .ensures) (entry .args .at) _
+    (after-q .before .before .choosing .ensures) _ _ _ (after-q .q .given .1) _ _ (c .before .before .before .labelled .ensures) (c .before .f .given .1)
 
 enum-told-2 : tie.Need-enum-told-2
 enum-told-2 c = search needs
@@ -44,7 +52,8 @@ returns-3 : tie.Need-returns-3
 returns-3 c =
     let after-q = c .before .before .before .before in
     let entry = after-q .before .before .before .before .before .before in
-    choosing-none (entry .args .text .now) (entry .args .scratch .now) (entry .pre .0) (entry .args .i) _ (entry .pre .1) (after-q .before .before .before .standing .ensures) (entry .args .at) _ (after-q .before .before .choosing .ensures) _ _ _ (after-q .q .given .1) _ (c .before .before .labelled .ensures) (c .enum-told2 .given .1)
+    choosing-none (entry .args .text .now) (entry .args .scratch .now) (entry .pre .0) (entry .args .i) _ (entry .pre .1) (after-q .before .before .before .standing .ensures) (entry .args .at) _
+    (after-q .before .before .choosing .ensures) _ _ _ (after-q .q .given .1) _ (c .before .before .labelled .ensures) (c .enum-told2 .given .1)
 
 pub after-choosing-spec : {M : Type 1} → statement M
 after-choosing-spec =

@@ -8,7 +8,8 @@ use Rattle.run_messages.proofs.messages.after_message.Tie as tie
 returns : tie.Need-returns
 returns c =
     let s = c .before .before .before .before in
-    closed-type (s .args .text .now) (s .args .scratch .now) (s .args .n) (plainIn (s .args .text .now) (s .args .scratch .now) (s .args .i)) (c .if1 .taken) (record { is = refl; type = s .pre .1 .0 })
+    closed-type (s .args .text .now) (s .args .scratch .now) (s .args .n) (plainIn (s .args .text .now) (s .args .scratch .now) (s .args .i)) (c .if1 .taken)
+    (record { is = refl; type = s .pre .1 .0 })
 
 after-passing-requires : tie.Need-after-passing-requires
 after-passing-requires c κs =
@@ -28,7 +29,8 @@ after-choosing-requires c κs =
 returns-3 : tie.Need-returns-3
 returns-3 c =
     let s = c .before .before .before .before .before .before .before in
-    chosen-type (s .args .text .now) (s .args .scratch .now) (s .args .n) (plainIn (s .args .text .now) (s .args .scratch .now) (s .args .i)) (omega (arith, c .before .before .before .if1 .left, c .before .if2 .left, s .pre .1 .1)) (c .after-choosing .ensures)
+    chosen-type (s .args .text .now) (s .args .scratch .now) (s .args .n) (plainIn (s .args .text .now) (s .args .scratch .now) (s .args .i))
+    (omega (arith, c .before .before .before .if1 .left, c .before .if2 .left, s .pre .1 .1)) (c .after-choosing .ensures)
 
 pub after-message-spec : {M : Type 1} → statement M
 after-message-spec =

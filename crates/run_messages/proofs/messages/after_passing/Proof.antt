@@ -18,7 +18,8 @@ enum-told c = search needs
 returns : tie.Need-returns
 returns c =
     let s = c .before .before .before .before .before .before in
-    passing-nothing (s .args .text .now) (s .args .scratch .now) (s .pre .0) (s .args .i) _ (s .pre .1) (c .before .before .before .standing .ensures) _ (c .before .before .passing .ensures) (c .enum-told .given .1)
+    passing-nothing (s .args .text .now) (s .args .scratch .now) (s .pre .0) (s .args .i) _ (s .pre .1) (c .before .before .before .standing .ensures) _ (c .before .before .passing .ensures)
+    (c .enum-told .given .1)
 
 enum-known-q : tie.Need-enum-known-q
 enum-known-q c = search needs
@@ -26,7 +27,8 @@ enum-known-q c = search needs
 returns-2 : tie.Need-returns-2
 returns-2 c =
     let s = c .before .before .before .before .before .before .before in
-    passing-after (s .args .text .now) (s .args .scratch .now) (s .pre .0) (s .args .i) _ (s .pre .1) (c .before .before .before .before .standing .ensures) _ (c .before .before .before .passing .ensures) _ _ _ _ (c .before .q .given .1)
+    passing-after (s .args .text .now) (s .args .scratch .now) (s .pre .0) (s .args .i) _ (s .pre .1) (c .before .before .before .before .standing .ensures) _
+    (c .before .before .before .passing .ensures) _ _ _ _ (c .before .q .given .1)
 
 pub after-passing-spec : {M : Type 1} → statement M
 after-passing-spec =

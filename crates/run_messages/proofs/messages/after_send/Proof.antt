@@ -28,7 +28,8 @@ move-on-requires-2 c κs = let s = c .before .before .before .before .before .be
 returns-3 : tie.Need-returns-3
 returns-3 c =
     let s = c .before .before .before .before .before .before .before .before in
-    sent-channel (s .args .text .now) (s .args .scratch .now) (s .args .h) (s .args .n) _ _ (omega (arith, c .before .before .before .before .if1 .left, c .before .before .if2 .left, s .pre .1 .1)) (c .before .drop-end2 .ensures) (c .move-on2 .ensures)
+    sent-channel (s .args .text .now) (s .args .scratch .now) (s .args .h) (s .args .n) _ _ (omega (arith, c .before .before .before .before .if1 .left, c .before .before .if2 .left, s .pre .1 .1))
+    (c .before .drop-end2 .ensures) (c .move-on2 .ensures)
 
 pub after-send-spec : {M : Type 1} → statement M
 after-send-spec = tie.close (tie.spec drop-end-requires returns move-on-requires returns-2 drop-end-requires-2 move-on-requires-2 returns-3)

@@ -39,13 +39,17 @@ cast-retype-end c =
 
 retype-end-requires : tie.Need-retype-end-requires
 retype-end-requires c κs =
-    let s = c .before .before .before .before .before .before .before .before in
-    ((s .pre .1 .0 .many, node-there (s .args .text .now) (s .args .scratch .now) (s .pre .0) _ (c .after-message .ensures .type)), all-weaken (EndIn (s .args .text .now) (s .args .scratch .now)) BoundedEnd (λ e b. b .bounds) (heldIn (s .args .h)) (s .pre .1 .0 .each))
+    let s = c .before .before .before .before .before .before .before .before in (
+      (s .pre .1 .0 .many, node-there (s .args .text .now) (s .args .scratch .now) (s .pre .0) _ (c .after-message .ensures .type)),
+      all-weaken (EndIn (s .args .text .now) (s .args .scratch .now))
+          BoundedEnd (λ e b. b .bounds) (heldIn (s .args .h)) (s .pre .1 .0 .each),
+    )
 
 returns-2 : tie.Need-returns-2
 returns-2 c =
     let s = c .before .before .before .before .before .before .before .before .before in
-    moves-found (s .args .text .now) (s .args .scratch .now) (s .args .h) (s .args .n) (s .args .at) (c .before .before .before .before .before .before .find-end .ensures) (s .pre .1 .0) (c .before .before .before .before .f .given .1) (c .before .after-message .ensures) (c .retype-end .ensures)
+    moves-found (s .args .text .now) (s .args .scratch .now) (s .args .h) (s .args .n) (s .args .at) (c .before .before .before .before .before .before .find-end .ensures) (s .pre .1 .0)
+    (c .before .before .before .before .f .given .1) (c .before .after-message .ensures) (c .retype-end .ensures)
 
 pub move-on-spec : {M : Type 1} → statement M
 move-on-spec =

@@ -19,14 +19,26 @@ same-length c = search needs
 returns : tie.Need-returns
 returns c =
     let s = c .before .before .before .before .before .before .before .before in
-    numbered-gone (s .args .text .now) (s .args .scratch .now) (s .args .run .now) (s .pre .0) (s .args .m) (s .pre .1 .0 .0) (s .args .d) _ _ refl (c .before .before .before .set-given .ensures .0) (c .before .before .before .set-given .ensures .1) _ (c .if1 .taken)
+    numbered-gone (s .args .text .now) (s .args .scratch .now) (s .args .run .now) (s .pre .0) (s .args .m) (s .pre .1 .0 .0) (s .args .d) _ _ refl (c .before .before .before .set-given .ensures .0)
+    (c .before .before .before .set-given .ensures .1) _ (c .if1 .taken)
 
 append-outside-requires : tie.Need-append-outside-requires
 append-outside-requires c κs =
     let set-given = c .before .before .before .before .set-given in
     let entry = c .before .before .before .before .before .before .before .before .before in
-    let run = entry .args .run .now in
-    (one-given (entry .args .text .now) (entry .args .scratch .now) run (entry .pre .0) (entry .args .m) (entry .pre .1 .0 .0) (entry .args .d) _ _ refl (set-given .ensures .0) (set-given .ensures .1) .run .wide, (set-given .ensures .1, (few-outside (entry .args .text .now) (entry .args .scratch .now) run (entry .pre .0) (entry .args .m) (entry .pre .1 .0 .0) (entry .args .d) _ _ refl (set-given .ensures .0) (set-given .ensures .1) (entry .pre .1 .0 .2), record { number = entry .pre .1 .0 .1; node = entry .pre .1 .1 .bounds .node; channel = entry .pre .1 .1 .bounds .channel })))
+    let run = entry .args .run .now in (
+      one-given (entry .args .text .now) (entry .args .scratch .now) run (entry .pre .0) (entry .args .m) (entry .pre .1 .0 .0) (entry .args .d) _ _ refl (set-given .ensures .0)
+          (set-given .ensures .1) .run .wide,
+      (
+        set-given .ensures .1,
+        (
+          few-outside (entry .args .text .now) (entry .args .scratch .now) run (entry .pre .0) (entry .args .m) (entry .pre .1 .0 .0)
+              (entry .args .d) _ _ refl (set-given .ensures .0) (set-given .ensures .1) (entry .pre .1 .0 .2),
+          record
+              { number = entry .pre .1 .0 .1; node = entry .pre .1 .1 .bounds .node; channel = entry .pre .1 .1 .bounds .channel },
+        ),
+      ),
+    )
 
 same-length-2 : tie.Need-same-length-2
 same-length-2 c = search needs
@@ -36,7 +48,8 @@ returns-2 c =
     let after-if1 = c .before .before .before .before in
     let set-given = after-if1 .before .before .before .set-given in
     let entry = after-if1 .before .before .before .before .before .before .before .before in
-    numbered-out (entry .args .text .now) (entry .args .scratch .now) (entry .args .run .now) (entry .pre .0) (entry .args .m) (entry .pre .1 .0 .0) (entry .args .d) _ _ refl (set-given .ensures .0) (set-given .ensures .1) _ _ (after-if1 .if1 .left) (entry .pre .1 .1 .type) (c .before .before .append-outside .ensures .0) (c .before .before .append-outside .ensures .1)
+    numbered-out (entry .args .text .now) (entry .args .scratch .now) (entry .args .run .now) (entry .pre .0) (entry .args .m) (entry .pre .1 .0 .0) (entry .args .d) _ _ refl (set-given .ensures .0)
+    (set-given .ensures .1) _ _ (after-if1 .if1 .left) (entry .pre .1 .1 .type) (c .before .before .append-outside .ensures .0) (c .before .before .append-outside .ensures .1)
 
 pub number-out-spec : {M : Type 1} → statement M
 number-out-spec =

@@ -13,7 +13,8 @@ cast-after-message : tie.Need-cast-after-message
 cast-after-message c = search needs
 
 after-message-requires : tie.Need-after-message-requires
-after-message-requires c κs = let s = c .before .before .before .before .before .before .before in (s .pre .0 .tables, (s .pre .1 .1 .1 .0 .0 .type, (s .pre .1 .0 .node .low, s .pre .1 .0 .node .high)))
+after-message-requires c κs = let s = c .before .before .before .before .before .before .before in
+    (s .pre .0 .tables, (s .pre .1 .1 .1 .0 .0 .type, (s .pre .1 .0 .node .low, s .pre .1 .0 .node .high)))
 
 cast-came-over : tie.Need-cast-came-over
 cast-came-over c = search needs
@@ -43,8 +44,14 @@ retype-outside-requires : tie.Need-retype-outside-requires
 retype-outside-requires c κs =
     let store = c .before .before .before .store in
     let s = c .before .before .before .before .before .before .before .before .before .before .before .before .before .before .before .before in
-    let sent = s .args .sent in
-    (stored (s .args .text .now) (s .args .scratch .now) (s .args .run .now) _ (s .pre .0) (sent .place) (sent .after) (s .pre .1 .0 .after) (store .ensures .0) (store .ensures .1) .run .wide, (store .ensures .1, node-there (s .args .text .now) (s .args .scratch .now) (s .pre .0 .tables) _ (c .before .before .before .before .before .before .before .before .after-message .ensures .type)))
+    let sent = s .args .sent in (
+      stored (s .args .text .now) (s .args .scratch .now) (s .args .run .now) _ (s .pre .0) (sent .place) (sent .after) (s .pre .1 .0 .after) (store .ensures .0) (store .ensures .1) .run .wide,
+      (
+        store .ensures .1,
+        node-there (s .args .text .now) (s .args .scratch .now) (s .pre .0 .tables) _
+            (c .before .before .before .before .before .before .before .before .after-message .ensures .type),
+      ),
+    )
 
 number-out-requires : tie.Need-number-out-requires
 number-out-requires c κs =
@@ -59,7 +66,8 @@ number-out-requires c κs =
     let sent = s .args .sent in
     let z = s .pre .1 .1 .0 in
     let d = s .pre .1 .1 .1 .1 in (
-      out-moved text scratch run sent (s .args .o .number) _ (stored text scratch run _ (s .pre .0) (sent .place) (sent .after) (s .pre .1 .0 .after) (store .ensures .0) (store .ensures .1)) (s .pre .1 .1 .1 .0 .0) (left .ensures) _ (retype-outside .ensures .0) (retype-outside .ensures .1) .run,
+      out-moved text scratch run sent (s .args .o .number) _ (stored text scratch run _ (s .pre .0) (sent .place) (sent .after) (s .pre .1 .0 .after) (store .ensures .0) (store .ensures .1))
+          (s .pre .1 .1 .1 .0 .0) (left .ensures) _ (retype-outside .ensures .0) (retype-outside .ensures .1) .run,
       (
         (
           z .0 ∙ sym (given-kept (sent .place) (processIn (sent .after)) (sent .over .channel) (retyped (left .result)) (store .ensures .0) (retype-outside .ensures .0)),
@@ -84,8 +92,11 @@ returns c =
     let sent = s .args .sent in
     let number = s .args .o .number in
     let over = s .pre .1 .1 .1 .0 in
-    passes-numbered text scratch run sent number (over .0) (s .args .d) (c .before .before .before .before .before .before .before .before .before .before .before .before .came-over .ensures) _ _ (s .args .gone) (s .args .m) (over .1) (s .pre .1 .1 .0 .0)
-    (out-moved text scratch run sent number _ (stored text scratch run _ (s .pre .0) (sent .place) (sent .after) (s .pre .1 .0 .after) (store .ensures .0) (store .ensures .1)) (over .0) (c .before .before .before .before .before .before .before .before .before .before .before .before .before .before .before .after-message .ensures) _ (retype-outside .ensures .0) (retype-outside .ensures .1))
+    passes-numbered text scratch run sent number (over .0) (s .args .d) (c .before .before .before .before .before .before .before .before .before .before .before .before .came-over .ensures) _ _
+    (s .args .gone) (s .args .m) (over .1) (s .pre .1 .1 .0 .0)
+    (out-moved text scratch run sent number _ (stored text scratch run _ (s .pre .0) (sent .place) (sent .after) (s .pre .1 .0 .after) (store .ensures .0) (store .ensures .1)) (over .0)
+    (c .before .before .before .before .before .before .before .before .before .before .before .before .before .before .before .after-message .ensures) _ (retype-outside .ensures .0)
+    (retype-outside .ensures .1))
     (c .before .before .number-out .ensures)
 
 pub pass-numbered-spec : {M : Type 1} → statement M

@@ -13,8 +13,11 @@ load-requires c κs =
 
 end-at-requires : tie.Need-end-at-requires
 end-at-requires c κs =
-    let s = c .before .before .before .before .before .before in
-    (c .before .load .ensures .1 .1, (far-position (s .args .text .now) (s .args .scratch .now) (s .args .run .now) (s .args .e) (s .args .j) (s .args .k) (s .pre .1 .1 .1) (c .before .load .result) (c .before .load .ensures .0)))
+    let s = c .before .before .before .before .before .before in (
+      c .before .load .ensures .1 .1,
+      (far-position (s .args .text .now) (s .args .scratch .now) (s .args .run .now) (s .args .e) (s .args .j) (s .args .k) (s .pre .1 .1 .1) (c .before .load .result)
+          (c .before .load .ensures .0)),
+    )
 
 cast-x : tie.Need-cast-x
 cast-x c = search needs
@@ -22,8 +25,14 @@ cast-x c = search needs
 turn-on-requires : tie.Need-turn-on-requires
 turn-on-requires c κs =
     let load = c .before .before .before .load in
-    let entry = c .before .before .before .before .before .before .before .before in
-    (entry .pre .0 .tables, (_, (stands-at (entry .args .text .now) (entry .args .scratch .now) (entry .args .run .now) (entry .args .j) (load .result) (entry .pre .0) (load .ensures .0) (load .ensures .1 .0) (load .ensures .1 .1)) .is))
+    let entry = c .before .before .before .before .before .before .before .before in (
+      entry .pre .0 .tables,
+      (
+        _,
+        (stands-at (entry .args .text .now) (entry .args .scratch .now) (entry .args .run .now) (entry .args .j) (load .result) (entry .pre .0) (load .ensures .0)
+            (load .ensures .1 .0) (load .ensures .1 .1)) .is,
+      ),
+    )
 
 same-length : tie.Need-same-length
 same-length c = search needs
@@ -34,7 +43,9 @@ returns c =
     let load = c .before .before .before .before .before .before .load in
     let entry = c .before .before .before .before .before .before .before .before .before .before .before in
     let run = entry .args .run .now in
-    answers-not (entry .args .text .now) (entry .args .scratch .now) run (entry .args .place) (entry .args .p) (entry .args .c) (entry .args .e) (entry .args .j) (end-at .result .name) (load .result) (c .before .before .turn-on .result) (far-holder (entry .args .text .now) (entry .args .scratch .now) run (entry .args .e) (entry .args .j) (entry .args .k) (entry .pre .1 .1 .1) (load .result) (load .ensures .0) (end-at .result) (end-at .ensures .0)) (c .before .before .turn-on .ensures) (inl (c .if1 .taken))
+    answers-not (entry .args .text .now) (entry .args .scratch .now) run (entry .args .place) (entry .args .p) (entry .args .c) (entry .args .e) (entry .args .j) (end-at .result .name) (load .result)
+    (c .before .before .turn-on .result) (far-holder (entry .args .text .now) (entry .args .scratch .now) run (entry .args .e) (entry .args .j) (entry .args .k) (entry .pre .1 .1 .1) (load .result)
+    (load .ensures .0) (end-at .result) (end-at .ensures .0)) (c .before .before .turn-on .ensures) (inl (c .if1 .taken))
 
 same-length-2 : tie.Need-same-length-2
 same-length-2 c = search needs
@@ -47,15 +58,27 @@ returns-2 c =
     let load = after-end-at .before .before .load in
     let entry = after-end-at .before .before .before .before .before .before .before in
     let run = entry .args .run .now in
-    answers-not (entry .args .text .now) (entry .args .scratch .now) run (entry .args .place) (entry .args .p) (entry .args .c) (entry .args .e) (entry .args .j) (end-at .result .name) (load .result) (turn-on .result) (far-holder (entry .args .text .now) (entry .args .scratch .now) run (entry .args .e) (entry .args .j) (entry .args .k) (entry .pre .1 .1 .1) (load .result) (load .ensures .0) (end-at .result) (end-at .ensures .0)) (turn-on .ensures) (inr (c .if2 .taken))
+    answers-not (entry .args .text .now) (entry .args .scratch .now) run (entry .args .place) (entry .args .p) (entry .args .c) (entry .args .e) (entry .args .j) (end-at .result .name) (load .result)
+    (turn-on .result) (far-holder (entry .args .text .now) (entry .args .scratch .now) run (entry .args .e) (entry .args .j) (entry .args .k) (entry .pre .1 .1 .1) (load .result) (load .ensures .0)
+    (end-at .result) (end-at .ensures .0)) (turn-on .ensures) (inr (c .if2 .taken))
 
 send-requires : tie.Need-send-requires
 send-requires c κs =
     let turn-on = c .before .before .before .before .before .turn-on in
     let after-load = c .before .before .before .before .before .before .before .before .before in
     let load = after-load .load in
-    let entry = after-load .before .before .before .before .before in
-    (entry .pre .0, ((stands-at (entry .args .text .now) (entry .args .scratch .now) (entry .args .run .now) (entry .args .j) (load .result) (entry .pre .0) (load .ensures .0) (load .ensures .1 .0) (load .ensures .1 .1)), ((send-parts (entry .args .text .now) (entry .args .scratch .now) (turn-on .result) (c .before .before .before .if1 .left) (c .before .if2 .left) (turn-on .ensures .parts)), entry .pre .1 .1 .0)))
+    let entry = after-load .before .before .before .before .before in (
+      entry .pre .0,
+      (
+        (stands-at (entry .args .text .now) (entry .args .scratch .now) (entry .args .run .now) (entry .args .j) (load .result) (entry .pre .0) (load .ensures .0) (load .ensures .1 .0)
+            (load .ensures .1 .1)),
+        (
+          (send-parts (entry .args .text .now) (entry .args .scratch .now) (turn-on .result) (c .before .before .before .if1 .left) (c .before .if2 .left)
+              (turn-on .ensures .parts)),
+          entry .pre .1 .1 .0,
+        ),
+      ),
+    )
 
 same-length-3 : tie.Need-same-length-3
 same-length-3 c = search needs
@@ -69,7 +92,9 @@ returns-3 c =
     let load = after-end-at .before .before .load in
     let entry = after-end-at .before .before .before .before .before .before .before in
     let run = entry .args .run .now in
-    answers (entry .args .text .now) (entry .args .scratch .now) run (entry .args .place) (entry .args .p) (entry .args .c) (entry .args .e) (entry .args .j) (end-at .result .name) (load .result) (turn-on .result) (far-holder (entry .args .text .now) (entry .args .scratch .now) run (entry .args .e) (entry .args .j) (entry .args .k) (entry .pre .1 .1 .1) (load .result) (load .ensures .0) (end-at .result) (end-at .ensures .0)) (turn-on .ensures) (after-if1 .if1 .left) (c .before .before .before .before .if2 .left) (c .before .before .send .ensures)
+    answers (entry .args .text .now) (entry .args .scratch .now) run (entry .args .place) (entry .args .p) (entry .args .c) (entry .args .e) (entry .args .j) (end-at .result .name) (load .result)
+    (turn-on .result) (far-holder (entry .args .text .now) (entry .args .scratch .now) run (entry .args .e) (entry .args .j) (entry .args .k) (entry .pre .1 .1 .1) (load .result) (load .ensures .0)
+    (end-at .result) (end-at .ensures .0)) (turn-on .ensures) (after-if1 .if1 .left) (c .before .before .before .before .if2 .left) (c .before .before .send .ensures)
 
 pub answer-spec : {M : Type 1} → statement M
 answer-spec =

@@ -21,8 +21,14 @@ returns c =
 
 far-end-requires : tie.Need-far-end-requires
 far-end-requires c κs =
-    let s = c .before .before .before .before .before .before .before .before .before in
-    ((s .pre .0 .wide), ((s .pre .0 .bounds), end-found {w = (s .args .scratch .now)} (c .before .before .before .before .find-end .ensures) (c .before .before .f .given .1) (s .pre .1 .0 .is .held) .1))
+    let s = c .before .before .before .before .before .before .before .before .before in (
+      (s .pre .0 .wide),
+      (
+        (s .pre .0 .bounds),
+        end-found {w = (s .args .scratch .now)} (c .before .before .before .before .find-end .ensures) (c .before .before .f .given .1)
+            (s .pre .1 .0 .is .held) .1,
+      ),
+    )
 
 enum-known-g : tie.Need-enum-known-g
 enum-known-g c = search needs
@@ -39,7 +45,8 @@ returns-2 : tie.Need-returns-2
 returns-2 c =
     let after-f = c .before .before .before .before .before .before .before .before .before .before in
     let entry = after-f .before .before .before .before .before .before .before in
-    receives-on (entry .args .text .now) (entry .args .scratch .now) (entry .args .run .now) (entry .args .place) (entry .args .p) (entry .args .c) (after-f .before .before .find-end .ensures) (after-f .f .given .1) (c .before .before .answer .ensures)
+    receives-on (entry .args .text .now) (entry .args .scratch .now) (entry .args .run .now) (entry .args .place) (entry .args .p) (entry .args .c) (after-f .before .before .find-end .ensures)
+    (after-f .f .given .1) (c .before .before .answer .ensures)
 
 enum-known-g-2 : tie.Need-enum-known-g-2
 enum-known-g-2 c = search needs
@@ -53,7 +60,9 @@ returns-3 c =
     let f = after-f .f in
     let entry = after-f .before .before .before .before .before .before .before in
     let run = entry .args .run .now in
-    receives-on (entry .args .text .now) (entry .args .scratch .now) run (entry .args .place) (entry .args .p) (entry .args .c) (after-f .before .before .find-end .ensures) (f .given .1) (receives-outside (entry .args .text .now) (entry .args .scratch .now) run (entry .args .place) (entry .args .p) (entry .args .c) (f .given .0 .0) _ (sym (c .before .g2 .given .1) ∙ c .before .before .before .far-end .ensures))
+    receives-on (entry .args .text .now) (entry .args .scratch .now) run (entry .args .place) (entry .args .p) (entry .args .c) (after-f .before .before .find-end .ensures) (f .given .1)
+    (receives-outside (entry .args .text .now) (entry .args .scratch .now) run (entry .args .place) (entry .args .p) (entry .args .c) (f .given .0 .0) _
+    (sym (c .before .g2 .given .1) ∙ c .before .before .before .far-end .ensures))
 
 enum-told-2 : tie.Need-enum-told-2
 enum-told-2 c = search needs
@@ -70,7 +79,8 @@ returns-4 : tie.Need-returns-4
 returns-4 c =
     let after-f = c .before .before .before .before .before .before .before .before .before in
     let entry = after-f .before .before .before .before .before .before .before in
-    receives-on (entry .args .text .now) (entry .args .scratch .now) (entry .args .run .now) (entry .args .place) (entry .args .p) (entry .args .c) (after-f .before .before .find-end .ensures) (after-f .f .given .1) (c .before .before .receive-nothing .ensures)
+    receives-on (entry .args .text .now) (entry .args .scratch .now) (entry .args .run .now) (entry .args .place) (entry .args .p) (entry .args .c) (after-f .before .before .find-end .ensures)
+    (after-f .f .given .1) (c .before .before .receive-nothing .ensures)
 
 pub receive-spec : {M : Type 1} → statement M
 receive-spec =

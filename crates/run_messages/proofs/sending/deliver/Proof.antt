@@ -51,7 +51,8 @@ same-length-3 c = search needs
 returns-3 : tie.Need-returns-3
 returns-3 c =
     let s = c .before .before .before .before .before .before .before .before .before .before .before .before in
-    sends-unheard (s .args .text .now) (s .args .scratch .now) (s .args .run .now) (s .args .sent) (sym (c .before .before .before .before .enum-told .given .1) ∙ c .before .before .before .before .before .before .far-end .ensures) (c .before .before .send-unheard .ensures)
+    sends-unheard (s .args .text .now) (s .args .scratch .now) (s .args .run .now) (s .args .sent)
+    (sym (c .before .before .before .before .enum-told .given .1) ∙ c .before .before .before .before .before .before .far-end .ensures) (c .before .before .send-unheard .ensures)
 
 pub deliver-spec : {M : Type 1} → statement M
 deliver-spec =

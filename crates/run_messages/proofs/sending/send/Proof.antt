@@ -23,7 +23,8 @@ returns c =
     sends-nothing (s .args .text .now) (s .args .scratch .now) (s .args .run .now) (s .args .place) (s .args .p) (s .args .n) (c .before .before .find-end .ensures) (c .enum-told .given .1)
 
 after-send-requires : tie.Need-after-send-requires
-after-send-requires c κs = let s = c .before .before .before .before .before .before .before .before in (s .pre .0 .tables, (s .pre .1 .0 .is .held, (s .pre .1 .1 .0 .0 .low, s .pre .1 .1 .0 .0 .high)))
+after-send-requires c κs = let s = c .before .before .before .before .before .before .before .before in
+    (s .pre .0 .tables, (s .pre .1 .0 .is .held, (s .pre .1 .1 .0 .0 .low, s .pre .1 .1 .0 .0 .high)))
 
 cast-after : tie.Need-cast-after
 cast-after c =
@@ -38,8 +39,17 @@ deliver-requires c κs =
       stands = s .pre .1 .0;
       after = runs-on (s .pre .0 .tables) (runningOn (s .args .n .third) (held .result) (s .args .p)) refl (s .pre .1 .0 .is .link) (s .pre .1 .1 .0 .1) (held .ensures .fits);
       node = s .pre .1 .1 .0 .0;
-    } in
-    (s .pre .0, (sending, (end-found {w = (s .args .scratch .now)} (c .before .before .before .before .before .before .find-end .ensures) (c .before .before .before .before .f .given .1) (s .pre .1 .0 .is .held) .1, s .pre .1 .1 .1)))
+    } in (
+      s .pre .0,
+      (
+        sending,
+        (
+          end-found {w = (s .args .scratch .now)} (c .before .before .before .before .before .before .find-end .ensures) (c .before .before .before .before .f .given .1)
+              (s .pre .1 .0 .is .held) .1,
+          s .pre .1 .1 .1,
+        ),
+      ),
+    )
 
 same-length : tie.Need-same-length
 same-length c = search needs
@@ -47,7 +57,9 @@ same-length c = search needs
 returns-2 : tie.Need-returns-2
 returns-2 c =
     let s = c .before .before .before .before .before .before .before .before .before .before .before .before .before .before in
-    sends-on (s .args .text .now) (s .args .scratch .now) (s .args .run .now) (s .args .place) (s .args .p) (s .args .n) (c .before .before .before .before .before .before .before .before .before .find-end .ensures) (c .before .before .before .before .before .before .before .f .given .1) (c .before .before .before .before .before .after-send .ensures) (c .before .before .deliver .ensures)
+    sends-on (s .args .text .now) (s .args .scratch .now) (s .args .run .now) (s .args .place) (s .args .p) (s .args .n)
+    (c .before .before .before .before .before .before .before .before .before .find-end .ensures) (c .before .before .before .before .before .before .before .f .given .1)
+    (c .before .before .before .before .before .after-send .ensures) (c .before .before .deliver .ensures)
 
 pub send-spec : {M : Type 1} → statement M
 send-spec = tie.close (tie.spec find-end-requires enum-known-f enum-told returns after-send-requires cast-after deliver-requires same-length returns-2)

@@ -17,12 +17,22 @@ enum-told c = search needs
 returns : tie.Need-returns
 returns c =
     let s = c .before .before .before .before .before .before .before .before .before .before .before .before in
-    unheard-none (s .args .text .now) (s .args .scratch .now) (s .args .run .now) (s .args .sent) (c .before .before .before .before .before .if1 .taken) (c .before .before .find-end .ensures) (c .enum-told .given .1)
+    unheard-none (s .args .text .now) (s .args .scratch .now) (s .args .run .now) (s .args .sent) (c .before .before .before .before .before .if1 .taken) (c .before .before .find-end .ensures)
+    (c .enum-told .given .1)
 
 part-requires : tie.Need-part-requires
 part-requires c κs =
-    let s = c .before .before .before .before .before .before .before .before .before .before .before .before .before .before in
-    (s .pre .0, (s .pre .1 .stands .below, (s .pre .1 .after, end-found {w = (s .args .scratch .now)} (c .before .before .before .before .find-end .ensures) (c .before .before .f .given .1) (s .pre .1 .stands .is .held) .1)))
+    let s = c .before .before .before .before .before .before .before .before .before .before .before .before .before .before in (
+      s .pre .0,
+      (
+        s .pre .1 .stands .below,
+        (
+          s .pre .1 .after,
+          end-found {w = (s .args .scratch .now)} (c .before .before .before .before .find-end .ensures) (c .before .before .f .given .1)
+              (s .pre .1 .stands .is .held) .1,
+        ),
+      ),
+    )
 
 same-length : tie.Need-same-length
 same-length c = search needs
@@ -31,7 +41,8 @@ returns-2 : tie.Need-returns-2
 returns-2 c =
     let after-f = c .before .before .before .before .before in
     let entry = after-f .before .before .before .before .before .before .before .before .before .before .before .before in
-    unheard-parts (entry .args .text .now) (entry .args .scratch .now) (entry .args .run .now) (entry .args .sent) (after-f .before .before .before .before .before .if1 .taken) (after-f .before .before .find-end .ensures) (after-f .f .given .1) (c .before .before .part .ensures)
+    unheard-parts (entry .args .text .now) (entry .args .scratch .now) (entry .args .run .now) (entry .args .sent) (after-f .before .before .before .before .before .if1 .taken)
+    (after-f .before .before .find-end .ensures) (after-f .f .given .1) (c .before .before .part .ensures)
 
 store-requires : tie.Need-store-requires
 store-requires c κs =
@@ -44,7 +55,9 @@ same-length-2 c = search needs
 returns-3 : tie.Need-returns-3
 returns-3 c =
     let s = c .before .before .before .before .before .before .before .before .before .before .before in
-    unheard-goes (s .args .text .now) (s .args .scratch .now) (s .args .run .now) (s .args .sent) (s .pre .1 .node .low) (s .pre .1 .node .high) (c .before .before .before .before .if1 .left) (stored (s .args .text .now) (s .args .scratch .now) (s .args .run .now) _ (s .pre .0) (s .args .sent .place) (s .args .sent .after) (s .pre .1 .after) (c .before .before .store .ensures .0) (c .before .before .store .ensures .1))
+    unheard-goes (s .args .text .now) (s .args .scratch .now) (s .args .run .now) (s .args .sent) (s .pre .1 .node .low) (s .pre .1 .node .high) (c .before .before .before .before .if1 .left)
+    (stored (s .args .text .now) (s .args .scratch .now) (s .args .run .now) _ (s .pre .0) (s .args .sent .place) (s .args .sent .after) (s .pre .1 .after) (c .before .before .store .ensures .0)
+    (c .before .before .store .ensures .1))
 
 pub send-unheard-spec : {M : Type 1} → statement M
 send-unheard-spec =

@@ -27,8 +27,10 @@ loop-holds c = (refl, skipped-none _ _)
 step-at-requires : tie.Need-step-at-requires Inv-loop μ-loop
 step-at-requires c κs =
     let s = c .before .before .before .before .before .before .before .before in
-    let same = c .before .before .loop .inv .0 in
-    (subst (RunOf (s .args .text .now) (s .args .scratch .now)) (sym same) (s .pre .0), (subst (λ l. WellFormed (programIn (s .args .text .now) (s .args .scratch .now)) (configIn (s .args .text .now) (s .args .scratch .now) l)) (sym same) (s .pre .1 .0), s .pre .1 .1))
+    let same = c .before .before .loop .inv .0 in (
+      subst (RunOf (s .args .text .now) (s .args .scratch .now)) (sym same) (s .pre .0),
+      (subst (λ l. WellFormed (programIn (s .args .text .now) (s .args .scratch .now)) (configIn (s .args .text .now) (s .args .scratch .now) l)) (sym same) (s .pre .1 .0), s .pre .1 .1),
+    )
 
 was-carried-requires : tie.Need-was-carried-requires Inv-loop μ-loop
 was-carried-requires c κs = search needs
@@ -42,7 +44,10 @@ returns c =
     let loop = after-loop .loop in
     let entry = after-loop .before .before .before .before .before .before in
     let run = entry .args .run .now in
-    carries-first (entry .args .text .now) (entry .args .scratch .now) run (loop .i) (loop .inv .1) (omega (arith, c .before .before .before .before .before .before .loop-test .taken, after-loop .before .count .ensures)) (from-same (entry .args .text .now) (entry .args .scratch .now) run (loop .i) (loop .inv .0) (c .before .before .before .before .step-at .ensures)) (sym (c .before .was-carried .ensures) ∙ c .if1 .taken)
+    carries-first (entry .args .text .now) (entry .args .scratch .now) run (loop .i) (loop .inv .1)
+    (omega (arith, c .before .before .before .before .before .before .loop-test .taken, after-loop .before .count .ensures))
+    (from-same (entry .args .text .now) (entry .args .scratch .now) run (loop .i) (loop .inv .0) (c .before .before .before .before .step-at .ensures))
+    (sym (c .before .was-carried .ensures) ∙ c .if1 .taken)
 
 add-i : tie.Need-add-i Inv-loop μ-loop
 add-i c = search needs
@@ -56,7 +61,10 @@ loop-again c =
     let loop = after-loop .loop in
     let entry = after-loop .before .before .before .before .before .before in
     let run = entry .args .run .now in
-    skips (entry .args .text .now) (entry .args .scratch .now) run (loop .i) (loop .inv .1) (omega (arith, c .before .before .before .before .before .before .loop-test .taken, after-loop .before .count .ensures)) (from-same (entry .args .text .now) (entry .args .scratch .now) run (loop .i) (loop .inv .0) (c .before .before .before .before .step-at .ensures)) (sym (c .before .was-carried .ensures) ∙ c .if1 .left)
+    skips (entry .args .text .now) (entry .args .scratch .now) run (loop .i) (loop .inv .1)
+    (omega (arith, c .before .before .before .before .before .before .loop-test .taken, after-loop .before .count .ensures))
+    (from-same (entry .args .text .now) (entry .args .scratch .now) run (loop .i) (loop .inv .0) (c .before .before .before .before .step-at .ensures))
+    (sym (c .before .was-carried .ensures) ∙ c .if1 .left)
 
 same-length-2 : tie.Need-same-length-2 Inv-loop μ-loop
 same-length-2 c = search needs

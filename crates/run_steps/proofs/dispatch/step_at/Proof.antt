@@ -28,8 +28,14 @@ load-requires c κs =
 step-running-requires : tie.Need-step-running-requires
 step-running-requires c κs =
     let load = c .before .before .before .load in
-    let entry = c .before .before .before .before .before .before .before .before .before .before .before in
-    (entry .pre .0, ((stands-at (entry .args .text .now) (entry .args .scratch .now) (entry .args .run .now) (entry .args .place) (load .result) (entry .pre .0) (load .ensures .0) (load .ensures .1 .0) (load .ensures .1 .1)), (entry .pre .1 .0, (entry .pre .1 .1, c .before .if2 .taken))))
+    let entry = c .before .before .before .before .before .before .before .before .before .before .before in (
+      entry .pre .0,
+      (
+        (stands-at (entry .args .text .now) (entry .args .scratch .now) (entry .args .run .now) (entry .args .place) (load .result) (entry .pre .0) (load .ensures .0)
+            (load .ensures .1 .0) (load .ensures .1 .1)),
+        (entry .pre .1 .0, (entry .pre .1 .1, c .before .if2 .taken)),
+      ),
+    )
 
 same-length-2 : tie.Need-same-length-2
 same-length-2 c = search needs
@@ -40,7 +46,9 @@ returns-2 c =
     let load = after-if2 .before .before .load in
     let entry = after-if2 .before .before .before .before .before .before .before .before .before .before in
     let run = entry .args .run .now in
-    steps-as (entry .args .text .now) (entry .args .scratch .now) run (entry .pre .0) (entry .pre .1 .0) (entry .args .place) (load .result) (stands-at (entry .args .text .now) (entry .args .scratch .now) run (entry .args .place) (load .result) (entry .pre .0) (load .ensures .0) (load .ensures .1 .0) (load .ensures .1 .1)) 0 (after-if2 .if2 .taken) (c .before .before .step-running .ensures)
+    steps-as (entry .args .text .now) (entry .args .scratch .now) run (entry .pre .0) (entry .pre .1 .0) (entry .args .place) (load .result)
+    (stands-at (entry .args .text .now) (entry .args .scratch .now) run (entry .args .place) (load .result) (entry .pre .0) (load .ensures .0) (load .ensures .1 .0) (load .ensures .1 .1)) 0
+    (after-if2 .if2 .taken) (c .before .before .step-running .ensures)
 
 fold-up-requires : tie.Need-fold-up-requires
 fold-up-requires c κs =
@@ -50,7 +58,14 @@ fold-up-requires c κs =
     let scratch = entry .args .scratch .now in
     let run = entry .args .run .now in
     let place = entry .args .place in
-    (entry .pre .0, ((stands-at text scratch run place (load .result) (entry .pre .0) (load .ensures .0) (load .ensures .1 .0) (load .ensures .1 .1)), unlinked-here text scratch run (entry .pre .1 .0) place (load .result) (stands-at text scratch run place (load .result) (entry .pre .0) (load .ensures .0) (load .ensures .1 .0) (load .ensures .1 .1)) (ap (λ k. isWaiting (doingAs text scratch k (load .result .pointer))) (c .before .if3 .taken))))
+    let stands-at′ = stands-at text scratch run place (load .result) (entry .pre .0) (load .ensures .0) (load .ensures .1 .0) (load .ensures .1 .1) in (
+      entry .pre .0,
+      (
+        stands-at′,
+        unlinked-here text scratch run (entry .pre .1 .0) place (load .result) stands-at′
+            (ap (λ k. isWaiting (doingAs text scratch k (load .result .pointer))) (c .before .if3 .taken)),
+      ),
+    )
 
 same-length-3 : tie.Need-same-length-3
 same-length-3 c = search needs
@@ -61,7 +76,9 @@ returns-3 c =
     let load = after-load .load in
     let entry = after-load .before .before .before .before .before .before .before .before in
     let run = entry .args .run .now in
-    steps-as (entry .args .text .now) (entry .args .scratch .now) run (entry .pre .0) (entry .pre .1 .0) (entry .args .place) (load .result) (stands-at (entry .args .text .now) (entry .args .scratch .now) run (entry .args .place) (load .result) (entry .pre .0) (load .ensures .0) (load .ensures .1 .0) (load .ensures .1 .1)) 1 (c .before .before .before .before .if3 .taken) (c .before .before .fold-up .ensures)
+    steps-as (entry .args .text .now) (entry .args .scratch .now) run (entry .pre .0) (entry .pre .1 .0) (entry .args .place) (load .result)
+    (stands-at (entry .args .text .now) (entry .args .scratch .now) run (entry .args .place) (load .result) (entry .pre .0) (load .ensures .0) (load .ensures .1 .0) (load .ensures .1 .1)) 1
+    (c .before .before .before .before .if3 .taken) (c .before .before .fold-up .ensures)
 
 same-length-4 : tie.Need-same-length-4
 same-length-4 c = search needs
@@ -74,7 +91,9 @@ returns-4 c =
     let scratch = entry .args .scratch .now in
     let run = entry .args .run .now in
     let place = entry .args .place in
-    steps-as text scratch run (entry .pre .0) (entry .pre .1 .0) place (load .result) (stands-at text scratch run place (load .result) (entry .pre .0) (load .ensures .0) (load .ensures .1 .0) (load .ensures .1 .1)) 2 (omega (arith, (stands-at text scratch run place (load .result) (entry .pre .0) (load .ensures .0) (load .ensures .1 .0) (load .ensures .1 .1)) .is .kind, c .before .before .if2 .left, c .if3 .left)) (record { is = (refl, refl) })
+    let stands-at′ = stands-at text scratch run place (load .result) (entry .pre .0) (load .ensures .0) (load .ensures .1 .0) (load .ensures .1 .1) in
+    steps-as text scratch run (entry .pre .0) (entry .pre .1 .0) place (load .result) stands-at′ 2 (omega (arith, stands-at′ .is .kind, c .before .before .if2 .left, c .if3 .left))
+    (record { is = (refl, refl) })
 
 pub step-at-spec : {M : Type 1} → statement M
 step-at-spec =

@@ -12,49 +12,98 @@ use Rattle.run_messages.proofs.sending.send.Reads as send-reads
 use Rattle.run_alone.proofs.parting.cancel.Reads as cancel-reads
 
 returns : tie.Need-returns
-returns c = let s = c .before .before .before .before in absurd (facts-at (s .args .text .now) (s .args .scratch .now) (s .args .run .now) (s .args .place) (s .args .p) (s .args .n) (s .pre .1 .1 .1 .1) 0 (c .match .keys1))
+returns c = let s = c .before .before .before .before in absurd (facts-at (s .args .text .now) (s .args .scratch .now) (s .args .run .now) (s .args .place) (s .args .p) (s .args .n)
+    (s .pre .1 .1 .1 .1) 0 (c .match .keys1))
 
 cast-cancel : tie.Need-cast-cancel
-cast-cancel c = let s = c .before .before .before .before .before .before in omega (arith, pointer-small (s .args .text .now) (s .args .scratch .now) _ (s .pre .0 .tables) (facts-at (s .args .text .now) (s .args .scratch .now) (s .args .run .now) (s .args .place) (s .args .p) (s .args .n) (s .pre .1 .1 .1 .1) 4 (c .before .before .match .keys2)))
+cast-cancel c = let s = c .before .before .before .before .before .before in
+    omega (
+      arith,
+      pointer-small (s .args .text .now) (s .args .scratch .now) _ (s .pre .0 .tables)
+          (facts-at (s .args .text .now) (s .args .scratch .now) (s .args .run .now) (s .args .place) (s .args .p) (s .args .n) (s .pre .1 .1 .1 .1) 4 (c .before .before .match .keys2)),
+    )
 
 cancel-requires : tie.Need-cancel-requires
-cancel-requires c κs = let s = c .before .before .before .before .before .before in (s .pre .0, (s .pre .1 .0, facts-at (s .args .text .now) (s .args .scratch .now) (s .args .run .now) (s .args .place) (s .args .p) (s .args .n) (s .pre .1 .1 .1 .1) 4 (c .before .before .match .keys2)))
+cancel-requires c κs = let s = c .before .before .before .before .before .before in (
+  s .pre .0,
+  (
+    s .pre .1 .0,
+    facts-at (s .args .text .now) (s .args .scratch .now) (s .args .run .now) (s .args .place) (s .args .p) (s .args .n) (s .pre .1 .1 .1 .1) 4
+        (c .before .before .match .keys2),
+  ),
+)
 
 same-length : tie.Need-same-length
 same-length c = search needs
 
 returns-2 : tie.Need-returns-2
-returns-2 c = let s = c .before .before .before .before .before .before .before .before .before in ruled-as (s .args .text .now) (s .args .scratch .now) (s .args .run .now) (s .args .place) (s .args .p) (s .args .n) (s .pre .1 .1 .1 .1) 4 (c .before .before .before .before .before .match .keys2) (c .before .before .cancel .ensures)
+returns-2 c = let s = c .before .before .before .before .before .before .before .before .before in ruled-as (s .args .text .now) (s .args .scratch .now) (s .args .run .now) (s .args .place)
+    (s .args .p) (s .args .n) (s .pre .1 .1 .1 .1) 4 (c .before .before .before .before .before .match .keys2) (c .before .before .cancel .ensures)
 
 cast-t12 : tie.Need-cast-t12
 cast-t12 c = let s = c .before .before .before .before .before in omega (arith, (s .pre .1 .1 .1 .1) .at)
 
 cast-t13 : tie.Need-cast-t13
-cast-t13 c = let s = c .before .before .before .before .before .before in omega (arith, node-there (s .args .text .now) (s .args .scratch .now) (s .pre .0 .tables) _ (facts-at (s .args .text .now) (s .args .scratch .now) (s .args .run .now) (s .args .place) (s .args .p) (s .args .n) (s .pre .1 .1 .1 .1) 5 (c .before .before .match .keys3) .0))
+cast-t13 c = let s = c .before .before .before .before .before .before in
+    omega (
+      arith,
+      node-there (s .args .text .now) (s .args .scratch .now) (s .pre .0 .tables) _
+          (facts-at (s .args .text .now) (s .args .scratch .now) (s .args .run .now) (s .args .place) (s .args .p) (s .args .n) (s .pre .1 .1 .1 .1) 5 (c .before .before .match .keys3) .0),
+    )
 
 cast-t14 : tie.Need-cast-t14
-cast-t14 c = let s = c .before .before .before .before .before .before .before in omega (arith, pointer-small (s .args .text .now) (s .args .scratch .now) _ (s .pre .0 .tables) (facts-at (s .args .text .now) (s .args .scratch .now) (s .args .run .now) (s .args .place) (s .args .p) (s .args .n) (s .pre .1 .1 .1 .1) 5 (c .before .before .before .match .keys3) .1))
+cast-t14 c = let s = c .before .before .before .before .before .before .before in
+    omega (
+      arith,
+      pointer-small (s .args .text .now) (s .args .scratch .now) _ (s .pre .0 .tables)
+          (facts-at (s .args .text .now) (s .args .scratch .now) (s .args .run .now) (s .args .place) (s .args .p) (s .args .n) (s .pre .1 .1 .1 .1) 5 (c .before .before .before .match .keys3) .1),
+    )
 
 cast-t15 : tie.Need-cast-t15
-cast-t15 c = let s = c .before .before .before .before .before .before .before .before in omega (arith, pointer-small (s .args .text .now) (s .args .scratch .now) _ (s .pre .0 .tables) (facts-at (s .args .text .now) (s .args .scratch .now) (s .args .run .now) (s .args .place) (s .args .p) (s .args .n) (s .pre .1 .1 .1 .1) 5 (c .before .before .before .before .match .keys3) .2))
+cast-t15 c = let s = c .before .before .before .before .before .before .before .before in
+    omega (
+      arith,
+      pointer-small (s .args .text .now) (s .args .scratch .now) _ (s .pre .0 .tables)
+          (facts-at (s .args .text .now) (s .args .scratch .now) (s .args .run .now) (s .args .place) (s .args .p) (s .args .n) (s .pre .1 .1 .1 .1) 5 (c .before .before .before .before .match .keys3) .2),
+    )
 
 spawn-requires : tie.Need-spawn-requires
-spawn-requires c κs = let s = c .before .before .before .before .before .before .before .before .before in (s .pre .0, (s .pre .1 .0, spawn-in (s .args .text .now) (s .args .scratch .now) (s .args .run .now) (s .args .place) (s .args .p) (s .args .n) (s .pre .1 .1 .1 .1) (c .before .before .before .before .before .match .keys3)))
+spawn-requires c κs = let s = c .before .before .before .before .before .before .before .before .before in (
+  s .pre .0,
+  (
+    s .pre .1 .0,
+    spawn-in (s .args .text .now) (s .args .scratch .now) (s .args .run .now) (s .args .place) (s .args .p) (s .args .n) (s .pre .1 .1 .1 .1)
+        (c .before .before .before .before .before .match .keys3),
+  ),
+)
 
 same-length-2 : tie.Need-same-length-2
 same-length-2 c = search needs
 
 returns-3 : tie.Need-returns-3
-returns-3 c = let s = c .before .before .before .before .before .before .before .before .before .before .before .before in ruled-as (s .args .text .now) (s .args .scratch .now) (s .args .run .now) (s .args .place) (s .args .p) (s .args .n) (s .pre .1 .1 .1 .1) 5 (c .before .before .before .before .before .before .before .before .match .keys3) (c .before .before .spawn .ensures)
+returns-3 c = let s = c .before .before .before .before .before .before .before .before .before .before .before .before in ruled-as (s .args .text .now) (s .args .scratch .now) (s .args .run .now)
+    (s .args .place) (s .args .p) (s .args .n) (s .pre .1 .1 .1 .1) 5 (c .before .before .before .before .before .before .before .before .match .keys3) (c .before .before .spawn .ensures)
 
 send-requires : tie.Need-send-requires
-send-requires c κs = let s = c .before .before .before .before .before .before in (s .pre .0, (s .pre .1 .0, (send-node (s .args .text .now) (s .args .scratch .now) (s .args .run .now) (s .args .place) (s .args .p) (s .args .n) (s .pre .1 .1 .1 .1) (omega (arith, c .before .before .match .rest .0 .0 .1)) (omega (arith, c .before .if1 .taken)), s .pre .1 .1 .0)))
+send-requires c κs = let s = c .before .before .before .before .before .before in (
+  s .pre .0,
+  (
+    s .pre .1 .0,
+    (
+      send-node (s .args .text .now) (s .args .scratch .now) (s .args .run .now) (s .args .place) (s .args .p) (s .args .n) (s .pre .1 .1 .1 .1)
+          (omega (arith, c .before .before .match .rest .0 .0 .1)) (omega (arith, c .before .if1 .taken)),
+      s .pre .1 .1 .0,
+    ),
+  ),
+)
 
 same-length-3 : tie.Need-same-length-3
 same-length-3 c = search needs
 
 returns-4 : tie.Need-returns-4
-returns-4 c = let s = c .before .before .before .before .before .before .before .before .before in ruled-send (s .args .text .now) (s .args .scratch .now) (s .args .run .now) (s .args .place) (s .args .p) (s .args .n) (s .pre .1 .1 .1 .1) (omega (arith, c .before .before .before .before .before .match .rest .0 .0 .1)) (omega (arith, c .before .before .before .before .if1 .taken)) (c .before .before .send .ensures)
+returns-4 c = let s = c .before .before .before .before .before .before .before .before .before in ruled-send (s .args .text .now) (s .args .scratch .now) (s .args .run .now) (s .args .place)
+    (s .args .p) (s .args .n) (s .pre .1 .1 .1 .1) (omega (arith, c .before .before .before .before .before .match .rest .0 .0 .1)) (omega (arith, c .before .before .before .before .if1 .taken))
+    (c .before .before .send .ensures)
 
 receive-requires : tie.Need-receive-requires
 receive-requires c κs = let s = c .before .before .before .before .before .before .before in (s .pre .0, (s .pre .1 .0, s .pre .1 .1 .0))
@@ -67,10 +116,12 @@ returns-5 c =
     let after-if2 = c .before .before .before .before in
     let match = after-if2 .before .before .match in
     let entry = after-if2 .before .before .before .before .before .before in
-    ruled-receive (entry .args .text .now) (entry .args .scratch .now) (entry .args .run .now) (entry .args .place) (entry .args .p) (entry .args .n) (entry .pre .1 .1 .1 .1) (omega (arith, after-if2 .before .if1 .left, match .rest .1, match .rest .0 .1, match .rest .0 .0 .1)) (omega (arith, after-if2 .if2 .taken)) (c .before .before .receive .ensures)
+    ruled-receive (entry .args .text .now) (entry .args .scratch .now) (entry .args .run .now) (entry .args .place) (entry .args .p) (entry .args .n) (entry .pre .1 .1 .1 .1)
+    (omega (arith, after-if2 .before .if1 .left, match .rest .1, match .rest .0 .1, match .rest .0 .0 .1)) (omega (arith, after-if2 .if2 .taken)) (c .before .before .receive .ensures)
 
 step-ending-requires : tie.Need-step-ending-requires
-step-ending-requires c κs = let s = c .before .before .before .before .before .before .before in (s .pre .0, (s .pre .1 .0, (s .pre .1 .1 .1 .0, ((s .pre .1 .1 .1 .1), omega (arith, c .before .if2 .left)))))
+step-ending-requires c κs = let s = c .before .before .before .before .before .before .before in
+    (s .pre .0, (s .pre .1 .0, (s .pre .1 .1 .1 .0, ((s .pre .1 .1 .1 .1), omega (arith, c .before .if2 .left)))))
 
 same-length-5 : tie.Need-same-length-5
 same-length-5 c = search needs

@@ -19,12 +19,14 @@ can-go-on-requires c κs = search needs
 returns-2 : tie.Need-returns-2
 returns-2 c =
     let entry = c .before .before .before .before .before .before .before in
-    spent-stopped (entry .args .text .now) (entry .args .scratch .now) (entry .args .run .now) (entry .args .taken) (omega (arith, c .before .before .if1 .left, c .before .before .before .count .ensures)) (sym (c .before .can-go-on .ensures) ∙ c .if2 .taken)
+    spent-stopped (entry .args .text .now) (entry .args .scratch .now) (entry .args .run .now) (entry .args .taken)
+    (omega (arith, c .before .before .if1 .left, c .before .before .before .count .ensures)) (sym (c .before .can-go-on .ensures) ∙ c .if2 .taken)
 
 returns-3 : tie.Need-returns-3
 returns-3 c =
     let entry = c .before .before .before .before .before .before .before in
-    spent-full (entry .args .text .now) (entry .args .scratch .now) (entry .args .run .now) (entry .args .taken) (omega (arith, c .before .before .if1 .left, c .before .before .before .count .ensures)) (sym (c .before .can-go-on .ensures) ∙ c .if2 .left)
+    spent-full (entry .args .text .now) (entry .args .scratch .now) (entry .args .run .now) (entry .args .taken)
+    (omega (arith, c .before .before .if1 .left, c .before .before .before .count .ensures)) (sym (c .before .can-go-on .ensures) ∙ c .if2 .left)
 
 pub spent-spec : {M : Type 1} → statement M
 spent-spec = tie.close (tie.spec count-requires returns can-go-on-requires returns-2 returns-3)

@@ -15,7 +15,9 @@ enum-told : tie.Need-enum-told
 enum-told c = search needs
 
 spent-requires : tie.Need-spent-requires
-spent-requires c κs = ((by-spent (c .before .before .before .before .before .steps-within .ensures) (c .before .enum-told .given .1)) .becomes .run, ((by-spent (c .before .before .before .before .before .steps-within .ensures) (c .before .enum-told .given .1)) .formed, small-signatures (c .before .before .before .before .before .before .before .before .before .before .pre .1 .1)))
+spent-requires c κs =
+    let by-spent′ = by-spent (c .before .before .before .before .before .steps-within .ensures) (c .before .enum-told .given .1) in
+    (by-spent′ .becomes .run, (by-spent′ .formed, small-signatures (c .before .before .before .before .before .before .before .before .before .before .pre .1 .1)))
 
 same-length : tie.Need-same-length
 same-length c = search needs
@@ -23,7 +25,8 @@ same-length c = search needs
 returns : tie.Need-returns
 returns c =
     let entry = c .before .before .before .before .before .before .before .before .before .before .before in
-    ends-spent (entry .args .text .now) (entry .args .scratch .now) (entry .args .run .now) (entry .args .budget) (by-spent (c .before .before .before .before .before .before .steps-within .ensures) (c .before .before .enum-told .given .1)) (c .spent .ensures)
+    ends-spent (entry .args .text .now) (entry .args .scratch .now) (entry .args .run .now) (entry .args .budget)
+    (by-spent (c .before .before .before .before .before .before .steps-within .ensures) (c .before .before .enum-told .given .1)) (c .spent .ensures)
 
 same-length-2 : tie.Need-same-length-2
 same-length-2 c = search needs

@@ -32,10 +32,16 @@ returns : tie.Need-returns Inv-loop μ-loop
 returns c =
     let loop = c .before .before .before .before .loop in
     let entry = c .before .before .before .before .before .before .before .before in
-    record { is = ends-done (entry .args .text .now) (entry .args .scratch .now) (entry .args .run .now) (entry .args .budget) (loop .taken) (loop .inv .0) (sym (c .before .count .ensures) ∙ c .if1 .taken) }
+    record {
+      is = ends-done (entry .args .text .now) (entry .args .scratch .now) (entry .args .run .now) (entry .args .budget) (loop .taken) (loop .inv .0)
+          (sym (c .before .count .ensures) ∙ c .if1 .taken);
+    }
 
 step-first-requires : tie.Need-step-first-requires Inv-loop μ-loop
-step-first-requires c κs = (c .before .before .before .before .before .loop .inv .0 .becomes .run, (c .before .before .before .before .before .loop .inv .0 .formed, small-signatures (c .before .before .before .before .before .before .before .before .before .pre .1 .1)))
+step-first-requires c κs = (
+  c .before .before .before .before .before .loop .inv .0 .becomes .run,
+  (c .before .before .before .before .before .loop .inv .0 .formed, small-signatures (c .before .before .before .before .before .before .before .before .before .pre .1 .1)),
+)
 
 enum-known-o : tie.Need-enum-known-o Inv-loop μ-loop
 enum-known-o c = search needs
@@ -54,7 +60,11 @@ returns-2 c =
     let after-if1 = c .before .before .before .before .before .before .before .before .before in
     let loop = after-if1 .before .before .before .before .loop in
     let entry = after-if1 .before .before .before .before .before .before .before .before in
-    record { is = ends-shown (entry .args .text .now) (entry .args .scratch .now) (entry .args .run .now) (entry .args .budget) (loop .taken) (loop .inv .0) (after-if1 .before .before .before .loop-test .taken) (omega (arith, after-if1 .if1 .left, after-if1 .before .count .ensures)) (c .before .before .before .o .given .1) (c .before .before .before .before .before .before .before .step-first .ensures) (entry .pre .1 .1) (sym (c .before .shows .ensures) ∙ c .if2 .taken) }
+    record {
+      is = ends-shown (entry .args .text .now) (entry .args .scratch .now) (entry .args .run .now) (entry .args .budget) (loop .taken) (loop .inv .0)
+          (after-if1 .before .before .before .loop-test .taken) (omega (arith, after-if1 .if1 .left, after-if1 .before .count .ensures)) (c .before .before .before .o .given .1)
+          (c .before .before .before .before .before .before .before .step-first .ensures) (entry .pre .1 .1) (sym (c .before .shows .ensures) ∙ c .if2 .taken);
+    }
 
 loop-less : tie.Need-loop-less Inv-loop μ-loop
 loop-less c = search needs
@@ -64,8 +74,12 @@ loop-again c =
     let after-if1 = c .before .before .before .before .before .before .before .before .before in
     let loop-test = after-if1 .before .before .before .loop-test in
     let loop = after-if1 .before .before .before .before .loop in
-    let entry = after-if1 .before .before .before .before .before .before .before .before in
-    (running-on (entry .args .text .now) (entry .args .scratch .now) (entry .args .run .now) (entry .args .budget) (loop .taken) (loop .inv .0) (loop-test .taken) (omega (arith, after-if1 .if1 .left, after-if1 .before .count .ensures)) (c .before .before .before .o .given .1) (c .before .before .before .before .before .before .before .step-first .ensures) (entry .pre .1 .1) (sym (c .before .shows .ensures) ∙ c .if2 .left), omega (arith, loop-test .taken))
+    let entry = after-if1 .before .before .before .before .before .before .before .before in (
+      running-on (entry .args .text .now) (entry .args .scratch .now) (entry .args .run .now) (entry .args .budget) (loop .taken) (loop .inv .0) (loop-test .taken)
+          (omega (arith, after-if1 .if1 .left, after-if1 .before .count .ensures)) (c .before .before .before .o .given .1) (c .before .before .before .before .before .before .before .step-first .ensures)
+          (entry .pre .1 .1) (sym (c .before .shows .ensures) ∙ c .if2 .left),
+      omega (arith, loop-test .taken),
+    )
 
 enum-told : tie.Need-enum-told Inv-loop μ-loop
 enum-told c = search needs
@@ -78,7 +92,11 @@ returns-3 c =
     let after-if1 = c .before .before .before .before .before .before in
     let loop = after-if1 .before .before .before .before .loop in
     let entry = after-if1 .before .before .before .before .before .before .before .before in
-    record { is = ends-full (entry .args .text .now) (entry .args .scratch .now) (entry .args .run .now) (entry .args .budget) (loop .taken) (loop .inv .0) (after-if1 .before .before .before .loop-test .taken) (omega (arith, after-if1 .if1 .left, after-if1 .before .count .ensures)) (c .before .before .before .before .step-first .ensures) (ap wasCarried (c .enum-told .given .1)) }
+    record {
+      is = ends-full (entry .args .text .now) (entry .args .scratch .now) (entry .args .run .now) (entry .args .budget) (loop .taken) (loop .inv .0)
+          (after-if1 .before .before .before .loop-test .taken) (omega (arith, after-if1 .if1 .left, after-if1 .before .count .ensures)) (c .before .before .before .before .step-first .ensures)
+          (ap wasCarried (c .enum-told .given .1));
+    }
 
 enum-told-2 : tie.Need-enum-told-2 Inv-loop μ-loop
 enum-told-2 c = search needs
@@ -91,7 +109,11 @@ returns-4 c =
     let after-if1 = c .before .before .before .before .before .before in
     let loop = after-if1 .before .before .before .before .loop in
     let entry = after-if1 .before .before .before .before .before .before .before .before in
-    record { is = ends-full (entry .args .text .now) (entry .args .scratch .now) (entry .args .run .now) (entry .args .budget) (loop .taken) (loop .inv .0) (after-if1 .before .before .before .loop-test .taken) (omega (arith, after-if1 .if1 .left, after-if1 .before .count .ensures)) (c .before .before .before .before .step-first .ensures) (ap wasCarried (c .enum-told2 .given .1)) }
+    record {
+      is = ends-full (entry .args .text .now) (entry .args .scratch .now) (entry .args .run .now) (entry .args .budget) (loop .taken) (loop .inv .0)
+          (after-if1 .before .before .before .loop-test .taken) (omega (arith, after-if1 .if1 .left, after-if1 .before .count .ensures)) (c .before .before .before .before .step-first .ensures)
+          (ap wasCarried (c .enum-told2 .given .1));
+    }
 
 same-length-5 : tie.Need-same-length-5 Inv-loop μ-loop
 same-length-5 c = search needs
@@ -99,7 +121,10 @@ same-length-5 c = search needs
 returns-5 : tie.Need-returns-5 Inv-loop μ-loop
 returns-5 c =
     let entry = c .before .before .before .before .before in
-    record { is = subst (Running (entry .args .text .now) (entry .args .scratch .now) (entry .args .run .now) _ (entry .args .budget)) (omega (arith, c .before .loop .inv .1, c .loop-test .left)) (c .before .loop .inv .0) }
+    record {
+      is = subst (Running (entry .args .text .now) (entry .args .scratch .now) (entry .args .run .now) _ (entry .args .budget)) (omega (arith, c .before .loop .inv .1, c .loop-test .left))
+          (c .before .loop .inv .0);
+    }
 
 pub steps-within-spec : {M : Type 1} → statement M
 steps-within-spec =

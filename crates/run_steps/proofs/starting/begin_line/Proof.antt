@@ -31,7 +31,8 @@ returns-2 : tie.Need-returns-2
 returns-2 c =
     let after-if1 = c .before .before .before .before in
     let entry = after-if1 .before .before .before .before .before in
-    begins-nothing (entry .args .text .now) (entry .args .scratch .now) (entry .args .run .now) (entry .args .line) _ (omega (arith, after-if1 .if1 .left, after-if1 .before .exec-count .ensures)) (c .before .before .before .exec-at .ensures) (c .before .before .find-process .ensures) (c .enum-told .given .1)
+    begins-nothing (entry .args .text .now) (entry .args .scratch .now) (entry .args .run .now) (entry .args .line) _ (omega (arith, after-if1 .if1 .left, after-if1 .before .exec-count .ensures))
+    (c .before .before .before .exec-at .ensures) (c .before .before .find-process .ensures) (c .enum-told .given .1)
 
 declared-process-requires : tie.Need-declared-process-requires
 declared-process-requires c κs =
@@ -51,8 +52,17 @@ begin-process-requires c κs =
     let text = entry .args .text .now in
     let scratch = entry .args .scratch .now in
     let run = entry .args .run .now in
-    let a = start-signature text scratch run (entry .args .line) _ (omega (arith, if1 .left, exec-count .ensures)) (exec-at .ensures) (find-process .ensures) _ (f .given .1) _ (c .before .declared-process .ensures) (entry .pre .0) (entry .pre .1 .1) in
-    ((entry .pre .0 .area, entries-fit text scratch _ _ (entry .pre .0) (a .provides), start-few text scratch run (entry .args .line) _ (omega (arith, if1 .left, exec-count .ensures)) (exec-at .ensures) (find-process .ensures) _ (f .given .1) _ (c .before .declared-process .ensures) (entry .pre .0) (entry .pre .1 .1), pointer-small text scratch _ (entry .pre .0) (a .body)), entry .pre .1 .0)
+    let a = start-signature text scratch run (entry .args .line) _ (omega (arith, if1 .left, exec-count .ensures)) (exec-at .ensures) (find-process .ensures) _ (f .given .1) _
+    (c .before .declared-process .ensures) (entry .pre .0) (entry .pre .1 .1) in (
+      (
+        entry .pre .0 .area,
+        entries-fit text scratch _ _ (entry .pre .0) (a .provides),
+        start-few text scratch run (entry .args .line) _ (omega (arith, if1 .left, exec-count .ensures))
+            (exec-at .ensures) (find-process .ensures) _ (f .given .1) _ (c .before .declared-process .ensures) (entry .pre .0) (entry .pre .1 .1),
+        pointer-small text scratch _ (entry .pre .0) (a .body),
+      ),
+      entry .pre .1 .0,
+    )
 
 same-length : tie.Need-same-length
 same-length c = search needs
@@ -62,7 +72,9 @@ returns-3 c =
     let after-f = c .before .before .before .before .before .before in
     let after-if1 = after-f .before .before .before .before in
     let entry = after-if1 .before .before .before .before .before in
-    begins-on (entry .args .text .now) (entry .args .scratch .now) (entry .args .run .now) (entry .args .line) _ (omega (arith, after-if1 .if1 .left, after-if1 .before .exec-count .ensures)) (after-f .before .before .before .exec-at .ensures) (after-f .before .before .find-process .ensures) _ (after-f .f .given .1) _ (c .before .before .before .before .declared-process .ensures) (entry .pre .0) (entry .pre .1 .1) _ (entry .pre .1 .0) (c .before .before .begin-process .ensures .0) (c .before .before .begin-process .ensures .1)
+    begins-on (entry .args .text .now) (entry .args .scratch .now) (entry .args .run .now) (entry .args .line) _ (omega (arith, after-if1 .if1 .left, after-if1 .before .exec-count .ensures))
+    (after-f .before .before .before .exec-at .ensures) (after-f .before .before .find-process .ensures) _ (after-f .f .given .1) _ (c .before .before .before .before .declared-process .ensures)
+    (entry .pre .0) (entry .pre .1 .1) _ (entry .pre .1 .0) (c .before .before .begin-process .ensures .0) (c .before .before .begin-process .ensures .1)
 
 pub begin-line-spec : {M : Type 1} → statement M
 begin-line-spec =

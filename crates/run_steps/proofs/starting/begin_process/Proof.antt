@@ -22,8 +22,14 @@ begin-requires c κs =
 use-channels-requires : tie.Need-use-channels-requires
 use-channels-requires c κs =
     let begin = c .before .before .before .begin in
-    let entry = c .before .before .before .before .before .before .before .before .before in
-    ((entry .pre .0 .0, entry .pre .0 .1), (omega (arith, entry .pre .1, begin .ensures .0 .long), begin .ensures .1, omega (arith, entry .pre .0 .2, ap (λ (C : RawConfig). length (C .outside)) (begin .ensures .0 .is))))
+    let entry = c .before .before .before .before .before .before .before .before .before in (
+      (entry .pre .0 .0, entry .pre .0 .1),
+      (
+        omega (arith, entry .pre .1, begin .ensures .0 .long),
+        begin .ensures .1,
+        omega (arith, entry .pre .0 .2, ap (λ (C : RawConfig). length (C .outside)) (begin .ensures .0 .is)),
+      ),
+    )
 
 cast-set-given : tie.Need-cast-set-given
 cast-set-given c = omega (arith, c .before .before .before .before .before .before .before .before .before .before .before .before .before .before .pre .0 .2)
@@ -31,8 +37,10 @@ cast-set-given c = omega (arith, c .before .before .before .before .before .befo
 set-given-requires : tie.Need-set-given-requires
 set-given-requires c κs =
     let after-begin = c .before .before .before .before .before .before .before .before in
-    let entry = after-begin .before .before .before .before .before .before in
-    (omega (arith, entry .pre .1, after-begin .begin .ensures .0 .long, c .before .before .before .before .use-channels .ensures .0 .long), (c .before .before .before .before .use-channels .ensures .1, omega (arith, entry .pre .0 .2)))
+    let entry = after-begin .before .before .before .before .before .before in (
+      omega (arith, entry .pre .1, after-begin .begin .ensures .0 .long, c .before .before .before .before .use-channels .ensures .0 .long),
+      (c .before .before .before .before .use-channels .ensures .1, omega (arith, entry .pre .0 .2)),
+    )
 
 same-length : tie.Need-same-length
 same-length c = search needs
@@ -41,8 +49,11 @@ returns : tie.Need-returns
 returns c =
     let after-begin = c .before .before .before .before .before .before .before .before .before .before .before in
     let entry = after-begin .before .before .before .before .before .before in
-    let d = entry .args .d in
-    (begun (entry .args .scratch .now) (d .first) (d .provided) (d .body) _ (after-begin .before .before .before .start-ends .ensures) (after-begin .begin .ensures .0) (c .before .before .before .before .before .before .before .use-channels .ensures .0) (c .before .before .set-given .ensures .0), c .before .before .set-given .ensures .1)
+    let d = entry .args .d in (
+      begun (entry .args .scratch .now) (d .first) (d .provided) (d .body) _ (after-begin .before .before .before .start-ends .ensures) (after-begin .begin .ensures .0)
+          (c .before .before .before .before .before .before .before .use-channels .ensures .0) (c .before .before .set-given .ensures .0),
+      c .before .before .set-given .ensures .1,
+    )
 
 pub begin-process-spec : {M : Type 1} → statement M
 begin-process-spec =

@@ -35,8 +35,18 @@ cast-t12 c = omega (arith, c .before .before .before .loop-test .taken, c .befor
 with-requires : tie.Need-with-requires Inv-loop μ-loop
 with-requires c κs =
     let loop-test = c .before .before .before .loop-test in
-    let entry = c .before .before .before .before .before .before .before in
-    (omega (arith, loop-test .taken, entry .pre .2, c .before .before .before .before .loop .inv .many), (record { name = c .before .before .entry .ensures .at; node = entry-node (entry .pre .1) (loop-test .taken) (c .before .before .entry .ensures); channel = omega (arith, loop-test .taken, entry .pre .2) }, omega arith))
+    let entry = c .before .before .before .before .before .before .before in (
+      omega (arith, loop-test .taken, entry .pre .2, c .before .before .before .before .loop .inv .many),
+      (
+        record {
+          name = c .before .before .entry .ensures .at;
+          node = entry-node (entry .pre .1) (loop-test .taken) (c .before .before .entry .ensures);
+          channel =
+              omega (arith, loop-test .taken, entry .pre .2);
+        },
+        omega arith,
+      ),
+    )
 
 add-k : tie.Need-add-k Inv-loop μ-loop
 add-k c = search needs
@@ -45,7 +55,8 @@ loop-less : tie.Need-loop-less Inv-loop μ-loop
 loop-less c = search needs
 
 loop-again : tie.Need-loop-again Inv-loop μ-loop
-loop-again c = brought-on (c .before .before .before .before .before .loop .inv) (c .before .before .before .before .loop-test .taken) (c .before .before .before .entry .ensures) (c .with .ensures .0) (c .with .ensures .1)
+loop-again c = brought-on (c .before .before .before .before .before .loop .inv) (c .before .before .before .before .loop-test .taken) (c .before .before .before .entry .ensures)
+    (c .with .ensures .0) (c .with .ensures .1)
 
 returns : tie.Need-returns Inv-loop μ-loop
 returns c = brought-all (c .before .loop .inv) (c .loop-test .left)

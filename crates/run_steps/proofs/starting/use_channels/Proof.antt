@@ -33,8 +33,21 @@ append-outside-requires : tie.Need-append-outside-requires Inv-loop μ-loop
 append-outside-requires c κs =
     let loop-test = c .before .before .before .loop-test in
     let loop = c .before .before .before .before .loop in
-    let entry = c .before .before .before .before .before .before .before in
-    (omega (arith, entry .pre .1 .0, loop .inv .is .long), (loop .inv .bounds, (omega (arith, entry .pre .1 .2, loop-test .taken, used-many (loop .inv)), record { number = omega (arith, loop-test .taken, entry .pre .1 .2); node = entry-node (entry .pre .0 .1) (loop-test .taken) (c .before .before .entry .ensures); channel = omega (arith, loop-test .taken, entry .pre .1 .2) })))
+    let entry = c .before .before .before .before .before .before .before in (
+      omega (arith, entry .pre .1 .0, loop .inv .is .long),
+      (
+        loop .inv .bounds,
+        (
+          omega (arith, entry .pre .1 .2, loop-test .taken, used-many (loop .inv)),
+          record {
+            number = omega (arith, loop-test .taken, entry .pre .1 .2);
+            node = entry-node (entry .pre .0 .1) (loop-test .taken) (c .before .before .entry .ensures);
+            channel =
+                omega (arith, loop-test .taken, entry .pre .1 .2);
+          },
+        ),
+      ),
+    )
 
 add-number : tie.Need-add-number Inv-loop μ-loop
 add-number c = search needs
@@ -45,7 +58,8 @@ loop-less c = search needs
 loop-again : tie.Need-loop-again Inv-loop μ-loop
 loop-again c =
     let after-entry = c .before .before .before .before .before in
-    used-on (after-entry .before .before .loop .inv) (after-entry .before .loop-test .taken) (after-entry .entry .ensures) (c .before .before .append-outside .ensures .0) (c .before .before .append-outside .ensures .1)
+    used-on (after-entry .before .before .loop .inv) (after-entry .before .loop-test .taken) (after-entry .entry .ensures) (c .before .before .append-outside .ensures .0)
+    (c .before .before .append-outside .ensures .1)
 
 same-length : tie.Need-same-length Inv-loop μ-loop
 same-length c = search needs

@@ -19,7 +19,8 @@ was-carried-requires : tie.Need-was-carried-requires
 was-carried-requires c κs = search needs
 
 returns : tie.Need-returns
-returns c = c .was-carried .ensures ∙ can-go-on-so (c .before .before .before .before .before .before .before .before .pre .0) (c .before .before .before .before .copy-of .ensures) (c .before .before .step-first .ensures)
+returns c = c .was-carried .ensures ∙ can-go-on-so (c .before .before .before .before .before .before .before .before .pre .0) (c .before .before .before .before .copy-of .ensures)
+    (c .before .before .step-first .ensures)
 
 pub can-go-on-spec : {M : Type 1} → statement M
 can-go-on-spec =

@@ -13,7 +13,8 @@ enter-processes-requires c κs =
 returns : tie.Need-returns
 returns c =
     let entry = c .before .before .before .before .before .before in
-    entered-all (entry .args .text .now) (entry .args .scratch .now) (entered-stop (entry .args .text .now) (entry .args .scratch .now) (map outsideEnd ((rawIn (entry .args .run .now)) .outside)) (not-true _ (c .if1 .taken)) (c .before .enter-processes .ensures .0))
+    entered-all (entry .args .text .now) (entry .args .scratch .now) (entered-stop (entry .args .text .now) (entry .args .scratch .now) (map outsideEnd ((rawIn (entry .args .run .now)) .outside))
+    (not-true _ (c .if1 .taken)) (c .before .enter-processes .ensures .0))
 
 enter-outside-requires : tie.Need-enter-outside-requires
 enter-outside-requires c κs =
@@ -23,7 +24,8 @@ enter-outside-requires c κs =
 returns-2 : tie.Need-returns-2
 returns-2 c =
     let entry = c .before .before .before .before .before .before .before .before in
-    entered-all (entry .args .text .now) (entry .args .scratch .now) (entered-then (entry .args .text .now) (entry .args .scratch .now) (not-false _ (c .before .before .if1 .left)) (c .before .before .before .enter-processes .ensures .0) (c .enter-outside .ensures))
+    entered-all (entry .args .text .now) (entry .args .scratch .now) (entered-then (entry .args .text .now) (entry .args .scratch .now) (not-false _ (c .before .before .if1 .left))
+    (c .before .before .before .enter-processes .ensures .0) (c .enter-outside .ensures))
 
 pub ends-fit-spec : {M : Type 1} → statement M
 ends-fit-spec = tie.close (tie.spec enter-processes-requires returns enter-outside-requires returns-2)

@@ -29,14 +29,26 @@ end-at-requires c κs = (c .before .before .before .before .pre .1 .1 .0, omega 
 enter-requires : tie.Need-enter-requires Inv-loop μ-loop
 enter-requires c κs =
     let loop = c .before .before .before .loop in
-    let entry = c .before .before .before .before .before .before in
-    (entry .pre .0, (loop .inv .1, (all-at (EndOf (entry .args .scratch .now)) (heldIn (entry .args .h)) (loop .k) (entry .pre .1 .1 .1) (c .before .end-at .ensures .0), c .before .end-at .ensures .1 .1, c .before .end-at .ensures .1 .0)))
+    let entry = c .before .before .before .before .before .before in (
+      entry .pre .0,
+      (
+        loop .inv .1,
+        (
+          all-at (EndOf (entry .args .scratch .now)) (heldIn (entry .args .h)) (loop .k) (entry .pre .1 .1 .1) (c .before .end-at .ensures .0),
+          c .before .end-at .ensures .1 .1,
+          c .before .end-at .ensures .1 .0,
+        ),
+      ),
+    )
 
 returns : tie.Need-returns Inv-loop μ-loop
 returns c =
     let loop = c .before .before .before .before .before .loop in
-    let entry = c .before .before .before .before .before .before .before .before in
-    (left-stop (entry .args .text .now) (entry .args .scratch .now) (loop .inv .2) _ _ (held-turn (heldIn (entry .args .h)) (loop .k) (c .before .before .before .end-at .ensures .0)) (not-true _ (c .if1 .taken)) (c .before .enter .ensures .0), c .before .enter .ensures .1)
+    let entry = c .before .before .before .before .before .before .before .before in (
+      left-stop (entry .args .text .now) (entry .args .scratch .now) (loop .inv .2) _ _ (held-turn (heldIn (entry .args .h)) (loop .k) (c .before .before .before .end-at .ensures .0))
+          (not-true _ (c .if1 .taken)) (c .before .enter .ensures .0),
+      c .before .enter .ensures .1,
+    )
 
 add-k : tie.Need-add-k Inv-loop μ-loop
 add-k c = search needs
@@ -47,15 +59,22 @@ loop-less c = search needs
 loop-again : tie.Need-loop-again Inv-loop μ-loop
 loop-again c =
     let loop = c .before .before .before .before .before .loop in
-    let entry = c .before .before .before .before .before .before .before .before in
-    (loop .inv .0, c .before .enter .ensures .1, left-next (entry .args .text .now) (entry .args .scratch .now) (loop .inv .2) _ _ (held-turn (heldIn (entry .args .h)) (loop .k) (c .before .before .before .end-at .ensures .0)) (not-false _ (c .if1 .left)) (c .before .enter .ensures .0))
+    let entry = c .before .before .before .before .before .before .before .before in (
+      loop .inv .0,
+      c .before .enter .ensures .1,
+      left-next (entry .args .text .now) (entry .args .scratch .now) (loop .inv .2) _ _
+          (held-turn (heldIn (entry .args .h)) (loop .k) (c .before .before .before .end-at .ensures .0)) (not-false _ (c .if1 .left)) (c .before .enter .ensures .0),
+    )
 
 returns-2 : tie.Need-returns-2 Inv-loop μ-loop
 returns-2 c =
     let loop = c .before .loop in
     let entry = c .before .before .before .before in
-    let h = entry .args .h in
-    (left-end (entry .args .text .now) (entry .args .scratch .now) (loop .inv .2) (nothing-left (heldIn h) (h .count) (loop .k) (sym (held-length h)) (omega (arith, c .loop-test .left, loop .inv .0))), loop .inv .1)
+    let h = entry .args .h in (
+      left-end (entry .args .text .now) (entry .args .scratch .now) (loop .inv .2)
+          (nothing-left (heldIn h) (h .count) (loop .k) (sym (held-length h)) (omega (arith, c .loop-test .left, loop .inv .0))),
+      loop .inv .1,
+    )
 
 pub enter-held-spec : {M : Type 1} → statement M
 enter-held-spec = tie.close (tie.spec Inv-loop μ-loop loop-holds end-at-requires enter-requires returns add-k loop-less loop-again returns-2)

@@ -14,7 +14,8 @@ use Rattle.run_wellformed.proofs.fitting.enter_processes.Statement.{sta
 use Rattle.run_wellformed.proofs.fitting.enter_processes.Tie as tie
 
 abbrev Inv-loop : tie.InvT-loop
-Inv-loop text scratch seen₀ run n i₀ seen i = (n ≡ length (rawIn run .processes)) × Kept scratch seen × Left text scratch seen₀ seen (processEnds (rawIn run .processes)) (processEnds (drop i (rawIn run .processes)))
+Inv-loop text scratch seen₀ run n i₀ seen i = (n ≡ length (rawIn run .processes)) × Kept scratch seen × Left text scratch seen₀ seen (processEnds (rawIn run .processes))
+    (processEnds (drop i (rawIn run .processes)))
 
 abbrev μ-loop : tie.MeasureT-loop
 μ-loop text scratch seen₀ run n i₀ seen i = n - i
@@ -35,15 +36,27 @@ load-requires c κs =
 enter-held-requires : tie.Need-enter-held-requires Inv-loop μ-loop
 enter-held-requires c κs =
     let loop = c .before .before .before .before .loop in
-    let entry = c .before .before .before .before .before .before .before .before .before in
-    (entry .pre .0, (loop .inv .1, (c .before .before .load .ensures .1 .1, all-at (ProcessOf (entry .args .scratch .now)) ((rawIn (entry .args .run .now)) .processes) (loop .i) (entry .pre .1 .1 .1 .1 .processes) (c .before .before .load .ensures .0) .held)))
+    let entry = c .before .before .before .before .before .before .before .before .before in (
+      entry .pre .0,
+      (
+        loop .inv .1,
+        (
+          c .before .before .load .ensures .1 .1,
+          all-at (ProcessOf (entry .args .scratch .now)) ((rawIn (entry .args .run .now)) .processes) (loop .i)
+              (entry .pre .1 .1 .1 .1 .processes) (c .before .before .load .ensures .0) .held,
+        ),
+      ),
+    )
 
 returns : tie.Need-returns Inv-loop μ-loop
 returns c =
     let after-load = c .before .before .before .before in
     let loop = after-load .before .before .loop in
-    let entry = after-load .before .before .before .before .before .before .before in
-    (left-stop (entry .args .text .now) (entry .args .scratch .now) (loop .inv .2) _ _ (process-turn ((rawIn (entry .args .run .now)) .processes) (loop .i) (after-load .load .ensures .0)) (not-true _ (c .if1 .taken)) (c .before .enter-held .ensures .0), c .before .enter-held .ensures .1)
+    let entry = after-load .before .before .before .before .before .before .before in (
+      left-stop (entry .args .text .now) (entry .args .scratch .now) (loop .inv .2) _ _ (process-turn ((rawIn (entry .args .run .now)) .processes) (loop .i) (after-load .load .ensures .0))
+          (not-true _ (c .if1 .taken)) (c .before .enter-held .ensures .0),
+      c .before .enter-held .ensures .1,
+    )
 
 add-i : tie.Need-add-i Inv-loop μ-loop
 add-i c = search needs
@@ -55,14 +68,21 @@ loop-again : tie.Need-loop-again Inv-loop μ-loop
 loop-again c =
     let after-load = c .before .before .before .before in
     let loop = after-load .before .before .loop in
-    let entry = after-load .before .before .before .before .before .before .before in
-    (loop .inv .0, c .before .enter-held .ensures .1, left-next (entry .args .text .now) (entry .args .scratch .now) (loop .inv .2) _ _ (process-turn ((rawIn (entry .args .run .now)) .processes) (loop .i) (after-load .load .ensures .0)) (not-false _ (c .if1 .left)) (c .before .enter-held .ensures .0))
+    let entry = after-load .before .before .before .before .before .before .before in (
+      loop .inv .0,
+      c .before .enter-held .ensures .1,
+      left-next (entry .args .text .now) (entry .args .scratch .now) (loop .inv .2) _ _
+          (process-turn ((rawIn (entry .args .run .now)) .processes) (loop .i) (after-load .load .ensures .0)) (not-false _ (c .if1 .left)) (c .before .enter-held .ensures .0),
+    )
 
 returns-2 : tie.Need-returns-2 Inv-loop μ-loop
 returns-2 c =
     let loop = c .before .loop in
-    let entry = c .before .before .before .before .before .before in
-    (left-end (entry .args .text .now) (entry .args .scratch .now) (loop .inv .2) (ap processEnds (nothing-left ((rawIn (entry .args .run .now)) .processes) _ (loop .i) (loop .inv .0) (omega (arith, c .loop-test .left)))), loop .inv .1)
+    let entry = c .before .before .before .before .before .before in (
+      left-end (entry .args .text .now) (entry .args .scratch .now) (loop .inv .2)
+          (ap processEnds (nothing-left ((rawIn (entry .args .run .now)) .processes) _ (loop .i) (loop .inv .0) (omega (arith, c .loop-test .left)))),
+      loop .inv .1,
+    )
 
 pub enter-processes-spec : {M : Type 1} → statement M
 enter-processes-spec = tie.close (tie.spec Inv-loop μ-loop count-requires loop-holds load-requires enter-held-requires returns add-i loop-less loop-again returns-2)

@@ -20,8 +20,10 @@ add-result c = omega (arith, c .before .wide .ensures .0, c .wide2 .ensures .0, 
 
 returns : tie.Need-returns
 returns c =
-    let entry = c .before .before in
-    ((λ i. 2 * (c .before .wide .ensures .0 i) + (c .wide2 .ensures .0 i)) ∙ (place-so (entry .args .channel) (entry .args .side) (entry .pre .1)), omega (arith, c .before .wide .ensures .0, c .wide2 .ensures .0, entry .pre .0, entry .pre .1))
+    let entry = c .before .before in (
+      (λ i. 2 * (c .before .wide .ensures .0 i) + (c .wide2 .ensures .0 i)) ∙ (place-so (entry .args .channel) (entry .args .side) (entry .pre .1)),
+      omega (arith, c .before .wide .ensures .0, c .wide2 .ensures .0, entry .pre .0, entry .pre .1),
+    )
 
 pub place-spec : {M : Type 1} → statement M
 place-spec = tie.close (tie.spec wide-requires mul-result wide-requires-2 add-result returns)

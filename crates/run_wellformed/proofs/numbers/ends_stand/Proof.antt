@@ -31,7 +31,8 @@ returns : tie.Need-returns Inv-loop μ-loop
 returns c =
     let after-loop = c .before .before .before .before in
     let entry = after-loop .before .before .before in
-    refused-at (EndOf (entry .args .scratch .now)) (heldIn (entry .args .h)) (after-loop .loop .k) (c .before .before .end-at .ensures .0) (λ b. omega (arith, b, c .if1 .taken, c .before .wide .ensures .0, after-loop .before .node-count .ensures))
+    refused-at (EndOf (entry .args .scratch .now)) (heldIn (entry .args .h)) (after-loop .loop .k) (c .before .before .end-at .ensures .0)
+    (λ b. omega (arith, b, c .if1 .taken, c .before .wide .ensures .0, after-loop .before .node-count .ensures))
 
 add-k : tie.Need-add-k Inv-loop μ-loop
 add-k c = search needs
@@ -44,7 +45,8 @@ loop-again c =
     let after-loop = c .before .before .before .before in
     let loop = after-loop .loop in
     let entry = after-loop .before .before .before in
-    so-far (EndOf (entry .args .scratch .now)) (heldIn (entry .args .h)) (loop .k) (loop .inv) (c .before .before .end-at .ensures .0) (omega (arith, c .if1 .left, c .before .wide .ensures .0, after-loop .before .node-count .ensures))
+    so-far (EndOf (entry .args .scratch .now)) (heldIn (entry .args .h)) (loop .k) (loop .inv) (c .before .before .end-at .ensures .0)
+    (omega (arith, c .if1 .left, c .before .wide .ensures .0, after-loop .before .node-count .ensures))
 
 returns-2 : tie.Need-returns-2 Inv-loop μ-loop
 returns-2 c =

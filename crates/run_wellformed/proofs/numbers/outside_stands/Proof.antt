@@ -36,7 +36,8 @@ returns : tie.Need-returns Inv-loop μ-loop
 returns c =
     let after-loop = c .before .before .before .before in
     let entry = after-loop .before .before .before .before .before in
-    refused-at (OutsideOf (entry .args .scratch .now)) ((rawIn (entry .args .run .now)) .outside) (after-loop .loop .k) (c .before .before .outside-at .ensures .0) (λ b. omega (arith, b, c .if1 .taken, c .before .wide .ensures .0, after-loop .before .before .node-count .ensures))
+    refused-at (OutsideOf (entry .args .scratch .now)) ((rawIn (entry .args .run .now)) .outside) (after-loop .loop .k) (c .before .before .outside-at .ensures .0)
+    (λ b. omega (arith, b, c .if1 .taken, c .before .wide .ensures .0, after-loop .before .before .node-count .ensures))
 
 add-k : tie.Need-add-k Inv-loop μ-loop
 add-k c = search needs
@@ -49,12 +50,14 @@ loop-again c =
     let after-loop = c .before .before .before .before in
     let loop = after-loop .loop in
     let entry = after-loop .before .before .before .before .before in
-    so-far (OutsideOf (entry .args .scratch .now)) ((rawIn (entry .args .run .now)) .outside) (loop .k) (loop .inv) (c .before .before .outside-at .ensures .0) (omega (arith, c .if1 .left, c .before .wide .ensures .0, after-loop .before .before .node-count .ensures))
+    so-far (OutsideOf (entry .args .scratch .now)) ((rawIn (entry .args .run .now)) .outside) (loop .k) (loop .inv) (c .before .before .outside-at .ensures .0)
+    (omega (arith, c .if1 .left, c .before .wide .ensures .0, after-loop .before .before .node-count .ensures))
 
 returns-2 : tie.Need-returns-2 Inv-loop μ-loop
 returns-2 c =
     let entry = c .before .before .before .before .before .before in
-    whole (OutsideOf (entry .args .scratch .now)) ((rawIn (entry .args .run .now)) .outside) (c .before .loop .k) (omega (arith, c .before .before .outside-count .ensures, c .loop-test .left)) (c .before .loop .inv)
+    whole (OutsideOf (entry .args .scratch .now)) ((rawIn (entry .args .run .now)) .outside) (c .before .loop .k) (omega (arith, c .before .before .outside-count .ensures, c .loop-test .left))
+    (c .before .loop .inv)
 
 pub outside-stands-spec : {M : Type 1} → statement M
 outside-stands-spec = tie.close (tie.spec Inv-loop μ-loop node-count-requires outside-count-requires loop-holds outside-at-requires wide-requires returns add-k loop-less loop-again returns-2)

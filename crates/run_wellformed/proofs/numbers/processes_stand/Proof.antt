@@ -33,7 +33,8 @@ process-stands-requires c κs = search needs
 returns : tie.Need-returns Inv-loop μ-loop
 returns c =
     let entry = c .before .before .before .before .before .before .before .before in
-    refused-at (ProcessOf (entry .args .scratch .now)) ((rawIn (entry .args .run .now)) .processes) (c .before .before .before .before .loop .i) (c .before .before .load .ensures .0) (c .before .process-stands .ensures .no (not-true _ (c .if1 .taken)))
+    refused-at (ProcessOf (entry .args .scratch .now)) ((rawIn (entry .args .run .now)) .processes) (c .before .before .before .before .loop .i) (c .before .before .load .ensures .0)
+    (c .before .process-stands .ensures .no (not-true _ (c .if1 .taken)))
 
 add-i : tie.Need-add-i Inv-loop μ-loop
 add-i c = search needs
@@ -45,12 +46,14 @@ loop-again : tie.Need-loop-again Inv-loop μ-loop
 loop-again c =
     let loop = c .before .before .before .before .loop in
     let entry = c .before .before .before .before .before .before .before .before in
-    so-far (ProcessOf (entry .args .scratch .now)) ((rawIn (entry .args .run .now)) .processes) (loop .i) (loop .inv) (c .before .before .load .ensures .0) (c .before .process-stands .ensures .yes (not-false _ (c .if1 .left)))
+    so-far (ProcessOf (entry .args .scratch .now)) ((rawIn (entry .args .run .now)) .processes) (loop .i) (loop .inv) (c .before .before .load .ensures .0)
+    (c .before .process-stands .ensures .yes (not-false _ (c .if1 .left)))
 
 returns-2 : tie.Need-returns-2 Inv-loop μ-loop
 returns-2 c =
     let entry = c .before .before .before .before .before in
-    whole (ProcessOf (entry .args .scratch .now)) ((rawIn (entry .args .run .now)) .processes) (c .before .loop .i) (omega (arith, c .before .before .count .ensures, c .loop-test .left)) (c .before .loop .inv)
+    whole (ProcessOf (entry .args .scratch .now)) ((rawIn (entry .args .run .now)) .processes) (c .before .loop .i) (omega (arith, c .before .before .count .ensures, c .loop-test .left))
+    (c .before .loop .inv)
 
 pub processes-stand-spec : {M : Type 1} → statement M
 processes-stand-spec = tie.close (tie.spec Inv-loop μ-loop count-requires loop-holds load-requires process-stands-requires returns add-i loop-less loop-again returns-2)

@@ -17,7 +17,8 @@ pointer-stands-requires c κs = search needs
 returns-2 : tie.Need-returns-2
 returns-2 c =
     let entry = c .before .before .before .before in
-    decided-by (λ p _. subst (Pointer (entry .args .scratch .now)) (c .before .wide .ensures .0) p) (λ f. subst (Pointer (entry .args .scratch .now)) (sym (c .before .wide .ensures .0)) (f (c .before .before .if1 .left))) (c .pointer-stands .ensures)
+    decided-by (λ p _. subst (Pointer (entry .args .scratch .now)) (c .before .wide .ensures .0) p)
+    (λ f. subst (Pointer (entry .args .scratch .now)) (sym (c .before .wide .ensures .0)) (f (c .before .before .if1 .left))) (c .pointer-stands .ensures)
 
 pub term-stands-spec : {M : Type 1} → statement M
 term-stands-spec = tie.close (tie.spec returns wide-requires pointer-stands-requires returns-2)

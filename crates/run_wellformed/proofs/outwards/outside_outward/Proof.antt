@@ -37,14 +37,20 @@ wide-requires c κs = search needs
 
 has-other-requires : tie.Need-has-other-requires Inv-loop μ-loop
 has-other-requires c κs =
-    let entry = c .before .before .before .before .before .before .before .before .before in
-    (entry .pre .0 .0, subst (TypeIn (entry .args .text .now) (entry .args .scratch .now)) (sym (c .wide .ensures .0)) (entry .pre .0 .1 .nodes _ (all-at (OutsideOf (entry .args .scratch .now)) ((rawIn (entry .args .run .now)) .outside) (c .before .before .before .loop .k) (entry .pre .1 .1 .1 .outside) (c .before .outside-at .ensures .0))))
+    let entry = c .before .before .before .before .before .before .before .before .before in (
+      entry .pre .0 .0,
+      subst (TypeIn (entry .args .text .now) (entry .args .scratch .now)) (sym (c .wide .ensures .0))
+          (entry .pre .0 .1 .nodes _ (all-at (OutsideOf (entry .args .scratch .now)) ((rawIn (entry .args .run .now)) .outside) (c .before .before .before .loop .k) (entry .pre .1 .1 .1 .outside)
+          (c .before .outside-at .ensures .0))),
+    )
 
 returns : tie.Need-returns Inv-loop μ-loop
 returns c =
     let after-loop = c .before .before .before .before .before in
     let entry = after-loop .before .before .before .before .before .before in
-    sym (all-from (outwardIn (entry .args .text .now) (entry .args .scratch .now)) 0 ((rawIn (entry .args .run .now)) .outside) ∙ each-failed (after-loop .loop .inv) (c .before .before .before .outside-at .ensures .0) (outward-so (entry .args .text .now) (entry .args .scratch .now) (outsideIn (c .before .before .before .outside-at .result)) (after-loop .before .before .reach .ensures) (c .before .before .wide .ensures .0) (c .before .has-other .ensures) (c .if1 .taken)))
+    sym (all-from (outwardIn (entry .args .text .now) (entry .args .scratch .now)) 0 ((rawIn (entry .args .run .now)) .outside) ∙ each-failed (after-loop .loop .inv)
+    (c .before .before .before .outside-at .ensures .0) (outward-so (entry .args .text .now) (entry .args .scratch .now) (outsideIn (c .before .before .before .outside-at .result))
+    (after-loop .before .before .reach .ensures) (c .before .before .wide .ensures .0) (c .before .has-other .ensures) (c .if1 .taken)))
 
 add-k : tie.Need-add-k Inv-loop μ-loop
 add-k c = search needs
@@ -56,7 +62,9 @@ loop-again : tie.Need-loop-again Inv-loop μ-loop
 loop-again c =
     let after-loop = c .before .before .before .before .before in
     let entry = after-loop .before .before .before .before .before .before in
-    each-passed (after-loop .loop .inv) (c .before .before .before .outside-at .ensures .0) (outward-so (entry .args .text .now) (entry .args .scratch .now) (outsideIn (c .before .before .before .outside-at .result)) (after-loop .before .before .reach .ensures) (c .before .before .wide .ensures .0) (c .before .has-other .ensures) (c .if1 .left))
+    each-passed (after-loop .loop .inv) (c .before .before .before .outside-at .ensures .0)
+    (outward-so (entry .args .text .now) (entry .args .scratch .now) (outsideIn (c .before .before .before .outside-at .result)) (after-loop .before .before .reach .ensures)
+    (c .before .before .wide .ensures .0) (c .before .has-other .ensures) (c .if1 .left))
 
 returns-2 : tie.Need-returns-2 Inv-loop μ-loop
 returns-2 c =
@@ -64,4 +72,5 @@ returns-2 c =
     sym (all-from (outwardIn (entry .args .text .now) (entry .args .scratch .now)) 0 ((rawIn (entry .args .run .now)) .outside) ∙ each-end (c .before .loop .inv) (c .loop-test .left))
 
 pub outside-outward-spec : {M : Type 1} → statement M
-outside-outward-spec = tie.close (tie.spec Inv-loop μ-loop reach-requires outside-count-requires loop-holds outside-at-requires wide-requires has-other-requires returns add-k loop-less loop-again returns-2)
+outside-outward-spec = tie.close (tie.spec Inv-loop μ-loop reach-requires outside-count-requires loop-holds outside-at-requires wide-requires has-other-requires returns add-k loop-less loop-again
+    returns-2)

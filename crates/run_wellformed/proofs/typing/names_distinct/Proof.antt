@@ -42,7 +42,9 @@ loop-again c =
     let end-at = after-wide .before .before .end-at in
     let loop = after-wide .before .before .before .before .before .loop in
     let entry = after-wide .before .before .before .before .before .before .before in
-    left-on (entry .args .text .now) (entry .args .h) (loop .rest) (without .result) (loop .inv) {raw = endIn (end-at .result)} (end-at .ensures .0) (without .ensures .0) (subst (λ n. Sees (entry .args .text .now) (without .result) n (c .before .before .find-end .result)) (after-wide .wide .ensures .0) (c .before .before .find-end .ensures)) (c .enum-told .given .1) (omega (arith, loop .inv .few, without .ensures .1))
+    left-on (entry .args .text .now) (entry .args .h) (loop .rest) (without .result) (loop .inv) {raw = endIn (end-at .result)} (end-at .ensures .0) (without .ensures .0)
+    (subst (λ n. Sees (entry .args .text .now) (without .result) n (c .before .before .find-end .result)) (after-wide .wide .ensures .0) (c .before .before .find-end .ensures))
+    (c .enum-told .given .1) (omega (arith, loop .inv .few, without .ensures .1))
 
 enum-told-2 : tie.Need-enum-told-2 Inv-loop μ-loop
 enum-told-2 c = search needs
@@ -54,10 +56,13 @@ returns c =
     let end-at = after-wide .before .before .end-at in
     let loop = after-wide .before .before .before .before .before .loop in
     let entry = after-wide .before .before .before .before .before .before .before in
-    left-twice (entry .args .text .now) (entry .args .h) (loop .rest) (without .result) (loop .inv) {raw = endIn (end-at .result)} (end-at .ensures .0) (without .ensures .0) (subst (λ n. Sees (entry .args .text .now) (without .result) n (c .before .before .find-end .result)) (after-wide .wide .ensures .0) (c .before .before .find-end .ensures)) _ (c .enum-told2 .given .1)
+    left-twice (entry .args .text .now) (entry .args .h) (loop .rest) (without .result) (loop .inv) {raw = endIn (end-at .result)} (end-at .ensures .0) (without .ensures .0)
+    (subst (λ n. Sees (entry .args .text .now) (without .result) n (c .before .before .find-end .result)) (after-wide .wide .ensures .0) (c .before .before .find-end .ensures)) _
+    (c .enum-told2 .given .1)
 
 returns-2 : tie.Need-returns-2 Inv-loop μ-loop
-returns-2 c = left-none (now (c .before .before .before .before .args .text)) (c .before .before .before .before .args .h) (c .before .before .loop .rest) (c .before .before .loop .inv) (omega (arith, c .if1 .left))
+returns-2 c = left-none (now (c .before .before .before .before .args .text)) (c .before .before .before .before .args .h) (c .before .before .loop .rest) (c .before .before .loop .inv)
+    (omega (arith, c .if1 .left))
 
 pub names-distinct-spec : {M : Type 1} → statement M
 names-distinct-spec = tie.close (tie.spec Inv-loop μ-loop loop-holds end-at-requires without-requires wide-requires find-end-requires enum-told loop-less loop-again enum-told-2 returns returns-2)

@@ -13,8 +13,12 @@ returns c =
 
 term-typed-requires : tie.Need-term-typed-requires
 term-typed-requires c κs =
-    let entry = c .before .before .before .before .before in
-    (entry .pre .0 .0, held-in (entry .args .text .now) (entry .args .scratch .now) (entry .pre .0 .1) (entry .args .p) (entry .pre .1 .2) (entry .pre .1 .1 .1) (entry .pre .1 .0), pointer-in (entry .args .text .now) (entry .args .scratch .now) (entry .pre .0 .1) (entry .pre .1 .0 .term (c .before .if1 .left)))
+    let entry = c .before .before .before .before .before in (
+      entry .pre .0 .0,
+      held-in (entry .args .text .now) (entry .args .scratch .now) (entry .pre .0 .1) (entry .args .p) (entry .pre .1 .2) (entry .pre .1 .1 .1) (entry .pre .1 .0),
+      pointer-in
+          (entry .args .text .now) (entry .args .scratch .now) (entry .pre .0 .1) (entry .pre .1 .0 .term (c .before .if1 .left)),
+    )
 
 returns-2 : tie.Need-returns-2
 unfolding channelsOf

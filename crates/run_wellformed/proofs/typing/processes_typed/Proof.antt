@@ -30,13 +30,20 @@ load-requires c κs =
 
 process-typed-requires : tie.Need-process-typed-requires Inv-loop μ-loop
 process-typed-requires c κs =
-    let entry = c .before .before .before .before .before .before .before in
-    (entry .pre .0, (all-at (ProcessOf (entry .args .scratch .now)) ((rawIn (entry .args .run .now)) .processes) (c .before .before .loop .i) (entry .pre .1 .1 .1 .processes) (c .load .ensures .0), (_, c .load .ensures .1 .0), c .load .ensures .1 .1))
+    let entry = c .before .before .before .before .before .before .before in (
+      entry .pre .0,
+      (
+        all-at (ProcessOf (entry .args .scratch .now)) ((rawIn (entry .args .run .now)) .processes) (c .before .before .loop .i) (entry .pre .1 .1 .1 .processes) (c .load .ensures .0),
+        (_, c .load .ensures .1 .0),
+        c .load .ensures .1 .1,
+      ),
+    )
 
 returns : tie.Need-returns Inv-loop μ-loop
 returns c =
     let entry = c .before .before .before .before .before .before .before .before .before in
-    sym (all-from (typedIn (entry .args .text .now) (entry .args .scratch .now)) 0 ((rawIn (entry .args .run .now)) .processes) ∙ each-failed (c .before .before .before .before .loop .inv) (c .before .before .load .ensures .0) (sym (c .before .process-typed .ensures) ∙ not-true _ (c .if1 .taken)))
+    sym (all-from (typedIn (entry .args .text .now) (entry .args .scratch .now)) 0 ((rawIn (entry .args .run .now)) .processes) ∙ each-failed (c .before .before .before .before .loop .inv)
+    (c .before .before .load .ensures .0) (sym (c .before .process-typed .ensures) ∙ not-true _ (c .if1 .taken)))
 
 add-i : tie.Need-add-i Inv-loop μ-loop
 add-i c = search needs

@@ -28,7 +28,9 @@ is-fine-requires c κs = search needs
 returns-2 : tie.Need-returns-2
 returns-2 c =
     let entry = c .before .before .before .before .before .before .before in
-    fine-typed (entry .args .text .now) (entry .args .scratch .now) (entry .args .h) (entry .args .link) (entry .args .pointer) (c .before .check-process .result) (c .before .before .before .before .names-distinct .ensures) (not-false _ (c .before .before .before .if1 .left)) (c .before .before .wide .ensures .0) (c .before .check-process .ensures) (c .is-fine .ensures)
+    fine-typed (entry .args .text .now) (entry .args .scratch .now) (entry .args .h) (entry .args .link) (entry .args .pointer) (c .before .check-process .result)
+    (c .before .before .before .before .names-distinct .ensures) (not-false _ (c .before .before .before .if1 .left)) (c .before .before .wide .ensures .0) (c .before .check-process .ensures)
+    (c .is-fine .ensures)
 
 pub term-typed-spec : {M : Type 1} → statement M
 term-typed-spec = tie.close (tie.spec names-distinct-requires returns wide-requires check-process-requires is-fine-requires returns-2)

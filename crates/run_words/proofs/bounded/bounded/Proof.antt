@@ -26,20 +26,23 @@ returns-3 : tie.Need-returns-3
 returns-3 c = refused (λ b. omega (arith, b .channels, counted-outside (c .before .before .before .before .before .before .before .args .run .now), c .if3 .taken))
 
 processes-bounded-requires : tie.Need-processes-bounded-requires
-processes-bounded-requires c κs = let s = c .before .before .before .before .before .before .before in (s .pre, omega (arith, counted (s .args .run .now), c .before .before .before .before .if1 .left))
+processes-bounded-requires c κs = let s = c .before .before .before .before .before .before .before in
+    (s .pre, omega (arith, counted (s .args .run .now), c .before .before .before .before .if1 .left))
 
 returns-4 : tie.Need-returns-4
 returns-4 c = refused (λ b. c .before .processes-bounded .ensures .no (not-true _ (c .if4 .taken)) (b .processes))
 
 outside-bounded-requires : tie.Need-outside-bounded-requires
-outside-bounded-requires c κs = let s = c .before .before .before .before .before .before .before .before .before in (s .pre, omega (arith, counted-outside (s .args .run .now), c .before .before .if3 .left))
+outside-bounded-requires c κs = let s = c .before .before .before .before .before .before .before .before .before in
+    (s .pre, omega (arith, counted-outside (s .args .run .now), c .before .before .if3 .left))
 
 returns-5 : tie.Need-returns-5
 returns-5 c =
     let after-if2 = c .before .before .before .before .before in
     let entry = after-if2 .before .before .before .before .before in
     let run = entry .args .run .now in
-    config-decided (rawIn run) (omega (arith, counted run, after-if2 .before .before .if1 .left)) (omega (arith, numbered run, after-if2 .if2 .left)) (omega (arith, counted-outside run, c .before .before .before .if3 .left))
+    config-decided (rawIn run) (omega (arith, counted run, after-if2 .before .before .if1 .left)) (omega (arith, numbered run, after-if2 .if2 .left))
+    (omega (arith, counted-outside run, c .before .before .before .if3 .left))
     (c .before .before .processes-bounded .ensures .yes (not-false _ (c .before .if4 .left))) (c .outside-bounded .ensures)
 
 pub bounded-spec : {M : Type 1} → statement M

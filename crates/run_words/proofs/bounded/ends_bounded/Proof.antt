@@ -22,10 +22,12 @@ end-at-requires : tie.Need-end-at-requires Inv-loop μ-loop
 end-at-requires c κs = search needs
 
 returns : tie.Need-returns Inv-loop μ-loop
-returns c = refused-at BoundedEnd (heldIn (c .before .before .before .before .before .args .h)) (c .before .before .before .before .loop .k) (c .before .before .end-at .ensures .0) (λ b. omega (arith, b .name, c .if1 .taken))
+returns c = refused-at BoundedEnd (heldIn (c .before .before .before .before .before .args .h)) (c .before .before .before .before .loop .k) (c .before .before .end-at .ensures .0)
+    (λ b. omega (arith, b .name, c .if1 .taken))
 
 returns-2 : tie.Need-returns-2 Inv-loop μ-loop
-returns-2 c = refused-at BoundedEnd (heldIn (c .before .before .before .before .before .before .before .args .h)) (c .before .before .before .before .before .before .loop .k) (c .before .before .before .before .end-at .ensures .0) (λ b. omega (arith, b .node, c .if2 .taken))
+returns-2 c = refused-at BoundedEnd (heldIn (c .before .before .before .before .before .before .before .args .h)) (c .before .before .before .before .before .before .loop .k)
+    (c .before .before .before .before .end-at .ensures .0) (λ b. omega (arith, b .node, c .if2 .taken))
 
 add-k : tie.Need-add-k Inv-loop μ-loop
 add-k c = search needs

@@ -35,7 +35,8 @@ returns-2 : tie.Need-returns-2 Inv-loop μ-loop
 returns-2 c =
     let ws = c .before .before .before .before .before .before .before .before .before .args .run .now in
     let b = c .before .before .before .before .before .before .loop in
-    refused-at BoundedOutside (rawIn ws .outside) (b .k) (outside-is ws (b .k) _ (omega arith) (c .before .before .before .before .get-outside .ensures .0)) (λ q. omega (arith, q .node, c .if2 .taken))
+    refused-at BoundedOutside (rawIn ws .outside) (b .k) (outside-is ws (b .k) _ (omega arith) (c .before .before .before .before .get-outside .ensures .0))
+    (λ q. omega (arith, q .node, c .if2 .taken))
 
 add-k : tie.Need-add-k Inv-loop μ-loop
 add-k c = search needs

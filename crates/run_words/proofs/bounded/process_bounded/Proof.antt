@@ -54,7 +54,8 @@ returns-5 c =
     let after-if2 = c .before .before .before .before .before .before in
     let get = after-if2 .before .before .get in
     let entry = after-if2 .before .before .before .before .before .before in
-    process-decided (entry .args .n) (processRow (entry .args .run .now) (entry .args .i)) (get .result) (get .ensures .0) (omega (arith, after-if2 .if2 .left)) (omega (arith, c .before .before .before .before .if3 .left)) (get .ensures .1) (omega (arith, c .before .before .if4 .left)) (c .ends-bounded .ensures)
+    process-decided (entry .args .n) (processRow (entry .args .run .now) (entry .args .i)) (get .result) (get .ensures .0) (omega (arith, after-if2 .if2 .left))
+    (omega (arith, c .before .before .before .before .if3 .left)) (get .ensures .1) (omega (arith, c .before .before .if4 .left)) (c .ends-bounded .ensures)
 
 pub process-bounded-spec : {M : Type 1} → statement M
 process-bounded-spec =

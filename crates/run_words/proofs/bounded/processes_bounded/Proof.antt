@@ -45,8 +45,11 @@ loop-less c = search needs
 loop-again : tie.Need-loop-again Inv-loop μ-loop
 loop-again c =
     let ws = c .before .before .before .before .before .before .args .run .now in
-    let b = c .before .before .before .loop in
-    (b .inv .0, so-far (BoundedProcess (c .before .before .before .before .count .result)) (rawIn ws .processes) (b .i) (b .inv .1) (process-at ws (b .i) (omega arith)) (c .before .process-bounded .ensures .yes (not-false _ (c .if1 .left))))
+    let b = c .before .before .before .loop in (
+      b .inv .0,
+      so-far (BoundedProcess (c .before .before .before .before .count .result)) (rawIn ws .processes) (b .i) (b .inv .1) (process-at ws (b .i) (omega arith))
+          (c .before .process-bounded .ensures .yes (not-false _ (c .if1 .left))),
+    )
 
 returns-2 : tie.Need-returns-2 Inv-loop μ-loop
 returns-2 c =

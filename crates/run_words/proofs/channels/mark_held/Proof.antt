@@ -24,8 +24,11 @@ held-count-requires c κs = search needs
 loop-holds : tie.Need-loop-holds Inv-loop μ-loop
 loop-holds c =
     let a = c .before .before .args in
-    let n = c .held-count in
-    (omega (arith, n .ensures), λ l m. marked-as _ (ap (λ (d : List RawEnd). heldChannels d l) (sym (drop-none (heldThere (a .run .now) (a .i)) (n .result) (n .ensures ∙ sym (length-there (a .run .now) (a .i)))))) m)
+    let n = c .held-count in (
+      omega (arith, n .ensures),
+      λ l m. marked-as _ (ap (λ (d : List RawEnd). heldChannels d l)
+          (sym (drop-none (heldThere (a .run .now) (a .i)) (n .result) (n .ensures ∙ sym (length-there (a .run .now) (a .i)))))) m,
+    )
 
 sub-k : tie.Need-sub-k Inv-loop μ-loop
 sub-k c = search needs
@@ -53,8 +56,11 @@ loop-again c =
     let a = c .before .before .before .before .before .before .args in
     let b = c .before .before .before .loop in
     let e = c .before .held-end in
-    let n = c .wide in
-    (omega arith, λ l m. marked-as _ (held-turn (heldThere (a .run .now) (a .i)) (b .k - 1) (b .k) (n .result) l (e .ensures .0) (omega arith) (n .ensures .0)) (mark (b .marks) _ (n .result) (omega (arith, n .ensures .0, e .ensures .1 .1)) (b .inv .1 l m)))
+    let n = c .wide in (
+      omega arith,
+      λ l m. marked-as _ (held-turn (heldThere (a .run .now) (a .i)) (b .k - 1) (b .k) (n .result) l (e .ensures .0) (omega arith) (n .ensures .0))
+          (mark (b .marks) _ (n .result) (omega (arith, n .ensures .0, e .ensures .1 .1)) (b .inv .1 l m)),
+    )
 
 returns : tie.Need-returns Inv-loop μ-loop
 returns c =

@@ -46,8 +46,11 @@ loop-again : tie.Need-loop-again Inv-loop μ-loop
 loop-again c =
     let a = c .before .before .before .before .before .before .args in
     let b = c .before .before .before .loop in
-    let o = c .before .outside-at in
-    (omega arith, λ m. marked-as _ (outside-turn (rawIn (a .run .now) .outside) (b .k - 1) (b .k) (c .wide .result) (o .ensures .0) (omega arith) (c .wide .ensures .0)) (mark (b .marks) _ (c .wide .result) (omega (arith, o .ensures .1 .channel)) (b .inv .1 m)))
+    let o = c .before .outside-at in (
+      omega arith,
+      λ m. marked-as _ (outside-turn (rawIn (a .run .now) .outside) (b .k - 1) (b .k) (c .wide .result) (o .ensures .0) (omega arith) (c .wide .ensures .0))
+          (mark (b .marks) _ (c .wide .result) (omega (arith, o .ensures .1 .channel)) (b .inv .1 m)),
+    )
 
 returns : tie.Need-returns Inv-loop μ-loop
 returns c =

@@ -44,8 +44,11 @@ loop-less c = search needs
 loop-again : tie.Need-loop-again Inv-loop μ-loop
 loop-again c =
     let a = c .before .before .before .before .before .before .args in
-    let b = c .before .before .before .loop in
-    (omega arith, λ l m. marked-as _ (process-turn (rawIn (a .run .now) .processes) (b .i - 1) (b .i) l (process-at (a .run .now) (b .i - 1) (omega arith)) (omega arith)) (c .mark-held .ensures _ (b .inv .1 l m)))
+    let b = c .before .before .before .loop in (
+      omega arith,
+      λ l m. marked-as _ (process-turn (rawIn (a .run .now) .processes) (b .i - 1) (b .i) l (process-at (a .run .now) (b .i - 1) (omega arith)) (omega arith))
+          (c .mark-held .ensures _ (b .inv .1 l m)),
+    )
 
 returns : tie.Need-returns Inv-loop μ-loop
 returns c =

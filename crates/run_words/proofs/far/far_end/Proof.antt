@@ -43,13 +43,15 @@ returns-3 c =
     let after-if1 = c .before .before .before .before in
     let holder = after-if1 .before .before .before .holder in
     let entry = after-if1 .before .before .before .before .before in
-    sym (far-provided (rawIn (entry .args .run .now)) (entry .args .channel) (entry .args .side) (entry .pre .1 .1) (holder .result) (sym (holder .ensures)) (after-if1 .before .enum-told .given .1) (after-if1 .if1 .left) _ (sym (c .before .before .before .find-outside .ensures) ∙ c .before .f .given .1))
+    sym (far-provided (rawIn (entry .args .run .now)) (entry .args .channel) (entry .args .side) (entry .pre .1 .1) (holder .result) (sym (holder .ensures)) (after-if1 .before .enum-told .given .1)
+    (after-if1 .if1 .left) _ (sym (c .before .before .before .find-outside .ensures) ∙ c .before .f .given .1))
 
 returns-4 : tie.Need-returns-4
 returns-4 c =
     let s = c .before .before .before .before .before .before .before .before in
     let h = c .before .before .before .before .before .before .holder in
-    sym (far-provided (rawIn (s .args .run .now)) (s .args .channel) (s .args .side) (s .pre .1 .1) (h .result) (sym (h .ensures)) (c .before .before .before .before .enum-told .given .1) (c .before .before .before .if1 .left) _ (sym (c .before .before .find-outside .ensures) ∙ c .enum-told2 .given .1))
+    sym (far-provided (rawIn (s .args .run .now)) (s .args .channel) (s .args .side) (s .pre .1 .1) (h .result) (sym (h .ensures)) (c .before .before .before .before .enum-told .given .1)
+    (c .before .before .before .if1 .left) _ (sym (c .before .before .find-outside .ensures) ∙ c .enum-told2 .given .1))
 
 pub far-end-spec : {M : Type 1} → statement M
 far-end-spec =

@@ -37,7 +37,8 @@ returns : tie.Need-returns Inv-loop μ-loop
 returns c =
     let a = c .before .before .before .before .before .before .before .before .args in
     let b = c .before .before .before .before .before .loop in
-    sym (b .inv .1 ∙ holder-turn (a .channel) (sideOf (a .side)) (rawIn (a .run .now) .processes) (b .i) _ (process-at (a .run .now) (b .i) (omega arith)) (sym (c .before .before .before .place-holds .ensures) ∙ c .before .f .given .1))
+    sym (b .inv .1 ∙ holder-turn (a .channel) (sideOf (a .side)) (rawIn (a .run .now) .processes) (b .i) _ (process-at (a .run .now) (b .i) (omega arith))
+    (sym (c .before .before .before .place-holds .ensures) ∙ c .before .f .given .1))
 
 enum-told : tie.Need-enum-told Inv-loop μ-loop
 enum-told c = search needs
@@ -51,8 +52,11 @@ loop-less c = search needs
 loop-again : tie.Need-loop-again Inv-loop μ-loop
 loop-again c =
     let a = c .before .before .before .before .before .before .before .args in
-    let b = c .before .before .before .before .loop in
-    (b .inv .0, b .inv .1 ∙ holder-turn (a .channel) (sideOf (a .side)) (rawIn (a .run .now) .processes) (b .i) _ (process-at (a .run .now) (b .i) (omega arith)) (sym (c .before .before .place-holds .ensures) ∙ c .enum-told .given .1))
+    let b = c .before .before .before .before .loop in (
+      b .inv .0,
+      b .inv .1 ∙ holder-turn (a .channel) (sideOf (a .side)) (rawIn (a .run .now) .processes) (b .i) _ (process-at (a .run .now) (b .i) (omega arith))
+          (sym (c .before .before .place-holds .ensures) ∙ c .enum-told .given .1),
+    )
 
 returns-2 : tie.Need-returns-2 Inv-loop μ-loop
 returns-2 c = let b = c .before .loop in sym (b .inv .1 ∙ holder-end _ _ _ (b .i) (omega arith))

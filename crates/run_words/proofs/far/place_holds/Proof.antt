@@ -33,7 +33,8 @@ returns c =
     let b = c .before .before .before .before .before .before .loop in
     let e = c .before .before .before .before .held-end in
     let s = c .before .before .before .before .before .before .before .before .before in
-    sym (b .inv .1 ∙ there-stops (s .args .run .now) (s .args .i) (b .k) (e .result) (e .ensures .0) (e .ensures .1 .0) (s .args .channel) (s .args .side) (s .pre .0 .2) (c .before .before .if1 .taken) (c .if2 .taken))
+    sym (b .inv .1 ∙ there-stops (s .args .run .now) (s .args .i) (b .k) (e .result) (e .ensures .0) (e .ensures .1 .0) (s .args .channel) (s .args .side) (s .pre .0 .2)
+    (c .before .before .if1 .taken) (c .if2 .taken))
 
 add-k : tie.Need-add-k Inv-loop μ-loop
 add-k c = search needs

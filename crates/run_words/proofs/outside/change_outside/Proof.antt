@@ -27,8 +27,14 @@ returns c =
 
 outside-at-requires : tie.Need-outside-at-requires
 outside-at-requires c κs =
-    let entry = c .before .before .before .before .before .before .before in
-    (entry .pre .0, (entry .pre .1 .0, outside-below (entry .args .channel) (rawIn (entry .args .run .now) .outside) _ (sym (c .before .before .before .before .find-outside .ensures) ∙ c .before .before .f .given .1)))
+    let entry = c .before .before .before .before .before .before .before in (
+      entry .pre .0,
+      (
+        entry .pre .1 .0,
+        outside-below (entry .args .channel) (rawIn (entry .args .run .now) .outside) _
+            (sym (c .before .before .before .before .find-outside .ensures) ∙ c .before .before .f .given .1),
+      ),
+    )
 
 changed-requires : tie.Need-changed-requires
 changed-requires c κs = search needs
@@ -54,8 +60,11 @@ returns-2 : tie.Need-returns-2
 returns-2 c =
     let after-f = c .before .before .before .before .before .before .before .before in
     let entry = after-f .before .before .before .before .before in
-    let r = c .before .before .set-outside .ensures in
-    (changed-changes (entry .args .run .now) _ (entry .args .channel) _ (changedBy (entry .args .change)) (sym (after-f .before .before .find-outside .ensures) ∙ after-f .f .given .1) (c .before .before .before .before .before .outside-at .ensures .0) (c .before .before .before .before .changed .ensures) (r .0), r .1)
+    let r = c .before .before .set-outside .ensures in (
+      changed-changes (entry .args .run .now) _ (entry .args .channel) _ (changedBy (entry .args .change)) (sym (after-f .before .before .find-outside .ensures) ∙ after-f .f .given .1)
+          (c .before .before .before .before .before .outside-at .ensures .0) (c .before .before .before .before .changed .ensures) (r .0),
+      r .1,
+    )
 
 pub change-outside-spec : {M : Type 1} → statement M
 change-outside-spec =

@@ -40,8 +40,10 @@ put-requires : tie.Need-put-requires
 put-requires c κs =
     let after-relink = c .before .before .before .before .before .before .before in
     let entry = after-relink .before .before .before .before .before in
-    let b = entry .pre .1 .1 .1 in
-    (omega (arith, c .before .before .before .move-up .ensures .long, after-relink .relink .ensures .long, after-relink .before .before .count .ensures), (b .kind, b .pointer, omega (arith, b .many, held-length (entry .args .p .held))))
+    let b = entry .pre .1 .1 .1 in (
+      omega (arith, c .before .before .before .move-up .ensures .long, after-relink .relink .ensures .long, after-relink .before .before .count .ensures),
+      (b .kind, b .pointer, omega (arith, b .many, held-length (entry .args .p .held))),
+    )
 
 add-run : tie.Need-add-run
 add-run c = search needs
@@ -53,7 +55,8 @@ slice-write-run : tie.Need-slice-write-run
 slice-write-run c = search needs
 
 same-length : tie.Need-same-length
-same-length c = simp length-set (c .before .before .put .ensures .long ∙ c .before .before .before .before .before .before .move-up .ensures .long ∙ c .before .before .before .before .before .before .before .before .before .before .relink .ensures .long)
+same-length c = simp length-set (c .before .before .put .ensures .long ∙ c .before .before .before .before .before .before .move-up .ensures .long ∙
+    c .before .before .before .before .before .before .before .before .before .before .relink .ensures .long)
 
 returns : tie.Need-returns
 returns c =
@@ -61,7 +64,8 @@ returns c =
     let count = after-relink .before .before .count in
     let entry = after-relink .before .before .before .before .before in
     let run = entry .args .run .now in
-    let e = inserted-words run _ (count .result) (entry .args .i) (entry .pre .1 .0) (entry .pre .0) (count .ensures) (omega arith) _ _ _ (omega arith) (after-relink .relink .ensures) (c .before .before .before .before .before .before .move-up .ensures) (c .before .before .put .ensures) in
+    let e = inserted-words run _ (count .result) (entry .args .i) (entry .pre .1 .0) (entry .pre .0) (count .ensures) (omega arith) _ _ _ (omega arith) (after-relink .relink .ensures)
+    (c .before .before .before .before .before .before .move-up .ensures) (c .before .before .put .ensures) in
     keeps e (bounded-insert (rawIn run) (entry .pre .1 .0) (entry .args .i) (processIn (entry .args .p)) (entry .pre .1 .1 .0 .1) (entry .pre .1 .1 .1))
 
 pub insert-spec : {M : Type 1} → statement M

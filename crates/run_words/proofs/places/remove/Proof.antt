@@ -46,7 +46,8 @@ returns c =
     let s = c .before .before .before .before .before .before .before .before .before .before .before in
     let ws = s .args .run .now in
     let n = c .before .before .before .before .before .before .before .before .count in
-    let e = removed-words ws _ (n .result) (s .args .i) (s .pre .1 .0) (s .pre .0) (n .ensures) (omega arith) _ (c .before .before .before .before .before .before .relink .ensures) (c .before .before .move-down .ensures) in
+    let e = removed-words ws _ (n .result) (s .args .i) (s .pre .1 .0) (s .pre .0) (n .ensures) (omega arith) _ (c .before .before .before .before .before .before .relink .ensures)
+    (c .before .before .move-down .ensures) in
     keeps e (bounded-remove (rawIn ws) (s .pre .1 .0) (s .args .i) (s .pre .1 .1 .0) (s .pre .1 .1 .1))
 
 pub remove-spec : {M : Type 1} → statement M
