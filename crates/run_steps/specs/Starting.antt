@@ -28,7 +28,7 @@ use Rattle.read_tables.specs.declared.access.Declared.{Declared}
 use Rattle.run_words.specs.Lists.{tab, All}
 use Rattle.run_words.specs.ListLaws.{length-tab, tab-same, tab-append, map-tab}
 use Rattle.run_words.specs.Raw.{RawEnd, RawProcess, RawOutside, RawConfig, BoundedEnd, Bounded, rawIn, runningKind, rawProcess}
-use Rattle.run_words.specs.Operations.{single, withGiven, onOutside}
+use Rattle.run_words.specs.Operations.{single, withOutside, withGiven, onOutside}
 use Rattle.run_words.specs.Values.{endIn, outsideIn, heldIn, Changed}
 use Rattle.run_words.specs.Decode.{decodedEnd, decodedOutside, decoded}
 use Rattle.run_words.specs.declared.records.Held.{Held}
@@ -55,7 +55,7 @@ startChannel w i k = record { number = k; node = entryAt w (i + k) .1; channel =
 
 -- the run of a body with n entries that it provides
 abbrev pub startRaw : List ℕ → ℕ → ℕ → ℕ → RawConfig
-startRaw w i n body = record { processes = rawProcess runningKind body (tab (startEnd w i) n) none ∷ []; outside = tab (startChannel w i) n; given = n }
+startRaw w i n body = withGiven (withOutside (single (rawProcess runningKind body (tab (startEnd w i) n) none)) (tab (startChannel w i) n)) n
 
 -- n signature entries from the place i on have places in the tables, and so have their types
 pub record EntriesFit (w : List ℕ) (i n : ℕ) : Type 0 where
@@ -179,7 +179,7 @@ module _ (w : List ℕ) (i n body : ℕ) (held : Held) (g : heldIn held ≡ tab 
 
   pub begun : {old one two new : List ℕ} → Changed old one (single (startProcess (heldIn held))) → Changed one two (onOutside (λ l. l ++ tab (startChannel w i) n) (rawIn one)) → Changed two new (withGiven (rawIn two) n) → Changed old new (startRaw w i n body)
   begun a b c = record {
-    is = c .is ∙ ap (λ C. withGiven C n) (b .is ∙ ap (onOutside (λ l. l ++ tab (startChannel w i) n)) (a .is)) ∙ ap (λ l. record { processes = startProcess l ∷ []; outside = tab (startChannel w i) n; given = n }) g;
+    is = c .is ∙ ap (λ C. withGiven C n) (b .is ∙ ap (onOutside (λ l. l ++ tab (startChannel w i) n)) (a .is)) ∙ ap (λ l. withGiven (withOutside (single (startProcess l)) (tab (startChannel w i) n)) n) g;
     past = c .past ∙ b .past ∙ a .past;
     long = c .long ∙ b .long ∙ a .long;
   }

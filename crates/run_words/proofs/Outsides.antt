@@ -37,7 +37,7 @@ unfolding rawIn
 given-set ws n l b =
     let new = set ws 1 n in
     let other : (k : ℕ) → (k ≡ 1 → ⊥) → getD new k 0 ≡ getD ws k 0 = λ k p. getD-set-other ws 1 k n 0 p in
-    outside-changed ws new (length-set ws 1 n) _ n b (other 0 (λ z. omega arith)) (getD-set-same ws 1 n 0 (omega arith)) (λ k p. other k (omega arith))
+    outside-changed ws new (length-set ws 1 n) _ n b (λ k _ p _. other k p) (getD-set-same ws 1 n 0 (omega arith)) (λ k p. other k (omega arith))
     (ap (λ m. rows outsideOf 2 16 m (word new)) (other 2 (λ z. omega arith))
     ∙ rows-same outsideOf 2 16 (word ws) (word new) (getD ws 2 0) (λ j h. outside-local _) (λ k p q. other k (omega arith)))
 
@@ -46,7 +46,7 @@ module _ (old new : List ℕ) (k : ℕ) (o : RawOutside) (b : Bounded (rawIn old
   unfolding rawIn
   outside-set h =
       let n = counted-outside old in
-      outside-changed old new (w .long) _ _ b (w .below 0 (omega arith)) (w .below 1 (omega arith)) (λ j p. w .above j (omega (arith, b .channels)))
+      outside-changed old new (w .long) _ _ b (λ k l _ _. w .below k (omega arith)) (w .below 1 (omega arith)) (λ j p. w .above j (omega (arith, b .channels)))
       (ap (λ m. rows outsideOf 2 16 m (word new)) (w .below 2 (omega arith))
       ∙ rows-set outsideOf 2 16 (word old) (word new) (getD old 2 0) (λ j h. outside-local _) k (λ j p q. w .below j q) o (omega arith) (w .row) (λ j p q. w .above j p))
 
@@ -59,7 +59,7 @@ module _ (old new : List ℕ) (k : ℕ) (o : RawOutside) (b : Bounded (rawIn old
       let z : k ≡ getD old 2 0 = omega arith in
       let row : (t : ℕ) → getD last (16 + 2 * getD old 2 0 + t) 0 ≡ getD new (16 + 2 * k + t) 0 =
       λ t. let q : 16 + 2 * getD old 2 0 + t ≡ 16 + 2 * k + t = omega arith in other _ (omega arith) ∙ ap (word new) q in
-      outside-changed old last (length-set new 2 (k + 1) ∙ w .long) _ _ b (other 0 (λ z. omega arith) ∙ w .below 0 (omega arith)) (other 1 (λ z. omega arith) ∙ w .below 1 (omega arith))
+      outside-changed old last (length-set new 2 (k + 1) ∙ w .long) _ _ b (λ k l _ q. other k q ∙ w .below k (omega arith)) (other 1 (λ z. omega arith) ∙ w .below 1 (omega arith))
       (λ j p. other j (omega arith) ∙ w .above j (omega arith))
       (ap (λ m. rows outsideOf 2 16 m (word last)) (getD-set-same new 2 (k + 1) 0 (omega (arith, w .long)))
       ∙ rows-append outsideOf 2 16 (word old) (word last) (getD old 2 0) (λ j h. outside-local _) k (λ j p q. other j (omega arith) ∙ w .below j q) (k + 1) o z (omega arith)
@@ -146,7 +146,7 @@ letting-done old new c j k h l b e =
     let last = set new 2 j in
     let other : (x : ℕ) → (x ≡ 2 → ⊥) → getD last x 0 ≡ getD new x 0 = λ x p. getD-set-other new 2 x j 0 p in
     let g : getD last 1 0 ≡ rawIn old .given = other 1 (λ z. omega arith) ∙ h .low 1 (omega arith) ∙ sym (numbered old) in
-    outside-changed old last (length-set new 2 j ∙ h .long) _ _ b (other 0 (λ z. omega arith) ∙ h .low 0 (omega arith)) g
+    outside-changed old last (length-set new 2 j ∙ h .long) _ _ b (λ k l _ q. other k q ∙ h .low k l) g
     (λ x p. other x (omega arith) ∙ h .high x (omega (arith, b .channels)))
     (ap (λ m. rows outsideOf 2 16 m (word last)) (getD-set-same new 2 j 0 (omega (arith, h .long)))
     ∙ rows-same outsideOf 2 16 (word new) (word last) j (λ i q. outside-local _) (λ x p q. other x (omega arith))

@@ -66,12 +66,12 @@ module _ (old new : List ℕ) (long : length new ≡ length old) where
       let g : getD new 1 0 ≡ getD old 1 0 = below 1 (omega arith) (omega arith) in
       record { is = λ i. record { processes = e i; outside = o i; given = g i }; past = drop-same 6144 new old long (λ k p. above k (omega arith)); long = long }
 
-  pub outside-changed : (l : List RawOutside) (n : ℕ) → Bounded (rawIn old) → getD new 0 0 ≡ getD old 0 0 → getD new 1 0 ≡ n → ((k : ℕ) → 80 ≤ k → getD new k 0 ≡ getD old k 0)
+  pub outside-changed : (l : List RawOutside) (n : ℕ) → Bounded (rawIn old) → ((k : ℕ) → k < 16 → (k ≡ 1 → ⊥) → (k ≡ 2 → ⊥) → getD new k 0 ≡ getD old k 0) → getD new 1 0 ≡ n → ((k : ℕ) → 80 ≤ k → getD new k 0 ≡ getD old k 0)
       → rows outsideOf 2 16 (getD new 2 0) (word new) ≡ l → Changed old new (withGiven (withOutside (rawIn old) l) n)
   unfolding rawIn
-  outside-changed l n b zeroth first above e =
+  outside-changed l n b header first above e =
       let p : rows processOf 40 80 (getD new 0 0) (word new) ≡ rows processOf 40 80 (getD old 0 0) (word old) =
-      ap (λ n. rows processOf 40 80 n (word new)) zeroth
+      ap (λ n. rows processOf 40 80 n (word new)) (header 0 (omega arith) (λ z. omega arith) (λ z. omega arith))
       ∙ rows-same processOf 40 80 (word old) (word new) (getD old 0 0) (processes-local old (sixteen old b)) (λ k p q. above k p) in
       record { is = λ i. record { processes = p i; outside = e i; given = first i }; past = drop-same 6144 new old long (λ k q. above k (omega arith)); long = long }
 

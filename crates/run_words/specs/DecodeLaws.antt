@@ -9,7 +9,7 @@ use lib.Dec.{eqb}
 use lib.ListN.{set, getElem?}
 use Rattle.notation.specs.Tree.{Name, Ty, Proc}
 use Rattle.calculus.specs.Types.{Side, provided, used, other}
-use Rattle.calculus.specs.Configuration.{End, end, Process, process, Outside, Config, config, movedUp, movedDown}
+use Rattle.calculus.specs.Configuration.{End, end, Process, process, Outside, Config, movedUp, movedDown}
 use Rattle.calculus.specs.Configuration as calculus
 use Rattle.run_words.specs.Lists.{All, insertAt, removeAt}
 use Rattle.run_words.specs.ListLaws.{map-at, map-join, map-set, map-insert, map-remove}
@@ -42,7 +42,7 @@ module _ (nameOf : ℕ → Name) (typeOf : ℕ → Ty Name) (termOf : ℕ → Pr
   decoded-at C i e = map-at processOf (C .processes) i e
 
   pub decoded-set : (C : RawConfig) (i : ℕ) (p : RawProcess) → decoded (raw.withProcesses C (set (C .processes) i p)) ≡ calculus.replaced i (processOf p) (decoded C)
-  decoded-set C i p = ap (λ l. config l (map outsideOf (C .outside)) (C .given)) (map-set processOf (C .processes) i p)
+  decoded-set C i p = ap (λ l. calculus.withProcesses l (decoded C)) (map-set processOf (C .processes) i p)
 
   relinks : (f : ℕ → ℕ) (l : List RawProcess) → map processOf (map (raw.relinked f) l) ≡ map (calculus.relinked f) (map processOf l)
   relinks f [] = refl
