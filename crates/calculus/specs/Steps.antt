@@ -374,10 +374,3 @@ abbrev pub lacksBy : Outcome → Bool
 lacksBy (carried s D) = false
 lacksBy notOpen = false
 lacksBy lacking = true
-
--- the step at a place is open; it lacks a free place or number
-unfoldable pub isOpen : Program → Config → ℕ → Bool
-isOpen p C i = isOpenBy (step p C i)
-
-unfoldable pub lacks : Program → Config → ℕ → Bool
-lacks p C i = lacksBy (step p C i)

@@ -6,7 +6,7 @@ use mathlib.Core.Option.{Option, some, none}
 use mathlib.Core.Bool.{true, true≢false, false≢true}
 use Rattle.calculus.specs.Program.{Program}
 use Rattle.calculus.specs.Configuration.{Process, Config, at}
-use Rattle.calculus.specs.Steps.{Outcome, carried, notOpen, lacking, stepOf, step, isOpenBy, lacksBy, isOpen}
+use Rattle.calculus.specs.Steps.{Outcome, carried, notOpen, lacking, stepOf, step, isOpenBy, lacksBy}
 use Rattle.calculus.specs.declared.answers.Seen.{Seen}
 use Rattle.calculus.specs.Reduces.{Reduces, Lacks, Open}
 use Rattle.theory_reductions.specs.CarriedOut.{carried-out, lacks-out}
@@ -35,8 +35,7 @@ module _ (p : Program) (C : Config) (i : ℕ) where
   opens (inl (s, D, r)) = ap isOpenBy (carried-out p r)
   opens (inr l) = ap isOpenBy (lacks-out p l)
 
-  pub open-iff : (isOpen p C i ≡ true) ↔ Open p C i
-  unfolding isOpen
+  pub open-iff : (isOpenBy (step p C i) ≡ true) ↔ Open p C i
   open-iff = (opened (step-ruled p C i), opens)
 
   -- where a step is open, a process is
