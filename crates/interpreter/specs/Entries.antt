@@ -111,7 +111,7 @@ leftAs s ws vs D false = Leaves s ws vs D
 pub record RunAfter (s : List ℕ) (q : Request) (ws vs : List ℕ) (y : Reply) : Type 0 where
   pub is : leftAs s ws vs (y .config) (keepsRun (useOf q) (y .answer))
 
--- ── answers in document 01's numbers and values
+-- ── answers in the scope's numbers and values
 abbrev namedAs : List ℕ → ℕ → ℕ → Told
 namedAs part zero at = givenAs part
 namedAs part (suc n) at = refusedAs (suc n) at

@@ -1,4 +1,4 @@
--- How run-on ends, in the words of document 01, and the steps that it counts.
+-- How run-on ends, in the words of the scope, and the steps that it counts.
 use Prim.Native.Nat.{ℕ, zero, suc, _+_, _≤_, suc-le-suc}
 use native.Mathlib.Omega.{arith}
 use native.Mathlib.Nat.{zero-add}
