@@ -5,7 +5,7 @@ use mathlib.Core.List.{List}
 use Rattle.notation.specs.Tree.{Declaration}
 use Rattle.notation.specs.Reader.{got}
 use Rattle.notation.specs.Scripts.{readText}
-use Rattle.notation.specs.Tables.{nothing, tables, afterScript}
+use Rattle.notation.specs.Tables.{nothing, tables, afterScript, FitsTables, Within}
 use Rattle.notation.specs.declared.reading.Cursor.{Cursor}
 use Rattle.calculus.specs.Program.{programOf}
 use Rattle.calculus.specs.Accepted.{accepted, checked}
@@ -13,7 +13,6 @@ use Rattle.calculus.specs.Demands.{Derivable}
 use Rattle.theory_derivations.specs.Accepts.{accepts}
 use Rattle.calculus.specs.Typing.{Bodies}
 use Rattle.theory_preservation.specs.Accepted.{accepted-bodies}
-use Rattle.read_text.specs.Reading.{Within, FitsTables}
 use Rattle.read_tables.specs.Program.{programIn, program-sorted}
 use Rattle.read_tables.specs.Scripts.{sorted}
 use Rattle.read_tables.specs.Decode.{scriptIn}

@@ -8,7 +8,7 @@ use lib.Seq.{take-all}
 use Rattle.notation.specs.Limits.{scratchWords}
 use Rattle.notation.specs.Reader.{Result, got, refused}
 use Rattle.notation.specs.Scripts.{readText}
-use Rattle.notation.specs.Tables.{tables, tablesRead, zeros}
+use Rattle.notation.specs.Tables.{tables, tablesRead, zeros, FitsTables}
 use Rattle.notation.specs.Tree.{Declaration}
 use Rattle.notation.specs.declared.reading.Cursor.{Cursor}
 use Rattle.notation.specs.declared.script.Script.{Script}
@@ -21,7 +21,7 @@ use Rattle.calculus.specs.Verdict.{verdictOf}
 use Rattle.check_declarations.specs.Sorted.{declared-sorted, typed-sorted}
 use Rattle.calculus.specs.declared.verdict.Verdict.{Verdict}
 use Rattle.calculus.specs.declared.verdict.Verdict.the-variants as verdict
-use Rattle.read_text.specs.Reading.{answerOf, FitsTables, TextRead}
+use Rattle.read_text.specs.Reading.{answerOf, TextRead}
 use Rattle.read_text.specs.declared.reading.Reading.{Reading}
 use Rattle.read_text.specs.declared.reading.Reading.the-variants as reading
 use Rattle.read_tables.specs.Decode.{scriptIn}

@@ -9,7 +9,7 @@ use borrow.Author.Tests.{leb-true, leb-false}
 use lib.Dec.{leb}
 use lib.ListN.{length, drop}
 use Rattle.notation.specs.Limits.{scratchWords, runWords}
-use Rattle.notation.specs.Tables.{tables}
+use Rattle.notation.specs.Tables.{tables, FitsTables}
 use Rattle.notation.specs.Tree.{Declaration}
 use Rattle.calculus.specs.Accepted.{Checked, accepted, faulty, checked}
 use Rattle.calculus.specs.Configuration.{Config}
@@ -17,7 +17,6 @@ use Rattle.calculus.specs.Machine.{Answer, Reply, refusal, respond, idle}
 use Rattle.calculus.specs.Program.{programOf}
 use Rattle.calculus.specs.declared.verdict.Verdict.{Verdict}
 use Rattle.calculus.specs.declared.verdict.Verdict.the-variants as verdict
-use Rattle.read_text.specs.Reading.{FitsTables}
 use Rattle.read_tables.specs.Program.{programIn}
 use Rattle.check_text.specs.Texts.{wordsIn, TextChecked}
 use Rattle.check_accepted.specs.Texts.{program-is}

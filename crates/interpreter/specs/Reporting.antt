@@ -8,7 +8,7 @@ use native.Mathlib.Numerals.{add-one}
 use lib.ListN.{length, getD, getElem?, set, take, replicate, length-map, length-set, length-replicate}
 use lib.Seq.{take-all, take-suc, take-suc-set, getD-set-other}
 use Rattle.notation.specs.Limits.{runWords, outsideNumbers}
-use Rattle.notation.specs.Tables.{tables}
+use Rattle.notation.specs.Tables.{tables, FitsTables}
 use Rattle.notation.specs.Token.{nameAt}
 use Rattle.notation.specs.Tree.{Declaration}
 use Rattle.calculus.specs.Accepted.{accepted, checked}
@@ -17,7 +17,6 @@ use Rattle.calculus.specs.Machine.{reported}
 use Rattle.calculus.specs.Runs.{report}
 use Rattle.calculus.specs.declared.answers.Reported.the-variants.{Open, Refused}
 use Rattle.calculus.specs.declared.answers.Report.{Report}
-use Rattle.read_text.specs.Reading.{FitsTables}
 use Rattle.read_tables.specs.Decode.{processIn}
 use Rattle.read_tables.specs.Program.{plainIn}
 use Rattle.run_words.specs.Raw.{RawOutside, RawConfig, rawIn}

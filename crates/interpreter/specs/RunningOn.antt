@@ -4,7 +4,7 @@ use mathlib.Core.Path.{_≡_, refl, sym, ap, subst}
 use mathlib.Core.List.{List}
 use lib.ListN.{length}
 use Rattle.notation.specs.Limits.{runWords}
-use Rattle.notation.specs.Tables.{tables}
+use Rattle.notation.specs.Tables.{tables, FitsTables}
 use Rattle.notation.specs.Tree.{Declaration}
 use Rattle.calculus.specs.Accepted.{accepted, checked}
 use Rattle.calculus.specs.Configuration.{Config}
@@ -16,7 +16,6 @@ use Rattle.calculus.specs.declared.answers.RanOn.{RanOn}
 use Rattle.calculus.specs.declared.answers.Reported.the-variants.{Open}
 use Rattle.theory_safety.specs.Safety.{run-keeps}
 use Rattle.theory_safety.specs.Replies.{run-never-refused}
-use Rattle.read_text.specs.Reading.{FitsTables}
 use Rattle.read_tables.specs.Program.{programIn}
 use Rattle.run_steps.specs.Running as machine
 use Rattle.check_accepted.specs.Texts.{program-is}

@@ -7,7 +7,7 @@ use mathlib.Core.Option.{Option, some, none}
 use native.Mathlib.Omega.{arith}
 use lib.ListN.{length, getElem?}
 use Rattle.notation.specs.Limits.{runWords}
-use Rattle.notation.specs.Tables.{tables}
+use Rattle.notation.specs.Tables.{tables, FitsTables}
 use Rattle.notation.specs.Tree.{Located, Declaration}
 use Rattle.calculus.specs.Accepted.{accepted, checked}
 use Rattle.calculus.specs.Machine.{started, named, reply, onLine}
@@ -18,7 +18,6 @@ use Rattle.calculus.specs.declared.answers.Started.{Started}
 use Rattle.calculus.specs.declared.answers.Started.the-variants.{Begun, Refused}
 use Rattle.theory_ends.specs.Lists.{found-below}
 use Rattle.theory_preservation.specs.Accepted.{accepted-start}
-use Rattle.read_text.specs.Reading.{FitsTables}
 use Rattle.read_tables.specs.Program.{programIn}
 use Rattle.run_steps.specs.Starting.{BeginsBy, Begins}
 use Rattle.check_accepted.specs.Texts.{program-is}

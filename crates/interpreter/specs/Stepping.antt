@@ -6,7 +6,7 @@ use mathlib.Core.Option.{Option, some, none}
 use native.Mathlib.Omega.{arith}
 use lib.ListN.{length}
 use Rattle.notation.specs.Limits.{runWords}
-use Rattle.notation.specs.Tables.{tables}
+use Rattle.notation.specs.Tables.{tables, FitsTables}
 use Rattle.notation.specs.Tree.{Declaration}
 use Rattle.calculus.specs.Accepted.{accepted, checked}
 use Rattle.calculus.specs.Configuration.{Process, Config, at}
@@ -17,7 +17,6 @@ use Rattle.calculus.specs.declared.answers.Stepped.{Stepped}
 use Rattle.calculus.specs.declared.answers.Stepped.the-variants.{Carried, Refused}
 use Rattle.theory_ends.specs.Lists.{none-past, found-below}
 use Rattle.theory_preservation.specs.Preserved.{preserved}
-use Rattle.read_text.specs.Reading.{FitsTables}
 use Rattle.read_tables.specs.Program.{programIn}
 use Rattle.run_words.specs.Raw.{rawIn}
 use Rattle.run_alone.specs.declared.outcome.Outcome.{Outcome as OutcomeWords}

@@ -2,6 +2,8 @@ pub mod Limits
 pub mod Bytes
 pub mod Token
 pub mod Tree
+pub mod Fine
+pub mod Sizes
 pub mod Reader
 pub mod Types
 pub mod Processes

@@ -3,10 +3,12 @@
 use Prim.Native.Nat.{ℕ, _+_, _*_, _≤_}
 use mathlib.Core.List.{List, [], _∷_}
 use lib.ListN.{length, set, replicate}
-use Rattle.notation.specs.Limits.{processTermLimit, scratchWords}
+use mathlib.Core.Path.{_≡_}
+use Rattle.notation.specs.Limits.{processTermLimit, scratchWords, typeLimit, processLimit, execLimit, typeTermLimit}
 use Rattle.notation.specs.Tree.{Located, Ty, unit, named, tensor, par, lolli, plus, with, Alternatives, alternative, Proc, empty, sendUnit, sendChannel, sendLabel, cancel, spawn, recvUnit, recvChannel, recvLabel, fwd, call, raise, try, Branches, branch, Entry, Declaration, declareType, declareProc, declareExec}
 use Rattle.notation.specs.Reader.{Result, got, refused}
 use Rattle.notation.specs.Scripts.{readText}
+use Rattle.notation.specs.declared.reading.Cursor.{Cursor}
 use Rattle.notation.specs.declared.reading.Tally.{Tally}
 use Rattle.notation.specs.declared.reading.TypeNode.{TypeNode}
 use Rattle.notation.specs.declared.reading.TermNode.{TermNode}
@@ -296,3 +298,19 @@ tables s = tablesRead (readText s)
 -- the words of the tables' area are there
 abbrev pub Area : List ℕ → Type 0
 Area w = tableWords ≤ length w
+
+-- each table is within its own words
+abbrev pub Within : Tally → Type 0
+Within k =
+    (k .types ≤ typeLimit)
+    × (k .processes ≤ processLimit)
+    × (k .execs ≤ execLimit)
+    × (k .entries ≤ typeTermLimit)
+    × (k .nodes ≤ typeTermLimit)
+    × (k .alternatives ≤ typeTermLimit)
+    × (k .terms ≤ processTermLimit)
+    × (k .branches ≤ branchRoom)
+
+-- so are the tables of a text that is read
+abbrev pub FitsTables : List ℕ → Type 0
+FitsTables s = (ds : List Declaration) (d : Cursor) → readText s ≡ got ds d → Within (afterScript ds nothing)

@@ -13,7 +13,7 @@ use Rattle.notation.specs.Bytes.{bytes}
 use Rattle.notation.specs.Limits.{textLimit, scratchWords, execLimit}
 use Rattle.notation.specs.Reader.{nameIn}
 use Rattle.notation.specs.Scripts.{readText}
-use Rattle.notation.specs.Tables.{tables}
+use Rattle.notation.specs.Tables.{tables, FitsTables}
 use Rattle.notation.specs.Token.{nameAt}
 use Rattle.notation.specs.Tree.{Declaration}
 use Rattle.calculus.specs.Accepted.{Checked, accepted, faulty, checked}
@@ -35,7 +35,6 @@ use Rattle.calculus.specs.Verdict.{verdictOf}
 use Rattle.calculus.specs.declared.verdict.Verdict.{Verdict}
 use Rattle.calculus.specs.declared.verdict.Verdict.the-variants as verdict
 use Rattle.check_text.specs.Texts.{verdictIn, wordsIn, TextChecked}
-use Rattle.read_text.specs.Reading.{FitsTables}
 use Rattle.read_tables.specs.Access.{ExecOf, exec-of}
 use Rattle.read_tables.specs.Decode.{tallyIn, execAt}
 use Rattle.read_tables.specs.Program.{programIn}

@@ -1,18 +1,15 @@
 -- Declarations in the tables: what is written stands there, stays, and is read back.
-use Rattle.read_text.specs.Reading.{Within}
 use Prim.Native.Nat.{ℕ, zero, suc, _+_, _-_, _<_, _≤_}
 use mathlib.Core.Path.{_≡_, refl, sym, _∙_, ap, subst}
 use mathlib.Core.List.{List, [], _∷_, _++_}
 use native.Mathlib.Omega.{arith}
 use lib.ListN.{length, getD}
+use Rattle.notation.specs.Fine.{FineDeclaration, FineEntries, FineProcess, FineType}
 use Rattle.notation.specs.Limits.{textLimit, typeTermLimit, processTermLimit}
 use Rattle.notation.specs.Tree.{Located, Ty, unit, named, tensor, par, lolli, plus, with, Alternatives, alternative, Proc, empty, sendUnit, sendChannel, sendLabel, cancel, spawn, recvUnit, recvChannel, recvLabel, fwd, call, raise, try, Branches, branch, Entry, Declaration, declareType, declareProc, declareExec}
-use Rattle.notation.specs.Tables.{putEntry, putType, putProcess, putExec, moreEntries, moreTypes, moreProcesses, moreExecs, afterType, afterAlternatives, writeType, afterProcess, afterBranches, writeProcess, afterEntries, writeEntries, afterDeclaration, writeDeclaration, afterScript, writeScript, processEntry}
+use Rattle.notation.specs.Tables.{putEntry, putType, putProcess, putExec, moreEntries, moreTypes, moreProcesses, moreExecs, afterType, afterAlternatives, writeType, afterProcess, afterBranches, writeProcess, afterEntries, writeEntries, afterDeclaration, writeDeclaration, afterScript, writeScript, processEntry, Within}
 use Rattle.notation.specs.declared.reading.Tally.{Tally}
-use Rattle.read_types.specs.Filling.{FineType}
 use Rattle.notation.specs.Tables.{Area}
-use Rattle.read_text.specs.Processes.{FineProcess}
-use Rattle.read_text.specs.Scripts.{FineEntries, FineDeclaration}
 use Rattle.read_tables.specs.Packing.{entry-put, type-put, process-put, exec-put}
 use Rattle.read_tables.specs.Growth.{Upto, Grown, grown-then, grown-lasting, grown-entry, grown-type, grown-process, grown-exec, entry-kept, type-entry-kept, process-entry-kept, exec-kept}
 use Rattle.read_tables.specs.Stands.{TypeAt, ProcessAt, EntriesAt, DeclarationAt, ScriptAt}

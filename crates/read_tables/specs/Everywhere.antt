@@ -1,6 +1,4 @@
 -- Every number that a table counts has something standing there: a tree is appended node by node, each over what was appended before it.
-use Rattle.read_text.specs.Reading.{Within, TextRead}
-use Rattle.read_text.specs.declared.reading.Reading.{Reading}
 use Prim.Native.Nat.{ℕ, _+_, _<_, _≤_}
 use mathlib.Core.Path.{_≡_, refl, sym, subst}
 use mathlib.Core.Bool.{Bool, true, false}
@@ -9,19 +7,17 @@ use borrow.Author.Tests.{ltb-true, ltb-false}
 use lib.Dec.{ltb}
 use native.Mathlib.Omega.{arith}
 use lib.ListN.{length}
+use Rattle.notation.specs.Fine.{FineAlternatives, FineBranches, FineDeclaration, FineEntries, FineProcess, FineType}
 use Rattle.notation.specs.Limits.{scratchWords}
 use Rattle.notation.specs.Tree.{Located, Ty, unit, named, tensor, par, lolli, plus, with, Alternatives, alternative, Proc, empty, sendUnit, sendChannel, sendLabel, cancel, spawn, recvUnit, recvChannel, recvLabel, fwd, call, raise, try, Branches, branch, Entry, Declaration, declareType, declareProc, declareExec}
 use Rattle.notation.specs.Reader.{got}
 use Rattle.notation.specs.Scripts.{readText}
-use Rattle.notation.specs.Tables.{emptyPointer, putNode, putTerm, moreNodes, moreTerms, afterType, afterAlternatives, writeType, writeAlternatives, afterProcess, afterBranches, writeProcess, writeBranches, afterEntries, writeEntries, afterDeclaration, writeDeclaration, afterScript, writeScript, nothing, zeros, tablesOf, tables}
+use Rattle.notation.specs.Tables.{emptyPointer, putNode, putTerm, moreNodes, moreTerms, afterType, afterAlternatives, writeType, writeAlternatives, afterProcess, afterBranches, writeProcess, writeBranches, afterEntries, writeEntries, afterDeclaration, writeDeclaration, afterScript, writeScript, nothing, zeros, tablesOf, tables, Within}
 use Rattle.notation.specs.declared.reading.Cursor.{Cursor}
 use Rattle.notation.specs.declared.reading.Tally.{Tally}
 use Rattle.notation.specs.declared.reading.TypeNode.{TypeNode}
 use Rattle.notation.specs.declared.reading.TermNode.{TermNode}
-use Rattle.read_types.specs.Filling.{FineType, FineAlternatives}
 use Rattle.notation.specs.Tables.{Area}
-use Rattle.read_text.specs.Processes.{FineProcess, FineBranches}
-use Rattle.read_text.specs.Scripts.{FineEntries, FineDeclaration}
 use Rattle.read_tables.specs.Decode.{tallyIn}
 use Rattle.read_tables.specs.Growth.{Grown, grown-then, grown-lasting, grown-node, grown-alternative, grown-term, grown-branch, grown-exec}
 use Rattle.read_tables.specs.Stands.{TypeFrom, AlternativesFrom, ProcessFrom, BranchesFrom, EntriesFrom, DeclarationFrom, ScriptFrom}
@@ -183,7 +179,3 @@ script-everywhere ds s t f h =
 pub text-everywhere : (s : List ℕ) (ds : List Declaration) (d : Cursor) → readText s ≡ got ds d → Within (afterScript ds nothing) → Everywhere s (tables s)
 unfolding tables
 text-everywhere s ds d e h = let (t, f) = text-known s ds d e in rw e (script-everywhere ds s t f h)
-
--- what `read` left of a text that it did not refuse
-pub read-everywhere : (s w v : List ℕ) (r : Reading) (ds : List Declaration) (d : Cursor) → TextRead s w r v → scratchWords ≤ length w → readText s ≡ got ds d → Everywhere s (tables s)
-read-everywhere s w v r ds d t h e = text-everywhere s ds d e (t .enough h .2 ds d e)

@@ -1,5 +1,4 @@
 -- What is written leaves alone what stood before: the frame law of the tables, once for all of them.
-use Rattle.read_text.specs.Reading.{Within}
 use Prim.Native.Nat.{ℕ, _+_, _*_, _<_, _≤_}
 use mathlib.Core.Path.{_≡_, refl, _∙_, ap}
 use mathlib.Core.List.{List}
@@ -7,7 +6,7 @@ use native.Mathlib.Omega.{arith}
 use borrow.Author.Needs.{needs}
 use lib.ListN.{length, getD, set, length-set}
 use lib.Seq.{getD-set-same, getD-set-other}
-use Rattle.notation.specs.Tables.{typesAt, processesAt, execsAt, entriesAt, nodesAt, alternativesAt, termsAt, branchesAt, lasting, moreNodes, moreAlternatives, moreTerms, moreBranches, moreEntries, moreTypes, moreProcesses, moreExecs, putNode, putAlternative, putTerm, putBranch, putEntry, putType, putProcess, putExec, termWord, termWord′, writeCounts, providedRadix}
+use Rattle.notation.specs.Tables.{typesAt, processesAt, execsAt, entriesAt, nodesAt, alternativesAt, termsAt, branchesAt, lasting, moreNodes, moreAlternatives, moreTerms, moreBranches, moreEntries, moreTypes, moreProcesses, moreExecs, putNode, putAlternative, putTerm, putBranch, putEntry, putType, putProcess, putExec, termWord, termWord′, writeCounts, providedRadix, Within}
 use Rattle.notation.specs.declared.reading.Tally.{Tally}
 use Rattle.notation.specs.declared.reading.TypeNode.{TypeNode}
 use Rattle.notation.specs.declared.reading.TermNode.{TermNode}

@@ -1,5 +1,4 @@
 -- Processes in the tables: what is written stands there, stays, and is read back.
-use Rattle.read_text.specs.Reading.{Within}
 use Prim.Native.Nat.{ℕ, zero, suc, _+_, _-_, _<_, _≤_}
 use mathlib.Core.Path.{_≡_, refl, sym, _∙_, ap}
 use mathlib.Core.List.{List}
@@ -8,15 +7,14 @@ use native.Mathlib.Omega.{arith}
 use borrow.Author.Tests.{lt-ltb, le-ltb}
 use lib.ListN.{length}
 use lib.Dec.{ltb}
+use Rattle.notation.specs.Fine.{FineBranches, FineProcess, FineType}
 use Rattle.notation.specs.Limits.{typeTermLimit, processTermLimit}
 use Rattle.notation.specs.Tree.{Located, Ty, Proc, empty, sendUnit, sendChannel, sendLabel, cancel, spawn, recvUnit, recvChannel, recvLabel, fwd, call, raise, try, Branches, branch}
 use Rattle.notation.specs.Reader.{nameIn, labelIn}
-use Rattle.notation.specs.Tables.{termNode, putTerm, putOver, emptyPointer, moreTerms, moreBranches, afterType, writeType, afterProcess, afterBranches, writeProcess, writeBranches, offsetRadix, pointerRadix}
+use Rattle.notation.specs.Tables.{termNode, putTerm, putOver, emptyPointer, moreTerms, moreBranches, afterType, writeType, afterProcess, afterBranches, writeProcess, writeBranches, offsetRadix, pointerRadix, Within}
 use Rattle.notation.specs.declared.reading.Tally.{Tally}
 use Rattle.notation.specs.declared.reading.TermNode.{TermNode}
-use Rattle.read_types.specs.Filling.{FineType}
 use Rattle.notation.specs.Tables.{Area}
-use Rattle.read_text.specs.Processes.{FineProcess, FineBranches}
 use Rattle.read_tables.specs.Decode.{termAt, branchAt, argumentsAt, branchesBy, termBy, processOf, processIn, typeIn}
 use Rattle.read_tables.specs.Packing.{term-put, branch-put}
 use Rattle.read_tables.specs.Growth.{Upto, Grown, grown-then, grown-lasting, grown-term, grown-branch, term-kept, branch-kept}

@@ -5,6 +5,7 @@ use mathlib.Core.List.{List}
 use native.Mathlib.Omega.{arith}
 use lib.ListN.{length}
 use lib.Dec.{eqb}
+use Rattle.notation.specs.Fine.{FineBranches, FineProcess, FineType, SomeBranch}
 use Rattle.notation.specs.Limits.{textLimit}
 use Rattle.notation.specs.Token.{kindAt, tokenAt, kSend, kRecv, kFwd, kCall, kCancel, kRaise, kTry, kCatch, kName, kLabel, kRoundOpen, kRoundClose, kSquareOpen, kSquareClose, kColon, kSemicolon, kFrom, kThen, kBar}
 use Rattle.notation.specs.Tree.{Located, Ty, Proc, empty, sendUnit, sendChannel, sendLabel, cancel, spawn, recvUnit, recvChannel, recvLabel, fwd, call, raise, try, Branches, branch}
@@ -17,8 +18,6 @@ use Rattle.notation.specs.declared.token.TermHead.{TermHead}
 use Rattle.notation.specs.declared.token.TermHead.the-variants.{Send, Recv, Fwd, Call, Cancel, Raise, Try, Spawn, Empty}
 use Rattle.notation.specs.declared.token.Payload.{Payload}
 use Rattle.notation.specs.declared.token.Payload.the-variants.{Unit as UnitPayload, Channel, Label, Other}
-use Rattle.read_types.specs.Filling.{FineType}
-use Rattle.read_text.specs.Processes.{FineProcess, FineBranches, SomeBranch}
 use Rattle.read_tables.specs.Decode.{readArguments, argumentsAt}
 use Rattle.read_tables.specs.Stands.{TypeFrom, ProcessFrom, BranchesFrom}
 use Rattle.read_tables.specs.Read.{Reads, InText, start-most, start-in, reads-got, reads-refused, reads-take, reads-part, reads-lastly, reads-weak, reads-choose, reads-misfit, reads-fact, reads-and, takes-any, takes-start, takes-expect, takes-opening, takes-process}

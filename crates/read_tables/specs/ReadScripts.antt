@@ -7,6 +7,7 @@ use native.Mathlib.Omega.{arith}
 use lib.ListN.{length}
 use lib.Dec.{eqb, leb}
 use borrow.Author.Tests.{leb-true}
+use Rattle.notation.specs.Fine.{FineDeclaration, FineEntries}
 use Rattle.notation.specs.Limits.{textLimit, typeLimit, processLimit, execLimit}
 use Rattle.notation.specs.Token.{kindAt, kType, kProc, kExec, kName, kRoundOpen, kRoundClose, kSquareOpen, kSquareClose, kColon, kComma, kEquals}
 use Rattle.notation.specs.Tree.{Located, Entry, Declaration, declareType, declareProc, declareExec}
@@ -18,7 +19,6 @@ use Rattle.notation.specs.declared.reading.Cursor.{Cursor}
 use Rattle.notation.specs.declared.token.DeclarationHead.{DeclarationHead}
 use Rattle.notation.specs.declared.token.DeclarationHead.the-variants.{TypeWord, ProcWord, ExecWord, End, Other}
 use Rattle.read_tables.specs.Stands.{EntriesFrom, DeclarationFrom, ScriptFrom}
-use Rattle.read_text.specs.Scripts.{FineEntries, FineDeclaration}
 use Rattle.read_tables.specs.Declarations.{FineScript}
 use Rattle.read_tables.specs.Read.{cond-both, Reads, reads-got, reads-refused, reads-take, reads-part, reads-lastly, reads-choose, reads-misfit, takes-any, takes-expect}
 use Rattle.read_tables.specs.ReadTypes.{type-read-from}

@@ -6,6 +6,7 @@ use mathlib.Core.Bool.{Bool, true, false, cond}
 use native.Mathlib.Omega.{arith}
 use lib.ListN.{length}
 use lib.Dec.{eqb}
+use Rattle.notation.specs.Fine.{FineAlternatives, FineType, SomeAlternative}
 use Rattle.notation.specs.Limits.{textLimit}
 use Rattle.notation.specs.Token.{kindAt, tokenAt, kOne, kName, kLabel, kRoundOpen, kRoundClose, kBraceOpen, kBraceClose, kPlus, kWith, kColon, kComma, kStar, kAt, kLolli}
 use Rattle.notation.specs.Tree.{Located, Ty, unit, named, tensor, par, lolli, plus, with, Alternatives, alternative}
@@ -14,7 +15,6 @@ use Rattle.notation.specs.Types.{typeHead, isInfix, infixOf, rightBy, typeBy, r
 use Rattle.notation.specs.declared.reading.Cursor.{Cursor}
 use Rattle.notation.specs.declared.token.TypeHead.{TypeHead}
 use Rattle.notation.specs.declared.token.TypeHead.the-variants.{One, Name, Round, Plus, With, Other}
-use Rattle.read_types.specs.Filling.{FineType, FineAlternatives, Some}
 use Rattle.read_tables.specs.Stands.{TypeFrom, AlternativesFrom}
 use Rattle.read_tables.specs.Read.{cond-both, Reads, InText, reads-got, reads-refused, reads-take, reads-part, reads-lastly, reads-choose, reads-misfit, reads-weak, takes-any, takes-limited, takes-expect, takes-opening, takes-type}
 
@@ -26,7 +26,7 @@ abbrev pub ReadList : List ℕ → Alternatives Located → Type 0
 ReadList s r = AlternativesFrom s r × FineAlternatives r
 
 abbrev pub ReadLabels : List ℕ → Alternatives Located → Type 0
-ReadLabels s r = ReadList s r × Some r
+ReadLabels s r = ReadList s r × SomeAlternative r
 
 pub takes-label : (s : List ℕ) (n : ℕ) (c : Cursor) → InText s (labelTerm s n c)
 unfolding labelTerm

@@ -1,5 +1,4 @@
 -- What the node at a number says of the tree that stands there, by its kind: what code that walks over numbers goes by. Its parts stand at smaller numbers.
-use Rattle.read_text.specs.Reading.{Within}
 use Prim.Native.Nat.{ℕ, zero, suc, _+_, _-_, _<_, _≤_}
 use mathlib.Core.Path.{_≡_, refl, sym, _∙_, ap, subst}
 use mathlib.Core.List.{List}
@@ -7,7 +6,7 @@ use native.Mathlib.Omega.{arith}
 use Rattle.notation.specs.Limits.{textLimit, typeTermLimit, processTermLimit}
 use Rattle.notation.specs.Tree.{Located, Ty, unit, named, tensor, par, lolli, plus, with, Alternatives, alternative, Proc, empty, sendUnit, sendChannel, sendLabel, cancel, spawn, recvUnit, recvChannel, recvLabel, fwd, call, raise, try, Branches, branch}
 use Rattle.notation.specs.Reader.{nameIn, labelIn}
-use Rattle.notation.specs.Tables.{typeNode, termNode, emptyPointer}
+use Rattle.notation.specs.Tables.{typeNode, termNode, emptyPointer, Within}
 use Rattle.notation.specs.declared.reading.Tally.{Tally}
 use Rattle.notation.specs.declared.reading.TypeNode.{TypeNode}
 use Rattle.notation.specs.declared.reading.TermNode.{TermNode}

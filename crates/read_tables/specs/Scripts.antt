@@ -1,5 +1,4 @@
 -- A script in the tables is read back: each kind of declaration in the order of the text.
-use Rattle.read_text.specs.Reading.{Within}
 use Prim.Native.Nat.{ℕ, zero, suc, _+_, _<_, _≤_}
 use mathlib.Core.Path.{_≡_, refl, sym, _∙_, ap}
 use mathlib.Core.List.{List, [], _∷_, _++_}
@@ -8,7 +7,7 @@ use lib.ListN.{length, getD, length-append, length-replicate}
 use Rattle.notation.specs.Limits.{typeTermLimit, processTermLimit, scratchWords}
 use Rattle.notation.specs.Tree.{Located, Ty, Proc, Entry, Declaration, declareType, declareProc, declareExec}
 use Rattle.notation.specs.Reader.{nameIn}
-use Rattle.notation.specs.Tables.{lasting, afterType, afterEntries, afterProcess, afterDeclaration, afterScript, writeScript, writeCounts, nothing, zeros, tablesOf}
+use Rattle.notation.specs.Tables.{lasting, afterType, afterEntries, afterProcess, afterDeclaration, afterScript, writeScript, writeCounts, nothing, zeros, tablesOf, Within}
 use Rattle.notation.specs.declared.reading.Tally.{Tally}
 use Rattle.notation.specs.Tables.{Area}
 use Rattle.read_tables.specs.Decode.{tallyIn, entryAt, typeAt, execAt, processAt, typeIn, processIn, entriesIn, typeDeclaration, procBy, procDeclaration, execDeclaration, numbered, scriptIn}

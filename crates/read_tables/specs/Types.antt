@@ -1,17 +1,16 @@
 -- Types in the tables: what is written stands there, stays, and is read back.
-use Rattle.read_text.specs.Reading.{Within}
 use Prim.Native.Nat.{ℕ, zero, suc, _+_, _-_, _<_, _≤_}
 use mathlib.Core.Path.{_≡_, refl, sym, _∙_, ap}
 use mathlib.Core.List.{List}
 use native.Mathlib.Omega.{arith}
 use lib.ListN.{length}
+use Rattle.notation.specs.Fine.{FineAlternatives, FineType}
 use Rattle.notation.specs.Limits.{typeTermLimit}
 use Rattle.notation.specs.Tree.{Located, Ty, unit, named, tensor, par, lolli, plus, with, Alternatives, alternative}
 use Rattle.notation.specs.Reader.{nameIn, labelIn}
-use Rattle.notation.specs.Tables.{typeNode, putNode, putInfix, putChoice, putAlternative, moreNodes, moreAlternatives, afterType, afterAlternatives, writeType, writeAlternatives}
+use Rattle.notation.specs.Tables.{typeNode, putNode, putInfix, putChoice, putAlternative, moreNodes, moreAlternatives, afterType, afterAlternatives, writeType, writeAlternatives, Within}
 use Rattle.notation.specs.declared.reading.Tally.{Tally}
 use Rattle.notation.specs.declared.reading.TypeNode.{TypeNode}
-use Rattle.read_types.specs.Filling.{FineType, FineAlternatives}
 use Rattle.notation.specs.Tables.{Area}
 use Rattle.read_tables.specs.Decode.{nodeAt, alternativeAt, alternativesBy, typeBy, typeOf, typeIn}
 use Rattle.read_tables.specs.Packing.{node-put, alternative-put}

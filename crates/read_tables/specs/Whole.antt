@@ -1,6 +1,4 @@
 -- The tables as a whole: at each number of the tables of declarations stand trees and signatures, so that code may begin its walk there.
-use Rattle.read_text.specs.declared.reading.Reading.{Reading}
-use Rattle.read_text.specs.Reading.{Within, TextRead}
 use Prim.Native.Nat.{ℕ, zero, suc, _+_, _-_, _<_, _≤_}
 use mathlib.Core.Path.{_≡_, refl, sym, _∙_, ap, subst}
 use mathlib.Core.Logic.{_⊎_, inl, inr}
@@ -12,7 +10,7 @@ use Rattle.notation.specs.Limits.{scratchWords}
 use Rattle.notation.specs.Tree.{Located, Entry, Declaration, declareType, declareProc, declareExec}
 use Rattle.notation.specs.Reader.{got, nameIn}
 use Rattle.notation.specs.Scripts.{readText}
-use Rattle.notation.specs.Tables.{lasting, afterDeclaration, afterScript, writeScript, nothing, zeros, tablesOf, tables, processEntry}
+use Rattle.notation.specs.Tables.{lasting, afterDeclaration, afterScript, writeScript, nothing, zeros, tablesOf, tables, processEntry, Within}
 use Rattle.notation.specs.declared.reading.Cursor.{Cursor}
 use Rattle.notation.specs.declared.reading.Tally.{Tally}
 use Rattle.notation.specs.declared.reading.ProcessEntry.{ProcessEntry}
@@ -153,8 +151,3 @@ unfolding tables
 text-decoded s ds d e h =
     let (t, f) = text-known s ds d e in
     rw e (script-decoded ds s t f h, tables-in ds s t f h)
-
--- what `read` left of a text that it did not refuse
-pub read-decoded : (s w v : List ℕ) (r : Reading) (ds : List Declaration) (d : Cursor) → TextRead s w r v → scratchWords ≤ length w → readText s ≡ got ds d
-    → (scriptIn s (tables s) ≡ sorted ds) × Tables s (tables s)
-read-decoded s w v r ds d t h e = text-decoded s ds d e (t .enough h .2 ds d e)

@@ -5,6 +5,7 @@ use mathlib.Core.Bool.{Bool, true, false, cond}
 use Prim.Native.Nat.{ℕ, suc, _<_, _≤_}
 use native.Mathlib.Omega.{arith}
 use lib.Dec.{eqb}
+use Rattle.notation.specs.Fine.{FineProcess}
 use Rattle.notation.specs.declared.token.Token.{Token}
 use Rattle.notation.specs.Token.{kindAt, tokenAt, kName, kComma, kCall, kRoundOpen, kRoundClose, kSquareOpen, kSquareClose}
 use Rattle.notation.specs.Tree.{Located, call}
@@ -19,7 +20,7 @@ use Rattle.notation.specs.declared.token.TermHead.the-variants.{Call}
 use Rattle.read_types.specs.declared.steps.Out.{Out}
 use Rattle.read_types.specs.declared.steps.Out.the-variants.{Got}
 use Rattle.read_types.specs.Filling.{Stepped, asOut, Put, Room, unread}
-use Rattle.read_text.specs.Processes.{AheadNames, NamesTaken, forgetNames, listEnd, namesOrNone, FineProcess, TermRead}
+use Rattle.read_text.specs.Processes.{AheadNames, NamesTaken, forgetNames, listEnd, namesOrNone, TermRead}
 use Rattle.read_types.proofs.Taking.{never}
 use Rattle.read_types.proofs.Filled.{at-more, same, put-kept, took, refused-out, made-got, meets-no, meets-got}
 

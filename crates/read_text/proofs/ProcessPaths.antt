@@ -6,6 +6,7 @@ use Prim.Native.Nat.{ℕ, suc, _+_, _*_, _<_, _≤_}
 use native.Mathlib.Omega.{arith}
 use lib.Dec.{eqb, ltb}
 use borrow.Author.Tests.{eq-eqb, ne-eqb, ltb-true}
+use Rattle.notation.specs.Fine.{FineBranches, FineProcess}
 use Rattle.notation.specs.declared.token.Token.{Token}
 use Rattle.notation.specs.Limits.{textLimit}
 use Rattle.notation.specs.Token.{kindAt, tokenAt, kFwd, kName, kThen, kRoundOpen, kRoundClose, kCancel, kRaise, kSend, kRecv, kSemicolon, kBar, kTry, kCatch, kFrom, kColon, kLabel, Onward}
@@ -23,7 +24,7 @@ use Rattle.notation.specs.declared.token.TermHead.the-variants.{Send, Recv, Fwd
 use Rattle.read_types.specs.declared.steps.Out.{Out}
 use Rattle.read_types.specs.declared.steps.Out.the-variants.{Got, Not}
 use Rattle.read_types.specs.Filling.{TypeRead, Stepped, Closes, not-read, not-closed, read, asOut, misfitOut, Put, Room, Form, Made, Meets, unread}
-use Rattle.read_text.specs.Processes.{payloadTaken, payloadThen, labelThen, nameColon, sentOf, sentNode, recvdOf, recvdNode, FineProcess, FineBranches, processForm, branchesForm, partsForm, termBy, handlerBy, TermRead, SentRead, HandlerRead, OneRead, LabelsRead, BracketedRead, PartsRead, ProcessRead, RestRead, BranchesRead, MoreBranchesRead}
+use Rattle.read_text.specs.Processes.{payloadTaken, payloadThen, labelThen, nameColon, sentOf, sentNode, recvdOf, recvdNode, processForm, branchesForm, partsForm, termBy, handlerBy, TermRead, SentRead, HandlerRead, OneRead, LabelsRead, BracketedRead, PartsRead, ProcessRead, RestRead, BranchesRead, MoreBranchesRead}
 use Rattle.notation.specs.declared.token.Payload.{Payload}
 use Rattle.notation.specs.declared.token.Payload.the-variants.{Unit as UnitPayload, Channel, Label, Other}
 use Rattle.read_types.proofs.TypePaths.{then-take, within-limit}

@@ -7,6 +7,7 @@ use native.Mathlib.Omega.{arith}
 use lib.ListN.{length}
 use lib.Dec.{eqb, ltb}
 use borrow.Author.Tests.{ltb-true, ne-eqb}
+use Rattle.notation.specs.Fine.{FineDeclaration}
 use Rattle.notation.specs.Limits.{typeLimit, processLimit, execLimit}
 use Rattle.notation.specs.Token.{kindAt, kName, kEquals, kType, kProc, kExec, kEnd, kRoundOpen, kRoundClose, kSquareOpen, kSquareClose}
 use Rattle.notation.specs.Tree.{Located, Ty, unit, named, tensor, par, lolli, plus, with, Alternatives, alternative, Entry, Declaration, declareType, declareProc, declareExec}
@@ -25,7 +26,7 @@ use Rattle.read_types.specs.declared.steps.Out.{Out}
 use Rattle.read_types.specs.declared.steps.Out.the-variants.{Got, Not}
 use Rattle.read_types.specs.Filling.{TypeRead, Stepped, asOut, misfitOut, Put, Room}
 use Rattle.read_text.specs.Processes.{ProcessRead}
-use Rattle.read_text.specs.Scripts.{afterToken, declaredName, EntriesRead, FineDeclaration, declarationBy, countBy, DeclarationRead, countOf, Counted, scriptForm, ScriptRead}
+use Rattle.read_text.specs.Scripts.{afterToken, declaredName, EntriesRead, declarationBy, countBy, DeclarationRead, countOf, Counted, scriptForm, ScriptRead}
 use Rattle.read_types.proofs.Taking.{never, stepped-no}
 use Rattle.read_types.proofs.Filled.{same, _upon_, put-kept, took, refused-out, made-got, gone-on, stopped, meets-no, meets-got, more-no, more-got}
 

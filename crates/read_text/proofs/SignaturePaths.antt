@@ -5,6 +5,7 @@ use mathlib.Core.Bool.{Bool, true, false}
 use Prim.Native.Nat.{ℕ, suc, _+_, _≤_}
 use native.Mathlib.Omega.{arith}
 use lib.Dec.{eqb}
+use Rattle.notation.specs.Fine.{FineEntries}
 use Rattle.notation.specs.Token.{kindAt, kName, kColon, kComma}
 use Rattle.notation.specs.Tree.{Located, Ty, Entry}
 use Rattle.notation.specs.Reader.{Result, got, refused, take, part, lastly, choose, expect, opening, closed, nameIn}
@@ -18,7 +19,7 @@ use Rattle.notation.specs.declared.reading.Taken.the-variants.{At, Refused}
 use Rattle.read_types.specs.declared.steps.Out.{Out}
 use Rattle.read_types.specs.declared.steps.Out.the-variants.{Got, Not}
 use Rattle.read_types.specs.Filling.{SameDeclared, TypeRead, Stepped, asOut, Put, Room}
-use Rattle.read_text.specs.Scripts.{entryName, FineEntries, entriesForm, closeBy, moreEntriesBy, entriesOrNone, EntriesRead}
+use Rattle.read_text.specs.Scripts.{entryName, entriesForm, closeBy, moreEntriesBy, entriesOrNone, EntriesRead}
 use Rattle.read_types.proofs.TypePaths.{then-take}
 use Rattle.read_types.proofs.Filled.{same, _upon_, took, refused-out, made-got, gone-on, stopped, meets-no, meets-got, more-no, more-got}
 

@@ -11,7 +11,7 @@ use Rattle.notation.specs.Limits.{textLimit, scratchWords}
 use Rattle.notation.specs.Tree.{Declaration}
 use Rattle.notation.specs.Reader.{got, refused}
 use Rattle.notation.specs.Scripts.{readText, readScript, start, fuel}
-use Rattle.notation.specs.Tables.{afterScript, writeScript, writeCounts, nothing, zeros, tables, tablesOf}
+use Rattle.notation.specs.Tables.{afterScript, writeScript, writeCounts, nothing, zeros, tables, tablesOf, Within}
 use Rattle.notation.specs.declared.reading.Cursor.{Cursor}
 use Rattle.notation.specs.declared.reading.Tally.{Tally}
 use Rattle.read_types.specs.declared.steps.Out.{Out}
@@ -19,7 +19,7 @@ use Rattle.read_types.specs.declared.steps.Out.the-variants.{Got, Not}
 use Rattle.read_text.specs.declared.reading.Reading.{Reading}
 use Rattle.read_text.specs.declared.reading.Reading.the-variants.{Read, Refused}
 use Rattle.read_text.specs.Scripts.{ScriptRead}
-use Rattle.read_text.specs.Reading.{Within, Filled, TextRead}
+use Rattle.read_text.specs.Reading.{Filled, TextRead}
 use Rattle.read_types.proofs.Filled.{gone-on, stopped}
 
 pub all-zero : (p : List ℕ) → length p ≡ scratchWords → ((j : ℕ) → j < scratchWords → getD p j 0 ≡ 0) → p ≡ zeros

@@ -4,6 +4,7 @@ use Prim.Native.Nat.{ℕ, _+_, _*_, _<_, _≤_}
 use mathlib.Core.List.{List, []}
 use lib.Dec.{eqb}
 use lib.ListN.{length}
+use Rattle.notation.specs.Fine.{FineType, SomeBranch, FineProcess, FineBranches}
 use Rattle.notation.specs.Limits.{textLimit, typeTermLimit, processTermLimit}
 use Rattle.notation.specs.Token.{kindAt, kName, kLabel, kThen, kColon}
 use Rattle.notation.specs.Tree.{Located, Proc, empty, sendUnit, sendChannel, sendLabel, cancel, spawn, recvUnit, recvChannel, recvLabel, fwd, call, raise, try, Branches, branch}
@@ -20,7 +21,7 @@ use Rattle.notation.specs.declared.token.TermHead.{TermHead}
 use Rattle.notation.specs.declared.token.Payload.{Payload}
 use Rattle.notation.specs.declared.token.Payload.the-variants.{Unit as UnitPayload, Channel, Label, Other}
 use Rattle.read_types.specs.declared.steps.Out.{Out}
-use Rattle.read_types.specs.Filling.{misfitTaken, SameDeclared, Form, Meets, FineType, unread}
+use Rattle.read_types.specs.Filling.{misfitTaken, SameDeclared, Form, Meets, unread}
 
 -- ── tokens
 -- what a send sends or a recv takes, as one step
@@ -38,31 +39,6 @@ labelThen s n c = thenToken (labelTerm s n c) (expect s kThen)
 
 unfoldable pub nameColon : List ℕ → Cursor → Taken
 nameColon s c = thenToken (processTerm s kName c) (expect s kColon)
-
--- ── what a read process has that its words need: its offsets are those of the text, and a branch list has branches
-abbrev pub SomeBranch : Branches → Type 0
-SomeBranch Branches.none = 1 ≤ 0
-SomeBranch (branch l P B) = 0 ≤ 0
-
-unfoldable mutual
-  pub FineProcess : Proc → Type 0
-  FineProcess (empty at) = at ≤ textLimit
-  FineProcess (sendUnit at c P) = (at < textLimit) × (c .at < textLimit) × FineProcess P
-  FineProcess (sendChannel at c a P) = (at < textLimit) × (c .at < textLimit) × (a .at < textLimit) × FineProcess P
-  FineProcess (sendLabel at c l P) = (at < textLimit) × (c .at < textLimit) × (l .at < textLimit) × FineProcess P
-  FineProcess (cancel at c P) = (at < textLimit) × (c .at < textLimit) × FineProcess P
-  FineProcess (spawn x A P Q) = (x .at < textLimit) × FineType A × FineProcess P × FineProcess Q
-  FineProcess (recvUnit at c P) = (at < textLimit) × (c .at < textLimit) × FineProcess P
-  FineProcess (recvChannel at c x P) = (at < textLimit) × (c .at < textLimit) × (x .at < textLimit) × FineProcess P
-  FineProcess (recvLabel at c B) = (at < textLimit) × (c .at < textLimit) × FineBranches B × SomeBranch B
-  FineProcess (fwd at x c) = (at < textLimit) × (x .at < textLimit) × (c .at < textLimit)
-  FineProcess (call at p bracket xs ys) = (at < textLimit) × (p .at < textLimit) × (bracket < textLimit)
-  FineProcess (raise at P) = (at < textLimit) × FineProcess P
-  FineProcess (try at P Q) = (at < textLimit) × FineProcess P × FineProcess Q
-
-  pub FineBranches : Branches → Type 0
-  FineBranches Branches.none = 0 ≤ 0
-  FineBranches (branch l P B) = (l .at < textLimit) × FineProcess P × FineBranches B
 
 -- ── where a reading goes on: each term was counted, `own` of them before; and each branch took five bytes but for `spare`
 abbrev pub AheadProcess : ℕ → ℕ → List ℕ → Cursor → Tally → Cursor → Tally → Type 0

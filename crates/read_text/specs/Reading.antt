@@ -7,27 +7,12 @@ use Rattle.notation.specs.Limits.{scratchWords, processLimit, typeLimit}
 use Rattle.notation.specs.Tree.{Declaration}
 use Rattle.notation.specs.Reader.{Result, got, refused}
 use Rattle.notation.specs.Scripts.{readText}
-use Rattle.notation.specs.Tables.{afterScript, nothing, tables, branchRoom}
+use Rattle.notation.specs.Tables.{afterScript, nothing, tables, branchRoom, FitsTables}
 use Rattle.notation.specs.declared.reading.Cursor.{Cursor}
 use Rattle.notation.specs.declared.reading.Tally.{Tally}
 use Rattle.notation.specs.declared.script.Script.{Script}
 use Rattle.read_text.specs.declared.reading.Reading.{Reading}
 use Rattle.read_text.specs.declared.reading.Reading.the-variants.{Read, Refused}
-
--- each table is within its own words
-abbrev pub Within : Tally → Type 0
-Within k =
-    (k .types ≤ typeLimit)
-    × (k .processes ≤ processLimit)
-    × (k .execs ≤ 16)
-    × (k .entries ≤ 512)
-    × (k .nodes ≤ 512)
-    × (k .alternatives ≤ 512)
-    × (k .terms ≤ 1024)
-    × (k .branches ≤ branchRoom)
-
-abbrev pub FitsTables : List ℕ → Type 0
-FitsTables s = (ds : List Declaration) (d : Cursor) → readText s ≡ got ds d → Within (afterScript ds nothing)
 
 -- how many declarations of each kind a script has
 abbrev pub scriptOf : List Declaration → Script

@@ -4,6 +4,7 @@ use Prim.Native.Nat.{ℕ, _+_, _*_, _<_, _≤_}
 use mathlib.Core.List.{List, [], _∷_}
 use lib.ListN.{length}
 use lib.Dec.{eqb}
+use Rattle.notation.specs.Fine.{FineProcess, FineType, FineEntries, FineDeclaration}
 use Rattle.notation.specs.Limits.{textLimit, typeTermLimit, processTermLimit, typeLimit, processLimit, execLimit}
 use Rattle.notation.specs.Token.{kindAt, kName, kColon, kComma}
 use Rattle.notation.specs.Tree.{Entry, Declaration, declareType, declareProc, declareExec}
@@ -17,16 +18,11 @@ use Rattle.notation.specs.declared.reading.Taken.the-variants.{At, Refused}
 use Rattle.notation.specs.declared.token.DeclarationHead.{DeclarationHead}
 use Rattle.notation.specs.declared.token.DeclarationHead.the-variants.{TypeWord, ProcWord, ExecWord, End, Other}
 use Rattle.read_types.specs.declared.steps.Out.{Out}
-use Rattle.read_text.specs.Processes.{FineProcess}
-use Rattle.read_types.specs.Filling.{SameDeclared, Form, Meets, FineType, unread}
+use Rattle.read_types.specs.Filling.{SameDeclared, Form, Meets, unread}
 
 -- ── signatures
 unfoldable pub entryName : List ℕ → Cursor → Taken
 entryName s c = thenToken (expect s kName c) (expect s kColon)
-
-unfoldable pub FineEntries : List Entry → Type 0
-FineEntries [] = 0 ≤ 0
-FineEntries (e ∷ es) = (e .channel .at < textLimit) × FineType (e .type) × FineEntries es
 
 -- past a signature's list: each of its entries has a type term
 abbrev pub AheadEntries : List ℕ → Cursor → Tally → Cursor → Tally → Type 0
@@ -72,11 +68,6 @@ abbrev pub EntriesRead : (ℕ → Result (List Entry)) → List ℕ → List ℕ
 EntriesRead f s w c k = Meets entriesForm s w c k (3 * unread s c + 2) f
 
 -- ── declarations
-unfoldable pub FineDeclaration : Declaration → Type 0
-FineDeclaration (declareType n A) = (n .at < textLimit) × FineType A
-FineDeclaration (declareProc n xs ys P) = (n .at < textLimit) × FineEntries xs × FineEntries ys × FineProcess P
-FineDeclaration (declareExec n) = n .at < textLimit
-
 -- past what was declared: each term was counted, and each branch took five bytes
 abbrev pub AheadDeclared : List ℕ → Cursor → Tally → Cursor → Tally → Type 0
 AheadDeclared s c k d l =

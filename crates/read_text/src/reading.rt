@@ -9,8 +9,8 @@ ghost use mathlib.Core.Path.{_≡_};
 ghost use Prim.Native.Nat.{_<_};
 ghost use lib.ListN.{length};
 ghost use Rattle.notation.specs.Limits.{scratchWords};
-ghost use Rattle.notation.specs.Tables.{writeCounts, zeros};
-ghost use Rattle.read_text.specs.Reading.{Within, Filled, TextRead};
+ghost use Rattle.notation.specs.Tables.{writeCounts, zeros, Within};
+ghost use Rattle.read_text.specs.Reading.{Filled, TextRead};
 
 // A text that was read, or its refusal's number and offset.
 pub enum Reading {

@@ -7,6 +7,7 @@ use native.Mathlib.Omega.{arith}
 use native.Mathlib.Decide.{ℕ-discrete}
 use lib.Dec.{eqb, ltb}
 use borrow.Author.Tests.{ltb-true, eqb-true}
+use Rattle.notation.specs.Fine.{FineAlternatives, FineType, SomeAlternative}
 use Rattle.notation.specs.Token.{kindAt, kOne, kName, kRoundOpen, kRoundClose, kBraceOpen, kBraceClose, kColon, kComma, kPlus, kStar, kAt, kLolli, kLabel}
 use Rattle.notation.specs.Tree.{Located, Ty, unit, named, tensor, par, lolli, plus, with, Alternatives, alternative}
 use Rattle.notation.specs.Reader.{Result, got, take, part, lastly, expect, limited, misfit, opening, typeTerm, closed, thenToken, onwardFrom, nameIn, labelIn}
@@ -20,7 +21,7 @@ use Rattle.notation.specs.declared.token.TypeHead.{TypeHead}
 use Rattle.notation.specs.declared.token.TypeHead.the-variants.{One, Name, Round, Plus, With, Other}
 use Rattle.read_types.specs.declared.steps.Out.{Out}
 use Rattle.read_types.specs.declared.steps.Out.the-variants.{Got, Not}
-use Rattle.read_types.specs.Filling.{Stepped, Closes, not-read, not-closed, read, labelColon, choiceOpening, asOut, misfitOut, Put, Room, Meets, FineType, FineAlternatives, Some, typeForm, alternativesForm, infixKind, choiceOf, unread, TypeRead, AtomRead, RightRead, AlternativesRead, MoreRead, OneRead, NameRead, RoundRead, ChoiceRead}
+use Rattle.read_types.specs.Filling.{Stepped, Closes, not-read, not-closed, read, labelColon, choiceOpening, asOut, misfitOut, Put, Room, Meets, typeForm, alternativesForm, infixKind, choiceOf, unread, TypeRead, AtomRead, RightRead, AlternativesRead, MoreRead, OneRead, NameRead, RoundRead, ChoiceRead}
 use Rattle.read_types.proofs.Taking.{never}
 use Rattle.read_types.proofs.Filled.{same, _upon_, put-kept, took, refused-out, made-got, gone-on, stopped, meets-no, meets-got, more-no, more-got, more-made}
 
@@ -204,7 +205,7 @@ choice-write kind r k w l h = go (ℕ-discrete kind 28)
     go (yes e) = rw e
     go (no n) = let e : kind ≡ 29 = omega arith in rw e
 
-choice-fine : (kind : ℕ) (r : Alternatives Located) → FineAlternatives r × Some r → FineType (choiceOf kind r)
+choice-fine : (kind : ℕ) (r : Alternatives Located) → FineAlternatives r × SomeAlternative r → FineType (choiceOf kind r)
 unfolding choiceOf FineType
 choice-fine kind r f = go (eqb kind kPlus)
   where

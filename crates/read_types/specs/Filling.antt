@@ -5,6 +5,7 @@ use mathlib.Core.List.{List}
 use mathlib.Core.Bool.{cond}
 use lib.ListN.{length, drop, set}
 use lib.Dec.{eqb}
+use Rattle.notation.specs.Fine.{SomeAlternative, FineType, FineAlternatives}
 use Rattle.notation.specs.Limits.{textLimit, typeTermLimit, processTermLimit}
 use Rattle.notation.specs.Token.{tokenAt, width, kColon, kRoundClose, kBraceOpen, kStar, kAt, kOne, kName, kPlus}
 use Rattle.notation.specs.Tree.{Located, Ty, unit, named, tensor, par, lolli, plus, with, Alternatives, alternative}
@@ -142,25 +143,6 @@ pub record Meets {A : Type 0} (F : Form A) (s w : List ℕ) (c : Cursor) (k : Ta
   pub on : (d : Cursor) (l : Tally) → r ≡ Got d l → F .Ahead s c k d l
 
 -- ── types
--- what a read type has that its words need: labels and names stand in the text, and a choice has labels
-abbrev pub Some : Alternatives Located → Type 0
-Some Alternatives.none = 1 ≤ 0
-Some (alternative l A r) = 0 ≤ 0
-
-unfoldable mutual
-  pub FineType : Ty Located → Type 0
-  FineType unit = 0 ≤ 0
-  FineType (named n) = n .at < textLimit
-  FineType (tensor A B) = FineType A × FineType B
-  FineType (par A B) = FineType A × FineType B
-  FineType (lolli A B) = FineType A × FineType B
-  FineType (plus r) = FineAlternatives r × Some r
-  FineType (with r) = FineAlternatives r × Some r
-
-  pub FineAlternatives : Alternatives Located → Type 0
-  FineAlternatives Alternatives.none = 0 ≤ 0
-  FineAlternatives (alternative l A r) = (l .at < textLimit) × FineType A × FineAlternatives r
-
 -- no declaration was appended
 abbrev pub SameDeclared : Tally → Tally → Type 0
 SameDeclared k l = (l .types ≡ k .types) × (l .processes ≡ k .processes) × (l .execs ≡ k .execs)
@@ -193,7 +175,7 @@ abbrev pub alternativesForm : ℕ → Form (Alternatives Located)
 alternativesForm n = record {
   after = afterAlternatives;
   write = writeAlternatives;
-  Fine = λ r. FineAlternatives r × Some r;
+  Fine = λ r. FineAlternatives r × SomeAlternative r;
   Ahead = λ s c k d l. AheadType 1 s c k d l × (l .last + n ≤ 16);
 }
 
