@@ -1,7 +1,7 @@
+pub mod Marks
 pub mod Held
 pub mod Named
 pub mod Found
 pub mod Walks
-pub mod Falling
 pub mod Mentioned
 pub mod Halves

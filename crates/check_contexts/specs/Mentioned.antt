@@ -1,25 +1,30 @@
 -- What the node of a process says of the names that the process mentions.
-use Prim.Native.Nat.{ℕ, zero, suc, _-_, _≤_, _<_}
+use Prim.Native.Nat.{ℕ, zero, suc, _+_, _-_, _≤_, _<_}
 use mathlib.Core.Path.{_≡_, refl, sym, _∙_, ap, subst}
-use mathlib.Core.Logic.{_⊎_, inl, inr}
-use mathlib.Core.List.{List, [], _∷_}
+use mathlib.Core.List.{List}
 use mathlib.Core.Bool.{Bool, true, false, true≢false, false≢true, cond, not, _||_, _&&_}
 use lib.Dec.{eqb, leb}
 use native.Mathlib.Omega.{arith}
 use borrow.Author.Tests.{eq-eqb, ne-eqb}
 use Rattle.notation.specs.Bytes.{same}
-use Rattle.notation.specs.Limits.{processTermLimit}
+use Rattle.notation.specs.Limits.{processTermLimit, heldLimit}
+use Rattle.notation.specs.Sizes.{processTerms, branchesTerms}
 use Rattle.notation.specs.Token.{nameAt}
-use Rattle.notation.specs.Tree.{Name, Proc, Branches}
-use Rattle.notation.specs.Tables.{termNode}
+use Rattle.notation.specs.Reader.{labelIn}
+use Rattle.notation.specs.Tree.{Name, Proc, empty, branch}
+use Rattle.notation.specs.Tables.{termNode, branchRoom}
 use Rattle.notation.specs.declared.reading.TermNode.{TermNode}
 use Rattle.calculus.specs.Mentions.{isOneOf, mentions, branchesMention}
 use Rattle.read_tables.specs.Names.{CallAt}
 use Rattle.read_tables.specs.Decode.{argumentsAt, processIn}
 use Rattle.read_tables.specs.Roots.{atKind, Handlers, each-kind, processCases, ProcessIn, process-root, BranchesIn, branchesIn, FirstBranch}
-use Rattle.read_tables.specs.Access.{TermOf}
+use Rattle.read_tables.specs.Stands.{ProcessAt, ProcessFrom}
+use Rattle.read_tables.specs.Access.{TermOf, BranchOf, branch-there}
+use Rattle.read_tables.specs.declared.access.Labelled.{Labelled}
 use Rattle.read_tables.specs.Whole.{Tables}
-use Rattle.read_tables.specs.Stands.{Smaller}
+use Rattle.check_contexts.specs.Marks.{markOf, heldName, isName, Marked, Hidden, marked-as, marked-none, marked-then, hidden-as, hidden-none}
+use Rattle.check_contexts.specs.declared.marks.Marks.{Marks}
+use Rattle.check_contexts.specs.Walks.{MarkedCall}
 
 -- a call's lists stand in the text
 abbrev pub CallsFine : List ℕ → TermNode → Type 0
@@ -35,230 +40,327 @@ hasSecondName k = cond (eqb k 2) true (eqb k 9)
 abbrev pub hasHalves : ℕ → Bool
 hasHalves k = cond (eqb k 5) true (eqb k 12)
 
-abbrev pub hasNoPart : ℕ → Bool
-hasNoPart k = cond (eqb k 9) true (eqb k 10)
+abbrev pub hasLast : ℕ → Bool
+hasLast k = cond (eqb k 8) false (cond (eqb k 9) false (not (eqb k 10)))
+
+-- the pointer of what follows a node: an empty process, where nothing does
+unfoldable pub lastPart : TermNode → ℕ
+lastPart n = cond (hasLast (n .kind)) (n .third) processTermLimit
 
 -- the names that a node mentions itself
 abbrev pub actsFirst : List ℕ → TermNode → Name → Bool
-actsFirst s n x = cond (hasFirstName (n .kind)) (same x (nameAt s (n .first))) false
+actsFirst s n x = cond (hasFirstName (n .kind)) (isName s (n .first) x) false
 
 abbrev pub actsSecond : List ℕ → TermNode → Name → Bool
-actsSecond s n x = cond (hasSecondName (n .kind)) (same x (nameAt s (n .second))) false
+actsSecond s n x = cond (hasSecondName (n .kind)) (isName s (n .second) x) false
 
 unfoldable pub actsOn : List ℕ → TermNode → Name → Bool
 actsOn s n x =
     cond (eqb (n .kind) 10) (isOneOf x (argumentsAt s (n .second) .0) || isOneOf x (argumentsAt s (n .second) .1))
-    (cond (actsFirst s n x) true (actsSecond s n x))
+    (actsFirst s n x || actsSecond s n x)
 
--- the name that it brings in, in all its parts
+-- the name that it binds anew, in all its parts
 unfoldable pub bindsAnew : List ℕ → TermNode → Name → Bool
-bindsAnew s n x = cond (eqb (n .kind) 5) (same x (nameAt s (n .at))) (cond (eqb (n .kind) 7) (same x (nameAt s (n .second))) false)
+bindsAnew s n x = cond (eqb (n .kind) 5) (isName s (n .at) x) (cond (eqb (n .kind) 7) (isName s (n .second) x) false)
 
--- its parts stand in the tables
-pub record PartsIn (s w : List ℕ) (p : ℕ) (n : TermNode) : Type 0 where
-  pub branches : n .kind ≡ 8 → BranchesIn s w p (n .second) (n .third)
-  pub first : hasHalves (n .kind) ≡ true → Smaller p (n .second) × ProcessIn s w (n .second)
-  pub last : (n .kind ≡ 8 → ⊥) → hasNoPart (n .kind) ≡ false → Smaller p (n .third) × ProcessIn s w (n .third)
-
-unfoldable pub partsMention : List ℕ → List ℕ → TermNode → Name → Bool
-partsMention s w n x =
+-- what it has in brackets: branches or a first half
+unfoldable pub innerMentions : List ℕ → List ℕ → TermNode → Name → Bool
+innerMentions s w n x =
     cond (eqb (n .kind) 8) (branchesMention (branchesIn s w (n .second) (n .third)) x)
-    (cond (hasNoPart (n .kind)) false
-    (cond (hasHalves (n .kind) && mentions (processIn s w (n .second)) x) true (mentions (processIn s w (n .third)) x)))
+    (cond (hasHalves (n .kind)) (mentions (processIn s w (n .second)) x) false)
+
+unfoldable pub innerTerms : List ℕ → List ℕ → TermNode → ℕ
+innerTerms s w n =
+    cond (eqb (n .kind) 8) (branchesTerms (branchesIn s w (n .second) (n .third)))
+    (cond (hasHalves (n .kind)) (processTerms (processIn s w (n .second))) 0)
+
+pub record InnerIn (s w : List ℕ) (n : TermNode) : Type 0 where
+  pub branches : n .kind ≡ 8 → (p : ℕ) × BranchesIn s w p (n .second) (n .third)
+  pub first : hasHalves (n .kind) ≡ true → ProcessIn s w (n .second)
 
 -- ── what a node says of its process
-pub record Mentioning (s w : List ℕ) (p : ℕ) (n : TermNode) (A : Proc) : Type 0 where
-  pub is : (x : Name) → mentions A x ≡ cond (actsOn s n x) true (cond (bindsAnew s n x) false (partsMention s w n x))
+pub record Mentioning (s w : List ℕ) (n : TermNode) (A : Proc) : Type 0 where
+  pub is : (x : Name) → mentions A x ≡ actsOn s n x || (not (bindsAnew s n x) && (innerMentions s w n x || mentions (processIn s w (lastPart n)) x))
   pub calls : CallsFine s n
-  pub parts : PartsIn s w p n
+  pub inner : InnerIn s w n
+  pub last : ProcessIn s w (lastPart n)
+  pub terms : processTerms A ≡ suc (innerTerms s w n + processTerms (processIn s w (lastPart n)))
 
 other-kind : {k m : ℕ} → eqb k m ≡ false → k ≡ m → ⊥
 other-kind {k} {m} e q = true≢false (sym (eq-eqb k m q) ∙ e)
 
 -- ── tests of names, by cases
-first-of : (b m : Bool) → b || m ≡ cond (cond b true false) true m
-first-of true m = refl
-first-of false m = refl
+first-then : (a m : Bool) → a || m ≡ (a || false) || m
+first-then true m = refl
+first-then false m = refl
 
-both-of : (b a m : Bool) → b || (a || m) ≡ cond (cond b true a) true m
-both-of true a m = refl
-both-of false true m = refl
-both-of false false m = refl
+both-then : (a b m : Bool) → a || (b || m) ≡ (a || b) || m
+both-then true b m = refl
+both-then false b m = refl
 
-bound-of : (b m o : Bool) → not b && (m || o) ≡ cond b false (cond m true o)
-bound-of true m o = refl
-bound-of false true o = refl
-bound-of false false o = refl
+or-nothing : (a : Bool) → a ≡ a || false
+or-nothing true = refl
+or-nothing false = refl
 
-past-bound : (b a m : Bool) → b || (not a && m) ≡ cond (cond b true false) true (cond a false m)
-past-bound true a m = refl
-past-bound false true m = refl
-past-bound false false m = refl
+-- nothing follows at the pointer of no term
+nothing-there : (s w : List ℕ) → ProcessIn s w processTermLimit
+unfolding ProcessAt ProcessFrom
+nothing-there s w = record { tree = empty 0; from = omega arith; is = refl }
 
-names-of : (b a : Bool) → b || a ≡ cond (cond b true a) true false
-names-of true a = refl
-names-of false true = refl
-names-of false false = refl
-
-either-of : (m o : Bool) → m || o ≡ cond m true o
-either-of true o = refl
-either-of false o = refl
-
-itself-of : (b : Bool) → b ≡ cond b true false
-itself-of true = refl
-itself-of false = refl
-
-module _ (s w : List ℕ) (p : ℕ) (A : Proc) (at first second third : ℕ) where
+module _ (s w : List ℕ) (p : ℕ) (A : Proc) (at first second third : ℕ) (none : processIn s w processTermLimit ≡ empty 0) where
   abbrev node : ℕ → TermNode
   node k = termNode k at first second third
 
   abbrev At : ℕ → Type 0
-  At k = Mentioning s w p (node k) A
+  At k = Mentioning s w (node k) A
 
-  abbrev Part : ℕ → Type 0
-  Part x = Smaller p x × ProcessIn s w x
+  -- no part in brackets; a first half
+  no-inner : (k : ℕ) → eqb k 8 ≡ false → hasHalves k ≡ false → InnerIn s w (node k)
+  no-inner k a b = record { branches = λ e. absurd (other-kind a e); first = λ e. absurd (false≢true (sym b ∙ e)) }
 
-  -- no part; one; two
-  no-part : (k : ℕ) → eqb k 8 ≡ false → hasHalves k ≡ false → hasNoPart k ≡ true → PartsIn s w p (node k)
-  no-part k a b c = record { branches = λ e. absurd (other-kind a e); first = λ e. absurd (false≢true (sym b ∙ e)); last = λ _ e. absurd (true≢false (sym c ∙ e)) }
+  one-inner : (k : ℕ) → eqb k 8 ≡ false → ProcessIn s w second → InnerIn s w (node k)
+  one-inner k a f = record { branches = λ e. absurd (other-kind a e); first = λ _. f }
 
-  one-part : (k : ℕ) → eqb k 8 ≡ false → hasHalves k ≡ false → Part third → PartsIn s w p (node k)
-  one-part k a b f = record { branches = λ e. absurd (other-kind a e); first = λ e. absurd (false≢true (sym b ∙ e)); last = λ _ _. f }
-
-  two-parts : (k : ℕ) → eqb k 8 ≡ false → Part second → Part third → PartsIn s w p (node k)
-  two-parts k a f g = record { branches = λ e. absurd (other-kind a e); first = λ _. f; last = λ _ _. g }
-
-  -- a node that is no call
-  says : (k : ℕ) → eqb k 10 ≡ false → PartsIn s w p (node k)
-      → ((x : Name) → mentions A x ≡ cond (actsOn s (node k) x) true (cond (bindsAnew s (node k) x) false (partsMention s w (node k) x))) → At k
-  says k a q f = record { is = f; calls = λ e. absurd (other-kind a e); parts = q }
-
-  abbrev is : ℕ → Name → Bool
-  is i x = same x (nameAt s i)
+  no-call : (k : ℕ) → eqb k 10 ≡ false → CallsFine s (node k)
+  no-call k a e = absurd (other-kind a e)
 
   abbrev in-part : ℕ → Name → Bool
   in-part i x = mentions (processIn s w i) x
 
-  cases : Handlers (processCases s w p (node 0) A) At
-  unfolding mentions actsOn bindsAnew partsMention
-  cases = (
-    λ e. absurd e,
-    (
-      λ (f, e). says 1 refl (one-part 1 refl refl f) λ x. ap (λ P. mentions P x) e ∙ first-of (is first x) (in-part third x),
-      (
-        λ (f, e). says 2 refl (one-part 2 refl refl f) λ x. ap (λ P. mentions P x) e ∙ both-of (is first x) (is second x) (in-part third x),
-        (
-          λ (f, e). says 3 refl (one-part 3 refl refl f) λ x. ap (λ P. mentions P x) e ∙ first-of (is first x) (in-part third x),
-          (
-            λ (f, e). says 4 refl (one-part 4 refl refl f) λ x. ap (λ P. mentions P x) e ∙ first-of (is first x) (in-part third x),
-            (
-              λ (t, f, (g, e)). says 5 refl (two-parts 5 refl f g) λ x. ap (λ P. mentions P x) e ∙ bound-of (is at x) (in-part second x) (in-part third x),
-              (
-                λ (f, e). says 6 refl (one-part 6 refl refl f) λ x. ap (λ P. mentions P x) e ∙ first-of (is first x) (in-part third x),
-                (
-                  λ (l, (f, e)). says 7 refl (one-part 7 refl refl f) λ x. ap (λ P. mentions P x) e ∙ past-bound (is first x) (is second x) (in-part third x),
-                  (
-                    λ (f, e).
-                        says 8 refl (record { branches = λ _. f; first = λ d. absurd (false≢true d); last = λ d _. absurd (d refl) })
-                        λ x. ap (λ P. mentions P x) e ∙ first-of (is first x) (branchesMention (branchesIn s w second third) x),
-                    (
-                      λ e. says 9 refl (no-part 9 refl refl refl) λ x. ap (λ P. mentions P x) e ∙ names-of (is first x) (is second x),
-                      (
-                        λ (c, e). record { is = λ x. ap (λ P. mentions P x) e ∙ itself-of (isOneOf x (argumentsAt s second .0) || isOneOf x (argumentsAt s second .1)); calls = λ _. c; parts = no-part 10 refl refl refl },
-                        (
-                          λ (f, e). says 11 refl (one-part 11 refl refl f) λ x. ap (λ P. mentions P x) e,
-                          (
-                            λ (f, (g, e)). says 12 refl (two-parts 12 refl f g) λ x. ap (λ P. mentions P x) e ∙ either-of (in-part second x) (in-part third x),
-                            tt,
-                          ),
-                        ),
-                      ),
-                    ),
-                  ),
-                ),
-              ),
-            ),
-          ),
-        ),
-      ),
-    ),
-  )
+  -- no name is mentioned by what does not follow, which has no term
+  unmentioned : (x : Name) → mentions (processIn s w processTermLimit) x ≡ false
+  unfolding mentions
+  unmentioned x = ap (λ P. mentions P x) none
 
-pub mentioning : (s w : List ℕ) (p : ℕ) (n : TermNode) (A : Proc) → atKind (processCases s w p n A) (n .kind) → Mentioning s w p n A
-mentioning s w p n A h = each-kind (processCases s w p n A) (At s w p A (n .at) (n .first) (n .second) (n .third)) (cases s w p A (n .at) (n .first) (n .second) (n .third)) (n .kind) h
+  termless : processTerms (processIn s w processTermLimit) ≡ 0
+  unfolding processTerms
+  termless = ap processTerms none
 
--- ── the ways through the code
-module _ (s w : List ℕ) (n : TermNode) (x : Name) where
-  abbrev orLast : Bool → Bool
-  orLast b = cond b true (mentions (processIn s w (n .third)) x)
-
-  pub parts-branches : {r : Bool} → n .kind ≡ 8 → r ≡ branchesMention (branchesIn s w (n .second) (n .third)) x → r ≡ partsMention s w n x
-  unfolding partsMention
-  parts-branches e h = rw (eq-eqb _ _ e) h
-
-  pub parts-none : (n .kind ≡ 8 → ⊥) → hasNoPart (n .kind) ≡ true → false ≡ partsMention s w n x
-  unfolding partsMention
-  parts-none e h = rw (ne-eqb _ _ e, h) refl
-
-  pub parts-first : (n .kind ≡ 8 → ⊥) → hasNoPart (n .kind) ≡ false → hasHalves (n .kind) ≡ true → mentions (processIn s w (n .second)) x ≡ true → true ≡ partsMention s w n x
-  unfolding partsMention
-  parts-first e h k m = rw (ne-eqb _ _ e, h, k, m) refl
-
-  -- the first half was not it, or there is none
-  pub parts-last : {r : Bool} → (n .kind ≡ 8 → ⊥) → hasNoPart (n .kind) ≡ false → (mentions (processIn s w (n .second)) x ≡ false) ⊎ (hasHalves (n .kind) ≡ false) → r ≡ mentions (processIn s w (n .third)) x → r ≡ partsMention s w n x
-  unfolding partsMention
-  parts-last e h k m = rw (ne-eqb _ _ e, h) (m ∙ sym (ap orLast (go (hasHalves (n .kind)) (mentions (processIn s w (n .second)) x) k)))
+  -- a term that acts on its first name, if any, and goes on; one that has a first half too
+  goes-on : (k : ℕ) → eqb k 10 ≡ false → eqb k 8 ≡ false → hasHalves k ≡ false → lastPart (node k) ≡ third → ProcessIn s w third → processTerms A ≡ suc (processTerms (processIn s w third))
+      → ((x : Name) → mentions A x ≡ actsOn s (node k) x || (not (bindsAnew s (node k) x) && in-part third x)) → At k
+  unfolding innerMentions innerTerms
+  goes-on k a b c e f t m = rw-last
     where
-      go : (a b : Bool) → (b ≡ false) ⊎ (a ≡ false) → a && b ≡ false
-      go true b (inl o) = o
-      go true b (inr o) = absurd (true≢false o)
-      go false b o = refl
+      no-name : (x : Name) → innerMentions s w (node k) x ≡ false
+      no-name x = rw (b, c) refl
 
-module _ (s w : List ℕ) (p : ℕ) (n : TermNode) (A : Proc) (h : Mentioning s w p n A) (x : Name) where
-  pub acts-so : actsOn s n x ≡ true → true ≡ mentions A x
-  acts-so a = sym (h .is x ∙ ap (λ b. cond b true (cond (bindsAnew s n x) false (partsMention s w n x))) a)
+      no-term : innerTerms s w (node k) ≡ 0
+      no-term = rw (b, c) refl
 
-  pub bound-so : actsOn s n x ≡ false → bindsAnew s n x ≡ true → false ≡ mentions A x
-  bound-so a b = sym (h .is x ∙ λ j. cond (a j) true (cond (b j) false (partsMention s w n x)))
+      rw-last : At k
+      rw-last = record {
+        is = λ x. m x ∙ λ j. actsOn s (node k) x || (not (bindsAnew s (node k) x) && (sym (no-name x) j || in-part (sym e j) x));
+        calls = no-call k a;
+        inner = no-inner k b c;
+        last = subst (ProcessIn s w) (sym e) f;
+        terms = omega (arith, t, no-term, ap (λ i. processTerms (processIn s w i)) e);
+      }
 
-  pub parts-so : {r : Bool} → actsOn s n x ≡ false → bindsAnew s n x ≡ false → r ≡ partsMention s w n x → r ≡ mentions A x
-  parts-so a b c = c ∙ sym (h .is x ∙ λ j. cond (a j) true (cond (b j) false (partsMention s w n x)))
+  divides : (k : ℕ) → eqb k 10 ≡ false → eqb k 8 ≡ false → hasHalves k ≡ true → lastPart (node k) ≡ third → ProcessIn s w second → ProcessIn s w third
+      → processTerms A ≡ suc (processTerms (processIn s w second) + processTerms (processIn s w third))
+      → ((x : Name) → mentions A x ≡ actsOn s (node k) x || (not (bindsAnew s (node k) x) && (in-part second x || in-part third x))) → At k
+  unfolding innerMentions innerTerms
+  divides k a b c e f g t m = record {
+    is = λ x. m x ∙ λ j. actsOn s (node k) x || (not (bindsAnew s (node k) x) && (sym (half-name x) j || in-part (sym e j) x));
+    calls = no-call k a;
+    inner = one-inner k b f;
+    last = subst (ProcessIn s w) (sym e) g;
+    terms = omega (arith, t, half-terms, ap (λ i. processTerms (processIn s w i)) e);
+  }
+    where
+      half-name : (x : Name) → innerMentions s w (node k) x ≡ in-part second x
+      half-name x = rw (b, c) refl
 
-pub none-mentioned : (s w : List ℕ) (p : ℕ) (x : Name) → Tables s w → ProcessIn s w p → processTermLimit ≤ p → false ≡ mentions (processIn s w p) x
-unfolding mentions
-none-mentioned s w p x t a h = sym (ap (λ P. mentions P x) (process-root s w (t .within) p a .none h))
+      half-terms : innerTerms s w (node k) ≡ processTerms (processIn s w second)
+      half-terms = rw (b, c) refl
 
--- ── branches
-abbrev orRest : List ℕ → List ℕ → ℕ → ℕ → Name → Bool → Bool
-orRest s w e n x b = b || branchesMention (branchesIn s w e n) x
+  -- a term that nothing follows
+  ends : (k : ℕ) → lastPart (node k) ≡ processTermLimit → CallsFine s (node k) → InnerIn s w (node k) → processTerms A ≡ suc (innerTerms s w (node k))
+      → ((x : Name) → mentions A x ≡ actsOn s (node k) x || (not (bindsAnew s (node k) x) && innerMentions s w (node k) x)) → At k
+  ends k e c f t m = record {
+    is = λ x. m x ∙ ap (λ b. actsOn s (node k) x || (not (bindsAnew s (node k) x) && b)) (or-nothing (innerMentions s w (node k) x) ∙ λ j. innerMentions s w (node k) x || sym (nothing x) j);
+    calls = c;
+    inner = f;
+    last = subst (ProcessIn s w) (sym e) (nothing-there s w);
+    terms = omega (arith, t, ap (λ i. processTerms (processIn s w i)) e, termless);
+  }
+    where
+      nothing : (x : Name) → in-part (lastPart (node k)) x ≡ false
+      nothing x = ap (λ i. in-part i x) e ∙ unmentioned x
 
-module _ (s w : List ℕ) (p e m at pointer : ℕ) (f : FirstBranch s w p e m at pointer) (x : Name) where
-  branch-first : mentions (processIn s w pointer) x ≡ true → true ≡ branchesMention (branchesIn s w e (suc m)) x
+  abbrev named : ℕ → Name → Bool
+  named i x = isName s i x
+
+  cases : Handlers (processCases s w p (node 0) A) At
+  unfolding mentions actsOn bindsAnew innerMentions innerTerms lastPart processTerms
+  cases = (λ e. absurd e, (λ (f, e). goes-on 1 refl refl refl refl (f .1) (ap processTerms e) (λ x. ap (λ P. mentions P x) e ∙ first-then (named first x) (in-part third x)), (λ (f, e). goes-on 2 refl refl refl refl (f .1) (ap processTerms e) (λ x. ap (λ P. mentions P x) e ∙ both-then (named first x) (named second x) (in-part third x)), (λ (f, e). goes-on 3 refl refl refl refl (f .1) (ap processTerms e) (λ x. ap (λ P. mentions P x) e ∙ first-then (named first x) (in-part third x)), (λ (f, e). goes-on 4 refl refl refl refl (f .1) (ap processTerms e) (λ x. ap (λ P. mentions P x) e ∙ first-then (named first x) (in-part third x)), (λ (t, f, (g, e)). divides 5 refl refl refl refl (f .1) (g .1) (ap processTerms e) (λ x. ap (λ P. mentions P x) e), (λ (f, e). goes-on 6 refl refl refl refl (f .1) (ap processTerms e) (λ x. ap (λ P. mentions P x) e ∙ first-then (named first x) (in-part third x)), (λ (l, (f, e)). goes-on 7 refl refl refl refl (f .1) (ap processTerms e) (λ x. ap (λ P. mentions P x) e ∙ first-then (named first x) (not (named second x) && in-part third x)), (λ (f, e). ends 8 refl (no-call 8 refl) (record { branches = λ _. (_, f); first = λ d. absurd (false≢true d) }) (ap processTerms e) (λ x. ap (λ P. mentions P x) e ∙ first-then (named first x) (branchesMention (branchesIn s w second third) x)), (λ e. ends 9 refl (no-call 9 refl) (no-inner 9 refl refl) (ap processTerms e) (λ x. ap (λ P. mentions P x) e ∙ or-nothing (named first x || named second x)), (λ (c, e). ends 10 refl (λ _. c) (no-inner 10 refl refl) (ap processTerms e) (λ x. ap (λ P. mentions P x) e ∙ or-nothing (isOneOf x (argumentsAt s second .0) || isOneOf x (argumentsAt s second .1))), (λ (f, e). goes-on 11 refl refl refl refl (f .1) (ap processTerms e) (λ x. ap (λ P. mentions P x) e), (λ (f, (g, e)). divides 12 refl refl refl refl (f .1) (g .1) (ap processTerms e) (λ x. ap (λ P. mentions P x) e), tt)))))))))))))
+
+pub mentioning : (s w : List ℕ) (p : ℕ) (n : TermNode) (A : Proc) → processIn s w processTermLimit ≡ empty 0 → atKind (processCases s w p n A) (n .kind) → Mentioning s w n A
+mentioning s w p n A none h = each-kind (processCases s w p n A) (At s w p A (n .at) (n .first) (n .second) (n .third) none) (cases s w p A (n .at) (n .first) (n .second) (n .third) none) (n .kind) h
+
+-- the node at a pointer below the limit, and a pointer past it
+nothing-said : (s w : List ℕ) → Tables s w → processIn s w processTermLimit ≡ empty 0
+nothing-said s w t = process-root s w (t .within) processTermLimit (nothing-there s w) .none (omega arith)
+
+pub node-mentions : {s w : List ℕ} {p : ℕ} {n : TermNode} → Tables s w → ProcessIn s w p → p < processTermLimit → TermOf w p n → Mentioning s w n (processIn s w p)
+node-mentions {s} {w} {p} {n} t a h o = mentioning s w p n (processIn s w p) (nothing-said s w t) (o .says s t a .node h .1)
+
+-- ── what is marked of a node
+module _ (node : TermNode) {s ends : List ℕ} {n : ℕ} {sought m : Marks} where
+  pub acted-call : {r : Marks} → CallsFine s node → node .kind ≡ 10 → MarkedCall s ends n (node .second) sought m r → Marked s ends n sought (actsOn s node) m r
+  unfolding actsOn
+  acted-call c e h = marked-as (λ x. rw (eq-eqb _ _ e) refl) (h .is _ _ (c e))
+
+  pub acted-names : {r v : Marks} → (node .kind ≡ 10 → ⊥) → Marked s ends n sought (actsFirst s node) m r → Marked s ends n sought (actsSecond s node) r v → Marked s ends n sought (actsOn s node) m v
+  unfolding actsOn
+  acted-names e f g = marked-as (λ x. rw (ne-eqb _ _ e) refl) (marked-then f g)
+
+  pub first-marked : {r : Marks} → hasFirstName (node .kind) ≡ true → Marked s ends n sought (isName s (node .first)) m r → Marked s ends n sought (actsFirst s node) m r
+  first-marked e h = marked-as (λ x. rw e refl) h
+
+  pub first-none : hasFirstName (node .kind) ≡ false → Marked s ends n sought (actsFirst s node) m m
+  first-none e = marked-none (λ x. rw e refl)
+
+  pub second-marked : {r : Marks} → hasSecondName (node .kind) ≡ true → Marked s ends n sought (isName s (node .second)) m r → Marked s ends n sought (actsSecond s node) m r
+  second-marked e h = marked-as (λ x. rw e refl) h
+
+  pub second-none : hasSecondName (node .kind) ≡ false → Marked s ends n sought (actsSecond s node) m m
+  second-none e = marked-none (λ x. rw e refl)
+
+-- ── what a node hides
+module _ (node : TermNode) {s ends : List ℕ} {n : ℕ} {m : Marks} where
+  pub bound-spawn : {r : Marks} → node .kind ≡ 5 → Hidden s ends n (isName s (node .at)) m r → Hidden s ends n (bindsAnew s node) m r
+  unfolding bindsAnew
+  bound-spawn e h = hidden-as (λ x. rw (eq-eqb _ _ e) refl) h
+
+  pub bound-receive : {r : Marks} → (node .kind ≡ 5 → ⊥) → node .kind ≡ 7 → Hidden s ends n (isName s (node .second)) m r → Hidden s ends n (bindsAnew s node) m r
+  unfolding bindsAnew
+  bound-receive d e h = hidden-as (λ x. rw (ne-eqb _ _ d, eq-eqb _ _ e) refl) h
+
+  pub bound-none : (node .kind ≡ 5 → ⊥) → (node .kind ≡ 7 → ⊥) → Hidden s ends n (bindsAnew s node) m m
+  unfolding bindsAnew
+  bound-none d e = hidden-none (λ x. rw (ne-eqb _ _ d, ne-eqb _ _ e) refl)
+
+-- ── what is marked of what it has in brackets
+module _ (node : TermNode) (w : List ℕ) {s ends : List ℕ} {n : ℕ} {sought m : Marks} where
+  pub inner-branches : {r : Marks} → node .kind ≡ 8 → Marked s ends n sought (branchesMention (branchesIn s w (node .second) (node .third))) m r → Marked s ends n sought (innerMentions s w node) m r
+  unfolding innerMentions
+  inner-branches e h = marked-as (λ x. rw (eq-eqb _ _ e) refl) h
+
+  pub inner-half : {r : Marks} → (node .kind ≡ 8 → ⊥) → hasHalves (node .kind) ≡ true → Marked s ends n sought (mentions (processIn s w (node .second))) m r → Marked s ends n sought (innerMentions s w node) m r
+  unfolding innerMentions
+  inner-half d e h = marked-as (λ x. rw (ne-eqb _ _ d, e) refl) h
+
+  pub inner-none : (node .kind ≡ 8 → ⊥) → hasHalves (node .kind) ≡ false → Marked s ends n sought (innerMentions s w node) m m
+  unfolding innerMentions
+  inner-none d e = marked-none (λ x. rw (ne-eqb _ _ d, e) refl)
+
+-- how many terms stand in its brackets
+pub branches-terms : (node : TermNode) (s w : List ℕ) → node .kind ≡ 8 → innerTerms s w node ≡ branchesTerms (branchesIn s w (node .second) (node .third))
+unfolding innerTerms
+branches-terms node s w e = rw (eq-eqb _ _ e) refl
+
+pub half-terms : (node : TermNode) (s w : List ℕ) → (node .kind ≡ 8 → ⊥) → hasHalves (node .kind) ≡ true → innerTerms s w node ≡ processTerms (processIn s w (node .second))
+unfolding innerTerms
+half-terms node s w d e = rw (ne-eqb _ _ d, e) refl
+
+-- ── as far as the walk over a process has come: what the process at p would mark of these marks is what the whole would
+pub record Walked (s w ends : List ℕ) (n whole : ℕ) (sought m : Marks) (p : ℕ) (left r : Marks) : Type 0 where
+  pub stands : ProcessIn s w p
+  pub fewer : processTerms (processIn s w p) ≤ processTerms (processIn s w whole)
+  pub at : (v : Marks) → Marked s ends n left (mentions (processIn s w p)) r v → Marked s ends n sought (mentions (processIn s w whole)) m v
+
+turned : (r l a b i o : Bool) → ((r || (l && a)) || ((l && not b) && i)) || ((l && not b) && o) ≡ r || (l && (a || (not b && (i || o))))
+turned true l a b i o = refl
+turned false false a b i o = refl
+turned false true true b i o = refl
+turned false true false true i o = refl
+turned false true false false true o = refl
+turned false true false false false o = refl
+
+module _ {s w ends : List ℕ} {n whole : ℕ} {sought m : Marks} {p : ℕ} {left r : Marks} (t : Walked s w ends n whole sought m p left r) where
+  module _ {node : TermNode} {r′ left′ r″ : Marks} (o : Mentioning s w node (processIn s w p)) (f : Marked s ends n left (actsOn s node) r r′)
+      (g : Hidden s ends n (bindsAnew s node) left left′) (h : Marked s ends n left′ (innerMentions s w node) r′ r″) where
+    pub walk-turn : (q : ℕ) → q ≡ lastPart node → Walked s w ends n whole sought m q left′ r″
+    walk-turn q z = record {
+      stands = subst (ProcessIn s w) (sym z) (o .last);
+      fewer = omega (arith, o .terms, t .fewer, ap (λ i. processTerms (processIn s w i)) z);
+      at = λ v e. t .at v (record {
+        at = λ k b.
+            let x = heldName s ends k in
+            let y : mentions (processIn s w q) x ≡ mentions (processIn s w (lastPart node)) x = ap (λ i. mentions (processIn s w i) x) z in
+            e .at k b
+            ∙ (λ j. h .at k b j || (g .at k b j && y j))
+            ∙ (λ j. (f .at k b j || (g .at k b j && innerMentions s w node x)) || ((markOf left k && not (bindsAnew s node x)) && mentions (processIn s w (lastPart node)) x))
+            ∙ turned (markOf r k) (markOf left k) (actsOn s node x) (bindsAnew s node x) (innerMentions s w node x) (mentions (processIn s w (lastPart node)) x)
+            ∙ ap (λ c. markOf r k || (markOf left k && c)) (sym (o .is x));
+      });
+    }
+
+  pub walk-done : Tables s w → processTermLimit ≤ p → Marked s ends n sought (mentions (processIn s w whole)) m r
   unfolding mentions
-  branch-first a = sym (ap (λ B. branchesMention B x) (f .is) ∙ ap (orRest s w (e - 1) m x) a)
+  walk-done u l = t .at r (marked-none (λ x. ap (λ P. mentions P x) (process-root s w (u .within) p (t .stands) .none l)))
 
-  branch-rest : {r : Bool} → mentions (processIn s w pointer) x ≡ false → r ≡ branchesMention (branchesIn s w (e - 1) m) x → r ≡ branchesMention (branchesIn s w e (suc m)) x
-  unfolding mentions
-  branch-rest a b = b ∙ sym (ap (λ B. branchesMention B x) (f .is) ∙ ap (orRest s w (e - 1) m x) a)
+pub walk-begin : {s w : List ℕ} {p : ℕ} (ends : List ℕ) (n : ℕ) (sought m : Marks) → ProcessIn s w p → Walked s w ends n p sought m p sought m
+walk-begin ends n sought m a = record { stands = a; fewer = omega arith; at = λ v e. e }
 
--- n branches, none or some
-pub no-branch : (s w : List ℕ) (e n : ℕ) → n ≡ 0 → (x : Name) → false ≡ branchesMention (branchesIn s w e n) x
-unfolding mentions
-no-branch s w e n z x = rw z refl
+-- ── as far as the walk over branches has come
+pub record Branched (s w ends : List ℕ) (n e count : ℕ) (sought m : Marks) (k : ℕ) (r : Marks) : Type 0 where
+  pub upto : k ≤ count
+  pub stands : (p : ℕ) × BranchesIn s w p (e - k) (count - k)
+  pub fewer : branchesTerms (branchesIn s w (e - k) (count - k)) ≤ branchesTerms (branchesIn s w e count)
+  pub at : (v : Marks) → Marked s ends n sought (branchesMention (branchesIn s w (e - k) (count - k))) r v → Marked s ends n sought (branchesMention (branchesIn s w e count)) m v
 
-past-one : (n : ℕ) → (n ≡ 0 → ⊥) → suc (n - 1) ≡ n
-past-one n z = omega (arith, z)
+module _ {s w ends : List ℕ} {n e count : ℕ} {sought m : Marks} where
+  pub branches-begin : {p : ℕ} → BranchesIn s w p e count → Branched s w ends n e count sought m 0 m
+  branches-begin {p} a =
+      let x : e ≡ e - 0 = omega arith in
+      let y : count ≡ count - 0 = omega arith in
+      let q : branchesIn s w e count ≡ branchesIn s w (e - 0) (count - 0) = λ j. branchesIn s w (x j) (y j) in
+      record {
+        upto = omega arith;
+        stands = (p, subst (λ d. BranchesIn s w p d (count - 0)) x (subst (BranchesIn s w p e) y a));
+        fewer = omega (arith, ap branchesTerms q);
+        at = λ v f. marked-as (λ x. ap (λ B. branchesMention B x) (sym q)) f;
+      }
 
-pub some-branch : (s w : List ℕ) (p e n : ℕ) → (n ≡ 0 → ⊥) → BranchesIn s w p e n → BranchesIn s w p e (suc (n - 1))
-some-branch s w p e n z h = subst (BranchesIn s w p e) (sym (past-one n z)) h
+  module _ {k : ℕ} {r : Marks} (t : Branched s w ends n e count sought m k r) where
+    pub branches-done : count ≤ k → Marked s ends n sought (branchesMention (branchesIn s w e count)) m r
+    unfolding mentions
+    branches-done l = t .at r (marked-none (λ x. ap (λ i. branchesMention (branchesIn s w (e - k) i) x) {x = count - k} {y = 0} (omega arith)))
 
-module _ (s w : List ℕ) (p e n at pointer : ℕ) (z : n ≡ 0 → ⊥) (f : FirstBranch s w p e (n - 1) at pointer) (x : Name) where
-  pub branch-so : mentions (processIn s w pointer) x ≡ true → true ≡ branchesMention (branchesIn s w e n) x
-  branch-so a = branch-first s w p e (n - 1) at pointer f x a ∙ ap (λ m. branchesMention (branchesIn s w e m) x) (past-one n z)
+    module _ (l : k < count) where
+      some-left : BranchesIn s w (t .stands .0) (e - k) (suc (count - k - 1))
+      some-left = subst (BranchesIn s w (t .stands .0) (e - k)) {x = count - k} {y = suc (count - k - 1)} (omega arith) (t .stands .1)
 
-  pub rest-so : {r : Bool} → mentions (processIn s w pointer) x ≡ false → r ≡ branchesMention (branchesIn s w (e - 1) (n - 1)) x → r ≡ branchesMention (branchesIn s w e n) x
-  rest-so a b = branch-rest s w p e (n - 1) at pointer f x a b ∙ ap (λ m. branchesMention (branchesIn s w e m) x) (past-one n z)
+      pub branch-here : Tables s w → (1 ≤ e - k) × (e - k ≤ branchRoom)
+      branch-here u = branch-there s w u (t .stands .0) (e - k) (count - k - 1) some-left
 
--- the node at a pointer below the limit
-pub node-mentions : (s w : List ℕ) (p : ℕ) (n : TermNode) → Tables s w → ProcessIn s w p → p < processTermLimit → TermOf w p n → Mentioning s w p n (processIn s w p)
-node-mentions s w p n t a h o = mentioning s w p n (processIn s w p) (o .says s t a .node h .1)
+    module _ (l : k < count) {b : Labelled} (o : BranchOf w (e - k) b) where
+      pub branch-first : FirstBranch s w (t .stands .0) (e - k) (count - k - 1) (b .at) (b .number)
+      branch-first = o .says s (t .stands .0) (count - k - 1) (some-left l)
+
+      left : (i : ℕ) → i ≡ k + 1 → branchesIn s w (e - k) (count - k) ≡ branch (labelIn s (b .at)) (processIn s w (b .number)) (branchesIn s w (e - i) (count - i))
+      left i z =
+          let u : count - k ≡ suc (count - k - 1) = omega arith in
+          let x : e - k - 1 ≡ e - i = omega arith in
+          let y : count - k - 1 ≡ count - i = omega arith in
+          ap (branchesIn s w (e - k)) u ∙ branch-first .is ∙ λ j. branch (labelIn s (b .at)) (processIn s w (b .number)) (branchesIn s w (x j) (y j))
+
+      pub branch-terms : processTerms (processIn s w (b .number)) ≤ branchesTerms (branchesIn s w e count)
+      unfolding processTerms
+      branch-terms = let q = ap branchesTerms (left (k + 1) refl) in omega (arith, q, t .fewer)
+
+      pub branch-turn : {v : Marks} → Marked s ends n sought (mentions (processIn s w (b .number))) r v → (i : ℕ) → i ≡ k + 1 → Branched s w ends n e count sought m i v
+      unfolding mentions processTerms
+      branch-turn f i z =
+          let x : e - k - 1 ≡ e - i = omega arith in
+          let y : count - k - 1 ≡ count - i = omega arith in
+          let q = ap branchesTerms (left i z) in
+          record {
+            upto = omega arith;
+            stands = (t .stands .0, subst (λ d. BranchesIn s w (t .stands .0) d (count - i)) x (subst (BranchesIn s w (t .stands .0) (e - k - 1)) y (branch-first .rest)));
+            fewer = omega (arith, q, t .fewer);
+            at = λ v g. t .at v (marked-as (λ x. ap (λ B. branchesMention B x) (sym (left i z))) (marked-then f g));
+          }

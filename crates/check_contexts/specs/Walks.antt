@@ -12,6 +12,9 @@ use Rattle.calculus.specs.Mentions.{is, isOneOf}
 use Rattle.read_tables.specs.Names.{argumentFrom, Forward, NamesFrom, CallAt}
 use Rattle.read_tables.specs.declared.arguments.Argument.{Argument}
 use Rattle.read_tables.specs.declared.arguments.Argument.the-variants as arguments
+use Rattle.check_contexts.specs.Marks.{isName, Marked, marked-then, marked-none}
+use Rattle.check_contexts.specs.declared.marks.Marks.{Marks}
+use Rattle.check_contexts.specs.declared.names.ListMarks.{ListMarks}
 
 -- where the list ends
 pub record Ends (s : List ℕ) (from r : ℕ) : Type 0 where
@@ -21,9 +24,12 @@ pub record Ends (s : List ℕ) (from r : ℕ) : Type 0 where
 pub record Among (s : List ℕ) (from : ℕ) (n : Name) (r : Bool) : Type 0 where
   pub is : (xs : List Located) (rest : ℕ) → NamesFrom s from xs rest → r ≡ isOneOf n xs
 
--- whether a name is in one of a call's lists
-pub record AmongBoth (s : List ℕ) (bracket : ℕ) (n : Name) (r : Bool) : Type 0 where
-  pub is : (xs ys : List Located) → CallAt s bracket xs ys → r ≡ isOneOf n xs || isOneOf n ys
+-- marks after a list, and after both lists of a call
+pub record MarkedList (s ends : List ℕ) (n from : ℕ) (sought m : Marks) (r : ListMarks) : Type 0 where
+  pub is : (xs : List Located) (rest : ℕ) → NamesFrom s from xs rest → Marked s ends n sought (λ x. isOneOf x xs) m (r .marks) × (r .past ≡ rest)
+
+pub record MarkedCall (s ends : List ℕ) (n bracket : ℕ) (sought m r : Marks) : Type 0 where
+  pub is : (xs ys : List Located) → CallAt s bracket xs ys → Marked s ends n sought (λ x. isOneOf x xs || isOneOf x ys) m r
 
 -- ── a walk from `from` that has come to i: of a list xs the names ys are left, and R holds of the two
 pub record Walking (s : List ℕ) (from i : ℕ) (R : List Located → List Located → Type 0) : Type 0 where
@@ -41,9 +47,9 @@ abbrev pastOf : Argument → ℕ
 pastOf (arguments.Name i p) = p
 pastOf (arguments.End p) = p
 
-abbrev isName : Argument → Type 0
-isName (arguments.Name i p) = Unit {0}
-isName (arguments.End p) = ⊥
+abbrev isArgument : Argument → Type 0
+isArgument (arguments.Name i p) = Unit {0}
+isArgument (arguments.End p) = ⊥
 
 abbrev isEnd : Argument → Type 0
 isEnd (arguments.Name i p) = ⊥
@@ -52,7 +58,7 @@ isEnd (arguments.End p) = Unit {0}
 -- the list that is left where a name stands, and where none does
 pub at-name : (s : List ℕ) (i a p : ℕ) (ys : List Located) (rest : ℕ) → argumentFrom s i ≡ arguments.Name a p → NamesFrom s i ys rest → (zs : List Located) × (ys ≡ nameIn s a ∷ zs) × NamesFrom s p zs rest
 unfolding NamesFrom
-at-name s i a p [] rest e h = absurd (subst isName (sym e ∙ h) tt)
+at-name s i a p [] rest e h = absurd (subst isArgument (sym e ∙ h) tt)
 at-name s i a p (y ∷ ys) rest e (q, f, g, h) =
     let z : y .at ≡ a = ap nameOf (sym f ∙ e) in
     let u : q ≡ p = ap pastOf (sym f ∙ e) in
@@ -106,18 +112,29 @@ Whatever xs ys = Unit {0}
 pub ends-there : {s : List ℕ} {from i : ℕ} → Walking s from i Whatever → (p : ℕ) → argumentFrom s i ≡ arguments.End p → Ends s from p
 ends-there t p e = record { is = λ xs rest h. walk-end t p e xs rest h .0 }
 
--- ── both lists
-module _ (s : List ℕ) (bracket from : ℕ) (n : Name) (e : from ≡ tokenAt s bracket .end) where
-  pub among-provided : Among s from n true → AmongBoth s bracket n true
-  among-provided h = record { is = λ xs ys c. ap (λ b. b || isOneOf n ys) (h .is xs _ (subst (λ i. NamesFrom s i xs (c .middle)) (sym e) (c .provided))) }
+-- ── marks as far as a walk has come: what is left of the list marks the same of them as the whole list did before
+pub record Remaining (s ends : List ℕ) (n : ℕ) (sought m r : Marks) (xs ys : List Located) : Type 0 where
+  pub at : (v : Marks) → Marked s ends n sought (λ x. isOneOf x ys) r v → Marked s ends n sought (λ x. isOneOf x xs) m v
 
-  pub among-used : {middle used : ℕ} {r : Bool} → Among s from n false → Ends s from middle → used ≡ tokenAt s middle .end → Among s used n r → AmongBoth s bracket n r
-  among-used {used = used} h m u k = record {
-    is = λ xs ys c.
-        let o = subst (λ i. NamesFrom s i xs (c .middle)) (sym e) (c .provided) in
-        let v : used ≡ tokenAt s (c .middle) .end = u ∙ ap (λ i. tokenAt s i .end) (m .is xs _ o) in
-        k .is ys _ (subst (λ i. NamesFrom s i ys (c .end)) (sym v) (c .used)) ∙ ap (λ b. b || isOneOf n ys) (h .is xs _ o);
-  }
+module _ {s ends : List ℕ} {n from i : ℕ} {sought m r : Marks} (t : Walking s from i (Remaining s ends n sought m r)) where
+  pub remaining-on : (a p : ℕ) {v : Marks} → argumentFrom s i ≡ arguments.Name a p → Marked s ends n sought (isName s a) r v → Walking s from p (Remaining s ends n sought m v)
+  remaining-on a p e f = walk-on t a p _ e (λ xs ys rest o h. record { at = λ v g. h .at v (marked-then f g) })
+
+  pub remaining-end : (p : ℕ) → argumentFrom s i ≡ arguments.End p → MarkedList s ends n from sought m (record { marks = r; past = p })
+  remaining-end p e = record { is = λ xs rest h. let (q, g) = walk-end t p e xs rest h in (g .at r (marked-none (λ x. refl)), q) }
+
+pub remaining-start : (s ends : List ℕ) (n from : ℕ) (sought m : Marks) → Walking s from from (Remaining s ends n sought m m)
+remaining-start s ends n from sought m = walk-start s from _ (λ xs. record { at = λ v g. g })
+
+-- ── both lists
+pub marked-call : {s ends : List ℕ} {n bracket provided used : ℕ} {sought m : Marks} {f g : ListMarks} → provided ≡ tokenAt s bracket .end → MarkedList s ends n provided sought m f
+    → used ≡ tokenAt s (f .past) .end → MarkedList s ends n used sought (f .marks) g → MarkedCall s ends n bracket sought m (g .marks)
+marked-call {s = s} {used = used} {f = f} e h u k = record {
+  is = λ xs ys c.
+      let (a, z) = h .is xs _ (subst (λ i. NamesFrom s i xs (c .middle)) (sym e) (c .provided)) in
+      let v : used ≡ tokenAt s (c .middle) .end = u ∙ ap (λ i. tokenAt s i .end) z in
+      marked-then a (k .is ys _ (subst (λ i. NamesFrom s i ys (c .end)) (sym v) (c .used)) .0);
+}
 
 -- each name brings the walk forward
 pub forward-name : (s : List ℕ) (i a p : ℕ) (r : Argument) → Forward s i r → r ≡ arguments.Name a p → (i < p) × (p ≤ length s)

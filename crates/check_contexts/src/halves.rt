@@ -1,5 +1,4 @@
 // What each half of a process takes of what is held.
-use crate::mentions::mentions;
 use notation::token::names_equal;
 use notation::words::wide;
 use run_words::held::end_at;
@@ -38,23 +37,6 @@ pub fn side_of(first: bool) -> u32
     USED
 }
 
-// The half takes the held channel whose name is the one at `at`.
-fn half_takes(text: &[u8], scratch: &[u32], half: Half, at: usize) -> bool
-    requires { ⌜ Tables (now text) (now scratch) ⌝ }
-    requires { ⌜ HalfIn (now text) (now scratch) half ⌝ }
-    ensures { λ r. ⌜ r ≡ takes (now (text .entry)) (now (scratch .entry)) half (nameAt (now (text .entry)) at) ⌝ }
-{
-    match half {
-        Half::OfSpawn(x, p) => {
-            if names_equal(text, at, x) {
-                return false;
-            }
-            mentions(text, scratch, p, at)
-        }
-        Half::OfTry(p) => mentions(text, scratch, p, at),
-    }
-}
-
 fn as_wanted(want: bool, taken: bool) -> bool
     ensures { λ r. ⌜ r ≡ wanted want taken ⌝ }
 {
@@ -62,16 +44,6 @@ fn as_wanted(want: bool, taken: bool) -> bool
         return taken;
     }
     !taken
-}
-
-// The end with the name at `at` goes with what is kept.
-fn keeps_end(text: &[u8], scratch: &[u32], half: Half, want: bool, at: usize) -> bool
-    requires { ⌜ Tables (now text) (now scratch) ⌝ }
-    requires { ⌜ HalfIn (now text) (now scratch) half ⌝ }
-    ensures { λ r. ⌜ r ≡ wanted want (takes (now (text .entry)) (now (scratch .entry)) half (nameAt (now (text .entry)) at)) ⌝ }
-{
-    let taken = half_takes(text, scratch, half, at);
-    as_wanted(want, taken)
 }
 
 // With an end more, if it goes with what is kept.
@@ -86,26 +58,6 @@ fn with_if(h: Held, e: End, goes: bool) -> Held
     h
 }
 
-// What the half takes of what is held, in its order; or, where that is not wanted, what it leaves.
-pub fn keep(text: &[u8], scratch: &[u32], h: Held, half: Half, want: bool) -> Held
-    requires { ⌜ Tables (now text) (now scratch) ⌝ }
-    requires { ⌜ HalfIn (now text) (now scratch) half ⌝ }
-    requires { ⌜ HeldIn (now text) (now scratch) h ⌝ }
-    ensures { λ r. ⌜ Keeps (now (text .entry)) (now (scratch .entry)) h half want r ⌝ }
-{
-    let n = h.count;
-    let mut r = no_ends();
-    let mut k: usize = 0;
-    while k < n {
-        let e = end_at(h, k);
-        let there = wide(e.name);
-        let goes = keeps_end(text, scratch, half, want, there);
-        r = with_if(r, e, goes);
-        k += 1;
-    }
-    r
-}
-
 // A channel that is taken so by the two halves is taken as it may be.
 fn is_fair(exactly: bool, first: bool, second: bool) -> bool
     ensures { λ r. ⌜ r ≡ fair exactly first second ⌝ }
@@ -115,36 +67,6 @@ fn is_fair(exactly: bool, first: bool, second: bool) -> bool
     }
     if exactly {
         return second;
-    }
-    true
-}
-
-// No channel that is held is taken by both halves, and, where it must be exactly one, none by neither.
-pub fn divides(
-    text: &[u8],
-    scratch: &[u32],
-    h: Held,
-    first: Half,
-    second: Half,
-    exactly: bool,
-) -> bool
-    requires { ⌜ Tables (now text) (now scratch) ⌝ }
-    requires { ⌜ HalfIn (now text) (now scratch) first ⌝ }
-    requires { ⌜ HalfIn (now text) (now scratch) second ⌝ }
-    requires { ⌜ h .count ≤ heldLimit ⌝ }
-    ensures { λ r. ⌜ Fair (now (text .entry)) (now (scratch .entry)) h first second exactly r ⌝ }
-{
-    let n = h.count;
-    let mut k: usize = 0;
-    while k < n {
-        let e = end_at(h, k);
-        let there = wide(e.name);
-        let a = half_takes(text, scratch, first, there);
-        let b = half_takes(text, scratch, second, there);
-        if !is_fair(exactly, a, b) {
-            return false;
-        }
-        k += 1;
     }
     true
 }

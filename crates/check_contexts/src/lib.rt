@@ -1,4 +1,5 @@
 pub mod halves;
 pub mod held;
+pub mod marks;
 pub mod mentions;
 pub mod names;

@@ -1,19 +1,23 @@
-// Which names a process mentions: "A name bound anew inside a half is no mention of a held one."
-use crate::names::in_call;
+// Which of the names that are held a process mentions, in one walk: "A name bound anew inside a half is no mention of a held one."
+use crate::marks::Marks;
+use crate::names::hide_name;
+use crate::names::mark_call;
+use crate::names::mark_name;
 use notation::kinds;
 use notation::reading::TermNode;
 use notation::script::Script;
-use notation::token::names_equal;
 use read_tables::access::branch;
 use read_tables::access::term_node;
+use run_words::records::HELD_WORDS;
 ghost use mathlib.Core.Path.{_≡_};
 ghost use Prim.Native.Nat.{ℕ, _≤_, _<_};
-ghost use Rattle.notation.specs.Token.{nameAt};
+ghost use Rattle.notation.specs.Limits.{heldLimit};
 ghost use Rattle.calculus.specs.Mentions.{mentions, branchesMention};
 ghost use Rattle.read_tables.specs.Decode.{processIn};
 ghost use Rattle.read_tables.specs.Roots.{ProcessIn, BranchesIn, branchesIn};
 ghost use Rattle.read_tables.specs.Whole.{Tables};
-ghost use Rattle.check_contexts.specs.Mentioned.{CallsFine, hasFirstName, hasSecondName, actsFirst, actsSecond, actsOn, bindsAnew, hasHalves, hasNoPart, PartsIn, partsMention};
+ghost use Rattle.check_contexts.specs.Marks.{Marked, Hidden};
+ghost use Rattle.check_contexts.specs.Mentioned.{CallsFine, hasFirstName, hasSecondName, actsFirst, actsSecond, actsOn, bindsAnew, hasHalves, hasLast, lastPart, InnerIn, innerMentions};
 
 // The first number of a node of this kind is where a name stands, and likewise the second.
 fn has_first_name(kind: usize) -> bool
@@ -37,53 +41,81 @@ fn has_second_name(kind: usize) -> bool
     kind == kinds::FWD
 }
 
-// The first name of a node, if it has one, is the name at `at`; and likewise the second.
-fn acts_first(text: &[u8], n: TermNode, at: usize) -> bool
-    ensures { λ r. ⌜ r ≡ actsFirst (now (text .entry)) n (nameAt (now (text .entry)) at) ⌝ }
+// Marks the first name of a node, if it has one; and likewise the second.
+fn mark_first(
+    text: &[u8],
+    ends: &[u32; HELD_WORDS],
+    n: usize,
+    node: TermNode,
+    sought: Marks,
+    m: Marks,
+) -> Marks
+    requires { ⌜ n ≤ heldLimit ⌝ }
+    ensures { λ r. ⌜ Marked (now (text .entry)) (now (ends .entry)) n sought (actsFirst (now (text .entry)) node) m r ⌝ }
 {
-    if has_first_name(n.kind) {
-        return names_equal(text, at, n.first);
+    if has_first_name(node.kind) {
+        return mark_name(text, ends, n, node.first, sought, m);
     }
-    false
+    m
 }
 
-fn acts_second(text: &[u8], n: TermNode, at: usize) -> bool
-    ensures { λ r. ⌜ r ≡ actsSecond (now (text .entry)) n (nameAt (now (text .entry)) at) ⌝ }
+fn mark_second(
+    text: &[u8],
+    ends: &[u32; HELD_WORDS],
+    n: usize,
+    node: TermNode,
+    sought: Marks,
+    m: Marks,
+) -> Marks
+    requires { ⌜ n ≤ heldLimit ⌝ }
+    ensures { λ r. ⌜ Marked (now (text .entry)) (now (ends .entry)) n sought (actsSecond (now (text .entry)) node) m r ⌝ }
 {
-    if has_second_name(n.kind) {
-        return names_equal(text, at, n.second);
+    if has_second_name(node.kind) {
+        return mark_name(text, ends, n, node.second, sought, m);
     }
-    false
+    m
 }
 
-// A node acts on the name at `at`: it is among the names that the node itself mentions.
-fn acts_on(text: &[u8], n: TermNode, at: usize) -> bool
-    requires { ⌜ CallsFine (now text) n ⌝ }
-    ensures { λ r. ⌜ r ≡ actsOn (now (text .entry)) n (nameAt (now (text .entry)) at) ⌝ }
+// Marks the names on which a node acts: those that the node itself mentions.
+fn mark_acted(
+    text: &[u8],
+    ends: &[u32; HELD_WORDS],
+    n: usize,
+    node: TermNode,
+    sought: Marks,
+    m: Marks,
+) -> Marks
+    requires { ⌜ CallsFine (now text) node × (n ≤ heldLimit) ⌝ }
+    ensures { λ r. ⌜ Marked (now (text .entry)) (now (ends .entry)) n sought (actsOn (now (text .entry)) node) m r ⌝ }
 {
-    if n.kind == kinds::CALL {
-        return in_call(text, n.second, at);
+    if node.kind == kinds::CALL {
+        return mark_call(text, ends, n, node.second, sought, m);
     }
-    if acts_first(text, n, at) {
-        return true;
-    }
-    acts_second(text, n, at)
+    let r = mark_first(text, ends, n, node, sought, m);
+    mark_second(text, ends, n, node, sought, r)
 }
 
-// A node binds the name at `at` anew, in all of its parts.
-fn binds_anew(text: &[u8], n: TermNode, at: usize) -> bool
-    ensures { λ r. ⌜ r ≡ bindsAnew (now (text .entry)) n (nameAt (now (text .entry)) at) ⌝ }
+// The names that a node binds anew, in all of its parts, are sought no more.
+fn hide_bound(
+    text: &[u8],
+    ends: &[u32; HELD_WORDS],
+    n: usize,
+    node: TermNode,
+    sought: Marks,
+) -> Marks
+    requires { ⌜ n ≤ heldLimit ⌝ }
+    ensures { λ r. ⌜ Hidden (now (text .entry)) (now (ends .entry)) n (bindsAnew (now (text .entry)) node) sought r ⌝ }
 {
-    if n.kind == kinds::SPAWN {
-        return names_equal(text, at, n.at);
+    if node.kind == kinds::SPAWN {
+        return hide_name(text, ends, n, node.at, sought);
     }
-    if n.kind == kinds::RECV_CHANNEL {
-        return names_equal(text, at, n.second);
+    if node.kind == kinds::RECV_CHANNEL {
+        return hide_name(text, ends, n, node.second, sought);
     }
-    false
+    sought
 }
 
-// A node of this kind has two processes for parts; it has none.
+// A node of this kind has two processes for parts.
 fn has_halves(kind: usize) -> bool
     ensures { λ r. ⌜ r ≡ hasHalves kind ⌝ }
 {
@@ -93,66 +125,97 @@ fn has_halves(kind: usize) -> bool
     kind == kinds::TRY
 }
 
-fn has_no_part(kind: usize) -> bool
-    ensures { λ r. ⌜ r ≡ hasNoPart kind ⌝ }
+// The last of a node's parts is its third number: it has one, and no branches.
+fn has_last(kind: usize) -> bool
+    ensures { λ r. ⌜ r ≡ hasLast kind ⌝ }
 {
+    if kind == kinds::RECV_LABEL {
+        return false;
+    }
     if kind == kinds::FWD {
-        return true;
+        return false;
     }
-    kind == kinds::CALL
+    kind != kinds::CALL
 }
 
-// The process at the pointer p mentions the name at `at`.
-pub(crate) fn mentions(text: &[u8], scratch: &[u32], p: usize, at: usize) -> bool
-    requires { ⌜ Tables (now text) (now scratch) ⌝ }
-    requires { ⌜ ProcessIn (now text) (now scratch) p ⌝ }
-    ensures { λ r. ⌜ r ≡ mentions (processIn (now (text .entry)) (now (scratch .entry)) p) (nameAt (now (text .entry)) at) ⌝ }
+// The pointer of what follows a node; nothing follows one that ends or has branches.
+fn last_part(node: TermNode) -> usize
+    ensures { λ r. ⌜ r ≡ lastPart node ⌝ }
 {
-    if Script::PROCESS_TERMS <= p {
-        return false;
+    if has_last(node.kind) {
+        return node.third;
     }
-    let n = term_node(scratch, p);
-    if acts_on(text, n, at) {
-        return true;
-    }
-    if binds_anew(text, n, at) {
-        return false;
-    }
-    parts_mention(text, scratch, p, n, at)
+    Script::PROCESS_TERMS
 }
 
-// A part of the node n, which stands at p, mentions it.
-fn parts_mention(text: &[u8], scratch: &[u32], p: usize, n: TermNode, at: usize) -> bool
-    requires { ⌜ Tables (now text) (now scratch) ⌝ }
-    requires { ⌜ PartsIn (now text) (now scratch) p n ⌝ }
-    ensures { λ r. ⌜ r ≡ partsMention (now (text .entry)) (now (scratch .entry)) n (nameAt (now (text .entry)) at) ⌝ }
+// Marks, of the first n names, those that are sought and that the process at the pointer p mentions.
+pub(crate) fn mark_process(
+    text: &[u8],
+    scratch: &[u32],
+    ends: &[u32; HELD_WORDS],
+    n: usize,
+    p: usize,
+    sought: Marks,
+    m: Marks,
+) -> Marks
+    requires { ⌜ Tables (now text) (now scratch) × (n ≤ heldLimit) × ProcessIn (now text) (now scratch) p ⌝ }
+    ensures { λ r. ⌜ Marked (now (text .entry)) (now (ends .entry)) n sought (mentions (processIn (now (text .entry)) (now (scratch .entry)) p)) m r ⌝ }
 {
-    if n.kind == kinds::RECV_LABEL {
-        return branches_mention(text, scratch, p, n.second, n.third, at);
+    let mut at = p;
+    let mut left = sought;
+    let mut r = m;
+    while at < Script::PROCESS_TERMS {
+        let node = term_node(scratch, at);
+        r = mark_acted(text, ends, n, node, left, r);
+        left = hide_bound(text, ends, n, node, left);
+        r = mark_inner(text, scratch, ends, n, node, left, r);
+        at = last_part(node);
     }
-    if has_no_part(n.kind) {
-        return false;
-    }
-    if has_halves(n.kind) {
-        if mentions(text, scratch, n.second, at) {
-            return true;
-        }
-    }
-    mentions(text, scratch, n.third, at)
+    r
 }
 
-// One of n branches before the place e mentions it; their processes stand before the pointer p.
-fn branches_mention(text: &[u8], scratch: &[u32], p: usize, e: usize, n: usize, at: usize) -> bool
-    requires { ⌜ Tables (now text) (now scratch) ⌝ }
-    requires { ⌜ BranchesIn (now text) (now scratch) p e n ⌝ }
-    ensures { λ r. ⌜ r ≡ branchesMention (branchesIn (now (text .entry)) (now (scratch .entry)) e n) (nameAt (now (text .entry)) at) ⌝ }
+// The same of what a node has in brackets: its first half, or its branches.
+fn mark_inner(
+    text: &[u8],
+    scratch: &[u32],
+    ends: &[u32; HELD_WORDS],
+    n: usize,
+    node: TermNode,
+    sought: Marks,
+    m: Marks,
+) -> Marks
+    requires { ⌜ Tables (now text) (now scratch) × (n ≤ heldLimit) × InnerIn (now text) (now scratch) node ⌝ }
+    ensures { λ r. ⌜ Marked (now (text .entry)) (now (ends .entry)) n sought (innerMentions (now (text .entry)) (now (scratch .entry)) node) m r ⌝ }
 {
-    if n == 0 {
-        return false;
+    if node.kind == kinds::RECV_LABEL {
+        return mark_branches(text, scratch, ends, n, node.second, node.third, sought, m);
     }
-    let b = branch(scratch, e);
-    if mentions(text, scratch, b.number, at) {
-        return true;
+    if has_halves(node.kind) {
+        return mark_process(text, scratch, ends, n, node.second, sought, m);
     }
-    branches_mention(text, scratch, p, e - 1, n - 1, at)
+    m
+}
+
+// The same of `count` branches before the place e.
+fn mark_branches(
+    text: &[u8],
+    scratch: &[u32],
+    ends: &[u32; HELD_WORDS],
+    n: usize,
+    e: usize,
+    count: usize,
+    sought: Marks,
+    m: Marks,
+) -> Marks
+    requires { ⌜ Tables (now text) (now scratch) × (n ≤ heldLimit) × ((p : ℕ) × BranchesIn (now text) (now scratch) p e count) ⌝ }
+    ensures { λ r. ⌜ Marked (now (text .entry)) (now (ends .entry)) n sought (branchesMention (branchesIn (now (text .entry)) (now (scratch .entry)) e count)) m r ⌝ }
+{
+    let mut r = m;
+    let mut k: usize = 0;
+    while k < count {
+        let b = branch(scratch, e - k);
+        r = mark_process(text, scratch, ends, n, b.number, sought, r);
+        k += 1;
+    }
+    r
 }

@@ -1,16 +1,29 @@
-// Whether a name is among a call's names.
+// Names that are held, and a call's names.
+use crate::marks::Marks;
+use crate::marks::clear_if;
+use crate::marks::is_marked;
+use crate::marks::mark_if;
 use notation::token::names_equal;
+use notation::words::wide;
 use read_tables::arguments::Argument;
 use read_tables::arguments::list_start;
 use read_tables::arguments::next_argument;
+use run_words::records::END_WORDS;
+use run_words::records::HELD_WORDS;
+use run_words::records::SIDE_RADIX;
 ghost use mathlib.Core.Path.{_≡_};
-ghost use Prim.Native.Nat.{ℕ};
+ghost use Prim.Native.Nat.{ℕ, _*_, _/_, _<_, _≤_};
+ghost use lib.ListN.{getD};
 ghost use mathlib.Core.List.{List};
+ghost use mathlib.Core.Bool.{_&&_};
 ghost use Rattle.notation.specs.Token.{nameAt};
 ghost use Rattle.notation.specs.Tree.{Located};
 ghost use Rattle.calculus.specs.Mentions.{isOneOf};
 ghost use Rattle.read_tables.specs.Names.{NamesFrom};
-ghost use Rattle.check_contexts.specs.Walks.{Ends, Among, AmongBoth};
+ghost use Rattle.notation.specs.Limits.{heldLimit};
+ghost use Rattle.run_words.specs.Raw.{endWords, sideRadix};
+ghost use Rattle.check_contexts.specs.Marks.{markOf, heldName, isName, Marked, Hidden};
+ghost use Rattle.check_contexts.specs.Walks.{Ends, Among, MarkedList, MarkedCall};
 
 // The name at `at` is in the list that goes on from `from`.
 pub fn in_list(text: &[u8], from: usize, at: usize) -> bool
@@ -47,15 +60,117 @@ pub fn list_end(text: &[u8], from: usize) -> usize
     }
 }
 
-// The name at `at` is in one of the two lists of the call whose round bracket stands at `bracket`.
-pub(crate) fn in_call(text: &[u8], bracket: usize, at: usize) -> bool
-    ensures { λ r. ⌜ AmongBoth (now (text .entry)) bracket (nameAt (now (text .entry)) at) r ⌝ }
+// The offset of the name of the end k.
+fn name_at(ends: &[u32; HELD_WORDS], k: usize) -> usize
+    requires { ⌜ k < heldLimit ⌝ }
+    ensures { λ r. ⌜ r ≡ getD (now (ends .entry)) (endWords * k) 0 / sideRadix ⌝ }
+{
+    wide(ends[END_WORDS * k] / SIDE_RADIX)
+}
+
+// The name of the end k is sought, and it is the name at `at`.
+fn meets(text: &[u8], ends: &[u32; HELD_WORDS], at: usize, sought: Marks, k: usize) -> bool
+    requires { ⌜ k < heldLimit ⌝ }
+    ensures { λ r. ⌜ r ≡ markOf sought k && isName (now (text .entry)) at (heldName (now (text .entry)) (now (ends .entry)) k) ⌝ }
+{
+    if is_marked(sought, k) {
+        return names_equal(text, name_at(ends, k), at);
+    }
+    false
+}
+
+// Marks, of the first n names, those that are sought and are the name at `at`.
+pub(crate) fn mark_name(
+    text: &[u8],
+    ends: &[u32; HELD_WORDS],
+    n: usize,
+    at: usize,
+    sought: Marks,
+    m: Marks,
+) -> Marks
+    requires { ⌜ n ≤ heldLimit ⌝ }
+    ensures { λ r. ⌜ Marked (now (text .entry)) (now (ends .entry)) n sought (isName (now (text .entry)) at) m r ⌝ }
+{
+    let mut r = m;
+    let mut k: usize = 0;
+    while k < n {
+        let met = meets(text, ends, at, sought, k);
+        r = mark_if(r, k, met);
+        k += 1;
+    }
+    r
+}
+
+// Of the first n names, the name at `at` is sought no more.
+pub(crate) fn hide_name(
+    text: &[u8],
+    ends: &[u32; HELD_WORDS],
+    n: usize,
+    at: usize,
+    sought: Marks,
+) -> Marks
+    requires { ⌜ n ≤ heldLimit ⌝ }
+    ensures { λ r. ⌜ Hidden (now (text .entry)) (now (ends .entry)) n (isName (now (text .entry)) at) sought r ⌝ }
+{
+    let mut r = sought;
+    let mut k: usize = 0;
+    while k < n {
+        let met = meets(text, ends, at, sought, k);
+        r = clear_if(r, k, met);
+        k += 1;
+    }
+    r
+}
+
+// Marks after a list of names, and where the list ends.
+pub struct ListMarks {
+    pub marks: Marks,
+    pub past: usize,
+}
+
+// Marks, of the first n names, those that are sought and stand in the list that goes on from `from`.
+fn mark_list(
+    text: &[u8],
+    ends: &[u32; HELD_WORDS],
+    n: usize,
+    from: usize,
+    sought: Marks,
+    m: Marks,
+) -> ListMarks
+    requires { ⌜ n ≤ heldLimit ⌝ }
+    ensures { λ r. ⌜ MarkedList (now (text .entry)) (now (ends .entry)) n from sought m r ⌝ }
+{
+    let mut i = from;
+    let mut marks = m;
+    loop {
+        let a = next_argument(text, i);
+        match a {
+            Argument::Name(there, past) => {
+                marks = mark_name(text, ends, n, there, sought, marks);
+                i = past;
+            }
+            Argument::End(past) => {
+                return ListMarks { marks, past };
+            }
+        }
+    }
+}
+
+// The same of both lists of the call whose round bracket stands at `bracket`.
+pub(crate) fn mark_call(
+    text: &[u8],
+    ends: &[u32; HELD_WORDS],
+    n: usize,
+    bracket: usize,
+    sought: Marks,
+    m: Marks,
+) -> Marks
+    requires { ⌜ n ≤ heldLimit ⌝ }
+    ensures { λ r. ⌜ MarkedCall (now (text .entry)) (now (ends .entry)) n bracket sought m r ⌝ }
 {
     let provided = list_start(text, bracket);
-    if in_list(text, provided, at) {
-        return true;
-    }
-    let middle = list_end(text, provided);
-    let used = list_start(text, middle);
-    in_list(text, used, at)
+    let first = mark_list(text, ends, n, provided, sought, m);
+    let used = list_start(text, first.past);
+    let second = mark_list(text, ends, n, used, sought, first.marks);
+    second.marks
 }

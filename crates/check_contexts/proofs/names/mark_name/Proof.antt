@@ -1,0 +1,54 @@
+use borrow.Author.Needs.{needs}
+use Prim.Native.Nat.{_-_, _≤_}
+use mathlib.Core.Path.{refl}
+use native.Mathlib.Omega.{arith}
+use Rattle.check_contexts.specs.Marks.{Marking, upto-none, mark-next, marked-all}
+use Rattle.check_contexts.proofs.names.mark_name.Statement.{statement}
+use Rattle.check_contexts.proofs.names.mark_name.Tie as tie
+use Rattle.check_contexts.proofs.names.mark_name.Reads as reads
+use Rattle.check_contexts.proofs.names.mark_name.Lts as lts
+use Rattle.check_contexts.proofs.marks.mark_if.Reads as mark-if-reads
+use Rattle.check_contexts.proofs.names.meets.Reads as meets-reads
+
+abbrev Inv-loop : tie.InvT-loop
+Inv-loop text ends n at sought r₀ k₀ r k = (k ≤ n) × Marking text ends at sought r₀ r k
+
+abbrev μ-loop : tie.MeasureT-loop
+μ-loop text ends n at sought r₀ k₀ r k = n - k
+
+loop-holds : tie.Need-loop-holds Inv-loop μ-loop
+loop-holds c = (omega arith, record { upto = upto-none })
+
+meets-requires : tie.Need-meets-requires Inv-loop μ-loop
+meets-requires c κs = search needs
+
+mark-if-requires : tie.Need-mark-if-requires Inv-loop μ-loop
+mark-if-requires c κs = search needs
+
+add-k : tie.Need-add-k Inv-loop μ-loop
+add-k c = search needs
+
+loop-less : tie.Need-loop-less Inv-loop μ-loop
+loop-less c = search needs
+
+loop-again : tie.Need-loop-again Inv-loop μ-loop
+loop-again c =
+    let loop = c .before .before .before .loop in
+    (omega (arith, c .before .before .loop-test .taken), mark-next _ refl (c .before .meets .ensures) (loop .inv .1) (c .mark-if .ensures))
+
+returns : tie.Need-returns Inv-loop μ-loop
+returns c = marked-all (c .before .loop .inv .1) (c .loop-test .left)
+
+pub mark-name-spec : {M : Type 1} → statement M
+mark-name-spec =
+    tie.close
+    (tie.spec
+    Inv-loop
+    μ-loop
+    loop-holds
+    meets-requires
+    mark-if-requires
+    add-k
+    loop-less
+    loop-again
+    returns)
