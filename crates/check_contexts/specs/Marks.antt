@@ -6,7 +6,8 @@ use mathlib.Core.List.{List}
 use mathlib.Core.Bool.{Bool, true, false, true≢false, not, _||_, _&&_}
 use native.Mathlib.Omega.{arith}
 use native.Mathlib.Nat.{eq-or-lt-of-le}
-use lib.ListN.{getD}
+use lib.ListN.{getD, replicate, getD-replicate}
+use Rattle.notation.specs.Limits.{heldLimit}
 use Rattle.notation.specs.Bytes.{same}
 use Rattle.notation.specs.Token.{nameAt}
 use Rattle.notation.specs.Tree.{Name}
@@ -15,6 +16,24 @@ use Rattle.check_contexts.specs.declared.marks.Marks.{Marks}
 
 abbrev pub markOf : Marks → ℕ → Bool
 markOf m k = getD (m .set) k false
+
+-- no position is marked, and each is
+abbrev pub NONE : Marks
+NONE = record { set = replicate heldLimit false }
+
+abbrev pub ALL : Marks
+ALL = record { set = replicate heldLimit true }
+
+none-of : (n k : ℕ) → getD (replicate n false) k false ≡ false
+none-of zero k = refl
+none-of (suc n) zero = refl
+none-of (suc n) (suc k) = none-of n k
+
+pub no-mark : (k : ℕ) → markOf NONE k ≡ false
+no-mark k = none-of heldLimit k
+
+pub every-mark : (k : ℕ) → k < heldLimit → markOf ALL k ≡ true
+every-mark k b = getD-replicate heldLimit k true false b
 
 -- one mark is put, the others stay
 pub record Puts (m : Marks) (k : ℕ) (b : Bool) (r : Marks) : Type 0 where

@@ -1,6 +1,10 @@
 // What each half of a process takes of what is held.
-use notation::token::names_equal;
-use notation::words::wide;
+use crate::marks::Marks;
+use crate::marks::NONE;
+use crate::marks::any_marked;
+use crate::marks::is_marked;
+use crate::mentions::mark_process;
+use crate::names::hide_name;
 use run_words::held::end_at;
 use run_words::held::no_ends;
 use run_words::held::with;
@@ -13,12 +17,11 @@ ghost use mathlib.Core.Path.{_≡_};
 ghost use Prim.Native.Nat.{ℕ, _+_, _≤_, _<_};
 ghost use mathlib.Core.List.{[], _∷_, _++_};
 ghost use mathlib.Core.Bool.{cond};
+ghost use Rattle.run_words.specs.Lists.{All};
 ghost use Rattle.run_words.specs.Raw.{BoundedEnd, sideOf, sideRadix};
 ghost use Rattle.run_words.specs.Values.{endIn, heldIn};
-ghost use Rattle.notation.specs.Token.{nameAt};
 ghost use Rattle.read_tables.specs.Whole.{Tables};
-ghost use Rattle.check_contexts.specs.Held.{HeldIn};
-ghost use Rattle.check_contexts.specs.Halves.{HalfIn, halfSide, takes, wanted, Keeps, fair, Fair};
+ghost use Rattle.check_contexts.specs.Halves.{HalfIn, halfSide, wanted, fair, Takes, Picks, Divides};
 
 // A half of a spawn, in which the name at the first offset is a new one, or a half of a try; and its pointer.
 pub enum Half {
@@ -35,6 +38,25 @@ pub fn side_of(first: bool) -> u32
         return PROVIDED;
     }
     USED
+}
+
+// Which of the held channels that `of` marks the half takes; the walk is spared where none is marked.
+pub fn half_takes(text: &[u8], scratch: &[u32], h: Held, half: Half, of: Marks) -> Marks
+    requires { ⌜ Tables (now text) (now scratch) × HalfIn (now text) (now scratch) half × (h .count ≤ heldLimit) ⌝ }
+    ensures { λ r. ⌜ Takes (now (text .entry)) (now (scratch .entry)) h half of r ⌝ }
+{
+    let n = h.count;
+    let ends = h.words;
+    if !any_marked(of, n) {
+        return NONE;
+    }
+    match half {
+        Half::OfSpawn(x, p) => {
+            let sought = hide_name(text, &ends, n, x, of);
+            mark_process(text, scratch, &ends, n, p, sought, NONE)
+        }
+        Half::OfTry(p) => mark_process(text, scratch, &ends, n, p, of, NONE),
+    }
 }
 
 fn as_wanted(want: bool, taken: bool) -> bool
@@ -58,6 +80,23 @@ fn with_if(h: Held, e: End, goes: bool) -> Held
     h
 }
 
+// What is held and marked, in its order; or, where that is not wanted, what is not marked.
+pub fn keep(h: Held, m: Marks, want: bool) -> Held
+    requires { ⌜ (h .count ≤ heldLimit) × All BoundedEnd (heldIn h) ⌝ }
+    ensures { λ r. ⌜ Picks h m want r ⌝ }
+{
+    let n = h.count;
+    let mut r = no_ends();
+    let mut k: usize = 0;
+    while k < n {
+        let e = end_at(h, k);
+        let goes = as_wanted(want, is_marked(m, k));
+        r = with_if(r, e, goes);
+        k += 1;
+    }
+    r
+}
+
 // A channel that is taken so by the two halves is taken as it may be.
 fn is_fair(exactly: bool, first: bool, second: bool) -> bool
     ensures { λ r. ⌜ r ≡ fair exactly first second ⌝ }
@@ -67,6 +106,21 @@ fn is_fair(exactly: bool, first: bool, second: bool) -> bool
     }
     if exactly {
         return second;
+    }
+    true
+}
+
+// None of the first n channels is taken by both halves, and, where it must be exactly one, none by neither.
+pub fn divides(n: usize, first: Marks, second: Marks, exactly: bool) -> bool
+    requires { ⌜ n ≤ heldLimit ⌝ }
+    ensures { λ r. ⌜ Divides n first second exactly r ⌝ }
+{
+    let mut k: usize = 0;
+    while k < n {
+        if !is_fair(exactly, is_marked(first, k), is_marked(second, k)) {
+            return false;
+        }
+        k += 1;
     }
     true
 }
