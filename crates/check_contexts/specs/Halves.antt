@@ -5,24 +5,27 @@ use native.Mathlib.Omega.{arith}
 use mathlib.Core.List.{List, [], _∷_, _++_, map}
 use mathlib.Core.Bool.{Bool, true, false, cond, not, _||_, _&&_}
 use mathlib.Core.Option.{Option·none-ne-some, Option·some-injective, some}
-use lib.ListN.{length, getElem?, take}
+use lib.ListN.{length, length-map, getElem?, take}
 use lib.Seq.{take-all}
 use Rattle.notation.specs.Bytes.{same}
+use Rattle.notation.specs.Limits.{heldLimit}
 use Rattle.notation.specs.Token.{nameAt}
 use Rattle.notation.specs.Tree.{Name}
+use Rattle.calculus.specs.Configuration.{end}
 use Rattle.calculus.specs.Types.{Side, provided, used}
 use Rattle.calculus.specs.Named.{kept, names, all}
 use Rattle.calculus.specs.Mentions.{mentions, halfMentions, spawnTakes, spawnLeaves, tryTakes, neverBoth, exactlyOne}
 use Rattle.read_tables.specs.Decode.{processIn}
-use Rattle.read_tables.specs.Roots.{ProcessIn}
+use Rattle.read_tables.specs.Program.{plainIn}
+use Rattle.read_tables.specs.Roots.{TypeIn, ProcessIn}
 use Rattle.run_words.specs.Lists.{All}
 use Rattle.run_words.specs.ListLaws.{below-length, drop-at}
-use Rattle.run_words.specs.Raw.{RawEnd}
+use Rattle.run_words.specs.Raw.{RawEnd, sideOf}
 use Rattle.run_words.specs.Values.{endIn, heldIn, held-length}
 use Rattle.run_words.specs.declared.records.End.{End}
 use Rattle.run_words.specs.declared.records.Held.{Held}
 use Rattle.run_words.proofs.Ends.{end-here}
-use Rattle.check_contexts.specs.Held.{endIs, endsIn, channelsOf, EndIn, HeldIn}
+use Rattle.check_contexts.specs.Held.{endIs, endsIn, channelsOf, EndIn, HeldIn, Brings}
 use Rattle.check_contexts.specs.Marks.{markOf, anyOf, any-none, heldName, isName, Marked, Hidden, NONE, ALL, no-mark, every-mark}
 use Rattle.check_contexts.specs.declared.marks.Marks.{Marks}
 use Rattle.check_contexts.specs.declared.halves.Half.{Half}
@@ -267,6 +270,33 @@ module _ {s w : List ℕ} {h : Held} {first second : Half} {a b : Marks} (t : Ta
       (λ j. fair false (markOf a k) (v .at k l j))
       ∙ (λ j. fair false (marked-so t u k e g j) (marked-so t u k e g j && takes s w second (sym (held-name s h k g) j)))
       ∙ only-both (takes s w first (nameAt s (e .name))) x) d
+
+-- ── a half of a spawn
+-- what it holds before the new channel comes has room for it
+pub record HasRoom (h : Held) (m : Marks) (first : Bool) : Type 0 where
+  pub few : length (picked (λ k. wanted first (markOf m k)) 0 (heldIn h)) < heldLimit
+
+-- what it takes or is left, and its end of the new channel
+pub record SpawnHalf (h : Held) (m : Marks) (name node : ℕ) (first : Bool) (channel : ℕ) (r : Held) : Type 0 where
+  pub is : {s w : List ℕ} {half : Half} → Takes s w h half ALL m → HeldIn s w h
+      → channelsOf s w r ≡ kept (λ n. wanted first (takes s w half n)) (channelsOf s w h) ++ ((nameAt s name, end (halfSide first) channel (plainIn s w node)) ∷ [])
+  pub fits : {s w : List ℕ} {half : Half} → Takes s w h half ALL m → HeldIn s w h → TypeIn s w node → HeldIn s w r
+
+pub has-room : {s w : List ℕ} {h : Held} {half : Half} {m : Marks} (first : Bool) → Takes s w h half ALL m → HeldIn s w h → length (kept (λ n. wanted first (takes s w half n)) (channelsOf s w h)) < heldLimit → HasRoom h m first
+unfolding channelsOf
+has-room {s} {w} {h} {half} {m} first t u l =
+    let f : ℕ → Bool = λ k. wanted first (markOf m k) in
+    let q = picked-kept s w f (λ n. wanted first (takes s w half n)) 0 (heldIn h) (agree-start s w f _ (heldIn h) (λ k e g. ap (wanted first) (marked-so t u k e g))) in
+    record { few = omega (arith, l, ap length q, length-map (picked f 0 (heldIn h)) (endIs s w)) }
+
+pub picks-few : {h a : Held} {m : Marks} {first : Bool} → HasRoom h m first → Picks h m first a → a .count < heldLimit
+picks-few {a = a} f q = omega (arith, f .few, ap length (q .is), held-length a)
+
+pub half-joined : {h a r : Held} {m : Marks} {name node channel side : ℕ} {first : Bool} → Picks h m first a → sideOf side ≡ halfSide first → Brings a name side node channel r → SpawnHalf h m name node first channel r
+half-joined {name = name} {node = node} {channel = channel} q e b = record {
+  is = λ {s} {w} t u. b .is s w ∙ λ j. keeps-so t u q .is j ++ ((nameAt s name, end (e j) channel (plainIn s w node)) ∷ []);
+  fits = λ {s} {w} t u a. b .fits s w a (keeps-so t u q .fits);
+}
 
 -- a test of what is not so
 pub not-true : (b : Bool) → not b ≡ true → b ≡ false

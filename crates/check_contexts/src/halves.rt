@@ -1,4 +1,5 @@
 // What each half of a process takes of what is held.
+use crate::held::bring_end;
 use crate::marks::Marks;
 use crate::marks::NONE;
 use crate::marks::any_marked;
@@ -12,7 +13,7 @@ use run_words::records::End;
 use run_words::records::Held;
 use run_words::records::PROVIDED;
 use run_words::records::USED;
-ghost use Rattle.notation.specs.Limits.{heldLimit};
+ghost use Rattle.notation.specs.Limits.{channelPlaces, heldLimit, textLimit, typeTermLimit};
 ghost use mathlib.Core.Path.{_≡_};
 ghost use Prim.Native.Nat.{ℕ, _+_, _≤_, _<_};
 ghost use mathlib.Core.List.{[], _∷_, _++_};
@@ -21,7 +22,7 @@ ghost use Rattle.run_words.specs.Lists.{All};
 ghost use Rattle.run_words.specs.Raw.{BoundedEnd, sideOf, sideRadix};
 ghost use Rattle.run_words.specs.Values.{endIn, heldIn};
 ghost use Rattle.read_tables.specs.Whole.{Tables};
-ghost use Rattle.check_contexts.specs.Halves.{HalfIn, halfSide, wanted, fair, Takes, Picks, Divides};
+ghost use Rattle.check_contexts.specs.Halves.{HalfIn, halfSide, wanted, fair, Takes, Picks, Divides, HasRoom, SpawnHalf};
 
 // A half of a spawn, in which the name at the first offset is a new one, or a half of a try; and its pointer.
 pub enum Half {
@@ -123,4 +124,22 @@ pub fn divides(n: usize, first: Marks, second: Marks, exactly: bool) -> bool
         k += 1;
     }
     true
+}
+
+// What a half of a spawn holds: what is marked, for the first half, or what is left, for the second; and its end of the new channel.
+pub fn spawn_half(
+    h: Held,
+    taken: Marks,
+    name: u32,
+    node: u32,
+    first: bool,
+    channel: u32,
+) -> Held
+    requires { ⌜ (h .count ≤ heldLimit) × All BoundedEnd (heldIn h) × HasRoom h taken first ⌝ }
+    requires { ⌜ (name < textLimit) × (node < typeTermLimit) × (channel < channelPlaces) ⌝ }
+    ensures { λ r. ⌜ SpawnHalf h taken name node first channel r ⌝ }
+{
+    let a = keep(h, taken, first);
+    let side = side_of(first);
+    bring_end(a, name, side, node, channel)
 }

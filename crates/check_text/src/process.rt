@@ -154,16 +154,19 @@ fn check_spawn(text: &[u8], scratch: &[u32], h: Held, link: bool, p: usize, n: T
     requires { ⌜ Tables (now text) (now scratch) × HeldIn (now text) (now scratch) h × NodeIn (now text) (now scratch) p n × (n .kind ≡ 5) ⌝ }
     ensures { λ r. ⌜ verdictOf r ≡ check (programIn (now (text .entry)) (now (scratch .entry))) (contextIn (now (text .entry)) (now (scratch .entry)) h) link (processIn (now (text .entry)) (now (scratch .entry)) p) ⌝ }
 {
-    let refusal = spawn_refusal(text, scratch, h, n);
+    let taken = half_takes(text, scratch, h, Half::OfSpawn(n.at, n.second), ALL);
+    let refusal = spawn_refusal(text, scratch, h, n, taken);
     if refusal != 0 {
         return Verdict::Refused(refusal, n.at);
     }
-    let a = spawn_half(text, scratch, h, n, true);
+    let name = narrow(n.at);
+    let node = narrow(n.first);
+    let a = spawn_half(h, taken, name, node, true, 0);
     let v = check_process(text, scratch, a, false, n.second);
     let Verdict::Fine = v else {
         return v;
     };
-    let b = spawn_half(text, scratch, h, n, false);
+    let b = spawn_half(h, taken, name, node, false, 0);
     check_process(text, scratch, b, link, n.third)
 }
 

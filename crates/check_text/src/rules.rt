@@ -1,9 +1,9 @@
 // What the rules ask of one term, by the kind of its node.
 use check_contexts::halves::Half;
 use check_contexts::halves::divides;
+use check_contexts::halves::half_takes;
 use check_contexts::halves::keep;
-use check_contexts::halves::side_of;
-use check_contexts::held::bring_end;
+use check_contexts::marks::Marks;
 use check_terms::calls::call_refusal;
 use check_terms::forwards::forward_refusal;
 use check_terms::next::Next;
@@ -15,22 +15,24 @@ use check_terms::sends::receive_next;
 use notation::kinds;
 use notation::reading::TermNode;
 use notation::script::Script;
-use notation::words::narrow;
 use run_words::records::Held;
 use run_words::records::PROVIDED;
 use run_words::records::USED;
 ghost use mathlib.Core.Path.{_≡_};
 ghost use Prim.Native.Nat.{ℕ, _<_, _≤_};
 ghost use Rattle.notation.specs.Limits.{textLimit};
+ghost use Rattle.check_contexts.specs.Halves.{Takes};
 ghost use Rattle.check_contexts.specs.Held.{HeldIn};
+ghost use Rattle.check_contexts.specs.Marks.{ALL};
+ghost use Rattle.check_contexts.specs.declared.halves.Half.the-variants.{OfSpawn};
 ghost use Rattle.read_tables.specs.Program.{programIn};
 ghost use Rattle.read_tables.specs.Decode.{argumentsAt};
 ghost use Rattle.read_tables.specs.Names.{CallAt};
-ghost use Rattle.read_tables.specs.Roots.{TypeIn, ProcessIn};
+ghost use Rattle.read_tables.specs.Roots.{ProcessIn};
 ghost use Rattle.read_tables.specs.Whole.{Tables};
 ghost use Rattle.check_terms.specs.Next.{contextIn, Goes};
 ghost use Rattle.check_terms.specs.Endings.{numberOf};
-ghost use Rattle.check_text.specs.Nodes.{sendStep, receiveStep, endStep, spawnStep, SpawnHalf};
+ghost use Rattle.check_text.specs.Nodes.{sendStep, receiveStep, endStep, spawnStep};
 
 // A send: what is held after it.
 pub(crate) fn send_next(text: &[u8], scratch: &[u32], h: Held, n: TermNode) -> Next
@@ -69,40 +71,32 @@ pub(crate) fn ending_refusal(text: &[u8], scratch: &[u32], h: Held, n: TermNode)
     call_refusal(text, scratch, h, n.first, n.second)
 }
 
-// A spawn's halves may be divided so, and its new name joins both: the refusal's number, or 0.
-pub(crate) fn spawn_refusal(text: &[u8], scratch: &[u32], h: Held, n: TermNode) -> u32
-    requires { ⌜ Tables (now text) (now scratch) × HeldIn (now text) (now scratch) h × ProcessIn (now text) (now scratch) (n .second) × ProcessIn (now text) (now scratch) (n .third) ⌝ }
+// A spawn's halves may be divided so, the first of which takes what is marked, and its new name joins both: the refusal's number, or 0.
+pub(crate) fn spawn_refusal(
+    text: &[u8],
+    scratch: &[u32],
+    h: Held,
+    n: TermNode,
+    taken: Marks,
+) -> u32
+    requires { ⌜ Tables (now text) (now scratch) × HeldIn (now text) (now scratch) h × ProcessIn (now text) (now scratch) (n .third) ⌝ }
+    requires { ⌜ Takes (now text) (now scratch) h (OfSpawn (n .at) (n .second)) ALL taken ⌝ }
     ensures { λ r. ⌜ r ≡ numberOf (spawnStep (now (text .entry)) (now (scratch .entry)) n (contextIn (now (text .entry)) (now (scratch .entry)) h)) ⌝ }
 {
-    let first = Half::OfSpawn(n.at, n.second);
-    let second = Half::OfSpawn(n.at, n.third);
-    if !divides(text, scratch, h, first, second, false) {
+    let shared = half_takes(text, scratch, h, Half::OfSpawn(n.at, n.third), taken);
+    if !divides(h.count, taken, shared, false) {
         return 13;
     }
     if !is_new(text, h, n.at) {
         return 15;
     }
-    let a = keep(text, scratch, h, first, true);
+    let a = keep(h, taken, true);
     if a.count == Script::HELD {
         return 15;
     }
-    let b = keep(text, scratch, h, first, false);
+    let b = keep(h, taken, false);
     if b.count == Script::HELD {
         return 15;
     }
     0
-}
-
-// What a half of a spawn holds: what it takes, or what the first half leaves, and the new channel.
-pub(crate) fn spawn_half(text: &[u8], scratch: &[u32], h: Held, n: TermNode, first: bool) -> Held
-    requires { ⌜ Tables (now text) (now scratch) × HeldIn (now text) (now scratch) h × ProcessIn (now text) (now scratch) (n .second) × TypeIn (now text) (now scratch) (n .first) × (n .at < textLimit) ⌝ }
-    requires { ⌜ numberOf (spawnStep (now text) (now scratch) n (contextIn (now text) (now scratch) h)) ≡ 0 ⌝ }
-    ensures { λ r. ⌜ SpawnHalf (now (text .entry)) (now (scratch .entry)) h n first r ⌝ }
-{
-    let half = Half::OfSpawn(n.at, n.second);
-    let a = keep(text, scratch, h, half, first);
-    let side = side_of(first);
-    let at = narrow(n.at);
-    let node = narrow(n.first);
-    bring_end(a, at, side, node, 0)
 }
