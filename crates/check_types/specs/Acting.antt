@@ -57,13 +57,13 @@ abbrev pub choosingOf : List ℕ → List ℕ → Choosing → Option calculus.C
 choosingOf s w NoChoosing.Nothing = none
 choosingOf s w (Chooses a e n) = some (record { sender = sideOf a; labels = plains (alternativesIn s w e n) })
 
-abbrev pub chosenIn : List ℕ → List ℕ → ℕ → Choosing → Type 0
-chosenIn s w i NoChoosing.Nothing = Unit
-chosenIn s w i (Chooses a e n) = (a < 2) × AlternativesIn s w i e n
+abbrev pub chosenIn : List ℕ → List ℕ → Choosing → Type 0
+chosenIn s w NoChoosing.Nothing = Unit
+chosenIn s w (Chooses a e n) = (a < 2) × AlternativesIn s w e n
 
 pub record ChoosingIn (s w : List ℕ) (i : ℕ) (r : Choosing) : Type 0 where
   pub is : choosing (plainIn s w i) ≡ choosingOf s w r
-  pub parts : chosenIn s w i r
+  pub parts : chosenIn s w r
 
 -- r is what the type i lets a process choose, whatever text the tables are of
 pub record ChoosingOf (w : List ℕ) (i : ℕ) (r : Choosing) : Type 0 where
@@ -111,20 +111,20 @@ bit-small m k = go (eqb m k)
     go false = omega arith
 
 -- ── from the node to what it lets do
-module _ {s w : List ℕ} {i : ℕ} {n : TypeNode} {k : ℕ} where
-  not-word : (types : List (Name × Ty Name)) (A : Ty Name) {t : Shape} → ShapeIn s w i n k t → (k ≡ 1 → ⊥) → standingBy types A t ≡ A
+module _ {s w : List ℕ} {n : TypeNode} {k : ℕ} where
+  not-word : (types : List (Name × Ty Name)) (A : Ty Name) {t : Shape} → ShapeIn s w n k t → (k ≡ 1 → ⊥) → standingBy types A t ≡ A
   not-word types A (is-leaf e) z = refl
   not-word types A (is-word e) z = absurd (z e)
   not-word types A (is-pair l h a b) z = refl
   not-word types A (is-choice l h a) z = refl
 
-  not-pair : {t : Shape} → ShapeIn s w i n k t → (k ≡ 2 → ⊥) → (k ≡ 3 → ⊥) → (k ≡ 4 → ⊥) → passingBy t ≡ none
+  not-pair : {t : Shape} → ShapeIn s w n k t → (k ≡ 2 → ⊥) → (k ≡ 3 → ⊥) → (k ≡ 4 → ⊥) → passingBy t ≡ none
   not-pair (is-leaf e) x y z = refl
   not-pair (is-word e) x y z = refl
   not-pair (is-pair l h a b) x y z = absurd (omega arith)
   not-pair (is-choice l h a) x y z = refl
 
-  not-choice : {t : Shape} → ShapeIn s w i n k t → (k ≡ 5 → ⊥) → (k ≡ 6 → ⊥) → choosingBy t ≡ none
+  not-choice : {t : Shape} → ShapeIn s w n k t → (k ≡ 5 → ⊥) → (k ≡ 6 → ⊥) → choosingBy t ≡ none
   not-choice (is-leaf e) x y = refl
   not-choice (is-word e) x y = refl
   not-choice (is-pair l h a b) x y = refl

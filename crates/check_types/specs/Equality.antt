@@ -8,7 +8,8 @@ use borrow.Author.Tests.{eq-eqb, ne-eqb}
 use lib.Dec.{eqb}
 use Rattle.notation.specs.Bytes.{same}
 use Rattle.notation.specs.Token.{nameAt}
-use Rattle.notation.specs.Tree.{Name, Ty, unit, named, tensor, par, lolli, plus, with, Alternatives, alternative, plains}
+use Rattle.notation.specs.Tree.{Name, Ty, Alternatives, plains}
+use Rattle.notation.specs.Sizes.{typeTerms, alternativesTerms}
 use Rattle.notation.specs.declared.reading.TypeNode.{TypeNode}
 use Rattle.calculus.specs.Types.{Shape, leaf, word, pair, choice, shape, atLeaf, atWord, atPair, atChoice, sameType, sameAlternatives}
 use Rattle.read_tables.specs.declared.access.Labelled.{Labelled}
@@ -55,36 +56,26 @@ differ (choice k r) (word n) d = refl
 differ (choice k r) (pair m A B) d = refl
 differ (choice k r) (choice m q) d = rw (ne-eqb k m d) refl
 
-kind-in : {s w : List ℕ} {i : ℕ} {n : TypeNode} {k : ℕ} {t : Shape} → ShapeIn s w i n k t → kindOf t ≡ k
+kind-in : {s w : List ℕ} {n : TypeNode} {k : ℕ} {t : Shape} → ShapeIn s w n k t → kindOf t ≡ k
 kind-in (is-leaf e) = sym e
 kind-in (is-word e) = sym e
 kind-in (is-pair l h a b) = refl
 kind-in (is-choice l h a) = refl
 
--- ── the size of a type: what falls at each call
-unfoldable mutual
-  pub size : Ty Name → ℕ
-  size unit = 0
-  size (named n) = 0
-  size (tensor A B) = suc (size A + size B)
-  size (par A B) = suc (size A + size B)
-  size (lolli A B) = suc (size A + size B)
-  size (plus r) = suc (sizes r)
-  size (with r) = suc (sizes r)
+-- ── the terms of a type, by its shape: what falls at each call
+abbrev termsBy : Shape → ℕ
+termsBy leaf = 1
+termsBy (word n) = 1
+termsBy (pair k A B) = suc (typeTerms A + typeTerms B)
+termsBy (choice k r) = suc (alternativesTerms r)
 
-  pub sizes : Alternatives Name → ℕ
-  sizes Alternatives.none = 0
-  sizes (alternative l A r) = suc (size A + sizes r)
+terms-by-shape : (A : Ty Name) → typeTerms A ≡ termsBy (shape A)
+unfolding typeTerms
+terms-by-shape = by-marks (λ A. typeTerms A ≡ termsBy (shape A)) refl (λ n. refl) (λ A B. (refl, refl, refl)) (λ r. (refl, refl))
 
-abbrev sizeBy : Shape → ℕ
-sizeBy leaf = 0
-sizeBy (word n) = 0
-sizeBy (pair k A B) = suc (size A + size B)
-sizeBy (choice k r) = suc (sizes r)
-
-size-by-shape : (A : Ty Name) → size A ≡ sizeBy (shape A)
-unfolding size
-size-by-shape = by-marks (λ A. size A ≡ sizeBy (shape A)) refl (λ n. refl) (λ A B. (refl, refl, refl)) (λ r. (refl, refl))
+some-term : (A : Ty Name) → 1 ≤ typeTerms A
+unfolding typeTerms
+some-term = by-marks (λ A. 1 ≤ typeTerms A) (omega arith) (λ n. omega arith) (λ A B. (omega arith, omega arith, omega arith)) (λ r. (omega arith, omega arith))
 
 -- ── the nodes x at a and y at b
 module _ (s w : List ℕ) (a b : ℕ) (x y : TypeNode) where
@@ -97,21 +88,21 @@ module _ (s w : List ℕ) (a b : ℕ) (x y : TypeNode) where
     pub first-there : TypeIn s w (y .first)
     pub second-here : TypeIn s w (x .second)
     pub second-there : TypeIn s w (y .second)
-    pub smaller : size (plainIn s w a) ≡ suc (size (plainIn s w (x .first)) + size (plainIn s w (x .second)))
+    pub terms : typeTerms (plainIn s w a) ≡ suc (typeTerms (plainIn s w (x .first)) + typeTerms (plainIn s w (x .second)))
     pub is : Same ≡ (sameType (plainIn s w (x .first)) (plainIn s w (y .first)) && sameType (plainIn s w (x .second)) (plainIn s w (y .second)))
 
   -- two choices of one mark
   pub record ChoicesIn : Type 0 where
-    pub here : AlternativesIn s w a (x .first) (x .second)
-    pub there : AlternativesIn s w b (y .first) (y .second)
-    pub smaller : size (plainIn s w a) ≡ suc (sizes (plains (alternativesIn s w (x .first) (x .second))))
+    pub here : AlternativesIn s w (x .first) (x .second)
+    pub there : AlternativesIn s w (y .first) (y .second)
+    pub terms : typeTerms (plainIn s w a) ≡ suc (alternativesTerms (plains (alternativesIn s w (x .first) (x .second))))
     pub is : Same ≡ sameAlternatives (plains (alternativesIn s w (x .first) (x .second))) (plains (alternativesIn s w (y .first) (y .second)))
 
   module _ (t : Tables s w) (p : TypeIn s w a) (q : TypeIn s w b) (m : NodeOf w a x) (n : NodeOf w b y) where
-    here : ShapeIn s w a x (x .kind) (shape (plainIn s w a))
+    here : ShapeIn s w x (x .kind) (shape (plainIn s w a))
     here = shape-in s w a x m t p
 
-    there : ShapeIn s w b y (y .kind) (shape (plainIn s w b))
+    there : ShapeIn s w y (y .kind) (shape (plainIn s w b))
     there = shape-in s w b y n t q
 
     as-shapes : (u v : Shape) → shape (plainIn s w a) ≡ u → shape (plainIn s w b) ≡ v → Same ≡ sameShape u v
@@ -136,7 +127,7 @@ module _ (s w : List ℕ) (a b : ℕ) (x y : TypeNode) where
             first-there = g .first;
             second-here = f .second;
             second-there = g .second;
-            smaller = size-by-shape (plainIn s w a) ∙ ap sizeBy (f .is);
+            terms = terms-by-shape (plainIn s w a) ∙ ap termsBy (f .is);
             is = as-shapes _ _ (f .is) (g .is) ∙ rw (eq-eqb (x .kind) (y .kind) e) refl;
           }
 
@@ -147,7 +138,7 @@ module _ (s w : List ℕ) (a b : ℕ) (x y : TypeNode) where
           record {
             here = f .labels;
             there = g .labels;
-            smaller = size-by-shape (plainIn s w a) ∙ ap sizeBy (f .is);
+            terms = terms-by-shape (plainIn s w a) ∙ ap termsBy (f .is);
             is = as-shapes _ _ (f .is) (g .is) ∙ rw (eq-eqb (x .kind) (y .kind) e) refl;
           }
 
@@ -170,11 +161,13 @@ module _ (s w : List ℕ) where
   none-there e zero d m h z = absurd (h refl)
   none-there e (suc n) d m h z = rw z refl
 
-  pub sizes-first : {i e n : ℕ} {x : Labelled} → Begins s w i e n x → sizes (plains (alternativesIn s w e n)) ≡ suc (size (plainIn s w (x .number)) + sizes (plains (alternativesIn s w (e - 1) (n - 1))))
-  unfolding size
-  sizes-first b = ap sizes (b .is)
+  pub terms-first : {e n : ℕ} {x : Labelled} → Begins s w e n x
+      → (alternativesTerms (plains (alternativesIn s w e n)) ≡ typeTerms (plainIn s w (x .number)) + alternativesTerms (plains (alternativesIn s w (e - 1) (n - 1))))
+      × (1 ≤ typeTerms (plainIn s w (x .number)))
+  unfolding typeTerms
+  terms-first {x = x} b = (ap alternativesTerms (b .is), some-term (plainIn s w (x .number)))
 
-  pub same-first : {i e n j d m : ℕ} {x y : Labelled} → Begins s w i e n x → Begins s w j d m y → SameLabels s w e n d m ≡ (same (nameAt s (x .at + 1)) (nameAt s (y .at + 1)) && (sameType (plainIn s w (x .number)) (plainIn s w (y .number)) && SameLabels s w (e - 1) (n - 1) (d - 1) (m - 1)))
+  pub same-first : {e n d m : ℕ} {x y : Labelled} → Begins s w e n x → Begins s w d m y → SameLabels s w e n d m ≡ (same (nameAt s (x .at + 1)) (nameAt s (y .at + 1)) && (sameType (plainIn s w (x .number)) (plainIn s w (y .number)) && SameLabels s w (e - 1) (n - 1) (d - 1) (m - 1)))
   unfolding sameType
   same-first a b = λ k. sameAlternatives (a .is k) (b .is k)
 

@@ -53,21 +53,20 @@ module _ (s w : List ℕ) (at e₀ n₀ : ℕ) where
   found e n = labelled (nameAt s (at + 1)) (plains (alternativesIn s w e n))
 
   pub record Looking (e n : ℕ) : Type 0 where
-    pub owner : ℕ
-    pub there : AlternativesIn s w owner e n
+    pub there : AlternativesIn s w e n
     pub rest : found e₀ n₀ ≡ found e n
 
-  pub look-start : (i : ℕ) → AlternativesIn s w i e₀ n₀ → Looking e₀ n₀
-  look-start i a = record { owner = i; there = a; rest = refl }
+  pub look-start : AlternativesIn s w e₀ n₀ → Looking e₀ n₀
+  look-start a = record { there = a; rest = refl }
 
   module _ (e n : ℕ) (l : Looking e n) (h : n ≡ 0 → ⊥) where
     pub look-there : Tables s w → Area w × (1 ≤ e) × (e ≤ typeTermLimit)
-    look-there = first-there s w (l .owner) e n (l .there) h
+    look-there = first-there s w e n (l .there) h
 
     -- a test of the first label that is left
     module _ (a : Labelled) (o : AlternativeOf w e a) {b : Bool} (t : b ≡ same (nameAt s (at + 1)) (nameAt s (a .at + 1))) where
-      first : Begins s w (l .owner) e n a
-      first = first-in s w (l .owner) e n (l .there) h a o
+      first : Begins s w e n a
+      first = first-in s w e n (l .there) h a o
 
       tested : (q : Bool) → b ≡ q → found e₀ n₀ ≡ cond q (some (plainIn s w (a .number))) (found (e - 1) (n - 1))
       unfolding labelled
@@ -78,7 +77,7 @@ module _ (s w : List ℕ) (at e₀ n₀ : ℕ) where
       look-found y = record { is = tested true y; type = λ j q. subst (typed s w) q (first .type) }
 
       pub look-on : b ≡ false → Looking (e - 1) (n - 1)
-      look-on y = record { owner = l .owner; there = first .rest; rest = tested false y }
+      look-on y = record { there = first .rest; rest = tested false y }
 
   pub look-end : (e n : ℕ) → Looking e n → n ≡ 0 → LeadsTo s w at e₀ n₀ Nothing
   unfolding labelled plains

@@ -3,7 +3,6 @@ use Prim.Native.Nat.{ℕ, zero, suc, _+_, _-_, _≤_}
 use mathlib.Core.Path.{_≡_, refl, sym, _∙_, ap}
 use mathlib.Core.List.{List}
 use mathlib.Core.Bool.{Bool, true, false, cond, _&&_}
-use native.Mathlib.Omega.{arith}
 use borrow.Author.Tests.{eq-eqb, ne-eqb}
 use lib.Dec.{eqb}
 use lib.ListN.{length}
@@ -57,22 +56,21 @@ module _ (s w : List ℕ) (e₀ n₀ d m : ℕ) where
   fit-not-many h = sym (many ∙ ap (λ b. allOnce e₀ n₀ && b) (ne-eqb m n₀ λ e. h (sym e)) ∙ and-false (allOnce e₀ n₀))
 
   pub record Fitting (e n : ℕ) : Type 0 where
-    pub owner : ℕ
-    pub there : AlternativesIn s w owner e n
+    pub there : AlternativesIn s w e n
     pub rest : fits ≡ allOnce e n
 
-  pub fit-start : n₀ ≡ m → (i : ℕ) → AlternativesIn s w i e₀ n₀ → Fitting e₀ n₀
-  fit-start h i a =
-      record { owner = i; there = a; rest = many ∙ ap (λ b. allOnce e₀ n₀ && b) (eq-eqb m n₀ (sym h)) ∙ and-true (allOnce e₀ n₀) }
+  pub fit-start : n₀ ≡ m → AlternativesIn s w e₀ n₀ → Fitting e₀ n₀
+  fit-start h a =
+      record { there = a; rest = many ∙ ap (λ b. allOnce e₀ n₀ && b) (eq-eqb m n₀ (sym h)) ∙ and-true (allOnce e₀ n₀) }
 
   module _ (e n : ℕ) (f : Fitting e n) (h : n ≡ 0 → ⊥) where
     pub fit-there : Tables s w → Area w × (1 ≤ e) × (e ≤ typeTermLimit)
-    fit-there = first-there s w (f .owner) e n (f .there) h
+    fit-there = first-there s w e n (f .there) h
 
     -- the first label that is left comes r times
     module _ (a : Labelled) (o : AlternativeOf w e a) {r : ℕ} (t : r ≡ times (nameAt s (a .at + 1)) (labelNames (branchesIn s w d m))) where
-      first : Begins s w (f .owner) e n a
-      first = first-in s w (f .owner) e n (f .there) h a o
+      first : Begins s w e n a
+      first = first-in s w e n (f .there) h a o
 
       tested : (q : Bool) → eqb r 1 ≡ q → fits ≡ cond q (allOnce (e - 1) (n - 1)) false
       unfolding labelsOf
@@ -83,7 +81,7 @@ module _ (s w : List ℕ) (e₀ n₀ d m : ℕ) where
       fit-not y = sym (tested false (ne-eqb r 1 y))
 
       pub fit-on : r ≡ 1 → Fitting (e - 1) (n - 1)
-      fit-on y = record { owner = f .owner; there = first .rest; rest = tested true (eq-eqb r 1 y) }
+      fit-on y = record { there = first .rest; rest = tested true (eq-eqb r 1 y) }
 
   pub fit-end : (e n : ℕ) → Fitting e n → n ≡ 0 → true ≡ fits
   unfolding plains labelsOf

@@ -11,7 +11,7 @@ use read_tables::search::find_type;
 use run_words::records::PROVIDED;
 use run_words::records::USED;
 ghost use mathlib.Core.Path.{_≡_};
-ghost use Prim.Native.Nat.{ℕ, _+_, _<_};
+ghost use Prim.Native.Nat.{_+_, _<_};
 ghost use Rattle.notation.specs.Bytes.{same};
 ghost use Rattle.notation.specs.Token.{nameAt};
 ghost use Rattle.notation.specs.Tables.{Area};
@@ -87,7 +87,7 @@ pub fn labels_equal(text: &[u8], a: usize, b: usize) -> bool
 
 // The type of the label whose apostrophe stands at `at`, among the n alternatives before the place e.
 pub fn labelled(text: &[u8], scratch: &[u32], at: usize, e: usize, n: usize) -> Found
-    requires { ⌜ Tables (now text) (now scratch) × ((i : ℕ) × AlternativesIn (now text) (now scratch) i e n) ⌝ }
+    requires { ⌜ Tables (now text) (now scratch) × AlternativesIn (now text) (now scratch) e n ⌝ }
     ensures { λ r. ⌜ LeadsTo (now (text .entry)) (now (scratch .entry)) at e n r ⌝ }
 {
     let mut place = e;

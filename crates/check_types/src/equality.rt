@@ -5,7 +5,6 @@ use notation::token::names_equal;
 use read_tables::access::alternative;
 use read_tables::access::type_node;
 ghost use mathlib.Core.Path.{_≡_};
-ghost use Prim.Native.Nat.{ℕ};
 ghost use Rattle.notation.specs.Tree.{plains};
 ghost use Rattle.calculus.specs.Types.{sameType, sameAlternatives};
 ghost use Rattle.read_tables.specs.Program.{plainIn};
@@ -38,7 +37,7 @@ pub fn same_type(text: &[u8], scratch: &[u32], a: usize, b: usize) -> bool
 
 // The n alternatives before the place e and the m before d have the same labels in the same order, with equal types.
 fn same_alternatives(text: &[u8], scratch: &[u32], e: usize, n: usize, d: usize, m: usize) -> bool
-    requires { ⌜ Tables (now text) (now scratch) × ((i : ℕ) × AlternativesIn (now text) (now scratch) i e n) × ((j : ℕ) × AlternativesIn (now text) (now scratch) j d m) ⌝ }
+    requires { ⌜ Tables (now text) (now scratch) × AlternativesIn (now text) (now scratch) e n × AlternativesIn (now text) (now scratch) d m ⌝ }
     ensures { λ r. ⌜ r ≡ sameAlternatives (plains (alternativesIn (now (text .entry)) (now (scratch .entry)) e n)) (plains (alternativesIn (now (text .entry)) (now (scratch .entry)) d m)) ⌝ }
 {
     if n == 0 {

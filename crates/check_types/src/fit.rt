@@ -3,7 +3,7 @@ use crate::acting::labels_equal;
 use read_tables::access::alternative;
 use read_tables::access::branch;
 ghost use mathlib.Core.Path.{_≡_};
-ghost use Prim.Native.Nat.{ℕ, _+_};
+ghost use Prim.Native.Nat.{_+_};
 ghost use Rattle.notation.specs.Token.{nameAt};
 ghost use Rattle.notation.specs.Tree.{plains};
 ghost use Rattle.calculus.specs.Typing as typing;
@@ -12,7 +12,7 @@ ghost use Rattle.read_tables.specs.Whole.{Tables};
 
 // How often the label whose apostrophe stands at `at` comes among the m branches before the place d.
 fn times(text: &[u8], scratch: &[u32], at: usize, d: usize, m: usize) -> usize
-    requires { ⌜ Tables (now text) (now scratch) × ((p : ℕ) × BranchesIn (now text) (now scratch) p d m) ⌝ }
+    requires { ⌜ Tables (now text) (now scratch) × BranchesIn (now text) (now scratch) d m ⌝ }
     ensures { λ r. ⌜ r ≡ typing.times (nameAt (now (text .entry)) (at + 1)) (typing.labelNames (branchesIn (now (text .entry)) (now (scratch .entry)) d m)) ⌝ }
 {
     let mut place = d;
@@ -32,7 +32,7 @@ fn times(text: &[u8], scratch: &[u32], at: usize, d: usize, m: usize) -> usize
 
 // The m branches before the place d fit the n alternatives before the place e.
 pub fn labels_fit(text: &[u8], scratch: &[u32], e: usize, n: usize, d: usize, m: usize) -> bool
-    requires { ⌜ Tables (now text) (now scratch) × ((i : ℕ) × AlternativesIn (now text) (now scratch) i e n) × ((p : ℕ) × BranchesIn (now text) (now scratch) p d m) ⌝ }
+    requires { ⌜ Tables (now text) (now scratch) × AlternativesIn (now text) (now scratch) e n × BranchesIn (now text) (now scratch) d m ⌝ }
     ensures { λ r. ⌜ r ≡ typing.fitting (plains (alternativesIn (now (text .entry)) (now (scratch .entry)) e n)) (branchesIn (now (text .entry)) (now (scratch .entry)) d m) ⌝ }
 {
     if n != m {

@@ -18,13 +18,13 @@ counts : words 0 9 ≡ (1 ∷ 1 ∷ 1 ∷ 1 ∷ 4 ∷ 2 ∷ 2 ∷ 0 ∷ 0 ∷ []
 unfolding words
 counts = refl
 
--- the type b: its name at 5, its node 2
-types : words typesAt 3 ≡ (5 ∷ 2 ∷ 0 ∷ [])
+-- the type b: its name at 5, its node 0
+types : words typesAt 3 ≡ (5 ∷ 0 ∷ 0 ∷ [])
 unfolding words
 types = refl
 
--- the process p: its name at 32, its entries from 0 on, one provided, its body in node 1
-processes : words processesAt 4 ≡ (32 ∷ 0 ∷ 1 ∷ 1 ∷ [])
+-- the process p: its name at 32, its entries from 0 on, one provided, its body in node 0
+processes : words processesAt 4 ≡ (32 ∷ 0 ∷ 1 ∷ 0 ∷ [])
 unfolding words
 processes = refl
 
@@ -37,17 +37,17 @@ entries : words entriesAt 1 ≡ ((35 + 8192 * 3) ∷ [])
 unfolding words
 entries = refl
 
--- the unit, the name b at 24, the choice with two alternatives up to place 2, and the name b at 39
-nodes : words nodesAt 4 ≡ (0 ∷ (1 + 8192 * 24) ∷ (5 + 8 * 2 + 8192 * 2) ∷ (1 + 8192 * 39) ∷ [])
+-- the choice with two alternatives up to place 2, its unit, its name b at 24, and the name b at 39
+nodes : words nodesAt 4 ≡ ((5 + 8 * 2 + 8192 * 2) ∷ 0 ∷ (1 + 8192 * 24) ∷ (1 + 8192 * 39) ∷ [])
 unfolding words
 nodes = refl
 
--- 'f with node 1, then 't with node 0: the first stands last
-alternatives : words alternativesAt 2 ≡ ((19 + 8192 * 1) ∷ 11 ∷ [])
+-- 'f with node 2, then 't with node 1: the first stands last
+alternatives : words alternativesAt 2 ≡ ((19 + 8192 * 2) ∷ (11 + 8192 * 1) ∷ [])
 unfolding words
 alternatives = refl
 
--- send x () at 58 with the empty rest at 68; send x 't at 47 with node 0 for its rest
-terms : words termsAt 4 ≡ ((1 + 16 * 58 + 131072 * 63) ∷ 16384 * (1024 + 68) ∷ (3 + 16 * 47 + 131072 * 52) ∷ 54 ∷ [])
+-- send x 't at 47 with node 1 for its rest; send x () at 58 with the empty rest at 68
+terms : words termsAt 4 ≡ ((3 + 16 * 47 + 131072 * 52) ∷ (54 + 16384 * 1) ∷ (1 + 16 * 58 + 131072 * 63) ∷ 16384 * (1024 + 68) ∷ [])
 unfolding words
 terms = refl

@@ -1,5 +1,6 @@
--- The words of the tables: a fold over the trees that were read, in the order of reading.
--- A node is appended after its parts, so that parts have smaller numbers and nothing is patched.
+-- The words of the tables: a fold over the trees that were read, front to back.
+-- A node has the number that its own mark or keyword has among those of the text: a choice and a process term come before their parts, an infix
+-- type between them. So what follows a term is the next node, or an empty process, and the next token tells which.
 use Prim.Native.Nat.{ℕ, _+_, _*_, _≤_}
 use mathlib.Core.List.{List, [], _∷_}
 use lib.ListN.{length, set, replicate}
@@ -113,7 +114,7 @@ putProcess w i p =
 unfoldable pub putExec : List ℕ → ℕ → ℕ → List ℕ
 putExec w i at = set w (execsAt + i) at
 
--- ── one more of a table; what was read last is its number, or the length of the list that it stands in
+-- ── one more of a table. `last` is the number of the type that was read last, or the length of the list
 abbrev pub lasting : ℕ → Tally → Tally
 lasting n k = record { types = k .types; processes = k .processes; execs = k .execs; entries = k .entries; nodes = k .nodes; alternatives = k .alternatives; terms = k .terms; branches = k .branches; last = n }
 
@@ -121,7 +122,7 @@ abbrev pub moreNodes : Tally → Tally
 moreNodes k = record { types = k .types; processes = k .processes; execs = k .execs; entries = k .entries; nodes = k .nodes + 1; alternatives = k .alternatives; terms = k .terms; branches = k .branches; last = k .nodes }
 
 abbrev pub moreTerms : Tally → Tally
-moreTerms k = record { types = k .types; processes = k .processes; execs = k .execs; entries = k .entries; nodes = k .nodes; alternatives = k .alternatives; terms = k .terms + 1; branches = k .branches; last = k .terms }
+moreTerms k = record { types = k .types; processes = k .processes; execs = k .execs; entries = k .entries; nodes = k .nodes; alternatives = k .alternatives; terms = k .terms + 1; branches = k .branches; last = k .last }
 
 abbrev pub moreAlternatives : Tally → Tally
 moreAlternatives k = record { types = k .types; processes = k .processes; execs = k .execs; entries = k .entries; nodes = k .nodes; alternatives = k .alternatives + 1; terms = k .terms; branches = k .branches; last = k .last + 1 }
@@ -143,15 +144,19 @@ moreExecs k = record { types = k .types; processes = k .processes; execs = k .ex
 
 -- ── types: kinds 0 to 6 in the order of `Ty`. A choice keeps the place past its first alternative and how many there are:
 -- one list's alternatives stand side by side, the first of them last.
+-- after an infix type whose left part fills the tables up to d
+abbrev pub afterInfix : Tally → (Tally → Tally) → Tally
+afterInfix d right = lasting (d .nodes) (right (moreNodes d))
+
 unfoldable mutual
   pub afterType : Ty Located → Tally → Tally
   afterType unit k = moreNodes k
   afterType (named n) k = moreNodes k
-  afterType (tensor A B) k = moreNodes (afterType B (afterType A k))
-  afterType (par A B) k = moreNodes (afterType B (afterType A k))
-  afterType (lolli A B) k = moreNodes (afterType B (afterType A k))
-  afterType (plus r) k = moreNodes (afterAlternatives r k)
-  afterType (with r) k = moreNodes (afterAlternatives r k)
+  afterType (tensor A B) k = afterInfix (afterType A k) (λ d. afterType B d)
+  afterType (par A B) k = afterInfix (afterType A k) (λ d. afterType B d)
+  afterType (lolli A B) k = afterInfix (afterType A k) (λ d. afterType B d)
+  afterType (plus r) k = lasting (k .nodes) (afterAlternatives r (moreNodes k))
+  afterType (with r) k = lasting (k .nodes) (afterAlternatives r (moreNodes k))
 
   pub afterAlternatives : Alternatives Located → Tally → Tally
   afterAlternatives Alternatives.none k = lasting 0 k
@@ -160,83 +165,111 @@ unfoldable mutual
 abbrev pub typeNode : ℕ → ℕ → ℕ → TypeNode
 typeNode kind first second = record { kind = kind; first = first; second = second }
 
--- a node over two parts, after which the tables are filled by d and e; a node over the list just written
+-- the node of an infix type whose left part fills the tables up to d, and its right part, written after it, up to e
 abbrev pub putInfix : ℕ → Tally → Tally → List ℕ → List ℕ
-putInfix kind d e w = putNode w (e .nodes) (typeNode kind (d .last) (e .last))
+putInfix kind d e w = putNode w (d .nodes) (typeNode kind (d .last) (e .last))
 
-abbrev pub putChoice : ℕ → Tally → List ℕ → List ℕ
-putChoice kind d w = putNode w (d .nodes) (typeNode kind (d .alternatives) (d .last))
+-- the node of a choice after k, whose list fills the tables up to d
+abbrev pub putChoice : ℕ → Tally → Tally → List ℕ → List ℕ
+putChoice kind k d w = putNode w (k .nodes) (typeNode kind (d .alternatives) (d .last))
 
 unfoldable mutual
   pub writeType : Ty Located → Tally → List ℕ → List ℕ
   writeType unit k w = putNode w (k .nodes) (typeNode 0 0 0)
   writeType (named n) k w = putNode w (k .nodes) (typeNode 1 0 (n .at))
-  writeType (tensor A B) k w = putInfix 2 (afterType A k) (afterType B (afterType A k)) (writeType B (afterType A k) (writeType A k w))
-  writeType (par A B) k w = putInfix 3 (afterType A k) (afterType B (afterType A k)) (writeType B (afterType A k) (writeType A k w))
-  writeType (lolli A B) k w = putInfix 4 (afterType A k) (afterType B (afterType A k)) (writeType B (afterType A k) (writeType A k w))
-  writeType (plus r) k w = putChoice 5 (afterAlternatives r k) (writeAlternatives r k w)
-  writeType (with r) k w = putChoice 6 (afterAlternatives r k) (writeAlternatives r k w)
+  writeType (tensor A B) k w = let d = afterType A k in writeType B (moreNodes d) (putInfix 2 d (afterType B (moreNodes d)) (writeType A k w))
+  writeType (par A B) k w = let d = afterType A k in writeType B (moreNodes d) (putInfix 3 d (afterType B (moreNodes d)) (writeType A k w))
+  writeType (lolli A B) k w = let d = afterType A k in writeType B (moreNodes d) (putInfix 4 d (afterType B (moreNodes d)) (writeType A k w))
+  writeType (plus r) k w = writeAlternatives r (moreNodes k) (putChoice 5 k (afterAlternatives r (moreNodes k)) w)
+  writeType (with r) k w = writeAlternatives r (moreNodes k) (putChoice 6 k (afterAlternatives r (moreNodes k)) w)
 
   pub writeAlternatives : Alternatives Located → Tally → List ℕ → List ℕ
   writeAlternatives Alternatives.none k w = w
   writeAlternatives (alternative l A r) k w =
       putAlternative (writeAlternatives r (afterType A k) (writeType A k w)) (afterAlternatives r (afterType A k) .alternatives) (l .at) (afterType A k .last)
 
--- ── processes: kinds 0 to 12 in the order of `Proc`. A pointer is a node's number, or for an empty process, which has no node,
--- the limit of process terms and its offset. A branch list is kept as a choice's alternatives are.
-abbrev pub emptyPointer : ℕ → ℕ
-emptyPointer at = processTermLimit + at
-
+-- ── processes: kinds 0 to 12 in the order of `Proc`. A branch list is kept as a choice's alternatives are.
 unfoldable mutual
   pub afterProcess : Proc → Tally → Tally
-  afterProcess (empty at) k = lasting (emptyPointer at) k
-  afterProcess (sendUnit at c P) k = moreTerms (afterProcess P k)
-  afterProcess (sendChannel at c a P) k = moreTerms (afterProcess P k)
-  afterProcess (sendLabel at c l P) k = moreTerms (afterProcess P k)
-  afterProcess (cancel at c P) k = moreTerms (afterProcess P k)
-  afterProcess (spawn x A P Q) k = moreTerms (afterProcess Q (afterProcess P (afterType A k)))
-  afterProcess (recvUnit at c P) k = moreTerms (afterProcess P k)
-  afterProcess (recvChannel at c x P) k = moreTerms (afterProcess P k)
-  afterProcess (recvLabel at c B) k = moreTerms (afterBranches B k)
+  afterProcess (empty at) k = k
+  afterProcess (sendUnit at c P) k = afterProcess P (moreTerms k)
+  afterProcess (sendChannel at c a P) k = afterProcess P (moreTerms k)
+  afterProcess (sendLabel at c l P) k = afterProcess P (moreTerms k)
+  afterProcess (cancel at c P) k = afterProcess P (moreTerms k)
+  afterProcess (spawn x A P Q) k = afterProcess Q (afterProcess P (afterType A (moreTerms k)))
+  afterProcess (recvUnit at c P) k = afterProcess P (moreTerms k)
+  afterProcess (recvChannel at c x P) k = afterProcess P (moreTerms k)
+  afterProcess (recvLabel at c B) k = afterBranches B (moreTerms k)
   afterProcess (fwd at x c) k = moreTerms k
   afterProcess (call at p bracket xs ys) k = moreTerms k
-  afterProcess (raise at P) k = moreTerms (afterProcess P k)
-  afterProcess (try at P Q) k = moreTerms (afterProcess Q (afterProcess P k))
+  afterProcess (raise at P) k = afterProcess P (moreTerms k)
+  afterProcess (try at P Q) k = afterProcess Q (afterProcess P (moreTerms k))
 
   pub afterBranches : Branches → Tally → Tally
   afterBranches Branches.none k = lasting 0 k
   afterBranches (branch l P B) k = moreBranches (afterBranches B (afterProcess P k))
 
+-- a pointer to a process: the number n of its first node, or for an empty process, which has no node, the limit of process terms and its offset
+abbrev pub emptyPointer : ℕ → ℕ
+emptyPointer at = processTermLimit + at
+
+abbrev pub pointerTo : Proc → ℕ → ℕ
+pointerTo (empty at) n = emptyPointer at
+pointerTo (sendUnit at c P) n = n
+pointerTo (sendChannel at c a P) n = n
+pointerTo (sendLabel at c l P) n = n
+pointerTo (cancel at c P) n = n
+pointerTo (spawn x A P Q) n = n
+pointerTo (recvUnit at c P) n = n
+pointerTo (recvChannel at c x P) n = n
+pointerTo (recvLabel at c B) n = n
+pointerTo (fwd at x c) n = n
+pointerTo (call at p bracket xs ys) n = n
+pointerTo (raise at P) n = n
+pointerTo (try at P Q) n = n
+
 abbrev pub termNode : ℕ → ℕ → ℕ → ℕ → ℕ → TermNode
 termNode kind at first second third = record { kind = kind; at = at; first = first; second = second; third = third }
 
--- a node over the part just written, after which the tables are filled by d
-abbrev pub putOver : ℕ → ℕ → ℕ → ℕ → Tally → List ℕ → List ℕ
-putOver kind at first second d w = putTerm w (d .terms) (termNode kind at first second (d .last))
+-- the node of a term after k that P follows
+abbrev pub putBefore : ℕ → ℕ → ℕ → ℕ → Proc → Tally → List ℕ → List ℕ
+putBefore kind at first second P k w = putTerm w (k .terms) (termNode kind at first second (pointerTo P (k .terms + 1)))
+
+-- the nodes of a spawn and a try after k, whose first half begins after d and whose second after e; of a list of branches that fills the tables up to d
+abbrev pub putSpawn : ℕ → Proc → Proc → Tally → Tally → Tally → List ℕ → List ℕ
+putSpawn at P Q k d e w = putTerm w (k .terms) (termNode 5 at (d .last) (pointerTo P (d .terms)) (pointerTo Q (e .terms)))
+
+abbrev pub putTry : ℕ → Proc → Proc → Tally → Tally → List ℕ → List ℕ
+putTry at P Q k e w = putTerm w (k .terms) (termNode 12 at 0 (pointerTo P (k .terms + 1)) (pointerTo Q (e .terms)))
+
+abbrev pub putLabels : ℕ → ℕ → Tally → Tally → List ℕ → List ℕ
+putLabels at first k d w = putTerm w (k .terms) (termNode 8 at first (d .branches) (d .last))
 
 unfoldable mutual
   pub writeProcess : Proc → Tally → List ℕ → List ℕ
   writeProcess (empty at) k w = w
-  writeProcess (sendUnit at c P) k w = putOver 1 at (c .at) 0 (afterProcess P k) (writeProcess P k w)
-  writeProcess (sendChannel at c a P) k w = putOver 2 at (c .at) (a .at) (afterProcess P k) (writeProcess P k w)
-  writeProcess (sendLabel at c l P) k w = putOver 3 at (c .at) (l .at) (afterProcess P k) (writeProcess P k w)
-  writeProcess (cancel at c P) k w = putOver 4 at (c .at) 0 (afterProcess P k) (writeProcess P k w)
+  writeProcess (sendUnit at c P) k w = writeProcess P (moreTerms k) (putBefore 1 at (c .at) 0 P k w)
+  writeProcess (sendChannel at c a P) k w = writeProcess P (moreTerms k) (putBefore 2 at (c .at) (a .at) P k w)
+  writeProcess (sendLabel at c l P) k w = writeProcess P (moreTerms k) (putBefore 3 at (c .at) (l .at) P k w)
+  writeProcess (cancel at c P) k w = writeProcess P (moreTerms k) (putBefore 4 at (c .at) 0 P k w)
   writeProcess (spawn x A P Q) k w =
-      putOver 5 (x .at) (afterType A k .last) (afterProcess P (afterType A k) .last) (afterProcess Q (afterProcess P (afterType A k)))
-      (writeProcess Q (afterProcess P (afterType A k)) (writeProcess P (afterType A k) (writeType A k w)))
-  writeProcess (recvUnit at c P) k w = putOver 6 at (c .at) 0 (afterProcess P k) (writeProcess P k w)
-  writeProcess (recvChannel at c x P) k w = putOver 7 at (c .at) (x .at) (afterProcess P k) (writeProcess P k w)
-  writeProcess (recvLabel at c B) k w = putOver 8 at (c .at) (afterBranches B k .branches) (afterBranches B k) (writeBranches B k w)
+      let d = afterType A (moreTerms k) in
+      let e = afterProcess P d in
+      writeProcess Q e (writeProcess P d (writeType A (moreTerms k) (putSpawn (x .at) P Q k d e w)))
+  writeProcess (recvUnit at c P) k w = writeProcess P (moreTerms k) (putBefore 6 at (c .at) 0 P k w)
+  writeProcess (recvChannel at c x P) k w = writeProcess P (moreTerms k) (putBefore 7 at (c .at) (x .at) P k w)
+  writeProcess (recvLabel at c B) k w = writeBranches B (moreTerms k) (putLabels at (c .at) k (afterBranches B (moreTerms k)) w)
   writeProcess (fwd at x c) k w = putTerm w (k .terms) (termNode 9 at (x .at) (c .at) 0)
   writeProcess (call at p bracket xs ys) k w = putTerm w (k .terms) (termNode 10 at (p .at) bracket 0)
-  writeProcess (raise at P) k w = putOver 11 at 0 0 (afterProcess P k) (writeProcess P k w)
+  writeProcess (raise at P) k w = writeProcess P (moreTerms k) (putBefore 11 at 0 0 P k w)
   writeProcess (try at P Q) k w =
-      putOver 12 at 0 (afterProcess P k .last) (afterProcess Q (afterProcess P k)) (writeProcess Q (afterProcess P k) (writeProcess P k w))
+      let e = afterProcess P (moreTerms k) in
+      writeProcess Q e (writeProcess P (moreTerms k) (putTry at P Q k e w))
 
   pub writeBranches : Branches → Tally → List ℕ → List ℕ
   writeBranches Branches.none k w = w
   writeBranches (branch l P B) k w =
-      putBranch (writeBranches B (afterProcess P k) (writeProcess P k w)) (afterBranches B (afterProcess P k) .branches) (l .at) (afterProcess P k .last)
+      putBranch (writeBranches B (afterProcess P k) (writeProcess P k w)) (afterBranches B (afterProcess P k) .branches) (l .at) (pointerTo P (k .terms))
 
 -- ── declarations
 unfoldable pub afterEntries : List Entry → Tally → Tally
@@ -261,7 +294,7 @@ writeDeclaration (declareType n A) k w = putType (writeType A k w) (k .types) (n
 writeDeclaration (declareProc n xs ys P) k w =
     let d = afterEntries xs k in
     let e = afterEntries ys d in
-    putProcess (writeProcess P e (writeEntries ys d (writeEntries xs k w))) (k .processes) (processEntry (n .at) (k .entries) (length xs) (length ys) (afterProcess P e .last))
+    putProcess (writeProcess P e (writeEntries ys d (writeEntries xs k w))) (k .processes) (processEntry (n .at) (k .entries) (length xs) (length ys) (pointerTo P (e .terms)))
 writeDeclaration (declareExec n) k w = putExec w (k .execs) (n .at)
 
 unfoldable pub afterScript : List Declaration → Tally → Tally

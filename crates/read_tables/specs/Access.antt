@@ -1,16 +1,15 @@
 -- What the code that takes entries of the tables promises, whatever text the tables are of: what the entry says of the tree that stands there.
 use mathlib.Core.Path.{_≡_, sym, ap, subst}
 use mathlib.Core.List.{List}
-use Prim.Native.Nat.{ℕ, suc, _+_, _-_, _%_, _<_, _≤_}
+use Prim.Native.Nat.{ℕ, suc, _+_, _-_, _<_, _≤_}
 use native.Mathlib.Omega.{arith}
-use Rattle.notation.specs.Limits.{textLimit, typeTermLimit, processTermLimit}
+use Rattle.notation.specs.Limits.{textLimit, typeTermLimit}
 use Rattle.notation.specs.Token.{nameAt}
 use Rattle.notation.specs.Reader.{nameIn}
 use Rattle.notation.specs.Tables.{processEntry, branchRoom}
 use Rattle.notation.specs.declared.reading.TypeNode.{TypeNode}
 use Rattle.notation.specs.declared.reading.TermNode.{TermNode}
 use Rattle.notation.specs.declared.reading.ProcessEntry.{ProcessEntry}
-use Rattle.notation.specs.Tables.{Area}
 use Rattle.read_tables.specs.declared.access.Labelled.{Labelled}
 use Rattle.read_tables.specs.declared.access.Declared.{Declared}
 use Rattle.read_tables.specs.Decode.{tallyIn, pairOf, nodeAt, termAt, alternativeAt, branchAt, entryAt, typeAt, processAt, execAt, typeIn, processIn}
@@ -28,7 +27,7 @@ asEntry r = processEntry (r .at) (r .first) (r .provided) (r .used) (r .body)
 
 -- the type at i begins as the node n says
 pub record NodeOf (w : List ℕ) (i : ℕ) (n : TypeNode) : Type 0 where
-  pub says : (s : List ℕ) → Tables s w → TypeIn s w i → TypeRoot s w i n (typeIn s w i)
+  pub says : (s : List ℕ) → Tables s w → TypeIn s w i → TypeRoot s w n (typeIn s w i)
 
 -- the process at p begins as the node n says
 pub record TermOf (w : List ℕ) (p : ℕ) (n : TermNode) : Type 0 where
@@ -37,13 +36,13 @@ pub record TermOf (w : List ℕ) (p : ℕ) (n : TermNode) : Type 0 where
 
 -- the list of alternatives before the place e begins with r
 pub record AlternativeOf (w : List ℕ) (e : ℕ) (r : Labelled) : Type 0 where
-  pub says : (s : List ℕ) (i n : ℕ) → AlternativesIn s w i e (suc n) → FirstAlternative s w i e n (r .at) (r .number)
+  pub says : (s : List ℕ) (n : ℕ) → AlternativesIn s w e (suc n) → FirstAlternative s w e n (r .at) (r .number)
   pub holds : Holds r (alternativeAt w (e - 1))
   pub at : r .at < textLimit
 
 -- the list of branches before the place e begins with r
 pub record BranchOf (w : List ℕ) (e : ℕ) (r : Labelled) : Type 0 where
-  pub says : (s : List ℕ) (p n : ℕ) → BranchesIn s w p e (suc n) → FirstBranch s w p e n (r .at) (r .number)
+  pub says : (s : List ℕ) (n : ℕ) → BranchesIn s w e (suc n) → FirstBranch s w e n (r .at) (r .number)
   pub holds : Holds r (branchAt w (e - 1))
   pub at : r .at < textLimit
 
@@ -83,7 +82,7 @@ of-pair P r p h x = back (h .at) (λ a. P a (r .number)) (back (h .number) (P (p
 
 module _ (w : List ℕ) where
   pub node-of : (i : ℕ) (n : TypeNode) → n ≡ nodeAt w i → NodeOf w i n
-  node-of i n e = record { says = λ s t a. back e (λ m. TypeRoot s w i m (typeIn s w i)) (type-root s w (t .within) i a) }
+  node-of i n e = record { says = λ s t a. back e (λ m. TypeRoot s w m (typeIn s w i)) (type-root s w (t .within) i a) }
 
   pub term-of : (p : ℕ) (n : TermNode) → n ≡ termAt w p → n .at < textLimit → TermOf w p n
   term-of p n e b = record { says = λ s t a. back e (λ m. ProcessRoot s w p m (processIn s w p)) (process-root s w (t .within) p a); at = b }
@@ -92,11 +91,11 @@ module _ (w : List ℕ) where
   unfolding alternativeAt pairOf
   alternative-of e r h =
       let a = h .at in
-      record { says = λ s i n a. of-pair (FirstAlternative s w i e n) r _ h (first-alternative s w i e n a); holds = h; at = omega arith }
+      record { says = λ s n a. of-pair (FirstAlternative s w e n) r _ h (first-alternative s w e n a); holds = h; at = omega arith }
 
   pub branch-of : (e : ℕ) (r : Labelled) → Holds r (branchAt w (e - 1)) → BranchOf w e r
   unfolding branchAt pairOf
-  branch-of e r h = let a = h .at in record { says = λ s p n a. of-pair (FirstBranch s w p e n) r _ h (first-branch s w p e n a); holds = h; at = omega arith }
+  branch-of e r h = let a = h .at in record { says = λ s n a. of-pair (FirstBranch s w e n) r _ h (first-branch s w e n a); holds = h; at = omega arith }
 
   pub entry-of : (i : ℕ) (r : Labelled) → Holds r (entryAt w i) → EntryOf w i r
   unfolding entryAt pairOf
@@ -124,17 +123,17 @@ module _ (s w : List ℕ) (t : Tables s w) where
   pub node-there : (i : ℕ) → TypeIn s w i → i < typeTermLimit
   node-there i a = let b = t .within in let c = a .small in omega arith
 
-  pub alternative-there : (i e n : ℕ) → AlternativesIn s w i e (suc n) → (1 ≤ e) × (e ≤ typeTermLimit)
-  alternative-there i e n a =
+  pub alternative-there : (e n : ℕ) → AlternativesIn s w e (suc n) → (1 ≤ e) × (e ≤ typeTermLimit)
+  alternative-there e n a =
       let b = t .within in
-      let c = first-alternative s w i e n a .past in
+      let c = first-alternative s w e n a .past in
       let d = a .within in
       (omega arith, omega arith)
 
-  pub branch-there : (p e n : ℕ) → BranchesIn s w p e (suc n) → (1 ≤ e) × (e ≤ branchRoom)
-  branch-there p e n a =
+  pub branch-there : (e n : ℕ) → BranchesIn s w e (suc n) → (1 ≤ e) × (e ≤ branchRoom)
+  branch-there e n a =
       let b = t .within in
-      let c = first-branch s w p e n a .past in
+      let c = first-branch s w e n a .past in
       let d = a .within in
       (omega arith, omega arith)
 

@@ -96,7 +96,7 @@ typeForms type s w =
 abbrev pub typeBy : (ℕ → Ty Located) → List ℕ → List ℕ → TypeNode → Ty Located
 typeBy type s w n = getD (typeForms type s w) (n .kind) (λ _. unit) n
 
--- parts have smaller numbers: no tree is deeper than its number
+-- no tree is deeper than it has terms
 unfoldable pub typeOf : ℕ → List ℕ → List ℕ → ℕ → Ty Located
 typeOf zero s w i = unit
 typeOf (suc f) s w i = typeBy (λ x. typeOf f s w x) s w (nodeAt w i)

@@ -1,4 +1,4 @@
--- Every number that a table counts has something standing there: a tree is appended node by node, each over what was appended before it.
+-- Every number that a table counts has something standing there: a tree is appended node by node, and stands once all of it is appended.
 use Prim.Native.Nat.{ℕ, _+_, _<_, _≤_}
 use mathlib.Core.Path.{_≡_, refl, sym, subst}
 use mathlib.Core.Bool.{Bool, true, false}
@@ -6,25 +6,23 @@ use mathlib.Core.List.{List, [], _∷_}
 use borrow.Author.Tests.{ltb-true, ltb-false}
 use lib.Dec.{ltb}
 use native.Mathlib.Omega.{arith}
-use lib.ListN.{length}
 use Rattle.notation.specs.Fine.{FineAlternatives, FineBranches, FineDeclaration, FineEntries, FineProcess, FineType}
-use Rattle.notation.specs.Limits.{scratchWords}
 use Rattle.notation.specs.Tree.{Located, Ty, unit, named, tensor, par, lolli, plus, with, Alternatives, alternative, Proc, empty, sendUnit, sendChannel, sendLabel, cancel, spawn, recvUnit, recvChannel, recvLabel, fwd, call, raise, try, Branches, branch, Entry, Declaration, declareType, declareProc, declareExec}
 use Rattle.notation.specs.Reader.{got}
 use Rattle.notation.specs.Scripts.{readText}
-use Rattle.notation.specs.Tables.{emptyPointer, putNode, putTerm, moreNodes, moreTerms, afterType, afterAlternatives, writeType, writeAlternatives, afterProcess, afterBranches, writeProcess, writeBranches, afterEntries, writeEntries, afterDeclaration, writeDeclaration, afterScript, writeScript, nothing, zeros, tablesOf, tables, Within}
+use Rattle.notation.specs.Tables.{lasting, pointerTo, putNode, putTerm, moreNodes, moreTerms, afterType, afterAlternatives, writeType, writeAlternatives, afterProcess, afterBranches, writeProcess, writeBranches, afterEntries, writeEntries, afterDeclaration, writeDeclaration, afterScript, writeScript, nothing, zeros, tablesOf, tables, Within}
 use Rattle.notation.specs.declared.reading.Cursor.{Cursor}
 use Rattle.notation.specs.declared.reading.Tally.{Tally}
 use Rattle.notation.specs.declared.reading.TypeNode.{TypeNode}
 use Rattle.notation.specs.declared.reading.TermNode.{TermNode}
 use Rattle.notation.specs.Tables.{Area}
 use Rattle.read_tables.specs.Decode.{tallyIn}
-use Rattle.read_tables.specs.Growth.{Grown, grown-then, grown-lasting, grown-node, grown-alternative, grown-term, grown-branch, grown-exec}
+use Rattle.read_tables.specs.Growth.{Grown, grown-none, grown-then, grown-lasting, grown-node, grown-alternative, grown-term, grown-branch, grown-exec}
 use Rattle.read_tables.specs.Stands.{TypeFrom, AlternativesFrom, ProcessFrom, BranchesFrom, EntriesFrom, DeclarationFrom, ScriptFrom}
-use Rattle.read_tables.specs.Types.{type-last, type-kept, type-written}
-use Rattle.read_tables.specs.Processes.{process-kept, process-written}
-use Rattle.read_tables.specs.Declarations.{FineScript, grown-none, entry-after, type-after, process-after}
-use Rattle.read_tables.specs.Roots.{TypeIn, ProcessIn}
+use Rattle.read_tables.specs.Types.{whole-written}
+use Rattle.read_tables.specs.Processes.{process-counts, process-kept, process-written}
+use Rattle.read_tables.specs.Declarations.{FineScript, entry-after, type-after, process-after}
+use Rattle.read_tables.specs.Roots.{TypeIn, type-in, ProcessIn}
 use Rattle.read_tables.specs.Whole.{wide, tables-counted, tables-grown, text-known}
 
 -- all numbers of type nodes and of process nodes stand
@@ -63,13 +61,11 @@ module _ (s v : List ℕ) (h : Within (tallyIn v)) where
         terms = either-side (ProcessIn s v) (k .terms) (d .terms) (e .terms) (a .terms) (b .terms);
       }
 
-  -- what was appended, and then what stands where w is wide enough
-  fill-over : {k d e : Tally} {w x y : List ℕ} → Fill k d w x → Grown d e x y → (Area w → Grown e (tallyIn v) y v → Between d e) → Fill k e w y
-  fill-over f g b =
-      record { grown = grown-then (f .grown) g; stands = λ area o. both (f .stands area (grown-then g o)) (b area o) }
-
   fill-then : {k d e : Tally} {w x y : List ℕ} → Fill k d w x → Fill d e x y → Fill k e w y
-  fill-then f g = fill-over f (g .grown) (λ area o. g .stands (omega (arith, f .grown .long)) o)
+  fill-then f g = record {
+    grown = grown-then (f .grown) (g .grown);
+    stands = λ area o. both (f .stands area (grown-then (g .grown) o)) (g .stands (omega (arith, f .grown .long)) o);
+  }
 
   -- an entry of another table, or none
   fill-other : {k d : Tally} {w x : List ℕ} → Grown k d w x → d .nodes ≡ k .nodes → d .terms ≡ k .terms → Fill k d w x
@@ -78,70 +74,75 @@ module _ (s v : List ℕ) (h : Within (tallyIn v)) where
   fill-none : (k : Tally) (w : List ℕ) → Fill k k w w
   fill-none k w = fill-other (grown-none k w) refl refl
 
-  -- a node over what came before
-  fill-node : {k d : Tally} {w x : List ℕ} (n : TypeNode) → Fill k d w x
-      → (Area w → Grown (moreNodes d) (tallyIn v) (putNode x (d .nodes) n) v → TypeIn s v (d .nodes))
-      → Fill k (moreNodes d) w (putNode x (d .nodes) n)
-  fill-node {d = d} {x = x} n f t =
-      let one = grown-node d x n in
-      fill-over f one (λ area g. record { nodes = alone (TypeIn s v) (d .nodes) (t area g); terms = λ p a b. absurd (omega arith) })
+  -- a node between what is appended before it and after it: the tree of all of them stands once it is appended
+  fill-around : {k d e l : Tally} {w x y z : List ℕ} → Fill k d w x → Grown d e x y → Fill e l y z → (Area w → Grown l (tallyIn v) z v → Between d e) → Fill k l w z
+  fill-around f g b m = record {
+    grown = grown-then (f .grown) (grown-then g (b .grown));
+    stands = λ area o.
+        both (f .stands area (grown-then g (grown-then (b .grown) o))) (both (m area o) (b .stands (omega (arith, f .grown .long, g .long)) o));
+  }
 
-  fill-term : {k d : Tally} {w x : List ℕ} (n : TermNode) → Fill k d w x
-      → (Area w → Grown (moreTerms d) (tallyIn v) (putTerm x (d .terms) n) v → ProcessIn s v (d .terms))
-      → Fill k (moreTerms d) w (putTerm x (d .terms) n)
-  fill-term {d = d} {x = x} n f t =
-      let one = grown-term d x n in
-      fill-over f one (λ area g. record { nodes = λ i a b. absurd (omega arith); terms = alone (ProcessIn s v) (d .terms) (t area g) })
+  fill-node : {k d l : Tally} {w x z : List ℕ} (n : TypeNode) → Fill k d w x → Fill (moreNodes d) l (putNode x (d .nodes) n) z → (Area w → Grown l (tallyIn v) z v → TypeIn s v (d .nodes)) → Fill k l w z
+  fill-node {d = d} {x = x} n f b m =
+      fill-around f (grown-node d x n) b (λ area o. record { nodes = alone (TypeIn s v) (d .nodes) (m area o); terms = λ p a b. absurd (omega arith) })
+
+  fill-term : {k l : Tally} {w z : List ℕ} (n : TermNode) → Fill (moreTerms k) l (putTerm w (k .terms) n) z → (Area w → Grown l (tallyIn v) z v → ProcessIn s v (k .terms)) → Fill k l w z
+  fill-term {k = k} {w = w} n b m =
+      fill-around (fill-none k w) (grown-term k w n) b
+      (λ area o. record { nodes = λ i a b. absurd (omega arith); terms = alone (ProcessIn s v) (k .terms) (m area o) })
+
+  -- the number of what was appended is noted
+  fill-last : {k l : Tally} {w x : List ℕ} (n : ℕ) → Fill k l w x → Fill k (lasting n l) w x
+  fill-last {l = l} {x = x} n f = fill-then f (fill-other (grown-lasting n l x) refl refl)
 
   -- ── types
-  type-in : (A : Ty Located) (k : Tally) (w : List ℕ) → TypeFrom s A → FineType A → Area w → Grown (afterType A k) (tallyIn v) (writeType A k w) v → TypeIn s v (afterType A k .last)
-  type-in A k w t f area g =
-      let u = g .more in
-      let b = type-last A k in
-      record { tree = A; small = omega arith; from = t; is = type-kept g h A _ (omega arith) (type-written A k w f area (omega arith)) }
+  type-there : (A : Ty Located) (k : Tally) (w : List ℕ) → TypeFrom s A → FineType A → Area w → Grown (afterType A k) (tallyIn v) (writeType A k w) v → TypeIn s v (afterType A k .last)
+  type-there A k w t f area g = type-in s v (afterType A k .last) A t (whole-written A k (tallyIn v) w v f area h g)
 
   mutual
     unfolding afterType writeType TypeFrom FineType
 
     type-fill : (A : Ty Located) (k : Tally) (w : List ℕ) → TypeFrom s A → FineType A → Fill k (afterType A k) w (writeType A k w)
-    type-fill unit k w t f = fill-node _ (fill-none k w) (type-in unit k w t f)
-    type-fill (named n) k w t f = fill-node _ (fill-none k w) (type-in (named n) k w t f)
-    type-fill (tensor A B) k w t f = fill-node _ (fill-then (type-fill A k w (t .0) (f .0)) (type-fill B _ _ (t .1) (f .1))) (type-in (tensor A B) k w t f)
-    type-fill (par A B) k w t f = fill-node _ (fill-then (type-fill A k w (t .0) (f .0)) (type-fill B _ _ (t .1) (f .1))) (type-in (par A B) k w t f)
-    type-fill (lolli A B) k w t f = fill-node _ (fill-then (type-fill A k w (t .0) (f .0)) (type-fill B _ _ (t .1) (f .1))) (type-in (lolli A B) k w t f)
-    type-fill (plus r) k w t f = fill-node _ (alternatives-fill r k w t (f .0)) (type-in (plus r) k w t f)
-    type-fill (with r) k w t f = fill-node _ (alternatives-fill r k w t (f .0)) (type-in (with r) k w t f)
+    type-fill unit k w t f = fill-node _ (fill-none k w) (fill-none _ _) (type-there unit k w t f)
+    type-fill (named n) k w t f = fill-node _ (fill-none k w) (fill-none _ _) (type-there (named n) k w t f)
+    type-fill (tensor A B) k w t f = fill-node _ (type-fill A k w (t .0) (f .0)) (fill-last _ (type-fill B _ _ (t .1) (f .1))) (type-there (tensor A B) k w t f)
+    type-fill (par A B) k w t f = fill-node _ (type-fill A k w (t .0) (f .0)) (fill-last _ (type-fill B _ _ (t .1) (f .1))) (type-there (par A B) k w t f)
+    type-fill (lolli A B) k w t f = fill-node _ (type-fill A k w (t .0) (f .0)) (fill-last _ (type-fill B _ _ (t .1) (f .1))) (type-there (lolli A B) k w t f)
+    type-fill (plus r) k w t f = fill-node _ (fill-none k w) (fill-last _ (alternatives-fill r _ _ t (f .0))) (type-there (plus r) k w t f)
+    type-fill (with r) k w t f = fill-node _ (fill-none k w) (fill-last _ (alternatives-fill r _ _ t (f .0))) (type-there (with r) k w t f)
 
     alternatives-fill : (r : Alternatives Located) (k : Tally) (w : List ℕ) → AlternativesFrom s r → FineAlternatives r → Fill k (afterAlternatives r k) w (writeAlternatives r k w)
-    alternatives-fill Alternatives.none k w t f = fill-other (grown-lasting 0 k w) refl refl
+    alternatives-fill Alternatives.none k w t f = fill-last 0 (fill-none k w)
     alternatives-fill (alternative l A r) k w t f =
         fill-then (type-fill A k w (t .1) (f .1)) (fill-then (alternatives-fill r _ _ (t .2) (f .2)) (fill-other (grown-alternative _ _ _ _) refl refl))
 
   -- ── processes
-  process-in : (P : Proc) (k : Tally) (w : List ℕ) → ProcessFrom s P → FineProcess P → Area w → Grown (afterProcess P k) (tallyIn v) (writeProcess P k w) v → ProcessIn s v (afterProcess P k .last)
-  process-in P k w t f area g = let u = g .more in record { tree = P; from = t; is = process-kept g h P _ (process-written P k w f area (omega arith)) }
+  process-there : (P : Proc) (k : Tally) (w : List ℕ) → ProcessFrom s P → FineProcess P → Area w → Grown (afterProcess P k) (tallyIn v) (writeProcess P k w) v → ProcessIn s v (pointerTo P (k .terms))
+  process-there P k w t f area g =
+      let u = g .more in
+      record { tree = P; few = omega (arith, process-counts P k); from = t; is = process-kept g h P _ (process-written P k w f area (omega arith)) }
 
   mutual
     unfolding afterProcess writeProcess ProcessFrom FineProcess
 
     process-fill : (P : Proc) (k : Tally) (w : List ℕ) → ProcessFrom s P → FineProcess P → Fill k (afterProcess P k) w (writeProcess P k w)
-    process-fill (empty at) k w t f = fill-other (grown-lasting (emptyPointer at) k w) refl refl
-    process-fill (sendUnit at c P) k w t f = fill-term _ (process-fill P k w (t .1) (f .2)) (process-in (sendUnit at c P) k w t f)
-    process-fill (sendChannel at c a P) k w t f = fill-term _ (process-fill P k w (t .2) (f .3)) (process-in (sendChannel at c a P) k w t f)
-    process-fill (sendLabel at c l P) k w t f = fill-term _ (process-fill P k w (t .2) (f .3)) (process-in (sendLabel at c l P) k w t f)
-    process-fill (cancel at c P) k w t f = fill-term _ (process-fill P k w (t .1) (f .2)) (process-in (cancel at c P) k w t f)
+    process-fill (empty at) k w t f = fill-none k w
+    process-fill (sendUnit at c P) k w t f = fill-term _ (process-fill P _ _ (t .1) (f .2)) (process-there (sendUnit at c P) k w t f)
+    process-fill (sendChannel at c a P) k w t f = fill-term _ (process-fill P _ _ (t .2) (f .3)) (process-there (sendChannel at c a P) k w t f)
+    process-fill (sendLabel at c l P) k w t f = fill-term _ (process-fill P _ _ (t .2) (f .3)) (process-there (sendLabel at c l P) k w t f)
+    process-fill (cancel at c P) k w t f = fill-term _ (process-fill P _ _ (t .1) (f .2)) (process-there (cancel at c P) k w t f)
     process-fill (spawn n A P Q) k w t f =
-        fill-term _ (fill-then (type-fill A k w (t .1) (f .1)) (fill-then (process-fill P _ _ (t .2) (f .2)) (process-fill Q _ _ (t .3) (f .3)))) (process-in (spawn n A P Q) k w t f)
-    process-fill (recvUnit at c P) k w t f = fill-term _ (process-fill P k w (t .1) (f .2)) (process-in (recvUnit at c P) k w t f)
-    process-fill (recvChannel at c a P) k w t f = fill-term _ (process-fill P k w (t .3) (f .3)) (process-in (recvChannel at c a P) k w t f)
-    process-fill (recvLabel at c B) k w t f = fill-term _ (branches-fill B k w (t .1) (f .2)) (process-in (recvLabel at c B) k w t f)
-    process-fill (fwd at x c) k w t f = fill-term _ (fill-none k w) (process-in (fwd at x c) k w t f)
-    process-fill (call at n bracket xs ys) k w t f = fill-term _ (fill-none k w) (process-in (call at n bracket xs ys) k w t f)
-    process-fill (raise at P) k w t f = fill-term _ (process-fill P k w t (f .1)) (process-in (raise at P) k w t f)
-    process-fill (try at P Q) k w t f = fill-term _ (fill-then (process-fill P k w (t .0) (f .1)) (process-fill Q _ _ (t .1) (f .2))) (process-in (try at P Q) k w t f)
+        fill-term _ (fill-then (type-fill A _ _ (t .1) (f .1)) (fill-then (process-fill P _ _ (t .2) (f .2)) (process-fill Q _ _ (t .3) (f .3)))) (process-there (spawn n A P Q) k w t f)
+    process-fill (recvUnit at c P) k w t f = fill-term _ (process-fill P _ _ (t .1) (f .2)) (process-there (recvUnit at c P) k w t f)
+    process-fill (recvChannel at c a P) k w t f = fill-term _ (process-fill P _ _ (t .3) (f .3)) (process-there (recvChannel at c a P) k w t f)
+    process-fill (recvLabel at c B) k w t f = fill-term _ (branches-fill B _ _ (t .1) (f .2)) (process-there (recvLabel at c B) k w t f)
+    process-fill (fwd at x c) k w t f = fill-term _ (fill-none _ _) (process-there (fwd at x c) k w t f)
+    process-fill (call at n bracket xs ys) k w t f = fill-term _ (fill-none _ _) (process-there (call at n bracket xs ys) k w t f)
+    process-fill (raise at P) k w t f = fill-term _ (process-fill P _ _ t (f .1)) (process-there (raise at P) k w t f)
+    process-fill (try at P Q) k w t f = fill-term _ (fill-then (process-fill P _ _ (t .0) (f .1)) (process-fill Q _ _ (t .1) (f .2))) (process-there (try at P Q) k w t f)
 
     branches-fill : (B : Branches) (k : Tally) (w : List ℕ) → BranchesFrom s B → FineBranches B → Fill k (afterBranches B k) w (writeBranches B k w)
-    branches-fill Branches.none k w t f = fill-other (grown-lasting 0 k w) refl refl
+    branches-fill Branches.none k w t f = fill-last 0 (fill-none k w)
     branches-fill (branch l P B) k w t f =
         fill-then (process-fill P k w (t .1) (f .1)) (fill-then (branches-fill B _ _ (t .2) (f .2)) (fill-other (grown-branch _ _ _ _) refl refl))
 

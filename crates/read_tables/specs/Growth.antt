@@ -5,8 +5,8 @@ use mathlib.Core.List.{List}
 use native.Mathlib.Omega.{arith}
 use borrow.Author.Needs.{needs}
 use lib.ListN.{length, getD, set, length-set}
-use lib.Seq.{getD-set-same, getD-set-other}
-use Rattle.notation.specs.Tables.{typesAt, processesAt, execsAt, entriesAt, nodesAt, alternativesAt, termsAt, branchesAt, lasting, moreNodes, moreAlternatives, moreTerms, moreBranches, moreEntries, moreTypes, moreProcesses, moreExecs, putNode, putAlternative, putTerm, putBranch, putEntry, putType, putProcess, putExec, termWord, termWord′, writeCounts, providedRadix, Within}
+use lib.Seq.{getD-set-other}
+use Rattle.notation.specs.Tables.{typesAt, processesAt, execsAt, entriesAt, nodesAt, alternativesAt, termsAt, branchesAt, lasting, moreNodes, moreAlternatives, moreTerms, moreBranches, moreEntries, moreTypes, moreProcesses, moreExecs, putNode, putAlternative, putTerm, putBranch, putEntry, putType, putProcess, putExec, termWord, writeCounts, providedRadix, Within}
 use Rattle.notation.specs.declared.reading.Tally.{Tally}
 use Rattle.notation.specs.declared.reading.TypeNode.{TypeNode}
 use Rattle.notation.specs.declared.reading.TermNode.{TermNode}
@@ -90,7 +90,10 @@ grown-then {k = k} {l = l} {m = m} f g =
       kept = λ j o. g .kept j (outside-second {k = k} {l = l} {m = m} p q o) ∙ f .kept j (outside-first {k = k} {l = l} {m = m} p q o);
     }
 
--- ── one entry more
+-- ── none more, or one
+pub grown-none : (k : Tally) (w : List ℕ) → Grown k k w w
+grown-none k w = record { more = omega arith; long = refl; kept = λ j o. refl }
+
 pub grown-lasting : (n : ℕ) (k : Tally) (w : List ℕ) → Grown k (lasting n k) w w
 grown-lasting n k w = record { more = omega arith; long = refl; kept = λ j o. refl }
 

@@ -1,21 +1,21 @@
 -- A script in the tables is read back: each kind of declaration in the order of the text.
-use Prim.Native.Nat.{ℕ, zero, suc, _+_, _<_, _≤_}
+use Prim.Native.Nat.{ℕ, zero, suc, _+_}
 use mathlib.Core.Path.{_≡_, refl, sym, _∙_, ap}
 use mathlib.Core.List.{List, [], _∷_, _++_}
 use native.Mathlib.Omega.{arith}
 use lib.ListN.{length, getD, length-append, length-replicate}
 use Rattle.notation.specs.Limits.{typeTermLimit, processTermLimit, scratchWords}
-use Rattle.notation.specs.Tree.{Located, Ty, Proc, Entry, Declaration, declareType, declareProc, declareExec}
+use Rattle.notation.specs.Tree.{Entry, Declaration, declareType, declareProc, declareExec}
 use Rattle.notation.specs.Reader.{nameIn}
-use Rattle.notation.specs.Tables.{lasting, afterType, afterEntries, afterProcess, afterDeclaration, afterScript, writeScript, writeCounts, nothing, zeros, tablesOf, Within}
+use Rattle.notation.specs.Tables.{lasting, afterEntries, afterDeclaration, afterScript, writeScript, writeCounts, nothing, zeros, tablesOf, Within}
 use Rattle.notation.specs.declared.reading.Tally.{Tally}
 use Rattle.notation.specs.Tables.{Area}
-use Rattle.read_tables.specs.Decode.{tallyIn, entryAt, typeAt, execAt, processAt, typeIn, processIn, entriesIn, typeDeclaration, procBy, procDeclaration, execDeclaration, numbered, scriptIn}
-use Rattle.read_tables.specs.Growth.{Grown, grown-counts}
+use Rattle.read_tables.specs.Decode.{tallyIn, typeIn, entriesIn, typeDeclaration, procBy, procDeclaration, execDeclaration, numbered, scriptIn}
+use Rattle.read_tables.specs.Growth.{grown-counts}
 use Rattle.read_tables.specs.Stands.{EntriesAt, DeclarationAt, ScriptAt, EntriesFrom, DeclarationFrom, ScriptFrom}
-use Rattle.read_tables.specs.Types.{type-read}
-use Rattle.read_tables.specs.Processes.{process-read}
-use Rattle.read_tables.specs.Declarations.{FineScript, type-steady, process-steady, entries-count, script-grown, script-kept, script-written}
+use Rattle.read_tables.specs.Types.{type-counts, type-read}
+use Rattle.read_tables.specs.Processes.{process-counts, process-read}
+use Rattle.read_tables.specs.Declarations.{FineScript, entries-count, script-grown, script-kept, script-written}
 
 -- ── the declarations of each kind
 abbrev pub ownType : Declaration → List Declaration
@@ -77,15 +77,15 @@ module _ (own : Declaration → List Declaration) (index : Tally → ℕ) (next 
 pub grows-by : (a : Declaration) (j : Tally)
     → (afterDeclaration a j .types ≡ j .types + length (ownType a)) × (afterDeclaration a j .processes ≡ j .processes + length (ownProc a)) × (afterDeclaration a j .execs ≡ j .execs + length (ownExec a))
 unfolding afterDeclaration
-grows-by (declareType n A) j = omega (arith, type-steady A j)
+grows-by (declareType n A) j = omega (arith, type-counts A j)
 grows-by (declareProc n xs ys P) j =
-    omega (arith, entries-count xs j, entries-count ys (afterEntries xs j), process-steady P (afterEntries ys (afterEntries xs j)))
+    omega (arith, entries-count xs j, entries-count ys (afterEntries xs j), process-counts P (afterEntries ys (afterEntries xs j)))
 grows-by (declareExec n) j = omega arith
 
 entries-read : (es : List Entry) (s w : List ℕ) (k : Tally) (i : ℕ) → Within k → EntriesFrom s es → EntriesAt w k i es → entriesIn s w i (length es) ≡ es
 unfolding entriesIn EntriesFrom EntriesAt
 entries-read [] s w k i h t e = refl
-entries-read (n ∷ es) s w k i h (t, t′, t″) (x, b, e, c, a, r) =
+entries-read (n ∷ es) s w k i h (t, t′, t″) (x, b, e, (c, d, a), r) =
     let m = type-read (n .type) s w k x typeTermLimit t′ a (omega arith) in
     let o = entries-read es s w k (i + 1) h t″ r in
     (λ j. record { channel = nameIn s (e j .0); type = typeIn s w (e j .1) } ∷ entriesIn s w (i + 1) (length es)) ∙ λ j. record { channel = t j; type = m j } ∷ o j
@@ -93,7 +93,7 @@ entries-read (n ∷ es) s w k i h (t, t′, t″) (x, b, e, c, a, r) =
 module _ (s w : List ℕ) (k : Tally) (h : Within k) where
   type-head : (a : Declaration) (j : Tally) → DeclarationFrom s a → DeclarationAt w k j a → numbered (typeDeclaration s w) (j .types) (length (ownType a)) ≡ ownType a
   unfolding typeDeclaration DeclarationFrom DeclarationAt
-  type-head (declareType n A) j (t, t′) (x, b, e, c, a) =
+  type-head (declareType n A) j (t, t′) (x, b, e, (c, d, a)) =
       let m = type-read A s w k x typeTermLimit t′ a (omega arith) in
       (λ i. declareType (nameIn s (e i .0)) (typeIn s w (e i .1)) ∷ []) ∙ λ i. declareType (t i) (m i) ∷ []
   type-head (declareProc n xs ys P) j t e = refl
@@ -102,10 +102,10 @@ module _ (s w : List ℕ) (k : Tally) (h : Within k) where
   proc-head : (a : Declaration) (j : Tally) → DeclarationFrom s a → DeclarationAt w k j a → numbered (procDeclaration s w) (j .processes) (length (ownProc a)) ≡ ownProc a
   unfolding procDeclaration DeclarationFrom DeclarationAt
   proc-head (declareType n A) j t e = refl
-  proc-head (declareProc n xs ys P) j (t, t′, t″, u) (p, b, e, f, g, q) =
+  proc-head (declareProc n xs ys P) j (t, t′, t″, u) (p, b, e, f, g, c, q) =
       let m = entries-read xs s w k (j .entries) h t′ f in
       let o = entries-read ys s w k (j .entries + length xs) h t″ g in
-      let r = process-read P s w k p processTermLimit h u q (λ c. c) in
+      let r = process-read s w k h P p processTermLimit u q (omega arith) in
       (λ i. procBy s w (e i) ∷ []) ∙ λ i. declareProc (t i) (m i) (o i) (r i) ∷ []
   proc-head (declareExec n) j t e = refl
 

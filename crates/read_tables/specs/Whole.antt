@@ -1,13 +1,13 @@
 -- The tables as a whole: at each number of the tables of declarations stand trees and signatures, so that code may begin its walk there.
-use Prim.Native.Nat.{ℕ, zero, suc, _+_, _-_, _<_, _≤_}
-use mathlib.Core.Path.{_≡_, refl, sym, _∙_, ap, subst}
+use Prim.Native.Nat.{ℕ, suc, _+_, _-_, _<_, _≤_}
+use mathlib.Core.Path.{_≡_, refl, sym, subst}
 use mathlib.Core.Logic.{_⊎_, inl, inr}
 use mathlib.Core.List.{List, [], _∷_}
 use native.Mathlib.Nat.{eq-or-lt-of-le}
 use native.Mathlib.Omega.{arith}
 use lib.ListN.{length, length-replicate}
 use Rattle.notation.specs.Limits.{scratchWords}
-use Rattle.notation.specs.Tree.{Located, Entry, Declaration, declareType, declareProc, declareExec}
+use Rattle.notation.specs.Tree.{Entry, Declaration, declareType, declareProc, declareExec}
 use Rattle.notation.specs.Reader.{got, nameIn}
 use Rattle.notation.specs.Scripts.{readText}
 use Rattle.notation.specs.Tables.{lasting, afterDeclaration, afterScript, writeScript, nothing, zeros, tablesOf, tables, processEntry, Within}
@@ -22,7 +22,7 @@ use Rattle.read_tables.specs.Declarations.{FineScript, script-grown, scr
 use Rattle.read_tables.specs.Scripts.{sorted, grows-by, counted, script-decoded}
 use Rattle.read_tables.specs.Read.{Reads}
 use Rattle.read_tables.specs.ReadScripts.{ReadScript, text-read-from}
-use Rattle.read_tables.specs.Roots.{TypeIn, ProcessIn}
+use Rattle.read_tables.specs.Roots.{TypeIn, type-in, ProcessIn}
 
 -- n signature entries stand from the place i on
 pub record EntriesIn (s w : List ℕ) (i n : ℕ) : Type 0 where
@@ -47,9 +47,9 @@ first-entry s w i n t = go (t .list) (t .long) (t .from) (t .is)
   where
     go : (es : List Entry) → suc n ≡ length es → EntriesFrom s es → EntriesAt w (tallyIn w) i es → EntryThere s w i n
     go [] l f m = absurd (omega arith)
-    go (e ∷ es) l (f, f′, f″) (x, b, a, c, m, m′) =
+    go (e ∷ es) l (f, f′, f″) (x, b, a, m, m′) =
         let z : x ≡ entryAt w i .1 = λ j. sym a j .1 in
-        let u : TypeIn s w x = record { tree = e .type; small = c; from = f′; is = m } in
+        let u = type-in s w x (e .type) f′ m in
         record { within = b; type = subst (TypeIn s w) z u; rest = record { list = es; long = omega arith; from = f″; is = m′ }; is = refl }
 
 -- a process's entry: its signature and its body stand
@@ -77,9 +77,8 @@ module _ (s w : List ℕ) where
   pub each-type : (ds : List Declaration) (j : Tally) → ScriptFrom s ds → ScriptAt w (tallyIn w) j ds → (i : ℕ) → j .types ≤ i → i < afterScript ds j .types → TypeIn s w (typeAt w i .1)
   unfolding afterScript ScriptFrom ScriptAt DeclarationFrom DeclarationAt
   each-type [] j t e i lo hi = absurd (omega arith)
-  each-type (declareType n A ∷ r) j ((t, t′), u) ((x, b, e, c, a), m) i lo hi =
-      let f : TypeIn s w x = record { tree = A; small = c; from = t′; is = a } in
-      here-or-past TypeThere (j .types) i lo (subst (TypeIn s w) (λ v. sym e v .1) f)
+  each-type (declareType n A ∷ r) j ((t, t′), u) ((x, b, e, a), m) i lo hi =
+      here-or-past TypeThere (j .types) i lo (subst (TypeIn s w) (λ v. sym e v .1) (type-in s w x A t′ a))
       (λ l. each-type r (afterDeclaration (declareType n A) j) u m i (omega (arith, grows-by (declareType n A) j)) hi)
   each-type (declareProc n xs ys P ∷ r) j (t, u) (e, m) i lo hi =
       each-type r (afterDeclaration (declareProc n xs ys P) j) u m i (omega (arith, grows-by (declareProc n xs ys P) j)) hi
@@ -89,11 +88,11 @@ module _ (s w : List ℕ) where
   unfolding afterScript ScriptFrom ScriptAt DeclarationFrom DeclarationAt
   each-process [] j t e i lo hi = absurd (omega arith)
   each-process (declareType n A ∷ r) j (t, u) (e, m) i lo hi = each-process r (afterDeclaration (declareType n A) j) u m i (omega (arith, grows-by (declareType n A) j)) hi
-  each-process (declareProc n xs ys P ∷ r) j ((t, t′, t″, o), u) ((p, b, e, f, g, q), m) i lo hi =
+  each-process (declareProc n xs ys P ∷ r) j ((t, t′, t″, o), u) ((p, b, e, f, g, c, q), m) i lo hi =
       let y : SignatureIn s w (processEntry (n .at) (j .entries) (length xs) (length ys) p) = record {
         provides = record { list = xs; long = refl; from = t′; is = f };
         uses = record { list = ys; long = refl; from = t″; is = g };
-        body = record { tree = P; from = o; is = q };
+        body = record { tree = P; few = c; from = o; is = q };
       } in
       here-or-past SignatureThere (j .processes) i lo (subst (SignatureIn s w) (sym e) y)
       (λ l. each-process r (afterDeclaration (declareProc n xs ys P) j) u m i (omega (arith, grows-by (declareProc n xs ys P) j)) hi)

@@ -15,7 +15,7 @@ abbrev μ-loop : tie.MeasureT-loop
 μ-loop text scratch at e n place₀ left₀ place left = left
 
 loop-holds : tie.Need-loop-holds Inv-loop μ-loop
-loop-holds c = look-start _ _ _ _ _ _ (c .before .before .pre .1 .1)
+loop-holds c = look-start _ _ _ _ _ (c .before .before .pre .1)
 
 alternative-requires : tie.Need-alternative-requires Inv-loop μ-loop
 alternative-requires c κs = look-there _ _ _ _ _ _ _ (c .before .loop .inv) (c .loop-test .taken) (c .before .before .before .before .pre .0)

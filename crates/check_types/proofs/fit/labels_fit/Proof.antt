@@ -17,7 +17,7 @@ returns : tie.Need-returns Inv-loop μ-loop
 returns c = fit-not-many _ _ _ _ _ _ (c .if1 .taken)
 
 loop-holds : tie.Need-loop-holds Inv-loop μ-loop
-loop-holds c = fit-start _ _ _ _ _ _ (c .if1 .left) _ (c .before .before .before .pre .1 .1)
+loop-holds c = fit-start _ _ _ _ _ _ (c .if1 .left) (c .before .before .before .pre .1)
 
 alternative-requires : tie.Need-alternative-requires Inv-loop μ-loop
 alternative-requires c κs = fit-there _ _ _ _ _ _ _ _ (c .before .loop .inv) (c .loop-test .taken) (c .before .before .before .before .before .pre .0)

@@ -17,7 +17,7 @@ abbrev μ-loop : tie.MeasureT-loop
 μ-loop text scratch at d m place₀ left₀ seen₀ place left seen = left
 
 loop-holds : tie.Need-loop-holds Inv-loop μ-loop
-loop-holds c = count-start _ _ _ _ _ _ (c .before .before .pre .1 .1)
+loop-holds c = count-start _ _ _ _ _ (c .before .before .pre .1)
 
 branch-requires : tie.Need-branch-requires Inv-loop μ-loop
 branch-requires c κs = count-there _ _ _ _ _ _ _ _ (c .before .loop .inv) (c .loop-test .taken) (c .before .before .before .before .pre .0)

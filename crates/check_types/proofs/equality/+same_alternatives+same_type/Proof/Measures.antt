@@ -1,21 +1,21 @@
--- What falls at each call of the cycle: the size of the first type, or of the first list.
-use Prim.Native.Nat.{ℕ, _<_}
+-- What falls at each call of the cycle: the terms of the first type or list, and a list is walked before its types.
+use Prim.Native.Nat.{ℕ, _+_, _*_, _<_}
 use borrow.Fn.Kinds.{In}
 use borrow.Fn.PlainCycle.{Measures, is, falls, and}
 use Rattle.notation.specs.Tree.{plains}
+use Rattle.notation.specs.Sizes.{typeTerms, alternativesTerms}
 use Rattle.read_tables.specs.Program.{plainIn}
 use Rattle.read_tables.specs.Roots.{alternativesIn}
-use Rattle.check_types.specs.Equality.{size, sizes}
 use Rattle.check_types.proofs.equality.same_alternatives.Reads as same-alternatives
 use Rattle.check_types.proofs.equality.same_alternatives.Kinds as same-alternatives-kinds
 use Rattle.check_types.proofs.equality.same_type.Reads as same-type
 use Rattle.check_types.proofs.equality.same_type.Kinds as same-type-kinds
 
 abbrev pub μ-same-alternatives : Measures 2 same-alternatives-kinds.ps ℕ
-μ-same-alternatives κs a = sizes (plains (alternativesIn (a .0 .now) (a .1 .0 .now) (a .1 .1 .0) (a .1 .1 .1 .0)))
+μ-same-alternatives κs a = 2 * alternativesTerms (plains (alternativesIn (a .0 .now) (a .1 .0 .now) (a .1 .1 .0) (a .1 .1 .1 .0))) + 1
 
 abbrev pub μ-same-type : Measures 2 same-type-kinds.ps ℕ
-μ-same-type κs a = size (plainIn (a .0 .now) (a .1 .0 .now) (a .1 .1 .0))
+μ-same-type κs a = 2 * typeTerms (plainIn (a .0 .now) (a .1 .0 .now) (a .1 .1 .0))
 
 abbrev pub same-alternatives-at : ℕ → In 2 same-alternatives-kinds.ps
 same-alternatives-at t =

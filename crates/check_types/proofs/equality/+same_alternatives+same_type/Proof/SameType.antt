@@ -47,7 +47,7 @@ same-type-met t =
     let entry = c .before .before .before .before .before .before .before .before in
     let f = same-pair _ _ _ _ _ _ (entry .pre .1 .0) (entry .pre .1 .1) (entry .pre .1 .2) (c .before .before .before .before .before .type-node .ensures)
     (c .before .before .before .before .type-node2 .ensures) (c .before .before .if1 .left) (c .before .match .rest .0 .1) (c .before .match .rest .1) (c .if2 .taken) in
-    (omega (arith, entry .pre .0, f .smaller), (entry .pre .1 .0, f .first-here, f .first-there)))
+    (omega (arith, entry .pre .0, f .terms), (entry .pre .1 .0, f .first-here, f .first-there)))
     -- returns-2
     (λ c.
     let match = c .before .before .before .match in
@@ -63,13 +63,13 @@ same-type-met t =
     let entry = after-if1 .before .before .before .before .before .before in
     let f = same-pair _ _ _ _ _ _ (entry .pre .1 .0) (entry .pre .1 .1) (entry .pre .1 .2) (after-if1 .before .before .before .type-node .ensures) (after-if1 .before .before .type-node2 .ensures)
     (after-if1 .if1 .left) (match .rest .0 .1) (match .rest .1) (c .before .before .if2 .taken) in
-    (omega (arith, entry .pre .0, f .smaller), (entry .pre .1 .0, f .second-here, f .second-there)))
+    (omega (arith, entry .pre .0, f .terms), (entry .pre .1 .0, f .second-here, f .second-there)))
     -- same-alternatives-requires
     (λ c κs.
     let entry = c .before .before .before .before .before .before .before .before in
     let f = same-choice _ _ _ _ _ _ (entry .pre .1 .0) (entry .pre .1 .1) (entry .pre .1 .2) (c .before .before .before .before .before .type-node .ensures)
     (c .before .before .before .before .type-node2 .ensures) (c .before .before .if1 .left) (c .if2 .left) in
-    (omega (arith, entry .pre .0, f .smaller), (entry .pre .1 .0, (_, f .here), (_, f .there))))
+    (omega (arith, entry .pre .0, f .terms), (entry .pre .1 .0, f .here, f .there)))
     -- returns-3
     (λ c.
     let entry = c .before .before .before .before .before .before .before in
