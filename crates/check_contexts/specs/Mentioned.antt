@@ -75,7 +75,7 @@ innerTerms s w n =
     (cond (hasHalves (n .kind)) (processTerms (processIn s w (n .second))) 0)
 
 pub record InnerIn (s w : List ℕ) (n : TermNode) : Type 0 where
-  pub branches : n .kind ≡ 8 → (p : ℕ) × BranchesIn s w p (n .second) (n .third)
+  pub branches : n .kind ≡ 8 → BranchesIn s w (n .second) (n .third)
   pub first : hasHalves (n .kind) ≡ true → ProcessIn s w (n .second)
 
 -- ── what a node says of its process
@@ -104,10 +104,10 @@ or-nothing false = refl
 
 -- nothing follows at the pointer of no term
 nothing-there : (s w : List ℕ) → ProcessIn s w processTermLimit
-unfolding ProcessAt ProcessFrom
-nothing-there s w = record { tree = empty 0; from = omega arith; is = refl }
+unfolding ProcessAt ProcessFrom processTerms
+nothing-there s w = record { tree = empty 0; few = omega arith; from = omega arith; is = refl }
 
-module _ (s w : List ℕ) (p : ℕ) (A : Proc) (at first second third : ℕ) (none : processIn s w processTermLimit ≡ empty 0) where
+module _ (s w : List ℕ) (A : Proc) (at first second third : ℕ) (none : processIn s w processTermLimit ≡ empty 0) where
   abbrev node : ℕ → TermNode
   node k = termNode k at first second third
 
@@ -192,19 +192,19 @@ module _ (s w : List ℕ) (p : ℕ) (A : Proc) (at first second third : ℕ) (no
   abbrev named : ℕ → Name → Bool
   named i x = isName s i x
 
-  cases : Handlers (processCases s w p (node 0) A) At
+  cases : Handlers (processCases s w (node 0) A) At
   unfolding mentions actsOn bindsAnew innerMentions innerTerms lastPart processTerms
-  cases = (λ e. absurd e, (λ (f, e). goes-on 1 refl refl refl refl (f .1) (ap processTerms e) (λ x. ap (λ P. mentions P x) e ∙ first-then (named first x) (in-part third x)), (λ (f, e). goes-on 2 refl refl refl refl (f .1) (ap processTerms e) (λ x. ap (λ P. mentions P x) e ∙ both-then (named first x) (named second x) (in-part third x)), (λ (f, e). goes-on 3 refl refl refl refl (f .1) (ap processTerms e) (λ x. ap (λ P. mentions P x) e ∙ first-then (named first x) (in-part third x)), (λ (f, e). goes-on 4 refl refl refl refl (f .1) (ap processTerms e) (λ x. ap (λ P. mentions P x) e ∙ first-then (named first x) (in-part third x)), (λ (t, f, (g, e)). divides 5 refl refl refl refl (f .1) (g .1) (ap processTerms e) (λ x. ap (λ P. mentions P x) e), (λ (f, e). goes-on 6 refl refl refl refl (f .1) (ap processTerms e) (λ x. ap (λ P. mentions P x) e ∙ first-then (named first x) (in-part third x)), (λ (l, (f, e)). goes-on 7 refl refl refl refl (f .1) (ap processTerms e) (λ x. ap (λ P. mentions P x) e ∙ first-then (named first x) (not (named second x) && in-part third x)), (λ (f, e). ends 8 refl (no-call 8 refl) (record { branches = λ _. (_, f); first = λ d. absurd (false≢true d) }) (ap processTerms e) (λ x. ap (λ P. mentions P x) e ∙ first-then (named first x) (branchesMention (branchesIn s w second third) x)), (λ e. ends 9 refl (no-call 9 refl) (no-inner 9 refl refl) (ap processTerms e) (λ x. ap (λ P. mentions P x) e ∙ or-nothing (named first x || named second x)), (λ (c, e). ends 10 refl (λ _. c) (no-inner 10 refl refl) (ap processTerms e) (λ x. ap (λ P. mentions P x) e ∙ or-nothing (isOneOf x (argumentsAt s second .0) || isOneOf x (argumentsAt s second .1))), (λ (f, e). goes-on 11 refl refl refl refl (f .1) (ap processTerms e) (λ x. ap (λ P. mentions P x) e), (λ (f, (g, e)). divides 12 refl refl refl refl (f .1) (g .1) (ap processTerms e) (λ x. ap (λ P. mentions P x) e), tt)))))))))))))
+  cases = (λ e. absurd e, (λ (f, e). goes-on 1 refl refl refl refl (f .1) (ap processTerms e) (λ x. ap (λ P. mentions P x) e ∙ first-then (named first x) (in-part third x)), (λ (f, e). goes-on 2 refl refl refl refl (f .1) (ap processTerms e) (λ x. ap (λ P. mentions P x) e ∙ both-then (named first x) (named second x) (in-part third x)), (λ (f, e). goes-on 3 refl refl refl refl (f .1) (ap processTerms e) (λ x. ap (λ P. mentions P x) e ∙ first-then (named first x) (in-part third x)), (λ (f, e). goes-on 4 refl refl refl refl (f .1) (ap processTerms e) (λ x. ap (λ P. mentions P x) e ∙ first-then (named first x) (in-part third x)), (λ (t, f, (g, e)). divides 5 refl refl refl refl (f .1) (g .1) (ap processTerms e) (λ x. ap (λ P. mentions P x) e), (λ (f, e). goes-on 6 refl refl refl refl (f .1) (ap processTerms e) (λ x. ap (λ P. mentions P x) e ∙ first-then (named first x) (in-part third x)), (λ (l, (f, e)). goes-on 7 refl refl refl refl (f .1) (ap processTerms e) (λ x. ap (λ P. mentions P x) e ∙ first-then (named first x) (not (named second x) && in-part third x)), (λ (l, f, e). ends 8 refl (no-call 8 refl) (record { branches = λ _. f; first = λ d. absurd (false≢true d) }) (ap processTerms e) (λ x. ap (λ P. mentions P x) e ∙ first-then (named first x) (branchesMention (branchesIn s w second third) x)), (λ e. ends 9 refl (no-call 9 refl) (no-inner 9 refl refl) (ap processTerms e) (λ x. ap (λ P. mentions P x) e ∙ or-nothing (named first x || named second x)), (λ (c, e). ends 10 refl (λ _. c) (no-inner 10 refl refl) (ap processTerms e) (λ x. ap (λ P. mentions P x) e ∙ or-nothing (isOneOf x (argumentsAt s second .0) || isOneOf x (argumentsAt s second .1))), (λ (f, e). goes-on 11 refl refl refl refl (f .1) (ap processTerms e) (λ x. ap (λ P. mentions P x) e), (λ (f, (g, e)). divides 12 refl refl refl refl (f .1) (g .1) (ap processTerms e) (λ x. ap (λ P. mentions P x) e), tt)))))))))))))
 
-pub mentioning : (s w : List ℕ) (p : ℕ) (n : TermNode) (A : Proc) → processIn s w processTermLimit ≡ empty 0 → atKind (processCases s w p n A) (n .kind) → Mentioning s w n A
-mentioning s w p n A none h = each-kind (processCases s w p n A) (At s w p A (n .at) (n .first) (n .second) (n .third) none) (cases s w p A (n .at) (n .first) (n .second) (n .third) none) (n .kind) h
+pub mentioning : (s w : List ℕ) (n : TermNode) (A : Proc) → processIn s w processTermLimit ≡ empty 0 → atKind (processCases s w n A) (n .kind) → Mentioning s w n A
+mentioning s w n A none h = each-kind (processCases s w n A) (At s w A (n .at) (n .first) (n .second) (n .third) none) (cases s w A (n .at) (n .first) (n .second) (n .third) none) (n .kind) h
 
 -- the node at a pointer below the limit, and a pointer past it
 nothing-said : (s w : List ℕ) → Tables s w → processIn s w processTermLimit ≡ empty 0
 nothing-said s w t = process-root s w (t .within) processTermLimit (nothing-there s w) .none (omega arith)
 
 pub node-mentions : {s w : List ℕ} {p : ℕ} {n : TermNode} → Tables s w → ProcessIn s w p → p < processTermLimit → TermOf w p n → Mentioning s w n (processIn s w p)
-node-mentions {s} {w} {p} {n} t a h o = mentioning s w p n (processIn s w p) (nothing-said s w t) (o .says s t a .node h .1)
+node-mentions {s} {w} {p} {n} t a h o = mentioning s w n (processIn s w p) (nothing-said s w t) (o .says s t a .node h .1)
 
 -- ── what is marked of a node
 module _ (node : TermNode) {s ends : List ℕ} {n : ℕ} {sought m : Marks} where
@@ -308,19 +308,19 @@ walk-begin ends n sought m a = record { stands = a; fewer = omega arith; at = λ
 -- ── as far as the walk over branches has come
 pub record Branched (s w ends : List ℕ) (n e count : ℕ) (sought m : Marks) (k : ℕ) (r : Marks) : Type 0 where
   pub upto : k ≤ count
-  pub stands : (p : ℕ) × BranchesIn s w p (e - k) (count - k)
+  pub stands : BranchesIn s w (e - k) (count - k)
   pub fewer : branchesTerms (branchesIn s w (e - k) (count - k)) ≤ branchesTerms (branchesIn s w e count)
   pub at : (v : Marks) → Marked s ends n sought (branchesMention (branchesIn s w (e - k) (count - k))) r v → Marked s ends n sought (branchesMention (branchesIn s w e count)) m v
 
 module _ {s w ends : List ℕ} {n e count : ℕ} {sought m : Marks} where
-  pub branches-begin : {p : ℕ} → BranchesIn s w p e count → Branched s w ends n e count sought m 0 m
-  branches-begin {p} a =
+  pub branches-begin : BranchesIn s w e count → Branched s w ends n e count sought m 0 m
+  branches-begin a =
       let x : e ≡ e - 0 = omega arith in
       let y : count ≡ count - 0 = omega arith in
       let q : branchesIn s w e count ≡ branchesIn s w (e - 0) (count - 0) = λ j. branchesIn s w (x j) (y j) in
       record {
         upto = omega arith;
-        stands = (p, subst (λ d. BranchesIn s w p d (count - 0)) x (subst (BranchesIn s w p e) y a));
+        stands = subst (λ d. BranchesIn s w d (count - 0)) x (subst (BranchesIn s w e) y a);
         fewer = omega (arith, ap branchesTerms q);
         at = λ v f. marked-as (λ x. ap (λ B. branchesMention B x) (sym q)) f;
       }
@@ -331,15 +331,15 @@ module _ {s w ends : List ℕ} {n e count : ℕ} {sought m : Marks} where
     branches-done l = t .at r (marked-none (λ x. ap (λ i. branchesMention (branchesIn s w (e - k) i) x) {x = count - k} {y = 0} (omega arith)))
 
     module _ (l : k < count) where
-      some-left : BranchesIn s w (t .stands .0) (e - k) (suc (count - k - 1))
-      some-left = subst (BranchesIn s w (t .stands .0) (e - k)) {x = count - k} {y = suc (count - k - 1)} (omega arith) (t .stands .1)
+      some-left : BranchesIn s w (e - k) (suc (count - k - 1))
+      some-left = subst (BranchesIn s w (e - k)) {x = count - k} {y = suc (count - k - 1)} (omega arith) (t .stands)
 
       pub branch-here : Tables s w → (1 ≤ e - k) × (e - k ≤ branchRoom)
-      branch-here u = branch-there s w u (t .stands .0) (e - k) (count - k - 1) some-left
+      branch-here u = branch-there s w u (e - k) (count - k - 1) some-left
 
     module _ (l : k < count) {b : Labelled} (o : BranchOf w (e - k) b) where
-      pub branch-first : FirstBranch s w (t .stands .0) (e - k) (count - k - 1) (b .at) (b .number)
-      branch-first = o .says s (t .stands .0) (count - k - 1) (some-left l)
+      pub branch-first : FirstBranch s w (e - k) (count - k - 1) (b .at) (b .number)
+      branch-first = o .says s (count - k - 1) (some-left l)
 
       left : (i : ℕ) → i ≡ k + 1 → branchesIn s w (e - k) (count - k) ≡ branch (labelIn s (b .at)) (processIn s w (b .number)) (branchesIn s w (e - i) (count - i))
       left i z =
@@ -360,7 +360,7 @@ module _ {s w ends : List ℕ} {n e count : ℕ} {sought m : Marks} where
           let q = ap branchesTerms (left i z) in
           record {
             upto = omega arith;
-            stands = (t .stands .0, subst (λ d. BranchesIn s w (t .stands .0) d (count - i)) x (subst (BranchesIn s w (t .stands .0) (e - k - 1)) y (branch-first .rest)));
+            stands = subst (λ d. BranchesIn s w d (count - i)) x (subst (BranchesIn s w (e - k - 1)) y (branch-first .rest));
             fewer = omega (arith, q, t .fewer);
             at = λ v g. t .at v (marked-as (λ x. ap (λ B. branchesMention B x) (sym (left i z))) (marked-then f g));
           }

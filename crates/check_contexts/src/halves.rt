@@ -127,14 +127,7 @@ pub fn divides(n: usize, first: Marks, second: Marks, exactly: bool) -> bool
 }
 
 // What a half of a spawn holds: what is marked, for the first half, or what is left, for the second; and its end of the new channel.
-pub fn spawn_half(
-    h: Held,
-    taken: Marks,
-    name: u32,
-    node: u32,
-    first: bool,
-    channel: u32,
-) -> Held
+pub fn spawn_half(h: Held, taken: Marks, name: u32, node: u32, first: bool, channel: u32) -> Held
     requires { ⌜ (h .count ≤ heldLimit) × All BoundedEnd (heldIn h) × HasRoom h taken first ⌝ }
     requires { ⌜ (name < textLimit) × (node < typeTermLimit) × (channel < channelPlaces) ⌝ }
     ensures { λ r. ⌜ SpawnHalf h taken name node first channel r ⌝ }

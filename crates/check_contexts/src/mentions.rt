@@ -207,7 +207,7 @@ fn mark_branches(
     sought: Marks,
     m: Marks,
 ) -> Marks
-    requires { ⌜ Tables (now text) (now scratch) × (n ≤ heldLimit) × ((p : ℕ) × BranchesIn (now text) (now scratch) p e count) ⌝ }
+    requires { ⌜ Tables (now text) (now scratch) × (n ≤ heldLimit) × BranchesIn (now text) (now scratch) e count ⌝ }
     ensures { λ r. ⌜ Marked (now (text .entry)) (now (ends .entry)) n sought (branchesMention (branchesIn (now (text .entry)) (now (scratch .entry)) e count)) m r ⌝ }
 {
     let mut r = m;

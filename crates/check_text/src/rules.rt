@@ -72,13 +72,7 @@ pub(crate) fn ending_refusal(text: &[u8], scratch: &[u32], h: Held, n: TermNode)
 }
 
 // A spawn's halves may be divided so, the first of which takes what is marked, and its new name joins both: the refusal's number, or 0.
-pub(crate) fn spawn_refusal(
-    text: &[u8],
-    scratch: &[u32],
-    h: Held,
-    n: TermNode,
-    taken: Marks,
-) -> u32
+pub(crate) fn spawn_refusal(text: &[u8], scratch: &[u32], h: Held, n: TermNode, taken: Marks) -> u32
     requires { ⌜ Tables (now text) (now scratch) × HeldIn (now text) (now scratch) h × ProcessIn (now text) (now scratch) (n .third) ⌝ }
     requires { ⌜ Takes (now text) (now scratch) h (OfSpawn (n .at) (n .second)) ALL taken ⌝ }
     ensures { λ r. ⌜ r ≡ numberOf (spawnStep (now (text .entry)) (now (scratch .entry)) n (contextIn (now (text .entry)) (now (scratch .entry)) h)) ⌝ }

@@ -21,7 +21,7 @@ pub mark-branches-met : {M : Type 1} (t : ℕ) → mark-branches-lts.Closed (bra
 mark-branches-met t =
     mark-branches-lts.spec (branch-reads.Asked, branch-reads.Learnt, mark-process-below t, mark-process.Post) (mark-branches-at t) mark-branches.Post Inv-loop μ-loop
     -- loop-holds
-    (λ c. branches-begin (c .before .before .pre .1 .2 .1))
+    (λ c. branches-begin (c .before .before .pre .1 .2))
     -- sub-branch
     (λ c.
     let b = branch-here (c .before .loop .inv) (c .loop-test .taken) (c .before .before .before .before .pre .1 .0) in
