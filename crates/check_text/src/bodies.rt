@@ -1,5 +1,5 @@
 // Refusals 10 to 15 of a script: its processes in text order, in each the signature's 17th name first, then the body.
-use crate::process::check_process;
+use check_processes::process::check_process;
 use calculus::verdict::Verdict;
 use check_contexts::held::bring_end;
 use check_declarations::verdict::declared_verdict;

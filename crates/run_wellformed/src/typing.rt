@@ -20,7 +20,7 @@ ghost use Rattle.run_wellformed.specs.Typing.{Distinct, typedIn};
 use calculus::verdict::Verdict;
 use check_contexts::held::Lookup;
 use check_contexts::held::find_end;
-use check_text::process::check_process;
+use check_processes::process::check_process;
 use notation::words::wide;
 use run_words::held::end_at;
 use run_words::held::without;

@@ -12,7 +12,7 @@ use Rattle.check_text.proofs.bodies.check_body.Reads as reads
 use Rattle.check_text.proofs.bodies.check_body.Lts as lts
 use Rattle.check_text.proofs.bodies.has_seventeenth.Reads as has-seventeenth-reads
 use Rattle.check_text.proofs.bodies.signature_held.Reads as signature-held-reads
-use Rattle.check_text.proofs.process.check_process.Reads as check-process-reads
+use Rattle.check_processes.proofs.process.check_process.Reads as check-process-reads
 use Rattle.read_tables.proofs.access.declared_process.Reads as declared-process-reads
 use Rattle.read_tables.proofs.access.entry.Reads as entry-reads
 

@@ -1,4 +1,4 @@
-use Rattle.check_text.specs.Process.{then-refused, then-fine}
+use Rattle.check_processes.specs.Process.{then-refused, then-fine}
 use borrow.Author.Needs.{needs}
 use Rattle.check_text.proofs.bodies.script_verdict.Statement.{statement}
 use Rattle.check_text.proofs.bodies.script_verdict.Tie as tie

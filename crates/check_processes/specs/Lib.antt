@@ -1,0 +1,4 @@
+pub mod Offers
+pub mod Nodes
+pub mod Spawns
+pub mod Process

@@ -1,0 +1,195 @@
+-- The ways through the check of a process.
+use Prim.Native.Nat.{ℕ, zero, suc, _+_, _-_, _<_, _≤_}
+use mathlib.Core.Path.{_≡_, refl, sym, _∙_, ap, subst}
+use mathlib.Core.List.{List, [], _∷_, _++_}
+use mathlib.Core.Bool.{Bool, true, false, cond, _&&_}
+use mathlib.Core.Option.{Option, some, none, Option·map}
+use native.Mathlib.Omega.{arith}
+use lib.Dec.{eqb}
+use borrow.Author.Tests.{eq-eqb, ne-eqb}
+use Rattle.notation.specs.Limits.{processTermLimit, textLimit}
+use Rattle.notation.specs.Token.{nameAt}
+use Rattle.notation.specs.Tree.{Name, Proc, empty, Alternatives, Branches, plains}
+use Rattle.notation.specs.declared.reading.TermNode.{TermNode}
+use Rattle.notation.specs.declared.reading.Found.{Found}
+use Rattle.notation.specs.declared.reading.Found.the-variants as found
+use Rattle.calculus.specs.Named.{lookup, isSome, all, distinct}
+use Rattle.calculus.specs.Types.{provided, used, labelled}
+use Rattle.calculus.specs.Program.{Context, Program}
+use Rattle.calculus.specs.Declarations.{isNil}
+use Rattle.calculus.specs.Typing.{retyped, listFits, withoutAll}
+use Rattle.calculus.specs.Checking.{check, checkBranches}
+use Rattle.calculus.specs.Verdict.{fine, refused, andThen, demand, having}
+use Rattle.calculus.specs.Verdict as calculus
+use Rattle.run_words.specs.declared.records.Held.{Held}
+use Rattle.calculus.specs.Verdict.{verdictOf}
+use Rattle.calculus.specs.declared.verdict.Verdict.{Verdict}
+use Rattle.calculus.specs.declared.verdict.Verdict.the-variants as verdict
+use Rattle.read_tables.specs.Access.{TermOf}
+use Rattle.read_tables.specs.Decode.{processIn}
+use Rattle.read_tables.specs.Program.{plainIn, programIn}
+use Rattle.read_tables.specs.Roots.{atKind, processCases, ProcessIn, process-root, AlternativesIn, alternativesIn, BranchesIn, branchesIn, FirstBranch}
+use Rattle.read_tables.specs.Search.{placeOf}
+use Rattle.read_tables.specs.Whole.{Tables}
+use Rattle.check_types.specs.Labels.{LeadsTo}
+use Rattle.check_contexts.specs.Held.{HeldIn, Retypes}
+use Rattle.check_terms.specs.Next.{Step, stop, go, asking, granted, resume, contextIn, nextOf, Goes}
+use Rattle.check_terms.specs.Endings.{numberOf, verdictBy, joins, forwards, calls, none-left, some-left}
+use Rattle.check_terms.specs.Sends.{retyped-so}
+use Rattle.check_terms.specs.declared.next.Next.{Next}
+use Rattle.check_processes.specs.Nodes.{NodeIn, endStep, spawnStep, apart?, joins?}
+
+pub refused-by : (at n : ℕ) → (n ≡ 0 → ⊥) → refused n at ≡ verdictBy at n
+refused-by at zero z = absurd (z refl)
+refused-by at (suc n) z = refl
+
+-- ── an empty process
+module _ (s w : List ℕ) (h : Held) (link : Bool) (p : ℕ) (t : Tables s w) (a : ProcessIn s w p) (b : processTermLimit ≤ p) where
+  empty-by : (c : Bool) → isNil (contextIn s w h) ≡ c → check (programIn s w) (contextIn s w h) link (processIn s w p) ≡ demand 13 (p - processTermLimit) c fine
+  unfolding check
+  empty-by c e = ap (check (programIn s w) (contextIn s w h) link) (process-root s w (t .within) p a .none b) ∙ ap (λ d. demand 13 (p - processTermLimit) d fine) e
+
+  pub empty-fine : h .count ≡ 0 → fine ≡ check (programIn s w) (contextIn s w h) link (processIn s w p)
+  empty-fine z = sym (empty-by true (none-left s w h z))
+
+  pub empty-left : (h .count ≡ 0 → ⊥) → refused 13 (p - processTermLimit) ≡ check (programIn s w) (contextIn s w h) link (processIn s w p)
+  empty-left z = sym (empty-by false (some-left s w h z))
+
+pub node-in : (s w : List ℕ) (p : ℕ) (n : TermNode) → Tables s w → ProcessIn s w p → p < processTermLimit → TermOf w p n → NodeIn s w p n
+node-in s w p n t a b o = record { says = o .says s t a .node b .1; small = b; at = o .at }
+
+-- no node is of kind 0
+pub some-kind : (s w : List ℕ) (p : ℕ) (n : TermNode) → NodeIn s w p n → 1 ≤ n .kind
+some-kind s w p n t = go (n .kind) (t .says)
+  where
+    go : (k : ℕ) → atKind (processCases s w p n (processIn s w p)) k → 1 ≤ k
+    go zero e = absurd e
+    go (suc k) e = omega arith
+
+-- ── the rest of a term
+module _ (s w : List ℕ) (x : Next) (at : ℕ) (k : Context → calculus.Verdict) where
+  rest-by : (b : Bool) → eqb (x .refusal) 0 ≡ b → resume at (nextOf s w x) k ≡ resume at (cond b (go (contextIn s w (x .held))) (stop (x .refusal))) k
+  rest-by b e = ap (λ c. resume at (cond c (go (contextIn s w (x .held))) (stop (x .refusal))) k) e
+
+  pub rest-on : {v : calculus.Verdict} → x .refusal ≡ 0 → v ≡ k (contextIn s w (x .held)) → v ≡ resume at (nextOf s w x) k
+  rest-on z e = e ∙ sym (rest-by true (eq-eqb _ _ z))
+
+  pub rest-stops : (x .refusal ≡ 0 → ⊥) → refused (x .refusal) at ≡ resume at (nextOf s w x) k
+  rest-stops z = sym (rest-by false (ne-eqb _ _ z))
+
+pub rest-of : (s w : List ℕ) (x : Next) (at : ℕ) (k : Context → calculus.Verdict) (t : Step) {u v : calculus.Verdict} → Goes s w x t → u ≡ resume at (nextOf s w x) k → v ≡ resume at t k → u ≡ v
+rest-of s w x at k t g e q = e ∙ ap (λ y. resume at y k) (g .is) ∙ sym q
+
+-- ── a refusal's number is no 0
+abbrev NoZero : Step → Type 0
+NoZero (stop n) = 0 < n
+NoZero (go G) = 0 < 1
+
+no-zero-asking : {X : Type 0} (n : ℕ) (o : Option X) (k : X → Step) → 0 < n → ((x : X) → NoZero (k x)) → NoZero (asking n o k)
+no-zero-asking n none k l f = l
+no-zero-asking n (some x) k l f = f x
+
+no-zero-granted : (n : ℕ) (b : Bool) (t : Step) → 0 < n → NoZero t → NoZero (granted n b t)
+no-zero-granted n true t l h = h
+no-zero-granted n false t l h = l
+
+forwards-no-zero : (x c : Name) (G : Context) → NoZero (forwards x c G)
+unfolding forwards
+forwards-no-zero x c G =
+    no-zero-asking 10 (lookup x G) _ (omega arith) λ h.
+    no-zero-asking 10 (lookup c G) _ (omega arith) λ e.
+    no-zero-granted 11 (joins h e) _ (omega arith) (no-zero-granted 13 (isNil (withoutAll (x ∷ c ∷ []) G)) _ (omega arith) (omega arith))
+
+calls-no-zero : (p : Program) (q : Name) (xs ys : List Name) (G : Context) → NoZero (calls p q xs ys G)
+unfolding calls
+calls-no-zero p q xs ys G =
+    let left = granted 13 (isNil (withoutAll (xs ++ ys) G)) (go G) in
+    let once = granted 11 (distinct (xs ++ ys)) left in
+    no-zero-granted 10 (all (λ n. isSome (lookup n G)) (xs ++ ys)) _ (omega arith)
+    (no-zero-asking 11 (lookup q (p .processes)) _ (omega arith) λ s.
+    no-zero-granted 11 (listFits G provided xs (s .provides) && listFits G used ys (s .uses)) once (omega arith)
+    (no-zero-granted 11 (distinct (xs ++ ys)) left (omega arith) (no-zero-granted 13 (isNil (withoutAll (xs ++ ys) G)) (go G) (omega arith) (omega arith))))
+
+end-no-zero : (s w : List ℕ) (n : TermNode) (G : Context) → NoZero (endStep s w n G)
+unfolding endStep
+end-no-zero s w n G = either (eqb (n .kind) 9) _ _ (forwards-no-zero _ _ G) (calls-no-zero _ _ _ _ G)
+  where
+    either : (b : Bool) (x y : Step) → NoZero x → NoZero y → NoZero (cond b x y)
+    either true x y p q = p
+    either false x y p q = q
+
+by-number : (at : ℕ) (t : Step) → NoZero t → resume at t (λ _. fine) ≡ verdictBy at (numberOf t)
+by-number at (stop zero) h = absurd (omega arith)
+by-number at (stop (suc n)) h = refl
+by-number at (go G) h = refl
+
+pub ends-so : (s w : List ℕ) (n : TermNode) (G : Context) (x : ℕ) {u v : calculus.Verdict} → x ≡ numberOf (endStep s w n G) → u ≡ verdictBy (n .at) x → v ≡ resume (n .at) (endStep s w n G) (λ _. fine) → u ≡ v
+ends-so s w n G x e p q = p ∙ ap (verdictBy (n .at)) e ∙ sym (q ∙ by-number (n .at) (endStep s w n G) (end-no-zero s w n G))
+
+-- ── two halves: the first that is at fault, else the second
+pub then-refused : {u : calculus.Verdict} (v : calculus.Verdict) (r : Verdict) (n i : ℕ) → r ≡ verdict.Refused n i → verdictOf r ≡ u → verdictOf r ≡ andThen u v
+then-refused v r n i e q = ap verdictOf e ∙ ap (λ x. andThen x v) (sym (ap verdictOf e) ∙ q)
+
+pub then-fine : {u x : calculus.Verdict} (v : calculus.Verdict) (r : Verdict) → r ≡ verdict.Fine → verdictOf r ≡ u → x ≡ v → x ≡ andThen u v
+then-fine v r e q p = p ∙ ap (λ y. andThen y v) (sym (ap verdictOf e) ∙ q)
+
+-- ── a spawn
+module _ (s w : List ℕ) (n : TermNode) (G : Context) (at : ℕ) (k : Context → calculus.Verdict) where
+  abbrev by : Bool → Bool → Step
+  by a b = granted 13 a (granted 15 b (go G))
+
+  stops-by : (a b : Bool) → (numberOf (by a b) ≡ 0 → ⊥) → refused (numberOf (by a b)) at ≡ resume at (by a b) k
+  stops-by true true z = absurd (z refl)
+  stops-by true false z = refl
+  stops-by false b z = refl
+
+  goes-by : (a b : Bool) → numberOf (by a b) ≡ 0 → resume at (by a b) k ≡ k G
+  goes-by true true z = refl
+  goes-by true false z = absurd (omega arith)
+  goes-by false b z = absurd (omega arith)
+
+  pub spawn-stops : (r : ℕ) → r ≡ numberOf (spawnStep s w n G) → (r ≡ 0 → ⊥) → refused r at ≡ resume at (spawnStep s w n G) k
+  unfolding spawnStep
+  spawn-stops r e z = ap (λ m. refused m at) e ∙ stops-by (apart? s w n G) (joins? s w n G) (λ q. z (e ∙ q))
+
+  pub spawn-goes : (r : ℕ) → r ≡ numberOf (spawnStep s w n G) → r ≡ 0 → resume at (spawnStep s w n G) k ≡ k G
+  unfolding spawnStep
+  spawn-goes r e z = goes-by (apart? s w n G) (joins? s w n G) (sym e ∙ z)
+
+-- ── branches
+pub no-branch : (s w : List ℕ) (G : Context) (link : Bool) (at : ℕ) (c : Name) (r : Alternatives Name) (d k : ℕ) → k ≡ 0 → fine ≡ checkBranches (programIn s w) G link at c r (branchesIn s w d k)
+unfolding check
+no-branch s w G link at c r d k z = rw z refl
+
+past-one : (k : ℕ) → (k ≡ 0 → ⊥) → suc (k - 1) ≡ k
+past-one k z = omega (arith, z)
+
+pub some-branch : (s w : List ℕ) (p d k : ℕ) → (k ≡ 0 → ⊥) → BranchesIn s w p d k → BranchesIn s w p d (suc (k - 1))
+some-branch s w p d k z h = subst (BranchesIn s w p d) (sym (past-one k z)) h
+
+module _ (s w : List ℕ) (h : Held) (link : Bool) (at c e m p d k : ℕ) (z : k ≡ 0 → ⊥) (b i : ℕ) (f : FirstBranch s w p d (k - 1) b i) (r : Found) (l : LeadsTo s w b e m r) where
+  abbrev P : Program
+  P = programIn s w
+
+  abbrev G : Context
+  G = contextIn s w h
+
+  abbrev labels : Alternatives Name
+  labels = plains (alternativesIn s w e m)
+
+  abbrev rest : calculus.Verdict
+  rest = checkBranches P G link at (nameAt s c) labels (branchesIn s w (d - 1) (k - 1))
+
+  branches-by : (x : Found) → r ≡ x
+      → checkBranches P G link at (nameAt s c) labels (branchesIn s w d k) ≡ having 12 at (Option·map (plainIn s w) (placeOf x)) (λ A. andThen (check P (retyped (nameAt s c) A G) link (processIn s w i)) rest)
+  unfolding check
+  branches-by x q =
+      ap (λ j. checkBranches P G link at (nameAt s c) labels (branchesIn s w d j)) (sym (past-one k z))
+      ∙ ap (checkBranches P G link at (nameAt s c) labels) (f .is)
+      ∙ ap (λ o. having 12 at o (λ A. andThen (check P (retyped (nameAt s c) A G) link (processIn s w i)) rest)) (l .is ∙ ap (λ y. Option·map (plainIn s w) (placeOf y)) q)
+
+  pub branch-unlabelled : r ≡ found.Nothing → refused 12 at ≡ checkBranches P G link at (nameAt s c) labels (branchesIn s w d k)
+  branch-unlabelled q = sym (branches-by found.Nothing q)
+
+  pub branch-labelled : (j : ℕ) → r ≡ found.At j → (x : Held) → Retypes s h c j x → {v : calculus.Verdict} → v ≡ andThen (check P (contextIn s w x) link (processIn s w i)) rest → v ≡ checkBranches P G link at (nameAt s c) labels (branchesIn s w d k)
+  branch-labelled j q x t e = e ∙ sym (branches-by (found.At j) q ∙ ap (λ H. andThen (check P H link (processIn s w i)) rest) (retyped-so s w h c j x t))

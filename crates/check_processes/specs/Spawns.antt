@@ -1,0 +1,153 @@
+-- The ways through the code of a spawn and of a try.
+use Prim.Native.Nat.{ℕ, zero, suc, _+_, _<_, _≤_}
+use mathlib.Core.Path.{_≡_, refl, sym, _∙_, ap, subst}
+use mathlib.Core.List.{List, [], _∷_, _++_}
+use mathlib.Core.Bool.{Bool, true, false, true≢false, cond, not, _&&_}
+use native.Mathlib.Omega.{arith}
+use lib.Dec.{ltb}
+use lib.ListN.{length}
+use borrow.Author.Tests.{lt-ltb, le-ltb, ltb-true}
+use Rattle.notation.specs.Limits.{heldLimit}
+use Rattle.notation.specs.Token.{nameAt}
+use Rattle.notation.specs.Tree.{Name, Proc}
+use Rattle.notation.specs.declared.reading.TermNode.{TermNode}
+use Rattle.calculus.specs.Named.{lookup, isSome, names}
+use Rattle.calculus.specs.Mentions.{spawnTakes, spawnLeaves, tryTakes, neverBoth, exactlyOne}
+use Rattle.calculus.specs.Program.{slot, Context}
+use Rattle.calculus.specs.Typing.{bringing}
+use Rattle.calculus.specs.Configuration.{End}
+use Rattle.calculus.specs.WellFormed.{contextOf}
+use Rattle.theory_ends.specs.Contexts.{context-kept, context-names, context-append}
+use Rattle.run_words.specs.Raw.{sideOf}
+use Rattle.run_words.specs.declared.records.Held.{Held}
+use Rattle.read_tables.specs.Decode.{processIn}
+use Rattle.read_tables.specs.Program.{plainIn}
+use Rattle.read_tables.specs.Roots.{TypeIn}
+use Rattle.check_contexts.specs.Held.{channelsOf, HeldIn, Brings}
+use Rattle.check_contexts.specs.Halves.{halfSide, Keeps, Fair, spawn-takes, spawn-leaves, try-takes, never-shared, shared-once}
+use Rattle.check_contexts.specs.declared.halves.Half.the-variants.{OfSpawn, OfTry}
+use Rattle.check_terms.specs.Next.{Step, stop, go, granted, contextIn}
+use Rattle.check_terms.specs.Endings.{numberOf}
+use Rattle.check_terms.specs.Sends.{count-so}
+use Rattle.check_processes.specs.Nodes.{apart?, joins?, spawnStep, halfContext, SpawnHalf}
+
+-- ── a split of what is held is a split of the context
+context-takes : (x : Name) (P : Proc) (l : List (Name × End)) → contextOf (spawnTakes x P l) ≡ spawnTakes x P (contextOf l)
+unfolding spawnTakes
+context-takes x P l = sym (context-kept _ l)
+
+context-leaves : (x : Name) (P : Proc) (l : List (Name × End)) → contextOf (spawnLeaves x P l) ≡ spawnLeaves x P (contextOf l)
+unfolding spawnLeaves
+context-leaves x P l = sym (context-kept _ l)
+
+context-tries : (P : Proc) (l : List (Name × End)) → contextOf (tryTakes P l) ≡ tryTakes P (contextOf l)
+unfolding tryTakes
+context-tries P l = sym (context-kept _ l)
+
+module _ (s w : List ℕ) (h : Held) where
+  pub tried : (p : ℕ) (r : Held) → Keeps s w h (OfTry p) true r → contextIn s w r ≡ tryTakes (processIn s w p) (contextIn s w h)
+  tried p r k = ap contextOf (try-takes s w h p r k) ∙ context-tries (processIn s w p) (channelsOf s w h)
+
+  pub tried-once : (p q : ℕ) (r : Bool) → Fair s w h (OfTry p) (OfTry q) true r → r ≡ exactlyOne (processIn s w p) (processIn s w q) (names (contextIn s w h))
+  tried-once p q r f = shared-once s w h p q r f ∙ ap (exactlyOne (processIn s w p) (processIn s w q)) (sym (context-names (channelsOf s w h)))
+
+-- ── a spawn
+module _ (s w : List ℕ) (h : Held) (n : TermNode) where
+  abbrev G : Context
+  G = contextIn s w h
+
+  abbrev x : Name
+  x = nameAt s (n .at)
+
+  pub apart-so : (r : Bool) → Fair s w h (OfSpawn (n .at) (n .second)) (OfSpawn (n .at) (n .third)) false r → r ≡ apart? s w n G
+  apart-so r f = never-shared s w h (n .at) (n .second) (n .third) r f ∙ ap (neverBoth x (processIn s w (n .second)) (processIn s w (n .third))) (sym (context-names (channelsOf s w h)))
+
+  taken : (r : Held) → Keeps s w h (OfSpawn (n .at) (n .second)) true r → contextIn s w r ≡ spawnTakes x (processIn s w (n .second)) G
+  taken r k = ap contextOf (spawn-takes s w h (n .at) (n .second) r k) ∙ context-takes x (processIn s w (n .second)) (channelsOf s w h)
+
+  left : (r : Held) → Keeps s w h (OfSpawn (n .at) (n .second)) false r → contextIn s w r ≡ spawnLeaves x (processIn s w (n .second)) G
+  left r k = ap contextOf (spawn-leaves s w h (n .at) (n .second) r k) ∙ context-leaves x (processIn s w (n .second)) (channelsOf s w h)
+
+  abbrev new? : Bool
+  new? = not (isSome (lookup x G))
+
+  abbrev number : ℕ
+  number = numberOf (spawnStep s w n G)
+
+  step : (a b : Bool) → apart? s w n G ≡ a → joins? s w n G ≡ b → spawnStep s w n G ≡ granted 13 a (granted 15 b (go G))
+  unfolding spawnStep
+  step a b p q = λ j. granted 13 (p j) (granted 15 (q j) (go G))
+
+  pub spawn-shared : apart? s w n G ≡ false → 13 ≡ number
+  spawn-shared p = sym (ap numberOf (step false (joins? s w n G) p refl))
+
+  -- the tests of the new name
+  room : (r : Held) (H : Context) → contextIn s w r ≡ H → (b : Bool) → ltb (r .count) heldLimit ≡ b → ltb (length H) heldLimit ≡ b
+  room r H e b q = ap (λ m. ltb m heldLimit) (ap length (sym e) ∙ count-so s w r) ∙ q
+
+  abbrev joinsBy : Bool → Bool → Bool → Bool
+  joinsBy c d e = (c && d) && (c && e)
+
+  abbrev takes? : Bool
+  takes? = ltb (length (spawnTakes x (processIn s w (n .second)) G)) heldLimit
+
+  abbrev leaves? : Bool
+  leaves? = ltb (length (spawnLeaves x (processIn s w (n .second)) G)) heldLimit
+
+  module _ (p : apart? s w n G ≡ true) where
+    pub spawn-known : new? ≡ false → 15 ≡ number
+    spawn-known q = sym (ap numberOf (step true false p (ap (λ c. joinsBy c takes? leaves?) q)))
+
+    module _ (q : new? ≡ true) (a : Held) (k : Keeps s w h (OfSpawn (n .at) (n .second)) true a) where
+      pub spawn-full : a .count ≡ heldLimit → 15 ≡ number
+      spawn-full z = sym (ap numberOf (step true false p (λ j. joinsBy (q j) (room a _ (taken a k) false (le-ltb (a .count) heldLimit (omega arith)) j) leaves?)))
+
+      module _ (l : a .count < heldLimit) (b : Held) (m : Keeps s w h (OfSpawn (n .at) (n .second)) false b) where
+        pub spawn-full-rest : b .count ≡ heldLimit → 15 ≡ number
+        spawn-full-rest z =
+            sym (ap numberOf (step true false p (λ j. joinsBy (q j) (room a _ (taken a k) true (lt-ltb (a .count) heldLimit l) j) (room b _ (left b m) false (le-ltb (b .count) heldLimit (omega arith)) j))))
+
+        pub spawn-fine : b .count < heldLimit → 0 ≡ number
+        spawn-fine z = sym (ap numberOf (step true true p (λ j. joinsBy (q j) (room a _ (taken a k) true (lt-ltb (a .count) heldLimit l) j) (room b _ (left b m) true (lt-ltb (b .count) heldLimit z) j))))
+
+  -- ── where nothing is at fault, both halves have room
+  fine-joins : (a b : Bool) → numberOf (granted 13 a (granted 15 b (go G))) ≡ 0 → b ≡ true
+  fine-joins true true e = refl
+  fine-joins true false e = absurd (omega arith)
+  fine-joins false b e = absurd (omega arith)
+
+  joins-so : number ≡ 0 → joins? s w n G ≡ true
+  unfolding spawnStep
+  joins-so e = fine-joins (apart? s w n G) (joins? s w n G) e
+
+  both-rooms : (c d e : Bool) → joinsBy c d e ≡ true → (d ≡ true) × (e ≡ true)
+  both-rooms true true true z = (refl, refl)
+  both-rooms true true false z = absurd (true≢false (sym z))
+  both-rooms true false e z = absurd (true≢false (sym z))
+  both-rooms false d e z = absurd (true≢false (sym z))
+
+  -- what the half has, before the new channel is brought in
+  abbrev halfOf : Bool → Context
+  halfOf true = spawnTakes x (processIn s w (n .second)) G
+  halfOf false = spawnLeaves x (processIn s w (n .second)) G
+
+  half-is : (first : Bool) (a : Held) → Keeps s w h (OfSpawn (n .at) (n .second)) first a → contextIn s w a ≡ halfOf first
+  half-is true a k = taken a k
+  half-is false a k = left a k
+
+  half-room : (first : Bool) → number ≡ 0 → length (halfOf first) < heldLimit
+  half-room true e = ltb-true _ heldLimit (both-rooms new? takes? leaves? (joins-so e) .0)
+  half-room false e = ltb-true _ heldLimit (both-rooms new? takes? leaves? (joins-so e) .1)
+
+  pub half-fits : (first : Bool) (a : Held) → Keeps s w h (OfSpawn (n .at) (n .second)) first a → number ≡ 0 → a .count < heldLimit
+  half-fits first a k e = omega (arith, half-room first e, ap length (half-is first a k), count-so s w a)
+
+  half-context : (first : Bool) → bringing x (slot (halfSide first) (plainIn s w (n .first))) (halfOf first) ≡ halfContext s w n G first
+  half-context true = refl
+  half-context false = refl
+
+  pub half-so : (first : Bool) (a r : Held) (side : ℕ) → Keeps s w h (OfSpawn (n .at) (n .second)) first a → sideOf side ≡ halfSide first → TypeIn s w (n .first) → Brings a (n .at) side (n .first) 0 r → SpawnHalf s w h n first r
+  half-so first a r side k z t b = record {
+    is = ap contextOf (b .is s w) ∙ context-append (channelsOf s w a) _ ∙ (λ j. bringing x (slot (z j) (plainIn s w (n .first))) (half-is first a k j)) ∙ half-context first;
+    fits = b .fits s w t (k .fits);
+  }

@@ -1,0 +1,3 @@
+pub mod choices;
+pub mod process;
+pub mod rules;
