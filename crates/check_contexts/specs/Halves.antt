@@ -199,7 +199,7 @@ module _ {s w : List ℕ} {h : Held} {half : Half} {m : Marks} (t : Takes s w h 
   pub keeps-so : {want : Bool} {r : Held} → Picks h m want r → Keeps s w h half want r
   unfolding channelsOf
   keeps-so {want} {r} q = record {
-    is = ap (endsIn s w) (q .is) ∙ picked-kept s w _ (λ n. wanted want (takes s w half n)) 0 (heldIn h) (agree-start s w (λ k. wanted want (markOf m k)) _ (heldIn h) (λ k e g. ap (wanted want) (marked-so k e g)));
+    is = ap (endsIn s w) (q .is) ∙ picked-kept s w _ (λ n. wanted want (takes s w half n)) 0 (heldIn h) (agree-start s w (λ k. wanted want (markOf m k)) (λ n. wanted want (takes s w half n)) (heldIn h) (λ k e g. ap (wanted want) (marked-so k e g)));
     fits = record { many = omega (arith, q .few, u .many); each = subst (All (EndIn s w)) (sym (q .is)) (all-picked (EndIn s w) _ 0 (heldIn h) (u .each)) };
   }
 
@@ -256,7 +256,7 @@ module _ {s w : List ℕ} {h : Held} {first second : Half} {a b : Marks} (t : Ta
   unfolding channelsOf
   fair-at exactly g d = record {
     is = d .is ∙ ap (allFrom (λ k. fair exactly (markOf a k) (markOf b k)) 0) (sym (held-length h))
-        ∙ all-positions s _ (λ n. fair exactly (takes s w first n) (takes s w second n)) 0 (heldIn h) (agree-start s [] (λ k. fair exactly (markOf a k) (markOf b k)) _ (heldIn h) g)
+        ∙ all-positions s _ (λ n. fair exactly (takes s w first n) (takes s w second n)) 0 (heldIn h) (agree-start s [] (λ k. fair exactly (markOf a k) (markOf b k)) (λ n. fair exactly (takes s w first n) (takes s w second n)) (heldIn h) g)
         ∙ ap (all (λ n. fair exactly (takes s w first n) (takes s w second n))) (sym (names-held s w (heldIn h)));
   }
 
@@ -286,7 +286,7 @@ pub has-room : {s w : List ℕ} {h : Held} {half : Half} {m : Marks} (first : Bo
 unfolding channelsOf
 has-room {s} {w} {h} {half} {m} first t u l =
     let f : ℕ → Bool = λ k. wanted first (markOf m k) in
-    let q = picked-kept s w f (λ n. wanted first (takes s w half n)) 0 (heldIn h) (agree-start s w f _ (heldIn h) (λ k e g. ap (wanted first) (marked-so t u k e g))) in
+    let q = picked-kept s w f (λ n. wanted first (takes s w half n)) 0 (heldIn h) (agree-start s w f (λ n. wanted first (takes s w half n)) (heldIn h) (λ k e g. ap (wanted first) (marked-so t u k e g))) in
     record { few = omega (arith, l, ap length q, length-map (picked f 0 (heldIn h)) (endIs s w)) }
 
 pub picks-few : {h a : Held} {m : Marks} {first : Bool} → HasRoom h m first → Picks h m first a → a .count < heldLimit

@@ -10,21 +10,21 @@ use Rattle.notation.specs.Bytes.{same}
 use Rattle.notation.specs.Limits.{processTermLimit, heldLimit}
 use Rattle.notation.specs.Sizes.{processTerms, branchesTerms}
 use Rattle.notation.specs.Token.{nameAt}
-use Rattle.notation.specs.Reader.{labelIn}
-use Rattle.notation.specs.Tree.{Name, Proc, empty, branch}
-use Rattle.notation.specs.Tables.{termNode, branchRoom}
+use Rattle.notation.specs.Tree.{Name, Proc, empty}
+use Rattle.notation.specs.Tables.{termNode}
 use Rattle.notation.specs.declared.reading.TermNode.{TermNode}
 use Rattle.calculus.specs.Mentions.{isOneOf, mentions, branchesMention}
 use Rattle.read_tables.specs.Names.{CallAt}
 use Rattle.read_tables.specs.Decode.{argumentsAt, processIn}
-use Rattle.read_tables.specs.Roots.{atKind, Handlers, each-kind, processCases, ProcessIn, process-root, BranchesIn, branchesIn, FirstBranch}
+use Rattle.read_tables.specs.Roots.{atKind, Handlers, each-kind, processCases, ProcessIn, process-root, BranchesIn, branchesIn}
 use Rattle.read_tables.specs.Stands.{ProcessAt, ProcessFrom}
-use Rattle.read_tables.specs.Access.{TermOf, BranchOf, branch-there}
+use Rattle.read_tables.specs.Access.{TermOf, BranchOf}
 use Rattle.read_tables.specs.declared.access.Labelled.{Labelled}
 use Rattle.read_tables.specs.Whole.{Tables}
 use Rattle.check_contexts.specs.Marks.{markOf, heldName, isName, Marked, Hidden, marked-as, marked-none, marked-then, hidden-as, hidden-none}
 use Rattle.check_contexts.specs.declared.marks.Marks.{Marks}
 use Rattle.check_contexts.specs.Walks.{MarkedCall}
+use Rattle.check_contexts.specs.Branches.{Left, left-begin, left-whole, left-none, left-is, left-next}
 
 -- a call's lists stand in the text
 abbrev pub CallsFine : List ℕ → TermNode → Type 0
@@ -307,60 +307,21 @@ walk-begin ends n sought m a = record { stands = a; fewer = omega arith; at = λ
 
 -- ── as far as the walk over branches has come
 pub record Branched (s w ends : List ℕ) (n e count : ℕ) (sought m : Marks) (k : ℕ) (r : Marks) : Type 0 where
-  pub upto : k ≤ count
-  pub stands : BranchesIn s w (e - k) (count - k)
-  pub fewer : branchesTerms (branchesIn s w (e - k) (count - k)) ≤ branchesTerms (branchesIn s w e count)
+  pub left : Left s w e count k
   pub at : (v : Marks) → Marked s ends n sought (branchesMention (branchesIn s w (e - k) (count - k))) r v → Marked s ends n sought (branchesMention (branchesIn s w e count)) m v
 
 module _ {s w ends : List ℕ} {n e count : ℕ} {sought m : Marks} where
   pub branches-begin : BranchesIn s w e count → Branched s w ends n e count sought m 0 m
-  branches-begin a =
-      let x : e ≡ e - 0 = omega arith in
-      let y : count ≡ count - 0 = omega arith in
-      let q : branchesIn s w e count ≡ branchesIn s w (e - 0) (count - 0) = λ j. branchesIn s w (x j) (y j) in
-      record {
-        upto = omega arith;
-        stands = subst (λ d. BranchesIn s w d (count - 0)) x (subst (BranchesIn s w e) y a);
-        fewer = omega (arith, ap branchesTerms q);
-        at = λ v f. marked-as (λ x. ap (λ B. branchesMention B x) (sym q)) f;
-      }
+  branches-begin a = record { left = left-begin a; at = λ v f. marked-as (λ x. ap (λ B. branchesMention B x) (sym (left-whole s w e count))) f }
 
   module _ {k : ℕ} {r : Marks} (t : Branched s w ends n e count sought m k r) where
     pub branches-done : count ≤ k → Marked s ends n sought (branchesMention (branchesIn s w e count)) m r
     unfolding mentions
-    branches-done l = t .at r (marked-none (λ x. ap (λ i. branchesMention (branchesIn s w (e - k) i) x) {x = count - k} {y = 0} (omega arith)))
+    branches-done l = t .at r (marked-none (λ x. ap (λ B. branchesMention B x) (left-none s w e l)))
 
-    module _ (l : k < count) where
-      some-left : BranchesIn s w (e - k) (suc (count - k - 1))
-      some-left = subst (BranchesIn s w (e - k)) {x = count - k} {y = suc (count - k - 1)} (omega arith) (t .stands)
-
-      pub branch-here : Tables s w → (1 ≤ e - k) × (e - k ≤ branchRoom)
-      branch-here u = branch-there s w u (e - k) (count - k - 1) some-left
-
-    module _ (l : k < count) {b : Labelled} (o : BranchOf w (e - k) b) where
-      pub branch-first : FirstBranch s w (e - k) (count - k - 1) (b .at) (b .number)
-      branch-first = o .says s (count - k - 1) (some-left l)
-
-      left : (i : ℕ) → i ≡ k + 1 → branchesIn s w (e - k) (count - k) ≡ branch (labelIn s (b .at)) (processIn s w (b .number)) (branchesIn s w (e - i) (count - i))
-      left i z =
-          let u : count - k ≡ suc (count - k - 1) = omega arith in
-          let x : e - k - 1 ≡ e - i = omega arith in
-          let y : count - k - 1 ≡ count - i = omega arith in
-          ap (branchesIn s w (e - k)) u ∙ branch-first .is ∙ λ j. branch (labelIn s (b .at)) (processIn s w (b .number)) (branchesIn s w (x j) (y j))
-
-      pub branch-terms : processTerms (processIn s w (b .number)) ≤ branchesTerms (branchesIn s w e count)
-      unfolding processTerms
-      branch-terms = let q = ap branchesTerms (left (k + 1) refl) in omega (arith, q, t .fewer)
-
-      pub branch-turn : {v : Marks} → Marked s ends n sought (mentions (processIn s w (b .number))) r v → (i : ℕ) → i ≡ k + 1 → Branched s w ends n e count sought m i v
-      unfolding mentions processTerms
-      branch-turn f i z =
-          let x : e - k - 1 ≡ e - i = omega arith in
-          let y : count - k - 1 ≡ count - i = omega arith in
-          let q = ap branchesTerms (left i z) in
-          record {
-            upto = omega arith;
-            stands = subst (λ d. BranchesIn s w d (count - i)) x (subst (BranchesIn s w (e - k - 1)) y (branch-first .rest));
-            fewer = omega (arith, q, t .fewer);
-            at = λ v g. t .at v (marked-as (λ x. ap (λ B. branchesMention B x) (sym (left i z))) (marked-then f g));
-          }
+    pub branch-turn : {b : Labelled} {v : Marks} → k < count → BranchOf w (e - k) b → Marked s ends n sought (mentions (processIn s w (b .number))) r v → (i : ℕ) → i ≡ k + 1 → Branched s w ends n e count sought m i v
+    unfolding mentions
+    branch-turn l o f i z = record {
+      left = left-next (t .left) l o i z;
+      at = λ v g. t .at v (marked-as (λ x. ap (λ B. branchesMention B x) (sym (left-is (t .left) l o i z))) (marked-then f g));
+    }

@@ -9,6 +9,7 @@ use lib.Dec.{eqb}
 use lib.ListN.{length}
 use borrow.Author.Tests.{eqb-true, eqb-false}
 use Rattle.notation.specs.Limits.{textLimit, processTermLimit}
+use Rattle.notation.specs.Sizes.{processTerms, branchesTerms}
 use Rattle.notation.specs.Token.{nameAt}
 use Rattle.notation.specs.Tables.{termNode}
 use Rattle.notation.specs.Tree.{Name, Proc}
@@ -20,13 +21,10 @@ use Rattle.calculus.specs.Program.{Slot, slot, Context, Program}
 use Rattle.calculus.specs.Typing.{bringing, namesOf}
 use Rattle.calculus.specs.Checking.{mayBring, check, checkBranches}
 use Rattle.calculus.specs.Verdict.{Verdict, fine, refused, andThen, demand}
-use Rattle.run_words.specs.declared.records.Held.{Held}
 use Rattle.read_tables.specs.Decode.{argumentsAt, processIn}
 use Rattle.read_tables.specs.Names.{CallAt}
 use Rattle.read_tables.specs.Program.{plainIn, programIn}
 use Rattle.read_tables.specs.Roots.{Cases, _or_, atKind, processCases, TypeIn, ProcessIn, BranchesIn, branchesIn}
-use Rattle.read_tables.specs.Stands.{Smaller}
-use Rattle.check_contexts.specs.Held.{HeldIn}
 use Rattle.check_terms.specs.Next.{Step, stop, go, granted, resume, contextIn, demand-asks}
 use Rattle.check_terms.specs.Rules.{closes, passes, chooses, givesUp, receives, check-send-unit, check-send-channel, check-send-label, check-cancel, check-recv-unit, check-recv-channel}
 use Rattle.check_processes.specs.Offers.{offeredBy, choosing-with, check-recv-label}
@@ -34,7 +32,7 @@ use Rattle.check_terms.specs.Endings.{numberOf, forwards, calls, check-fwd, che
 
 -- the node n of the process at the pointer p
 pub record NodeIn (s w : List ℕ) (p : ℕ) (n : TermNode) : Type 0 where
-  pub says : atKind (processCases s w p n (processIn s w p)) (n .kind)
+  pub says : atKind (processCases s w n (processIn s w p)) (n .kind)
   pub small : p < processTermLimit
   pub at : n .at < textLimit
 
@@ -69,10 +67,6 @@ abbrev pub halfContext : List ℕ → List ℕ → TermNode → Context → Bool
 halfContext s w n G true = bringing (nameAt s (n .at)) (slot provided (plainIn s w (n .first))) (spawnTakes (nameAt s (n .at)) (processIn s w (n .second)) G)
 halfContext s w n G false = bringing (nameAt s (n .at)) (slot used (plainIn s w (n .first))) (spawnLeaves (nameAt s (n .at)) (processIn s w (n .second)) G)
 
-pub record SpawnHalf (s w : List ℕ) (h : Held) (n : TermNode) (first : Bool) (r : Held) : Type 0 where
-  pub is : contextIn s w r ≡ halfContext s w n (contextIn s w h) first
-  pub fits : HeldIn s w r
-
 -- a number of two neighbours is one of them
 either : (Q : ℕ → Type 0) (j k : ℕ) → (k ≡ j → Q j) → (k ≡ suc j → Q (suc j)) → j ≤ k → k ≤ suc j → Q k
 either Q j k f g l h = go (eqb k j) refl
@@ -106,14 +100,14 @@ module _ (s w : List ℕ) (p : ℕ) (n : TermNode) (t : NodeIn s w p n) where
   node k = termNode k (n .at) (n .first) (n .second) (n .third)
 
   abbrev Said : ℕ → Type 0
-  Said k = atKind (processCases s w p n A) k
+  Said k = atKind (processCases s w n A) k
 
   -- what the node says, its kind being known
   said : (k : ℕ) → n .kind ≡ k → Said k
   said k z = subst Said z (t .says)
 
   abbrev Part : ℕ → Type 0
-  Part x = Smaller p x × ProcessIn s w x
+  Part x = (processTerms (processIn s w x) < processTerms A) × ProcessIn s w x
 
   -- the rule's step, then the rest
   abbrev Over : Bool → (Context → Step) → Type 0
@@ -200,11 +194,12 @@ module _ (s w : List ℕ) (p : ℕ) (n : TermNode) (t : NodeIn s w p n) where
 
   abbrev Chooses : Type 0
   Chooses =
-      BranchesIn s w p (n .second) (n .third)
+      (branchesTerms (branchesIn s w (n .second) (n .third)) < processTerms A)
+      × BranchesIn s w (n .second) (n .third)
       × ((link : Bool) (G : Context) → check P G link A ≡ choosing-with (n .at) (offeredBy s w n G) (λ r. checkBranches P G link (n .at) (nameAt s (n .first)) r (branchesIn s w (n .second) (n .third))))
 
   choosing-one : Said 8 → Chooses
-  choosing-one (f, e) = (f, λ link G. ap (check P G link) e ∙ check-recv-label P G link (n .at) _ _)
+  choosing-one (l, f, e) = (l, f, λ link G. ap (check P G link) e ∙ check-recv-label P G link (n .at) _ _)
 
   pub choose-at : n .kind ≡ 8 → Chooses
   choose-at z = choosing-one (said 8 z)
@@ -219,7 +214,7 @@ module _ (s w : List ℕ) (p : ℕ) (n : TermNode) (t : NodeIn s w p n) where
   tries (f, (g, e)) = (f, g, λ link G. ap (check P G link) e)
 
   thirteen-kinds : n .kind < 13
-  thirteen-kinds = within (processCases s w p n A) (n .kind) (t .says)
+  thirteen-kinds = within (processCases s w n A) (n .kind) (t .says)
 
   pub try-at : 12 ≤ n .kind → Tries
   try-at l = tries (said 12 (omega (arith, l, thirteen-kinds)))

@@ -62,23 +62,9 @@ node-in s w p n t a b o = record { says = o .says s t a .node b .1; small = b; a
 pub some-kind : (s w : List ℕ) (p : ℕ) (n : TermNode) → NodeIn s w p n → 1 ≤ n .kind
 some-kind s w p n t = go (n .kind) (t .says)
   where
-    go : (k : ℕ) → atKind (processCases s w p n (processIn s w p)) k → 1 ≤ k
+    go : (k : ℕ) → atKind (processCases s w n (processIn s w p)) k → 1 ≤ k
     go zero e = absurd e
     go (suc k) e = omega arith
-
--- ── the rest of a term
-module _ (s w : List ℕ) (x : Next) (at : ℕ) (k : Context → calculus.Verdict) where
-  rest-by : (b : Bool) → eqb (x .refusal) 0 ≡ b → resume at (nextOf s w x) k ≡ resume at (cond b (go (contextIn s w (x .held))) (stop (x .refusal))) k
-  rest-by b e = ap (λ c. resume at (cond c (go (contextIn s w (x .held))) (stop (x .refusal))) k) e
-
-  pub rest-on : {v : calculus.Verdict} → x .refusal ≡ 0 → v ≡ k (contextIn s w (x .held)) → v ≡ resume at (nextOf s w x) k
-  rest-on z e = e ∙ sym (rest-by true (eq-eqb _ _ z))
-
-  pub rest-stops : (x .refusal ≡ 0 → ⊥) → refused (x .refusal) at ≡ resume at (nextOf s w x) k
-  rest-stops z = sym (rest-by false (ne-eqb _ _ z))
-
-pub rest-of : (s w : List ℕ) (x : Next) (at : ℕ) (k : Context → calculus.Verdict) (t : Step) {u v : calculus.Verdict} → Goes s w x t → u ≡ resume at (nextOf s w x) k → v ≡ resume at t k → u ≡ v
-rest-of s w x at k t g e q = e ∙ ap (λ y. resume at y k) (g .is) ∙ sym q
 
 -- ── a refusal's number is no 0
 abbrev NoZero : Step → Type 0
@@ -155,41 +141,3 @@ module _ (s w : List ℕ) (n : TermNode) (G : Context) (at : ℕ) (k : Context �
   pub spawn-goes : (r : ℕ) → r ≡ numberOf (spawnStep s w n G) → r ≡ 0 → resume at (spawnStep s w n G) k ≡ k G
   unfolding spawnStep
   spawn-goes r e z = goes-by (apart? s w n G) (joins? s w n G) (sym e ∙ z)
-
--- ── branches
-pub no-branch : (s w : List ℕ) (G : Context) (link : Bool) (at : ℕ) (c : Name) (r : Alternatives Name) (d k : ℕ) → k ≡ 0 → fine ≡ checkBranches (programIn s w) G link at c r (branchesIn s w d k)
-unfolding check
-no-branch s w G link at c r d k z = rw z refl
-
-past-one : (k : ℕ) → (k ≡ 0 → ⊥) → suc (k - 1) ≡ k
-past-one k z = omega (arith, z)
-
-pub some-branch : (s w : List ℕ) (p d k : ℕ) → (k ≡ 0 → ⊥) → BranchesIn s w p d k → BranchesIn s w p d (suc (k - 1))
-some-branch s w p d k z h = subst (BranchesIn s w p d) (sym (past-one k z)) h
-
-module _ (s w : List ℕ) (h : Held) (link : Bool) (at c e m p d k : ℕ) (z : k ≡ 0 → ⊥) (b i : ℕ) (f : FirstBranch s w p d (k - 1) b i) (r : Found) (l : LeadsTo s w b e m r) where
-  abbrev P : Program
-  P = programIn s w
-
-  abbrev G : Context
-  G = contextIn s w h
-
-  abbrev labels : Alternatives Name
-  labels = plains (alternativesIn s w e m)
-
-  abbrev rest : calculus.Verdict
-  rest = checkBranches P G link at (nameAt s c) labels (branchesIn s w (d - 1) (k - 1))
-
-  branches-by : (x : Found) → r ≡ x
-      → checkBranches P G link at (nameAt s c) labels (branchesIn s w d k) ≡ having 12 at (Option·map (plainIn s w) (placeOf x)) (λ A. andThen (check P (retyped (nameAt s c) A G) link (processIn s w i)) rest)
-  unfolding check
-  branches-by x q =
-      ap (λ j. checkBranches P G link at (nameAt s c) labels (branchesIn s w d j)) (sym (past-one k z))
-      ∙ ap (checkBranches P G link at (nameAt s c) labels) (f .is)
-      ∙ ap (λ o. having 12 at o (λ A. andThen (check P (retyped (nameAt s c) A G) link (processIn s w i)) rest)) (l .is ∙ ap (λ y. Option·map (plainIn s w) (placeOf y)) q)
-
-  pub branch-unlabelled : r ≡ found.Nothing → refused 12 at ≡ checkBranches P G link at (nameAt s c) labels (branchesIn s w d k)
-  branch-unlabelled q = sym (branches-by found.Nothing q)
-
-  pub branch-labelled : (j : ℕ) → r ≡ found.At j → (x : Held) → Retypes s h c j x → {v : calculus.Verdict} → v ≡ andThen (check P (contextIn s w x) link (processIn s w i)) rest → v ≡ checkBranches P G link at (nameAt s c) labels (branchesIn s w d k)
-  branch-labelled j q x t e = e ∙ sym (branches-by (found.At j) q ∙ ap (λ H. andThen (check P H link (processIn s w i)) rest) (retyped-so s w h c j x t))

@@ -20,7 +20,7 @@ pub enum Offer {
 }
 
 pub(crate) fn labels_offered(text: &[u8], scratch: &[u32], h: Held, n: TermNode) -> Offer
-    requires { ⌜ Tables (now text) (now scratch) × HeldIn (now text) (now scratch) h × ((p : ℕ) × BranchesIn (now text) (now scratch) p (n .second) (n .third)) ⌝ }
+    requires { ⌜ Tables (now text) (now scratch) × HeldIn (now text) (now scratch) h × BranchesIn (now text) (now scratch) (n .second) (n .third) ⌝ }
     ensures { λ r. ⌜ Offers (now (text .entry)) (now (scratch .entry)) h n r ⌝ }
 {
     let f = acting(text, scratch, h, n.first);

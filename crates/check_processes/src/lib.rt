@@ -1,3 +1,4 @@
 pub mod choices;
 pub mod process;
 pub mod rules;
+pub mod turns;

@@ -1,18 +1,24 @@
 // The check of a process: the first term in text order that is at fault, then the lowest number.
 use crate::choices::Offer;
 use crate::choices::labels_offered;
-use crate::rules::ending_refusal;
 use crate::rules::receive_one;
-use crate::rules::send_next;
-use crate::rules::spawn_half;
 use crate::rules::spawn_refusal;
+use crate::turns::Turn;
+use crate::turns::after;
+use crate::turns::check_empty;
+use crate::turns::check_last;
+use crate::turns::check_raise;
+use crate::turns::check_send;
+use crate::turns::done;
+use crate::turns::goes_on;
 use calculus::verdict::Verdict;
 use check_contexts::halves::Half;
 use check_contexts::halves::divides;
+use check_contexts::halves::half_takes;
 use check_contexts::halves::keep;
+use check_contexts::halves::spawn_half;
 use check_contexts::held::retype_end;
-use check_terms::next::Next;
-use check_terms::sends::cancel_next;
+use check_contexts::marks::ALL;
 use check_types::acting::labelled;
 use notation::kinds;
 use notation::reading::Found;
@@ -33,42 +39,44 @@ ghost use Rattle.calculus.specs.Verdict.{verdictOf};
 ghost use Rattle.read_tables.specs.Decode.{processIn};
 ghost use Rattle.read_tables.specs.Program.{programIn};
 ghost use Rattle.read_tables.specs.Roots.{ProcessIn, AlternativesIn, alternativesIn, BranchesIn, branchesIn};
-ghost use Rattle.read_tables.specs.Stands.{Smaller};
 ghost use Rattle.read_tables.specs.Whole.{Tables};
-ghost use Rattle.check_terms.specs.Endings.{verdictBy};
-ghost use Rattle.check_terms.specs.Next.{contextIn, nextOf, resume};
+ghost use Rattle.check_terms.specs.Next.{contextIn};
 ghost use Rattle.check_processes.specs.Nodes.{NodeIn};
+ghost use Rattle.check_processes.specs.Turns.{Turned};
 
-// The process at the pointer p, with what it holds and with a link or none: nothing is at fault, or a refusal.
+// The process at the pointer p, with what it holds and with a link or none: nothing is at fault, or a refusal. A turn for each term that follows.
 pub fn check_process(text: &[u8], scratch: &[u32], h: Held, link: bool, p: usize) -> Verdict
     requires { ⌜ Tables (now text) (now scratch) × HeldIn (now text) (now scratch) h × ProcessIn (now text) (now scratch) p ⌝ }
     ensures { λ r. ⌜ verdictOf r ≡ check (programIn (now (text .entry)) (now (scratch .entry))) (contextIn (now (text .entry)) (now (scratch .entry)) h) link (processIn (now (text .entry)) (now (scratch .entry)) p) ⌝ }
 {
+    let mut t = goes_on(h, link, p);
+    while t.on {
+        let held = t.held;
+        t = check_turn(text, scratch, held, t.link, t.rest);
+    }
+    t.verdict
+}
+
+// One term, or the end.
+fn check_turn(text: &[u8], scratch: &[u32], h: Held, link: bool, p: usize) -> Turn
+    requires { ⌜ Tables (now text) (now scratch) × HeldIn (now text) (now scratch) h × ProcessIn (now text) (now scratch) p ⌝ }
+    ensures { λ r. ⌜ Turned (now (text .entry)) (now (scratch .entry)) h link p r ⌝ }
+{
     if Script::PROCESS_TERMS <= p {
-        if h.count == 0 {
-            return Verdict::Fine;
-        }
-        return Verdict::Refused(13, p - Script::PROCESS_TERMS);
+        return check_empty(text, scratch, h, link, p);
     }
     let n = term_node(scratch, p);
     check_term(text, scratch, h, link, p, n)
 }
 
 // Which rule applies is decided by the term's kind.
-fn check_term(text: &[u8], scratch: &[u32], h: Held, link: bool, p: usize, n: TermNode) -> Verdict
+fn check_term(text: &[u8], scratch: &[u32], h: Held, link: bool, p: usize, n: TermNode) -> Turn
     requires { ⌜ Tables (now text) (now scratch) × HeldIn (now text) (now scratch) h × NodeIn (now text) (now scratch) p n ⌝ }
-    ensures { λ r. ⌜ verdictOf r ≡ check (programIn (now (text .entry)) (now (scratch .entry))) (contextIn (now (text .entry)) (now (scratch .entry)) h) link (processIn (now (text .entry)) (now (scratch .entry)) p) ⌝ }
+    ensures { λ r. ⌜ Turned (now (text .entry)) (now (scratch .entry)) h link p r ⌝ }
 {
     let kind = n.kind;
     match kind {
-        0..=kinds::SEND_LABEL => {
-            let x = send_next(text, scratch, h, n);
-            return check_rest(text, scratch, x, link, p, n.at, n.third);
-        }
-        kinds::CANCEL => {
-            let x = cancel_next(text, scratch, h, n.first);
-            return check_rest(text, scratch, x, link, p, n.at, n.third);
-        }
+        0..=kinds::CANCEL => return check_send(text, scratch, h, link, p, n),
         kinds::SPAWN => return check_spawn(text, scratch, h, link, p, n),
         kinds::RECV_UNIT..=kinds::RECV_LABEL => return check_receive(text, scratch, h, link, p, n),
         kinds::FWD.. => return check_ending(text, scratch, h, link, p, n),
@@ -76,32 +84,25 @@ fn check_term(text: &[u8], scratch: &[u32], h: Held, link: bool, p: usize, n: Te
 }
 
 // A receive: of a close or a channel, after which one process follows, or of labels, which have branches.
-fn check_receive(
-    text: &[u8],
-    scratch: &[u32],
-    h: Held,
-    link: bool,
-    p: usize,
-    n: TermNode,
-) -> Verdict
+fn check_receive(text: &[u8], scratch: &[u32], h: Held, link: bool, p: usize, n: TermNode) -> Turn
     requires { ⌜ Tables (now text) (now scratch) × HeldIn (now text) (now scratch) h × NodeIn (now text) (now scratch) p n × (6 ≤ n .kind) × (n .kind ≤ 8) ⌝ }
-    ensures { λ r. ⌜ verdictOf r ≡ check (programIn (now (text .entry)) (now (scratch .entry))) (contextIn (now (text .entry)) (now (scratch .entry)) h) link (processIn (now (text .entry)) (now (scratch .entry)) p) ⌝ }
+    ensures { λ r. ⌜ Turned (now (text .entry)) (now (scratch .entry)) h link p r ⌝ }
 {
     if n.kind == kinds::RECV_LABEL {
-        return check_choice(text, scratch, h, link, p, n);
+        let v = check_choice(text, scratch, h, link, p, n);
+        return done(v, h);
     }
     let x = receive_one(text, scratch, h, n);
-    check_rest(text, scratch, x, link, p, n.at, n.third)
+    after(x, link, n.at, n.third)
 }
 
-// A term that ends its process.
-fn check_ending(text: &[u8], scratch: &[u32], h: Held, link: bool, p: usize, n: TermNode) -> Verdict
+// A term that ends its process, or a try.
+fn check_ending(text: &[u8], scratch: &[u32], h: Held, link: bool, p: usize, n: TermNode) -> Turn
     requires { ⌜ Tables (now text) (now scratch) × HeldIn (now text) (now scratch) h × NodeIn (now text) (now scratch) p n × (9 ≤ n .kind) ⌝ }
-    ensures { λ r. ⌜ verdictOf r ≡ check (programIn (now (text .entry)) (now (scratch .entry))) (contextIn (now (text .entry)) (now (scratch .entry)) h) link (processIn (now (text .entry)) (now (scratch .entry)) p) ⌝ }
+    ensures { λ r. ⌜ Turned (now (text .entry)) (now (scratch .entry)) h link p r ⌝ }
 {
     if n.kind <= kinds::CALL {
-        let x = ending_refusal(text, scratch, h, n);
-        return ended(n.at, x);
+        return check_last(text, scratch, h, link, p, n);
     }
     if n.kind == kinds::RAISE {
         return check_raise(text, scratch, h, link, p, n);
@@ -109,84 +110,44 @@ fn check_ending(text: &[u8], scratch: &[u32], h: Held, link: bool, p: usize, n: 
     check_try(text, scratch, h, link, p, n)
 }
 
-fn ended(at: usize, refusal: u32) -> Verdict
-    ensures { λ r. ⌜ verdictOf r ≡ verdictBy at refusal ⌝ }
-{
-    if refusal == 0 {
-        return Verdict::Fine;
-    }
-    Verdict::Refused(refusal, at)
-}
-
-// The rest of a term that goes on.
-fn check_rest(
-    text: &[u8],
-    scratch: &[u32],
-    x: Next,
-    link: bool,
-    p: usize,
-    at: usize,
-    rest: usize,
-) -> Verdict
-    requires { ⌜ Tables (now text) (now scratch) × (x .refusal ≡ 0 → HeldIn (now text) (now scratch) (x .held)) × Smaller p rest × ProcessIn (now text) (now scratch) rest ⌝ }
-    ensures { λ r. ⌜ verdictOf r ≡ resume at (nextOf (now (text .entry)) (now (scratch .entry)) x) (λ H. check (programIn (now (text .entry)) (now (scratch .entry))) H link (processIn (now (text .entry)) (now (scratch .entry)) rest)) ⌝ }
-{
-    if x.refusal == 0 {
-        let h = x.held;
-        return check_process(text, scratch, h, link, rest);
-    }
-    Verdict::Refused(x.refusal, at)
-}
-
-// `raise P`.
-fn check_raise(text: &[u8], scratch: &[u32], h: Held, link: bool, p: usize, n: TermNode) -> Verdict
-    requires { ⌜ Tables (now text) (now scratch) × HeldIn (now text) (now scratch) h × NodeIn (now text) (now scratch) p n × (n .kind ≡ 11) ⌝ }
-    ensures { λ r. ⌜ verdictOf r ≡ check (programIn (now (text .entry)) (now (scratch .entry))) (contextIn (now (text .entry)) (now (scratch .entry)) h) link (processIn (now (text .entry)) (now (scratch .entry)) p) ⌝ }
-{
-    if link {
-        return check_process(text, scratch, h, false, n.third);
-    }
-    Verdict::Refused(14, n.at)
-}
-
-// `x : A <- (P); Q`.
-fn check_spawn(text: &[u8], scratch: &[u32], h: Held, link: bool, p: usize, n: TermNode) -> Verdict
+// `x : A <- (P); Q`: P is checked, then Q follows.
+fn check_spawn(text: &[u8], scratch: &[u32], h: Held, link: bool, p: usize, n: TermNode) -> Turn
     requires { ⌜ Tables (now text) (now scratch) × HeldIn (now text) (now scratch) h × NodeIn (now text) (now scratch) p n × (n .kind ≡ 5) ⌝ }
-    ensures { λ r. ⌜ verdictOf r ≡ check (programIn (now (text .entry)) (now (scratch .entry))) (contextIn (now (text .entry)) (now (scratch .entry)) h) link (processIn (now (text .entry)) (now (scratch .entry)) p) ⌝ }
+    ensures { λ r. ⌜ Turned (now (text .entry)) (now (scratch .entry)) h link p r ⌝ }
 {
     let taken = half_takes(text, scratch, h, Half::OfSpawn(n.at, n.second), ALL);
     let refusal = spawn_refusal(text, scratch, h, n, taken);
     if refusal != 0 {
-        return Verdict::Refused(refusal, n.at);
+        return done(Verdict::Refused(refusal, n.at), h);
     }
     let name = narrow(n.at);
     let node = narrow(n.first);
     let a = spawn_half(h, taken, name, node, true, 0);
     let v = check_process(text, scratch, a, false, n.second);
     let Verdict::Fine = v else {
-        return v;
+        return done(v, h);
     };
     let b = spawn_half(h, taken, name, node, false, 0);
-    check_process(text, scratch, b, link, n.third)
+    goes_on(b, link, n.third)
 }
 
-// `try (P) catch (Q)`.
-fn check_try(text: &[u8], scratch: &[u32], h: Held, link: bool, p: usize, n: TermNode) -> Verdict
+// `try (P) catch (Q)`: P is checked, then Q follows.
+fn check_try(text: &[u8], scratch: &[u32], h: Held, link: bool, p: usize, n: TermNode) -> Turn
     requires { ⌜ Tables (now text) (now scratch) × HeldIn (now text) (now scratch) h × NodeIn (now text) (now scratch) p n × (12 ≤ n .kind) ⌝ }
-    ensures { λ r. ⌜ verdictOf r ≡ check (programIn (now (text .entry)) (now (scratch .entry))) (contextIn (now (text .entry)) (now (scratch .entry)) h) link (processIn (now (text .entry)) (now (scratch .entry)) p) ⌝ }
+    ensures { λ r. ⌜ Turned (now (text .entry)) (now (scratch .entry)) h link p r ⌝ }
 {
-    let first = Half::OfTry(n.second);
-    let second = Half::OfTry(n.third);
-    if !divides(text, scratch, h, first, second, true) {
-        return Verdict::Refused(13, n.at);
+    let first = half_takes(text, scratch, h, Half::OfTry(n.second), ALL);
+    let second = half_takes(text, scratch, h, Half::OfTry(n.third), ALL);
+    if !divides(h.count, first, second, true) {
+        return done(Verdict::Refused(13, n.at), h);
     }
-    let a = keep(text, scratch, h, first, true);
+    let a = keep(h, first, true);
     let v = check_process(text, scratch, a, true, n.second);
     let Verdict::Fine = v else {
-        return v;
+        return done(v, h);
     };
-    let b = keep(text, scratch, h, second, true);
-    check_process(text, scratch, b, link, n.third)
+    let b = keep(h, second, true);
+    goes_on(b, link, n.third)
 }
 
 // `recv c ('l => P | ..)`.
@@ -205,7 +166,6 @@ fn check_choice(text: &[u8], scratch: &[u32], h: Held, link: bool, p: usize, n: 
                 scratch,
                 h,
                 link,
-                p,
                 n.at,
                 n.first,
                 e,
@@ -223,7 +183,6 @@ fn check_branches(
     scratch: &[u32],
     h: Held,
     link: bool,
-    p: usize,
     at: usize,
     c: usize,
     e: usize,
@@ -231,22 +190,22 @@ fn check_branches(
     d: usize,
     k: usize,
 ) -> Verdict
-    requires { ⌜ Tables (now text) (now scratch) × HeldIn (now text) (now scratch) h × ((i : ℕ) × AlternativesIn (now text) (now scratch) i e m) × BranchesIn (now text) (now scratch) p d k ⌝ }
+    requires { ⌜ Tables (now text) (now scratch) × HeldIn (now text) (now scratch) h × AlternativesIn (now text) (now scratch) e m × BranchesIn (now text) (now scratch) d k ⌝ }
     ensures { λ r. ⌜ verdictOf r ≡ checkBranches (programIn (now (text .entry)) (now (scratch .entry))) (contextIn (now (text .entry)) (now (scratch .entry)) h) link at (nameAt (now (text .entry)) c) (plains (alternativesIn (now (text .entry)) (now (scratch .entry)) e m)) (branchesIn (now (text .entry)) (now (scratch .entry)) d k) ⌝ }
 {
-    if k == 0 {
-        return Verdict::Fine;
+    let mut i: usize = 0;
+    while i < k {
+        let b = branch(scratch, d - i);
+        let f = labelled(text, scratch, b.at, e, m);
+        let Found::At(j) = f else {
+            return Verdict::Refused(12, at);
+        };
+        let held = retype_end(text, h, c, narrow(j));
+        let v = check_process(text, scratch, held, link, b.number);
+        let Verdict::Fine = v else {
+            return v;
+        };
+        i += 1;
     }
-    let b = branch(scratch, d);
-    let f = labelled(text, scratch, b.at, e, m);
-    let Found::At(j) = f else {
-        return Verdict::Refused(12, at);
-    };
-    let node = narrow(j);
-    let held = retype_end(text, h, c, node);
-    let v = check_process(text, scratch, held, link, b.number);
-    let Verdict::Fine = v else {
-        return v;
-    };
-    check_branches(text, scratch, h, link, p, at, c, e, m, d - 1, k - 1)
+    Verdict::Fine
 }

@@ -1,8 +1,8 @@
 // Refusals 10 to 15 of a script: its processes in text order, in each the signature's 17th name first, then the body.
-use check_processes::process::check_process;
 use calculus::verdict::Verdict;
 use check_contexts::held::bring_end;
 use check_declarations::verdict::declared_verdict;
+use check_processes::process::check_process;
 use notation::script::Script;
 use notation::words::narrow;
 use read_tables::access::Declared;

@@ -15,10 +15,10 @@ mark-name-requires : tie.Need-mark-name-requires
 mark-name-requires c κs = search needs
 
 returns : tie.Need-returns
-returns c = first-marked _ (sym (c .before .before .has-first-name .ensures) ∙ c .before .if1 .taken) (c .mark-name .ensures)
+returns c = first-marked (c .before .before .before .before .args .node) (sym (c .before .before .has-first-name .ensures) ∙ c .before .if1 .taken) (c .mark-name .ensures)
 
 returns-2 : tie.Need-returns-2
-returns-2 c = first-none _ (sym (c .before .has-first-name .ensures) ∙ c .if1 .left)
+returns-2 c = first-none (c .before .before .before .args .node) (sym (c .before .has-first-name .ensures) ∙ c .if1 .left)
 
 pub mark-first-spec : {M : Type 1} → statement M
 mark-first-spec = tie.close (tie.spec has-first-name-requires mark-name-requires returns returns-2)

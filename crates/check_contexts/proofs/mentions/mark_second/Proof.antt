@@ -15,10 +15,10 @@ mark-name-requires : tie.Need-mark-name-requires
 mark-name-requires c κs = search needs
 
 returns : tie.Need-returns
-returns c = second-marked _ (sym (c .before .before .has-second-name .ensures) ∙ c .before .if1 .taken) (c .mark-name .ensures)
+returns c = second-marked (c .before .before .before .before .args .node) (sym (c .before .before .has-second-name .ensures) ∙ c .before .if1 .taken) (c .mark-name .ensures)
 
 returns-2 : tie.Need-returns-2
-returns-2 c = second-none _ (sym (c .before .has-second-name .ensures) ∙ c .if1 .left)
+returns-2 c = second-none (c .before .before .before .args .node) (sym (c .before .has-second-name .ensures) ∙ c .if1 .left)
 
 pub mark-second-spec : {M : Type 1} → statement M
 mark-second-spec =

@@ -4,7 +4,8 @@ use Prim.Native.Nat.{ℕ}
 use native.Mathlib.Omega.{arith}
 use Prim.Native.Nat.{_-_}
 use mathlib.Core.Path.{refl}
-use Rattle.check_contexts.specs.Mentioned.{Branched, branches-begin, branch-here, branch-first, branch-terms, branch-turn, branches-done}
+use Rattle.check_contexts.specs.Branches.{left-here, left-first, left-terms}
+use Rattle.check_contexts.specs.Mentioned.{Branched, branches-begin, branch-turn, branches-done}
 use Rattle.read_tables.proofs.access.branch.Reads as branch-reads
 use Rattle.check_contexts.proofs.mentions.mark_branches.Reads as mark-branches
 use Rattle.check_contexts.proofs.mentions.mark_process.Reads as mark-process
@@ -24,17 +25,17 @@ mark-branches-met t =
     (λ c. branches-begin (c .before .before .pre .1 .2))
     -- sub-branch
     (λ c.
-    let b = branch-here (c .before .loop .inv) (c .loop-test .taken) (c .before .before .before .before .pre .1 .0) in
+    let b = left-here (c .before .loop .inv .left) (c .loop-test .taken) (c .before .before .before .before .pre .1 .0) in
     omega (arith, b .0))
     -- branch-requires
     (λ c κs.
-    let b = branch-here (c .before .loop .inv) (c .loop-test .taken) (c .before .before .before .before .pre .1 .0) in
+    let b = left-here (c .before .loop .inv .left) (c .loop-test .taken) (c .before .before .before .before .pre .1 .0) in
     (c .before .before .before .before .pre .1 .0 .area, b .0, b .1))
     -- mark-process-requires
     (λ c κs.
     let entry = c .before .before .before .before .before in
-    let terms = branch-terms (c .before .before .loop .inv) (c .before .loop-test .taken) (c .branch .ensures) in
-    (omega (arith, entry .pre .0, terms), (entry .pre .1 .0, entry .pre .1 .1, branch-first (c .before .before .loop .inv) (c .before .loop-test .taken) (c .branch .ensures) .process)))
+    let terms = left-terms (c .before .before .loop .inv .left) (c .before .loop-test .taken) (c .branch .ensures) in
+    (omega (arith, entry .pre .0, terms), (entry .pre .1 .0, entry .pre .1 .1, left-first (c .before .before .loop .inv .left) (c .before .loop-test .taken) (c .branch .ensures) .process)))
     -- add-k
     (λ c. search needs)
     -- loop-less

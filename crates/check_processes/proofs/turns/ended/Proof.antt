@@ -1,10 +1,10 @@
 use mathlib.Core.Path.{refl}
 use Rattle.check_processes.specs.Process.{refused-by}
 use borrow.Author.Needs.{needs}
-use Rattle.check_processes.proofs.process.ended.Statement.{statement}
-use Rattle.check_processes.proofs.process.ended.Tie as tie
-use Rattle.check_processes.proofs.process.ended.Reads as reads
-use Rattle.check_processes.proofs.process.ended.Lts as lts
+use Rattle.check_processes.proofs.turns.ended.Statement.{statement}
+use Rattle.check_processes.proofs.turns.ended.Tie as tie
+use Rattle.check_processes.proofs.turns.ended.Reads as reads
+use Rattle.check_processes.proofs.turns.ended.Lts as lts
 
 returns : tie.Need-returns
 returns c = rw (c .if1 .taken) refl
