@@ -16,7 +16,9 @@ use Rattle.notation.specs.Tables.{Area}
 use Rattle.read_tables.specs.Decode.{termAt, branchesBy, termBy, processOf, processIn, typeIn}
 use Rattle.read_tables.specs.Packing.{term-put, branch-put}
 use Rattle.read_tables.specs.Growth.{Grown, grown-none, grown-then, grown-lasting, grown-term, grown-branch, term-kept, branch-kept}
-use Rattle.read_tables.specs.Stands.{countBranches, LeafAt, OverAt, LabelsAt, ProcessAt, BranchesAt, ProcessFrom, BranchesFrom}
+use Rattle.notation.specs.From.{ProcessFrom, BranchesFrom}
+use Rattle.read_tables.specs.Stands.{countBranches, LeafAt, OverAt, LabelsAt, ProcessAt, BranchesAt}
+use Rattle.read_tables.specs.Arguments.{arguments-read}
 use Rattle.read_tables.specs.Types.{Steady, type-grown, type-counts, whole-kept, whole-written, type-read}
 
 -- ── a process is appended
@@ -330,7 +332,9 @@ module _ (s w : List ℕ) (k : Tally) (h : Within k) where
         let m = branches-read B a (f - 1) u q (omega arith) in
         node-read f s w p _ (omega arith) (omega arith) e ∙ λ j. recvLabel at (t j) (m j)
     process-read (fwd at x c) p f (t, t′) (b, e) l = node-read f s w p _ (omega arith) l e ∙ λ j. fwd at (t j) (t′ j)
-    process-read (call at n bracket xs ys) p f (t, t′, u) (b, e) l = node-read f s w p _ (omega arith) l e ∙ λ j. call at (t j) bracket (t′ j .0) (t′ j .1)
+    process-read (call at n bracket xs ys) p f (t, u) (b, e) l =
+        let t′ = arguments-read s bracket xs ys u in
+        node-read f s w p _ (omega arith) l e ∙ λ j. call at (t j) bracket (t′ j .0) (t′ j .1)
     process-read (raise at P) p f u (x, (b, e), q) l =
         let m = process-read P x (f - 1) u q (omega arith) in
         node-read f s w p _ (omega arith) (omega arith) e ∙ λ j. raise at (m j)
