@@ -1,5 +1,9 @@
 pub mod Scans
 pub mod ByteTables
 pub mod Tokens
+pub mod Readings
+pub mod TypeReadings
+pub mod ProcessReadings
+pub mod ScriptReadings
 pub mod Names
 pub mod Symbols

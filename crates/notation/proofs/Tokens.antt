@@ -47,7 +47,7 @@ module _ {A : Type 0} (p : A → Bool) where
       rw z (find-at d xs (suc k) (omega arith)))
 
 -- what holds of each of two cases holds of the one that a test picks
-cond-both : {A : Type 0} (P : A → Type 0) (b : Bool) (x y : A) → (b ≡ true → P x) → (b ≡ false → P y) → P (cond b x y)
+pub cond-both : {A : Type 0} (P : A → Type 0) (b : Bool) (x y : A) → (b ≡ true → P x) → (b ≡ false → P y) → P (cond b x y)
 cond-both P true x y f g = f refl
 cond-both P false x y f g = g refl
 
@@ -136,7 +136,11 @@ module _ (s : List ℕ) (i : ℕ) (h : i < length s) where
       (λ e. let w = mark-in 1 (ltb-true _ _ e) in (refl, λ _. omega arith))
       (λ _. (refl, λ z. absurd (omega arith))))))
 
-skip-ge : (s : List ℕ) (at : ℕ) → at ≤ skip s at
+-- a token begins where its first byte stands
+pub first-start : (s : List ℕ) (i : ℕ) → i < length s → firstAt s i .start ≡ i
+first-start s i h = first-goes s i h .0
+
+pub skip-ge : (s : List ℕ) (at : ℕ) → at ≤ skip s at
 unfolding skip
 skip-ge s at = find-ge (λ b. not (blank b)) (drop at s) at
 

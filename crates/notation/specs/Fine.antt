@@ -57,3 +57,7 @@ unfoldable pub FineDeclaration : Declaration → Type 0
 FineDeclaration (declareType n A) = (n .at < textLimit) × FineType A
 FineDeclaration (declareProc n xs ys P) = (n .at < textLimit) × FineEntries xs × FineEntries ys × FineProcess P
 FineDeclaration (declareExec n) = n .at < textLimit
+
+unfoldable pub FineScript : List Declaration → Type 0
+FineScript [] = 0 ≤ 0
+FineScript (a ∷ r) = FineDeclaration a × FineScript r

@@ -8,6 +8,7 @@ pub mod Reader
 pub mod Types
 pub mod Processes
 pub mod Scripts
+pub mod From
 pub mod Tables
 pub mod Computed
 pub mod Examples

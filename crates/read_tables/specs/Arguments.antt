@@ -1,9 +1,8 @@
 -- A call's names, read again from its bracket, are those that were read: a reading turns on nothing but the token at hand, and with more fuel and fewer brackets open it reads the same.
-use Prim.Native.Nat.{ℕ, zero, suc, _+_, _-_, _<_, _≤_}
+use Prim.Native.Nat.{ℕ, zero, suc, _+_, _-_, _≤_}
 use mathlib.Core.Path.{_≡_, refl, sym, _∙_, ap, subst}
 use mathlib.Core.List.{List, [], _∷_}
 use mathlib.Core.Bool.{Bool, true, false, false≢true, not, cond}
-use native.Mathlib.Nat.{le-refl}
 use native.Mathlib.Omega.{arith}
 use lib.ListN.{length, drop}
 use lib.Seq.{drop-drop, drop-nil}
@@ -13,42 +12,30 @@ use Rattle.notation.specs.Bytes.{blank, find}
 use Rattle.notation.specs.Limits.{bracketLimit}
 use Rattle.notation.specs.Token.{token, skip, firstAt, tokenAt, kindAt, kName, kComma, kRoundOpen, kRoundClose, kSquareOpen, kSquareClose, kEnd}
 use Rattle.notation.specs.Tree.{Located}
-use Rattle.notation.specs.Reader.{Result, got, refused, take, part, lastly, choose, past, fault, expect, limited, mayOpen, deeper, opening, closed, nameIn}
+use Rattle.notation.specs.Reader.{Result, got, refused, take, part, lastly, choose, past, fault, expect, limited, mayOpen, deeper, opening, nameIn}
 use Rattle.notation.specs.Processes.{readNames, nameList}
 use Rattle.notation.specs.Scripts.{fuel}
+use Rattle.notation.specs.From.{CallRead}
+use Rattle.notation.proofs.Tokens.{find-case, find-ge, first-start, skip-ge}
 use Rattle.notation.specs.declared.token.Token.{Token}
 use Rattle.notation.specs.declared.reading.Cursor.{Cursor}
 use Rattle.notation.specs.declared.reading.Taken.{Taken}
 use Rattle.notation.specs.declared.reading.Taken.the-variants.{At, Refused}
 use Rattle.read_tables.specs.Decode.{fromStart, readArguments, argumentsOr, argumentsAt}
-use Rattle.read_tables.specs.Names.{NamesFrom, CallAt, Goes, goes-got, goes-part, list-goes}
-use Rattle.read_tables.specs.Read.{Reads, reads-got, reads-refused, first-start}
+use Rattle.read_tables.specs.Names.{NamesFrom, CallAt, goes-is, list-goes}
 
 -- ── the token at a token's start is that token
 module _ {A : Type 0} (p : A → Bool) where
-  find-case : (P : ℕ → Type 0) (x : A) (xs : List A) (k : ℕ) → (p x ≡ true → P k) → (p x ≡ false → P (find p xs (suc k))) → P (find p (x ∷ xs) k)
-  unfolding find
-  find-case P x xs k f g = go (p x) refl
-    where
-      go : (b : Bool) → p x ≡ b → P (elim b [ true ↦ k | false ↦ find p xs (suc k) ])
-      go true e = f e
-      go false e = g e
-
-  find-ge : (xs : List A) (k : ℕ) → k ≤ find p xs k
-  unfolding find
-  find-ge [] k = le-refl k
-  find-ge (x ∷ xs) k = find-case (λ j. k ≤ j) x xs k (λ _. le-refl k) (λ _. omega (arith, find-ge xs (suc k)))
-
   find-again : (xs : List A) (k : ℕ) → find p (drop (find p xs k - k) xs) (find p xs k) ≡ find p xs k
   unfolding find
   find-again [] k = rw (drop-nil (k - k)) refl
   find-again (x ∷ xs) k =
-      find-case (λ j. find p (drop (j - k) (x ∷ xs)) j ≡ j) x xs k
+      find-case p (λ j. find p (drop (j - k) (x ∷ xs)) j ≡ j) x xs k
       (λ e.
       let z : k - k ≡ 0 = omega arith in
-      rw z (find-case (λ j. j ≡ k) x xs k (λ _. refl) (λ d. absurd (false≢true (sym d ∙ e)))))
+      rw z (find-case p (λ j. j ≡ k) x xs k (λ _. refl) (λ d. absurd (false≢true (sym d ∙ e)))))
       (λ e.
-      let l : suc k ≤ find p xs (suc k) = find-ge xs (suc k) in
+      let l : suc k ≤ find p xs (suc k) = find-ge p xs (suc k) in
       let z : find p xs (suc k) - k ≡ suc (find p xs (suc k) - suc k) = omega arith in
       rw z (find-again xs (suc k)))
 
@@ -70,10 +57,6 @@ past-end : (s : List ℕ) (i : ℕ) → ltb (skip s i) (length s) ≡ false → 
 unfolding tokenAt
 past-end s i e = rw e refl
 
-skip-ge : (s : List ℕ) (i : ℕ) → i ≤ skip s i
-unfolding skip
-skip-ge s i = find-ge (λ b. not (blank b)) (drop i s) i
-
 pub token-again : (s : List ℕ) (at : ℕ) → tokenAt s (tokenAt s at .start) ≡ tokenAt s at
 token-again s at = go (ltb (skip s at) (length s)) refl
   where
@@ -81,7 +64,7 @@ token-again s at = go (ltb (skip s at) (length s)) refl
     go true e =
         let f = within s at e in
         let g = within s (skip s at) (ap (λ i. ltb i (length s)) (skip-again s at) ∙ e) in
-        ap (λ (t : Token). tokenAt s (t .start)) f ∙ ap (tokenAt s) (first-start s (skip s at)) ∙ g ∙ ap (firstAt s) (skip-again s at) ∙ sym f
+        ap (λ (t : Token). tokenAt s (t .start)) f ∙ ap (tokenAt s) (first-start s (skip s at) (ltb-true _ _ e)) ∙ g ∙ ap (firstAt s) (skip-again s at) ∙ sym f
     go false e =
         let f = past-end s at e in
         let g = past-end s (length s) (le-ltb (skip s (length s)) (length s) (skip-ge s (length s))) in
@@ -192,28 +175,30 @@ arguments-again n m s c d h l =
     again-part _ _ (list-again n m s kRoundOpen kRoundClose c d h l) λ xs c₁ d₁ l₁.
     again-part _ _ (list-again n m s kSquareOpen kSquareClose c₁ d₁ h l₁) λ ys c₂ d₂ l₂. again-got (xs, ys) l₂
 
-same-arguments : {s : List ℕ} {r u : Result (List Located × List Located)} → Again s r u → Reads (λ a. argumentsOr u ≡ a) r
-same-arguments {r = got a c} {u = u} h = let (d, e, l) = h .is in reads-got a c (ap argumentsOr e)
-same-arguments {r = refused n i} {u = u} h = reads-refused n i
+-- ── the lists of a call that was read
+same-arguments : {s : List ℕ} {r u : Result (List Located × List Located)} {a : List Located × List Located} {c : Cursor} → r ≡ got a c → Again s r u → argumentsOr u ≡ a
+same-arguments {s = s} {u = u} e h = let (d, z, l) = subst (λ r. Again s r u) e h .is in ap argumentsOr z
 
--- the two lists that are read after a call's name are those from its bracket on
-pub arguments-read : (n : ℕ) (s : List ℕ) (c : Cursor) → n ≤ fuel s → Reads (λ a. argumentsAt s (tokenAt s (c .at) .start) ≡ a) (readArguments n s c)
-unfolding argumentsAt
-arguments-read n s c h =
-    same-arguments (arguments-again n (fuel s) s c (fromStart (tokenAt s (c .at) .start)) h (record { same = token-again s (c .at); open′ = omega arith }))
+module _ (s : List ℕ) (bracket : ℕ) (xs ys : List Located) (k : CallRead s bracket xs ys) where
+  at-bracket : tokenAt s bracket ≡ tokenAt s (k .before .at)
+  at-bracket = ap (tokenAt s) (sym (k .starts)) ∙ token-again s (k .before .at)
 
--- and a walk over the two lists meets them
-pub call-read : (n : ℕ) (s : List ℕ) (c : Cursor) → Reads (λ (a : List Located × List Located). CallAt s (tokenAt s (c .at) .start) (a .0) (a .1)) (readArguments n s c)
-call-read n s c = reads-of
-    (goes-part {Q = λ xs d. NamesFrom s (tokenAt s (c .at) .end) xs (d .at)} _ (list-goes s kRoundClose refl refl n kRoundOpen c) λ xs d h.
-    goes-part {Q = λ ys e. NamesFrom s (tokenAt s (d .at) .end) ys (e .at)} _ (list-goes s kSquareClose refl refl n kSquareOpen d) λ ys e k.
-    goes-got (xs, ys) e (record {
-      middle = d .at;
-      end = e .at;
-      provided = subst (λ (t : Token). NamesFrom s (t .end) xs (d .at)) (sym (token-again s (c .at))) h;
-      used = k;
-    }))
-  where
-    reads-of : {A : Type 0} {P : A → Type 0} {r : Result A} → Goes (λ a d. P a) r → Reads P r
-    reads-of {r = got a d} h = reads-got a d (h .holds)
-    reads-of {r = refused n i} h = reads-refused n i
+  -- they are those from its bracket on
+  pub arguments-read : argumentsAt s bracket ≡ (xs, ys)
+  unfolding argumentsAt
+  arguments-read =
+      let e : readArguments (k .left) s (k .before) ≡ got (xs, ys) (k .after) = rw (k .provided, k .used) refl in
+      same-arguments e (arguments-again (k .left) (fuel s) s (k .before) (fromStart bracket) (k .enough) (record { same = at-bracket; open′ = omega arith }))
+
+  -- and a walk over them meets them
+  pub call-read : CallAt s bracket xs ys
+  call-read =
+      let c = k .before in
+      let d = k .middle in
+      record {
+        middle = d .at;
+        end = k .after .at;
+        provided = subst (λ (t : Token). NamesFrom s (t .end) xs (d .at)) (sym at-bracket)
+            (goes-is (k .provided) (list-goes s kRoundClose refl refl (k .left) kRoundOpen c));
+        used = goes-is (k .used) (list-goes s kSquareClose refl refl (k .left) kSquareOpen d);
+      }

@@ -1,10 +1,10 @@
 -- Declarations in the tables: what is written stands there, stays, and is read back.
-use Prim.Native.Nat.{ℕ, _+_, _≤_}
+use Prim.Native.Nat.{ℕ, _+_}
 use mathlib.Core.Path.{_≡_, _∙_, subst}
 use mathlib.Core.List.{List, [], _∷_}
 use native.Mathlib.Omega.{arith}
 use lib.ListN.{length}
-use Rattle.notation.specs.Fine.{FineDeclaration, FineEntries}
+use Rattle.notation.specs.Fine.{FineDeclaration, FineEntries, FineScript}
 use Rattle.notation.specs.Tree.{Located, Ty, Proc, Entry, Declaration, declareType, declareProc, declareExec}
 use Rattle.notation.specs.Tables.{putEntry, putType, putProcess, moreEntries, moreTypes, moreProcesses, afterType, writeType, pointerTo, afterProcess, writeProcess, afterEntries, writeEntries, afterDeclaration, writeDeclaration, afterScript, writeScript, processEntry, Within}
 use Rattle.notation.specs.declared.reading.Tally.{Tally}
@@ -14,11 +14,6 @@ use Rattle.read_tables.specs.Growth.{Grown, grown-none, grown-then, grow
 use Rattle.read_tables.specs.Stands.{EntriesAt, DeclarationAt, ScriptAt}
 use Rattle.read_tables.specs.Types.{type-grown, type-counts, whole-kept, whole-written}
 use Rattle.read_tables.specs.Processes.{process-grown, process-counts, process-kept, process-written}
-
--- what a read script has that its words need
-unfoldable pub FineScript : List Declaration → Type 0
-FineScript [] = 0 ≤ 0
-FineScript (a ∷ r) = FineDeclaration a × FineScript r
 
 pub entries-count : (es : List Entry) (k : Tally) → (afterEntries es k .entries ≡ k .entries + length es) × (afterEntries es k .types ≡ k .types) × (afterEntries es k .processes ≡ k .processes) × (afterEntries es k .execs ≡ k .execs)
 unfolding afterEntries

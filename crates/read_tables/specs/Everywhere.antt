@@ -6,7 +6,7 @@ use mathlib.Core.List.{List, [], _∷_}
 use borrow.Author.Tests.{ltb-true, ltb-false}
 use lib.Dec.{ltb}
 use native.Mathlib.Omega.{arith}
-use Rattle.notation.specs.Fine.{FineAlternatives, FineBranches, FineDeclaration, FineEntries, FineProcess, FineType}
+use Rattle.notation.specs.Fine.{FineAlternatives, FineBranches, FineDeclaration, FineEntries, FineProcess, FineType, FineScript}
 use Rattle.notation.specs.Tree.{Located, Ty, unit, named, tensor, par, lolli, plus, with, Alternatives, alternative, Proc, empty, sendUnit, sendChannel, sendLabel, cancel, spawn, recvUnit, recvChannel, recvLabel, fwd, call, raise, try, Branches, branch, Entry, Declaration, declareType, declareProc, declareExec}
 use Rattle.notation.specs.Reader.{got}
 use Rattle.notation.specs.Scripts.{readText}
@@ -16,14 +16,15 @@ use Rattle.notation.specs.declared.reading.Tally.{Tally}
 use Rattle.notation.specs.declared.reading.TypeNode.{TypeNode}
 use Rattle.notation.specs.declared.reading.TermNode.{TermNode}
 use Rattle.notation.specs.Tables.{Area}
+use Rattle.notation.proofs.ScriptReadings.{text-read}
 use Rattle.read_tables.specs.Decode.{tallyIn}
 use Rattle.read_tables.specs.Growth.{Grown, grown-none, grown-then, grown-lasting, grown-node, grown-alternative, grown-term, grown-branch, grown-exec}
-use Rattle.read_tables.specs.Stands.{TypeFrom, AlternativesFrom, ProcessFrom, BranchesFrom, EntriesFrom, DeclarationFrom, ScriptFrom}
+use Rattle.notation.specs.From.{TypeFrom, AlternativesFrom, ProcessFrom, BranchesFrom, EntriesFrom, DeclarationFrom, ScriptFrom}
 use Rattle.read_tables.specs.Types.{whole-written}
 use Rattle.read_tables.specs.Processes.{process-counts, process-kept, process-written}
-use Rattle.read_tables.specs.Declarations.{FineScript, entry-after, type-after, process-after}
+use Rattle.read_tables.specs.Declarations.{entry-after, type-after, process-after}
 use Rattle.read_tables.specs.Roots.{TypeIn, type-in, ProcessIn}
-use Rattle.read_tables.specs.Whole.{wide, tables-counted, tables-grown, text-known}
+use Rattle.read_tables.specs.Whole.{wide, tables-counted, tables-grown}
 
 -- all numbers of type nodes and of process nodes stand
 pub record Everywhere (s w : List ℕ) : Type 0 where
@@ -179,4 +180,4 @@ script-everywhere ds s t f h =
 -- whatever text is read, where its tables have room for it
 pub text-everywhere : (s : List ℕ) (ds : List Declaration) (d : Cursor) → readText s ≡ got ds d → Within (afterScript ds nothing) → Everywhere s (tables s)
 unfolding tables
-text-everywhere s ds d e h = let (t, f) = text-known s ds d e in rw e (script-everywhere ds s t f h)
+text-everywhere s ds d e h = let (t, f) = text-read s ds d e in rw e (script-everywhere ds s t f h)

@@ -10,11 +10,7 @@ pub mod Declarations
 pub mod Scripts
 pub mod Program
 pub mod Roots
-pub mod Read
 pub mod Arguments
-pub mod ReadTypes
-pub mod ReadProcesses
-pub mod ReadScripts
 pub mod Whole
 pub mod Everywhere
 pub mod Search

@@ -50,8 +50,12 @@ GoesOf P (refused n i) = 0 ≤ 0
 pub record Goes {A : Type 0} (P : A → Cursor → Type 0) (r : Result A) : Type 0 where
   pub holds : GoesOf P r
 
-pub goes-got : {A : Type 0} {P : A → Cursor → Type 0} (a : A) (d : Cursor) → P a d → Goes P (got a d)
+goes-got : {A : Type 0} {P : A → Cursor → Type 0} (a : A) (d : Cursor) → P a d → Goes P (got a d)
 goes-got a d h = record { holds = h }
+
+-- of what is known to be read
+pub goes-is : {A : Type 0} {P : A → Cursor → Type 0} {r : Result A} {a : A} {d : Cursor} → r ≡ got a d → Goes P r → P a d
+goes-is {P = P} e h = subst (Goes P) e h .holds
 
 goes-refused : {A : Type 0} {P : A → Cursor → Type 0} (n i : ℕ) → Goes P (refused n i)
 goes-refused n i = record { holds = omega arith }
@@ -60,7 +64,7 @@ goes-take : {A : Type 0} {P : A → Cursor → Type 0} (t : Taken) (f : ℕ → 
 goes-take (At i d) f h = h i d refl
 goes-take (Refused n i) f h = goes-refused n i
 
-pub goes-part : {A B : Type 0} {Q : B → Cursor → Type 0} {P : A → Cursor → Type 0} {r : Result B} (f : B → Cursor → Result A) → Goes Q r → ((b : B) (d : Cursor) → Q b d → Goes P (f b d)) → Goes P (part r f)
+goes-part : {A B : Type 0} {Q : B → Cursor → Type 0} {P : A → Cursor → Type 0} {r : Result B} (f : B → Cursor → Result A) → Goes Q r → ((b : B) (d : Cursor) → Q b d → Goes P (f b d)) → Goes P (part r f)
 goes-part {r = got b d} f h g = g b d (h .holds)
 goes-part {r = refused n i} f h g = goes-refused n i
 

@@ -16,7 +16,9 @@ use Rattle.notation.specs.Tables.{Area}
 use Rattle.read_tables.specs.Decode.{termAt, branchesBy, termBy, processOf, processIn, typeIn}
 use Rattle.read_tables.specs.Packing.{term-put, branch-put}
 use Rattle.read_tables.specs.Growth.{Grown, grown-none, grown-then, grown-lasting, grown-term, grown-branch, term-kept, branch-kept}
-use Rattle.read_tables.specs.Stands.{countBranches, LeafAt, OverAt, LabelsAt, ProcessAt, BranchesAt, ProcessFrom, BranchesFrom}
+use Rattle.notation.specs.From.{ProcessFrom, BranchesFrom}
+use Rattle.read_tables.specs.Stands.{countBranches, LeafAt, OverAt, LabelsAt, ProcessAt, BranchesAt}
+use Rattle.read_tables.specs.Arguments.{arguments-read}
 use Rattle.read_tables.specs.Types.{Steady, type-grown, type-counts, whole-kept, whole-written, type-read}
 
 -- ── a process is appended
@@ -182,6 +184,30 @@ module _ (P : Proc) (k : Tally) (w : List ℕ) (area : Area w) (h : Within (afte
           written (node-area k w area kind at first second x),
         )
 
+-- two halves one after the other, from d on
+module _ (P Q : Proc) (d : Tally) (w : List ℕ) where
+  abbrev firstTally : Tally
+  firstTally = afterProcess P d
+
+  abbrev firstWords : List ℕ
+  firstWords = writeProcess P d w
+
+  abbrev bothTally : Tally
+  bothTally = afterProcess Q firstTally
+
+  abbrev bothWords : List ℕ
+  bothWords = writeProcess Q firstTally firstWords
+
+  halves-grown : Grown d bothTally w bothWords
+  halves-grown = grown-then (process-grown P d w) (process-grown Q firstTally firstWords)
+
+  halves-written : Area w → Within bothTally → (Within firstTally → ProcessWritten P d w) → (Area firstWords → ProcessWritten Q firstTally firstWords)
+      → ProcessAt bothWords bothTally (pointerTo P (d .terms)) P × ProcessWritten Q firstTally firstWords
+  halves-written area h first second =
+      let g = process-grown Q firstTally firstWords in
+      let u = g .more in
+      (process-kept g h P (pointerTo P (d .terms)) (first (omega arith)), second (omega (arith, process-grown P d w .long)))
+
 mutual
   unfolding afterProcess writeProcess FineProcess ProcessAt
 
@@ -194,32 +220,20 @@ mutual
   process-written (spawn n A P Q) k w (f, t, m, m′) area h =
       let j = moreTerms k in
       let d = afterType A j in
-      let e = afterProcess P d in
-      let r = afterProcess Q e in
       let x = pointerTo P (d .terms) in
-      let y = pointerTo Q (e .terms) in
+      let y = pointerTo Q (afterProcess P d .terms) in
       let w₀ = putTerm w (k .terms) (termNode 5 (n .at) (d .last) x y) in
       let w₁ = writeType A j w₀ in
-      let w₂ = writeProcess P d w₁ in
-      let w₃ = writeProcess Q e w₂ in
+      let v = bothWords P Q d w₁ in
+      let r = bothTally P Q d w₁ in
       let ga = type-grown A j w₀ in
-      let gp = process-grown P d w₁ in
-      let gq = process-grown Q e w₂ in
-      let up = gp .more in
-      let uq = gq .more in
+      let g = halves-grown P Q d w₁ in
+      let u = g .more in
       let area₀ = node-area k w area 5 (n .at) (d .last) x y in
       let area₁ : Area w₁ = omega (arith, ga .long) in
-      let area₂ : Area w₂ = omega (arith, gp .long) in (
-        d .last,
-        x,
-        whole-written A j r w₀ w₃ t area₀ h (grown-then gp gq),
-        process-kept gq h P x (process-written P d w₁ m area₁ (omega arith)),
-        (
-          y,
-          node-stands k w area 5 (n .at) (d .last) x y r w₃ h (grown-then ga (grown-then gp gq)) (omega arith) f (pointer-fits P (d .terms) m (omega arith)),
-          process-written Q e w₂ m′ area₂ h,
-        ),
-      )
+      let (a, b) = halves-written P Q d w₁ area₁ h (λ z. process-written P d w₁ m area₁ z) (λ z. process-written Q _ _ m′ z h) in
+      let node = node-stands k w area 5 (n .at) (d .last) x y r v h (grown-then ga g) (omega arith) f (pointer-fits P (d .terms) m (omega arith)) in
+      (d .last, x, whole-written A j r w₀ v t area₀ h g, a, (y, node, b))
   process-written (recvUnit at c P) k w (f, f′, m) area h = before-written P k w area h 6 at (c .at) 0 (λ a. process-written P _ _ m a h) (omega arith) f (omega arith)
   process-written (recvChannel at c x P) k w (f, f′, f″, m) area h = before-written P k w area h 7 at (c .at) (x .at) (λ a. process-written P _ _ m a h) (omega arith) f (omega arith)
   process-written (recvLabel at c B) k w (f, f′, m, some) area h =
@@ -239,27 +253,15 @@ mutual
   process-written (raise at P) k w (f, m) area h = before-written P k w area h 11 at 0 0 (λ a. process-written P _ _ m a h) (omega arith) f (omega arith)
   process-written (try at P Q) k w (f, m, m′) area h =
       let j = moreTerms k in
-      let e = afterProcess P j in
-      let r = afterProcess Q e in
       let x = pointerTo P (j .terms) in
-      let y = pointerTo Q (e .terms) in
+      let y = pointerTo Q (afterProcess P j .terms) in
       let w₀ = putTerm w (k .terms) (termNode 12 at 0 x y) in
-      let w₂ = writeProcess P j w₀ in
-      let w₃ = writeProcess Q e w₂ in
-      let gp = process-grown P j w₀ in
-      let gq = process-grown Q e w₂ in
-      let up = gp .more in
-      let uq = gq .more in
+      let g = halves-grown P Q j w₀ in
+      let u = g .more in
       let area₀ = node-area k w area 12 at 0 x y in
-      let area₂ : Area w₂ = omega (arith, gp .long) in (
-        x,
-        process-kept gq h P x (process-written P j w₀ m area₀ (omega arith)),
-        (
-          y,
-          node-stands k w area 12 at 0 x y r w₃ h (grown-then gp gq) (omega arith) f (pointer-fits P (j .terms) m (omega arith)),
-          process-written Q e w₂ m′ area₂ h,
-        ),
-      )
+      let (a, b) = halves-written P Q j w₀ area₀ h (λ z. process-written P j w₀ m area₀ z) (λ z. process-written Q _ _ m′ z h) in
+      let node = node-stands k w area 12 at 0 x y (bothTally P Q j w₀) (bothWords P Q j w₀) h g (omega arith) f (pointer-fits P (j .terms) m (omega arith)) in
+      (x, a, (y, node, b))
 
   pub branches-written : (B : Branches) (k : Tally) (w : List ℕ) → FineBranches B → Area w → Within (afterBranches B k) → BranchesWritten B k w
   branches-written Branches.none k w f area h = omega arith
@@ -330,7 +332,9 @@ module _ (s w : List ℕ) (k : Tally) (h : Within k) where
         let m = branches-read B a (f - 1) u q (omega arith) in
         node-read f s w p _ (omega arith) (omega arith) e ∙ λ j. recvLabel at (t j) (m j)
     process-read (fwd at x c) p f (t, t′) (b, e) l = node-read f s w p _ (omega arith) l e ∙ λ j. fwd at (t j) (t′ j)
-    process-read (call at n bracket xs ys) p f (t, t′, u) (b, e) l = node-read f s w p _ (omega arith) l e ∙ λ j. call at (t j) bracket (t′ j .0) (t′ j .1)
+    process-read (call at n bracket xs ys) p f (t, u) (b, e) l =
+        let t′ = arguments-read s bracket xs ys u in
+        node-read f s w p _ (omega arith) l e ∙ λ j. call at (t j) bracket (t′ j .0) (t′ j .1)
     process-read (raise at P) p f u (x, (b, e), q) l =
         let m = process-read P x (f - 1) u q (omega arith) in
         node-read f s w p _ (omega arith) (omega arith) e ∙ λ j. raise at (m j)

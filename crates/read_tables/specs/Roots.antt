@@ -12,7 +12,9 @@ use Rattle.notation.specs.declared.reading.TypeNode.{TypeNode}
 use Rattle.notation.specs.declared.reading.TermNode.{TermNode}
 use Rattle.read_tables.specs.Names.{CallAt}
 use Rattle.read_tables.specs.Decode.{tallyIn, nodeAt, alternativeAt, termAt, branchAt, argumentsAt, alternativesBy, typeIn, branchesBy, processIn}
-use Rattle.read_tables.specs.Stands.{count, countBranches, TypeAt, WholeAt, AlternativesAt, ProcessAt, BranchesAt, TypeFrom, AlternativesFrom, ProcessFrom, BranchesFrom}
+use Rattle.notation.specs.From.{TypeFrom, AlternativesFrom, ProcessFrom, BranchesFrom}
+use Rattle.read_tables.specs.Stands.{count, countBranches, TypeAt, WholeAt, AlternativesAt, ProcessAt, BranchesAt}
+use Rattle.read_tables.specs.Arguments.{arguments-read, call-read}
 use Rattle.read_tables.specs.Types.{type-read, alternatives-read}
 use Rattle.read_tables.specs.Processes.{process-read, branches-read}
 
@@ -294,8 +296,9 @@ module _ (s w : List ℕ) (h : Within (tallyIn w)) where
       let r = branches-tree a (countBranches B) f in
       rw e (noded p (termNode 8 at (c .at) a (countBranches B)) (recvLabel at c B) b (omega (arith, ap branchesTerms r), f, λ j. recvLabel at (sym t j) (sym r j)))
   process-root-of (fwd at x c) p m (t, t′) (b, e) = rw e (noded p (termNode 9 at (x .at) (c .at) 0) (fwd at x c) b λ j. fwd at (sym t j) (sym t′ j))
-  process-root-of (call at o bracket xs ys) p m (t, t′, u) (b, e) =
-      let f = subst (λ (a : List Located × List Located). CallAt s bracket (a .0) (a .1)) (sym t′) u in
+  process-root-of (call at o bracket xs ys) p m (t, u) (b, e) =
+      let t′ = arguments-read s bracket xs ys u in
+      let f = subst (λ (a : List Located × List Located). CallAt s bracket (a .0) (a .1)) (sym t′) (call-read s bracket xs ys u) in
       rw e (noded p (termNode 10 at (o .at) bracket 0) (call at o bracket xs ys) b (f, λ j. call at (sym t j) bracket (sym t′ j .0) (sym t′ j .1)))
   process-root-of (try at P Q) p m (u, u′) (x, q, (y, (b, e), q′)) =
       let (g, r) = part-of x P (try at P Q) (omega arith) m u q in

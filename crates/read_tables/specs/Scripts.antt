@@ -4,6 +4,7 @@ use mathlib.Core.Path.{_≡_, refl, sym, _∙_, ap}
 use mathlib.Core.List.{List, [], _∷_, _++_}
 use native.Mathlib.Omega.{arith}
 use lib.ListN.{length, getD, length-append, length-replicate}
+use Rattle.notation.specs.Fine.{FineScript}
 use Rattle.notation.specs.Limits.{typeTermLimit, processTermLimit, scratchWords}
 use Rattle.notation.specs.Tree.{Entry, Declaration, declareType, declareProc, declareExec}
 use Rattle.notation.specs.Reader.{nameIn}
@@ -12,10 +13,11 @@ use Rattle.notation.specs.declared.reading.Tally.{Tally}
 use Rattle.notation.specs.Tables.{Area}
 use Rattle.read_tables.specs.Decode.{tallyIn, typeIn, entriesIn, typeDeclaration, procBy, procDeclaration, execDeclaration, numbered, scriptIn}
 use Rattle.read_tables.specs.Growth.{grown-counts}
-use Rattle.read_tables.specs.Stands.{EntriesAt, DeclarationAt, ScriptAt, EntriesFrom, DeclarationFrom, ScriptFrom}
+use Rattle.notation.specs.From.{EntriesFrom, DeclarationFrom, ScriptFrom}
+use Rattle.read_tables.specs.Stands.{EntriesAt, DeclarationAt, ScriptAt}
 use Rattle.read_tables.specs.Types.{type-counts, type-read}
 use Rattle.read_tables.specs.Processes.{process-counts, process-read}
-use Rattle.read_tables.specs.Declarations.{FineScript, entries-count, script-grown, script-kept, script-written}
+use Rattle.read_tables.specs.Declarations.{entries-count, script-grown, script-kept, script-written}
 
 -- ── the declarations of each kind
 abbrev pub ownType : Declaration → List Declaration

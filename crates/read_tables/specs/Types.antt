@@ -15,7 +15,8 @@ use Rattle.notation.specs.Tables.{Area}
 use Rattle.read_tables.specs.Decode.{nodeAt, alternativesBy, typeBy, typeOf, typeIn}
 use Rattle.read_tables.specs.Packing.{node-put, alternative-put}
 use Rattle.read_tables.specs.Growth.{Grown, grown-then, grown-lasting, grown-node, grown-alternative, node-kept, alternative-kept}
-use Rattle.read_tables.specs.Stands.{count, InfixAt, ChoiceAt, TypeAt, WholeAt, AlternativesAt, TypeFrom, AlternativesFrom}
+use Rattle.notation.specs.From.{TypeFrom, AlternativesFrom}
+use Rattle.read_tables.specs.Stands.{count, InfixAt, ChoiceAt, TypeAt, WholeAt, AlternativesAt}
 
 -- ── a type is appended
 -- an infix node between its parts

@@ -6,6 +6,7 @@ use mathlib.Core.List.{List, [], _∷_}
 use native.Mathlib.Nat.{eq-or-lt-of-le}
 use native.Mathlib.Omega.{arith}
 use lib.ListN.{length, length-replicate}
+use Rattle.notation.specs.Fine.{FineScript}
 use Rattle.notation.specs.Limits.{scratchWords}
 use Rattle.notation.specs.Tree.{Entry, Declaration, declareType, declareProc, declareExec}
 use Rattle.notation.specs.Reader.{got, nameIn}
@@ -17,11 +18,11 @@ use Rattle.notation.specs.declared.reading.ProcessEntry.{ProcessEntry}
 use Rattle.notation.specs.Tables.{Area}
 use Rattle.read_tables.specs.Decode.{tallyIn, entryAt, typeAt, processAt, entriesIn, typeIn, scriptIn}
 use Rattle.read_tables.specs.Growth.{Grown, grown-then, grown-lasting, grown-counts}
-use Rattle.read_tables.specs.Stands.{EntriesAt, DeclarationAt, ScriptAt, EntriesFrom, DeclarationFrom, ScriptFrom}
-use Rattle.read_tables.specs.Declarations.{FineScript, script-grown, script-kept, script-written}
+use Rattle.notation.specs.From.{EntriesFrom, DeclarationFrom, ScriptFrom}
+use Rattle.read_tables.specs.Stands.{EntriesAt, DeclarationAt, ScriptAt}
+use Rattle.read_tables.specs.Declarations.{script-grown, script-kept, script-written}
 use Rattle.read_tables.specs.Scripts.{sorted, grows-by, counted, script-decoded}
-use Rattle.read_tables.specs.Read.{Reads}
-use Rattle.read_tables.specs.ReadScripts.{ReadScript, text-read-from}
+use Rattle.notation.proofs.ScriptReadings.{text-read}
 use Rattle.read_tables.specs.Roots.{TypeIn, type-in, ProcessIn}
 
 -- n signature entries stand from the place i on
@@ -139,14 +140,10 @@ tables-in ds s t f h =
       processes = λ i l. each-process s v ds nothing t e i (omega arith) (subst (λ (m : Tally). i < m .processes) c l);
     }
 
--- what is known of the script that was read
-pub text-known : (s : List ℕ) (ds : List Declaration) (d : Cursor) → readText s ≡ got ds d → ReadScript s ds
-text-known s ds d e = let r : Reads (ReadScript s) (got ds d) = subst (Reads (ReadScript s)) e (text-read-from s) in r .holds
-
 -- whatever text is read: its tables give back its script, where they have room for it, as a text that `read` did not refuse has (`FitsTables`)
 pub text-decoded : (s : List ℕ) (ds : List Declaration) (d : Cursor) → readText s ≡ got ds d → Within (afterScript ds nothing)
     → (scriptIn s (tables s) ≡ sorted ds) × Tables s (tables s)
 unfolding tables
 text-decoded s ds d e h =
-    let (t, f) = text-known s ds d e in
+    let (t, f) = text-read s ds d e in
     rw e (script-decoded ds s t f h, tables-in ds s t f h)

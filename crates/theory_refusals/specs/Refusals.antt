@@ -32,7 +32,7 @@ use Rattle.calculus.specs.declared.answers.RanOn.the-variants as runs
 use Rattle.calculus.specs.declared.answers.Reported.the-variants as reports
 use Rattle.theory_progress.specs.RunOn.{Ended, run-on-ends}
 use Rattle.theory_refusals.specs.Verdicts.{Between, Numbered, declared-within, typed-within}
-use Rattle.theory_refusals.specs.ScriptReadings.{read-numbered}
+use Rattle.notation.proofs.ScriptReadings.{read-numbered}
 
 -- ── a text: 2 to 15
 abbrev FaultIn : ℕ → ℕ → Checked → Type 0
