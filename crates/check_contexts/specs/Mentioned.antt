@@ -17,7 +17,8 @@ use Rattle.calculus.specs.Mentions.{isOneOf, mentions, branchesMention}
 use Rattle.read_tables.specs.Names.{CallAt}
 use Rattle.read_tables.specs.Decode.{argumentsAt, processIn}
 use Rattle.read_tables.specs.Roots.{atKind, Handlers, each-kind, processCases, ProcessIn, process-root, BranchesIn, branchesIn}
-use Rattle.read_tables.specs.Stands.{ProcessAt, ProcessFrom}
+use Rattle.notation.specs.From.{ProcessFrom}
+use Rattle.read_tables.specs.Stands.{ProcessAt}
 use Rattle.read_tables.specs.Access.{TermOf, BranchOf}
 use Rattle.read_tables.specs.declared.access.Labelled.{Labelled}
 use Rattle.read_tables.specs.Whole.{Tables}

@@ -80,7 +80,7 @@ offerOf s w (offer.Labels e m) = offers (plains (alternativesIn s w e m))
 
 abbrev pub listed : List ℕ → List ℕ → Offer → Type 0
 listed s w (offer.Refused n) = Unit {0}
-listed s w (offer.Labels e m) = (i : ℕ) × AlternativesIn s w i e m
+listed s w (offer.Labels e m) = AlternativesIn s w e m
 
 abbrev pub offeredBy : List ℕ → List ℕ → TermNode → Context → Offered
 offeredBy s w n G = offered (programIn s w) (nameAt s (n .first)) (branchesIn s w (n .second) (n .third)) G
@@ -113,11 +113,11 @@ module _ (s w : List ℕ) (h : Held) (n : TermNode) where
     offers-nothing q = record { is = sym (found ∙ ap (λ u. wanting 11 (choosingOf s w u) tests) q); labels = tt }
 
     module _ (sender a m : ℕ) (q : t ≡ Chooses sender a m) where
-      there : chosenIn s w i (Chooses sender a m)
-      there = subst (chosenIn s w i) q (g .parts)
+      there : chosenIn s w (Chooses sender a m)
+      there = subst (chosenIn s w) q (g .parts)
 
-      pub labels-there : (j : ℕ) × AlternativesIn s w j a m
-      labels-there = (i, there .1)
+      pub labels-there : AlternativesIn s w a m
+      labels-there = there .1
 
       abbrev labels : Alternatives Name
       labels = plains (alternativesIn s w a m)

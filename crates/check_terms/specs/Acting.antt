@@ -97,14 +97,14 @@ module _ (s w : List ℕ) (h : Held) (at : ℕ) where
       }
 
 -- ── 1
-unit-shape : (s w : List ℕ) (i : ℕ) (n : TypeNode) (k : ℕ) {t : Shape} → ShapeIn s w i n k t → eqb k 0 ≡ atLeaf t
-unit-shape s w i n k (is-leaf e) = eq-eqb k 0 e
-unit-shape s w i n k (is-word e) = ne-eqb k 0 (λ z. omega arith)
-unit-shape s w i n k (is-pair a b c d) = ne-eqb k 0 (λ z. omega arith)
-unit-shape s w i n k (is-choice a b c) = ne-eqb k 0 (λ z. omega arith)
+unit-shape : (s w : List ℕ) (n : TypeNode) (k : ℕ) {t : Shape} → ShapeIn s w n k t → eqb k 0 ≡ atLeaf t
+unit-shape s w n k (is-leaf e) = eq-eqb k 0 e
+unit-shape s w n k (is-word e) = ne-eqb k 0 (λ z. omega arith)
+unit-shape s w n k (is-pair a b c d) = ne-eqb k 0 (λ z. omega arith)
+unit-shape s w n k (is-choice a b c) = ne-eqb k 0 (λ z. omega arith)
 
 pub unit-of : (w : List ℕ) (i : ℕ) (n : TypeNode) → NodeOf w i n → UnitOf w i (eqb (n .kind) 0)
-unit-of w i n o = record { says = λ s t a. unit-shape s w i n (n .kind) (shape-in s w i n o t a) }
+unit-of w i n o = record { says = λ s t a. unit-shape s w n (n .kind) (shape-in s w i n o t a) }
 
 -- ── sides
 pub different-sides : (a b : ℕ) → a < 2 → b < 2 → (a ≡ b → ⊥) → sameSide (sideOf a) (sideOf b) ≡ false
@@ -167,8 +167,8 @@ module _ (s w : List ℕ) (c : EndWords) (at i : ℕ) (z : i ≡ c .node) (r : C
   chooses-nothing e = record { is = chosen ∙ ap (λ t. chosenBy (slotIn s w c) (nameAt s (at + 1)) (choosingOf s w t)) e; type = tt }
 
   module _ (sender e n : ℕ) (q : r ≡ Chooses sender e n) (p : c .side < 2) where
-    pub listed : chosenIn s w i (Chooses sender e n)
-    listed = subst (chosenIn s w i) q (f .parts)
+    pub listed : chosenIn s w (Chooses sender e n)
+    listed = subst (chosenIn s w) q (f .parts)
 
     abbrev led : Bool → Option (Ty Name)
     led b = cond b (labelled (nameAt s (at + 1)) (plains (alternativesIn s w e n))) none

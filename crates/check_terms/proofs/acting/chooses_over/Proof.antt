@@ -54,12 +54,9 @@ labelled-requires c κs =
     let entry = after-t .before .before .before .before .before .before in
     let text = entry .args .text .now in (
       entry .pre .0,
-      (
-        _,
-        listed text (entry .args .scratch .now) (entry .args .c) (entry .args .at) _ (wide .ensures .0) _
-            (after-t .before .before .choosing .ensures .says text (entry .pre .0) (typed-as text (entry .args .scratch .now) (entry .args .c) _ (wide .ensures .0) (entry .pre .1))) (t .given .0 .0)
-            (t .given .0 .1 .0) (t .given .0 .1 .1 .0) (t .given .1) (entry .pre .2) .1,
-      ),
+      listed text (entry .args .scratch .now) (entry .args .c) (entry .args .at) _ (wide .ensures .0) _
+          (after-t .before .before .choosing .ensures .says text (entry .pre .0) (typed-as text (entry .args .scratch .now) (entry .args .c) _ (wide .ensures .0) (entry .pre .1))) (t .given .0 .0)
+          (t .given .0 .1 .0) (t .given .0 .1 .1 .0) (t .given .1) (entry .pre .2) .1,
     )
 
 returns-3 : tie.Need-returns-3
