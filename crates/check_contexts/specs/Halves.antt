@@ -19,8 +19,8 @@ use Rattle.read_tables.specs.Decode.{processIn}
 use Rattle.read_tables.specs.Program.{plainIn}
 use Rattle.read_tables.specs.Roots.{TypeIn, ProcessIn}
 use Rattle.run_words.specs.Lists.{All}
-use Rattle.run_words.specs.ListLaws.{below-length, drop-at}
-use Rattle.run_words.specs.Raw.{RawEnd, sideOf}
+use Rattle.run_words.specs.ListLaws.{below-length, all-at, all-of}
+use Rattle.run_words.specs.Raw.{RawEnd, BoundedEnd, sideOf}
 use Rattle.run_words.specs.Values.{endIn, heldIn, held-length}
 use Rattle.run_words.specs.declared.records.End.{End}
 use Rattle.run_words.specs.declared.records.Held.{Held}
@@ -270,6 +270,10 @@ module _ {s w : List ℕ} {h : Held} {first second : Half} {a b : Marks} (t : Ta
       (λ j. fair false (markOf a k) (v .at k l j))
       ∙ (λ j. fair false (marked-so t u k e g j) (marked-so t u k e g j && takes s w second (sym (held-name s h k g) j)))
       ∙ only-both (takes s w first (nameAt s (e .name))) x) d
+
+-- what is held may be packed into words again
+pub held-bounded : {s w : List ℕ} {h : Held} → HeldIn s w h → All BoundedEnd (heldIn h)
+held-bounded {s} {w} {h} u = all-of BoundedEnd (heldIn h) (λ k e g. all-at (EndIn s w) (heldIn h) k (u .each) g .bounds)
 
 -- ── a half of a spawn
 -- what it holds before the new channel comes has room for it

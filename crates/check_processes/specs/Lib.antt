@@ -1,5 +1,6 @@
 pub mod Offers
 pub mod Nodes
-pub mod Spawns
 pub mod Process
 pub mod Turns
+pub mod Spawns
+pub mod Branches

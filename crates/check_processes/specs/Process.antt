@@ -112,6 +112,14 @@ by-number at (go G) h = refl
 pub ends-so : (s w : List ℕ) (n : TermNode) (G : Context) (x : ℕ) {u v : calculus.Verdict} → x ≡ numberOf (endStep s w n G) → u ≡ verdictBy (n .at) x → v ≡ resume (n .at) (endStep s w n G) (λ _. fine) → u ≡ v
 ends-so s w n G x e p q = p ∙ ap (verdictBy (n .at)) e ∙ sym (q ∙ by-number (n .at) (endStep s w n G) (end-no-zero s w n G))
 
+-- ── a raise, with a link or none
+module _ (at : ℕ) (link : Bool) {u : calculus.Verdict} (v : calculus.Verdict) (e : u ≡ demand 14 at link v) where
+  pub raise-goes : link ≡ true → v ≡ u
+  raise-goes z = sym (e ∙ ap (λ b. demand 14 at b v) z)
+
+  pub raise-stops : link ≡ false → refused 14 at ≡ u
+  raise-stops z = sym (e ∙ ap (λ b. demand 14 at b v) z)
+
 -- ── two halves: the first that is at fault, else the second
 pub then-refused : {u : calculus.Verdict} (v : calculus.Verdict) (r : Verdict) (n i : ℕ) → r ≡ verdict.Refused n i → verdictOf r ≡ u → verdictOf r ≡ andThen u v
 then-refused v r n i e q = ap verdictOf e ∙ ap (λ x. andThen x v) (sym (ap verdictOf e) ∙ q)

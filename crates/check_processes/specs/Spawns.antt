@@ -11,25 +11,34 @@ use Rattle.notation.specs.Limits.{heldLimit}
 use Rattle.notation.specs.Token.{nameAt}
 use Rattle.notation.specs.Tree.{Name, Proc}
 use Rattle.notation.specs.declared.reading.TermNode.{TermNode}
-use Rattle.calculus.specs.Named.{lookup, isSome, names}
+use Rattle.calculus.specs.Named.{lookup, isSome, names, kept}
 use Rattle.calculus.specs.Mentions.{spawnTakes, spawnLeaves, tryTakes, neverBoth, exactlyOne}
+use Rattle.calculus.specs.Checking.{check}
 use Rattle.calculus.specs.Program.{slot, Context}
+use Rattle.calculus.specs.Verdict.{refused, andThen, demand, verdictOf}
+use Rattle.calculus.specs.Verdict as calculus
+use Rattle.calculus.specs.declared.verdict.Verdict.{Verdict}
+use Rattle.calculus.specs.declared.verdict.Verdict.the-variants as verdict
 use Rattle.calculus.specs.Typing.{bringing}
 use Rattle.calculus.specs.Configuration.{End}
 use Rattle.calculus.specs.WellFormed.{contextOf}
-use Rattle.theory_ends.specs.Contexts.{context-kept, context-names, context-append}
+use Rattle.theory_ends.specs.Contexts.{context-kept, context-names, context-append, context-length}
 use Rattle.run_words.specs.Raw.{sideOf}
 use Rattle.run_words.specs.declared.records.Held.{Held}
 use Rattle.read_tables.specs.Decode.{processIn}
-use Rattle.read_tables.specs.Program.{plainIn}
+use Rattle.read_tables.specs.Program.{plainIn, programIn}
 use Rattle.read_tables.specs.Roots.{TypeIn}
-use Rattle.check_contexts.specs.Held.{channelsOf, HeldIn, Brings}
-use Rattle.check_contexts.specs.Halves.{halfSide, Keeps, Fair, spawn-takes, spawn-leaves, try-takes, never-shared, shared-once}
+use Rattle.check_contexts.specs.Held.{channelsOf, HeldIn}
+use Rattle.check_contexts.specs.Marks.{ALL}
+use Rattle.check_contexts.specs.declared.marks.Marks.{Marks}
+use Rattle.check_contexts.specs.Halves.{halfSide, wanted, takes, Takes, Keeps, keeps-so, Picks, Fair, fair-both, fair-each, Divides, HasRoom, has-room, SpawnHalf, spawn-takes, spawn-leaves, try-takes, never-shared, shared-once}
 use Rattle.check_contexts.specs.declared.halves.Half.the-variants.{OfSpawn, OfTry}
-use Rattle.check_terms.specs.Next.{Step, stop, go, granted, contextIn}
+use Rattle.check_terms.specs.Next.{Step, stop, go, granted, resume, contextIn}
 use Rattle.check_terms.specs.Endings.{numberOf}
 use Rattle.check_terms.specs.Sends.{count-so}
-use Rattle.check_processes.specs.Nodes.{apart?, joins?, spawnStep, halfContext, SpawnHalf}
+use Rattle.check_processes.specs.Nodes.{NodeIn, apart?, joins?, spawnStep, halfContext, spawn-at, try-at}
+use Rattle.check_processes.specs.Process.{spawn-stops, spawn-goes, then-refused, then-fine}
+use Rattle.check_processes.specs.Turns.{verdictAt}
 
 -- ── a split of what is held is a split of the context
 context-takes : (x : Name) (P : Proc) (l : List (Name × End)) → contextOf (spawnTakes x P l) ≡ spawnTakes x P (contextOf l)
@@ -45,10 +54,10 @@ unfolding tryTakes
 context-tries P l = sym (context-kept _ l)
 
 module _ (s w : List ℕ) (h : Held) where
-  pub tried : (p : ℕ) (r : Held) → Keeps s w h (OfTry p) true r → contextIn s w r ≡ tryTakes (processIn s w p) (contextIn s w h)
+  tried : (p : ℕ) (r : Held) → Keeps s w h (OfTry p) true r → contextIn s w r ≡ tryTakes (processIn s w p) (contextIn s w h)
   tried p r k = ap contextOf (try-takes s w h p r k) ∙ context-tries (processIn s w p) (channelsOf s w h)
 
-  pub tried-once : (p q : ℕ) (r : Bool) → Fair s w h (OfTry p) (OfTry q) true r → r ≡ exactlyOne (processIn s w p) (processIn s w q) (names (contextIn s w h))
+  tried-once : (p q : ℕ) (r : Bool) → Fair s w h (OfTry p) (OfTry q) true r → r ≡ exactlyOne (processIn s w p) (processIn s w q) (names (contextIn s w h))
   tried-once p q r f = shared-once s w h p q r f ∙ ap (exactlyOne (processIn s w p) (processIn s w q)) (sym (context-names (channelsOf s w h)))
 
 -- ── a spawn
@@ -59,8 +68,12 @@ module _ (s w : List ℕ) (h : Held) (n : TermNode) where
   abbrev x : Name
   x = nameAt s (n .at)
 
-  pub apart-so : (r : Bool) → Fair s w h (OfSpawn (n .at) (n .second)) (OfSpawn (n .at) (n .third)) false r → r ≡ apart? s w n G
+  apart-so : (r : Bool) → Fair s w h (OfSpawn (n .at) (n .second)) (OfSpawn (n .at) (n .third)) false r → r ≡ apart? s w n G
   apart-so r f = never-shared s w h (n .at) (n .second) (n .third) r f ∙ ap (neverBoth x (processIn s w (n .second)) (processIn s w (n .third))) (sym (context-names (channelsOf s w h)))
+
+  pub apart-by : {taken shared : Marks} {r : Bool} → Takes s w h (OfSpawn (n .at) (n .second)) ALL taken → HeldIn s w h → Takes s w h (OfSpawn (n .at) (n .third)) taken shared
+      → Divides (h .count) taken shared false r → r ≡ apart? s w n G
+  apart-by {r = r} t u v d = apart-so r (fair-both t u v d)
 
   taken : (r : Held) → Keeps s w h (OfSpawn (n .at) (n .second)) true r → contextIn s w r ≡ spawnTakes x (processIn s w (n .second)) G
   taken r k = ap contextOf (spawn-takes s w h (n .at) (n .second) r k) ∙ context-takes x (processIn s w (n .second)) (channelsOf s w h)
@@ -131,23 +144,90 @@ module _ (s w : List ℕ) (h : Held) (n : TermNode) where
   halfOf true = spawnTakes x (processIn s w (n .second)) G
   halfOf false = spawnLeaves x (processIn s w (n .second)) G
 
-  half-is : (first : Bool) (a : Held) → Keeps s w h (OfSpawn (n .at) (n .second)) first a → contextIn s w a ≡ halfOf first
-  half-is true a k = taken a k
-  half-is false a k = left a k
+  -- the same of the channels
+  half-kept : (first : Bool) → contextOf (kept (λ y. wanted first (takes s w (OfSpawn (n .at) (n .second)) y)) (channelsOf s w h)) ≡ halfOf first
+  unfolding spawnTakes spawnLeaves
+  half-kept true = sym (context-kept _ (channelsOf s w h))
+  half-kept false = sym (context-kept _ (channelsOf s w h))
 
   half-room : (first : Bool) → number ≡ 0 → length (halfOf first) < heldLimit
   half-room true e = ltb-true _ heldLimit (both-rooms new? takes? leaves? (joins-so e) .0)
   half-room false e = ltb-true _ heldLimit (both-rooms new? takes? leaves? (joins-so e) .1)
 
-  pub half-fits : (first : Bool) (a : Held) → Keeps s w h (OfSpawn (n .at) (n .second)) first a → number ≡ 0 → a .count < heldLimit
-  half-fits first a k e = omega (arith, half-room first e, ap length (half-is first a k), count-so s w a)
+  module _ {taken : Marks} (t : Takes s w h (OfSpawn (n .at) (n .second)) ALL taken) (u : HeldIn s w h) (first : Bool) where
+    pub half-has-room : number ≡ 0 → HasRoom h taken first
+    half-has-room e =
+        let l = kept (λ y. wanted first (takes s w (OfSpawn (n .at) (n .second)) y)) (channelsOf s w h) in
+        has-room first t u (omega (arith, half-room first e, ap length (half-kept first), context-length l))
 
-  half-context : (first : Bool) → bringing x (slot (halfSide first) (plainIn s w (n .first))) (halfOf first) ≡ halfContext s w n G first
-  half-context true = refl
-  half-context false = refl
+    half-context : bringing x (slot (halfSide first) (plainIn s w (n .first))) (halfOf first) ≡ halfContext s w n G first
+    half-context = go first
+      where
+        go : (b : Bool) → bringing x (slot (halfSide b) (plainIn s w (n .first))) (halfOf b) ≡ halfContext s w n G b
+        go true = refl
+        go false = refl
 
-  pub half-so : (first : Bool) (a r : Held) (side : ℕ) → Keeps s w h (OfSpawn (n .at) (n .second)) first a → sideOf side ≡ halfSide first → TypeIn s w (n .first) → Brings a (n .at) side (n .first) 0 r → SpawnHalf s w h n first r
-  half-so first a r side k z t b = record {
-    is = ap contextOf (b .is s w) ∙ context-append (channelsOf s w a) _ ∙ (λ j. bringing x (slot (z j) (plainIn s w (n .first))) (half-is first a k j)) ∙ half-context first;
-    fits = b .fits s w t (k .fits);
-  }
+    pub half-so : {name node : ℕ} {r : Held} → name ≡ n .at → node ≡ n .first → SpawnHalf h taken name node first 0 r → contextIn s w r ≡ halfContext s w n G first
+    half-so p q f =
+        ap contextOf (f .is t u)
+        ∙ context-append (kept _ (channelsOf s w h)) _
+        ∙ (λ j. bringing (nameAt s (p j)) (slot (halfSide first) (plainIn s w (q j))) (half-kept first j))
+        ∙ half-context
+
+-- ── what a spawn's checks come to
+module _ (s w : List ℕ) (h : Held) (link : Bool) (p : ℕ) (n : TermNode) (t : NodeIn s w p n) (z : n .kind ≡ 5) where
+  abbrev context : Context
+  context = contextIn s w h
+
+  abbrev first? : Context → calculus.Verdict
+  first? H = check (programIn s w) (halfContext s w n H true) false (processIn s w (n .second))
+
+  abbrev second? : Context → calculus.Verdict
+  second? H = check (programIn s w) (halfContext s w n H false) link (processIn s w (n .third))
+
+  spawn-said : verdictAt s w h link p ≡ resume (n .at) (spawnStep s w n context) (λ H. andThen (first? H) (second? H))
+  spawn-said = spawn-at s w p n t z .3 link context
+
+  pub spawn-refused : (r : ℕ) → r ≡ numberOf (spawnStep s w n context) → (r ≡ 0 → ⊥) → refused r (n .at) ≡ verdictAt s w h link p
+  spawn-refused r e d = spawn-stops s w n context (n .at) (λ H. andThen (first? H) (second? H)) r e d ∙ sym spawn-said
+
+  module _ (r : ℕ) (e : r ≡ numberOf (spawnStep s w n context)) (o : r ≡ 0) (a : Held) (f : contextIn s w a ≡ halfContext s w n context true) (v : Verdict) (q : verdictOf v ≡ verdictAt s w a false (n .second)) where
+    goes-on : andThen (first? context) (second? context) ≡ verdictAt s w h link p
+    goes-on = sym (spawn-said ∙ spawn-goes s w n context (n .at) (λ H. andThen (first? H) (second? H)) r e o)
+
+    first-is : verdictOf v ≡ first? context
+    first-is = q ∙ ap (λ J. check (programIn s w) J false (processIn s w (n .second))) f
+
+    pub spawn-first : {m i : ℕ} → v ≡ verdict.Refused m i → verdictOf v ≡ verdictAt s w h link p
+    spawn-first {m} {i} x = then-refused (second? context) v m i x first-is ∙ goes-on
+
+    pub spawn-second : v ≡ verdict.Fine → (b : Held) → contextIn s w b ≡ halfContext s w n context false → verdictAt s w b link (n .third) ≡ verdictAt s w h link p
+    spawn-second x b g = then-fine (second? context) v x first-is (ap (λ J. check (programIn s w) J link (processIn s w (n .third))) g) ∙ goes-on
+
+-- ── what a try's checks come to
+module _ (s w : List ℕ) (h : Held) (link : Bool) (p : ℕ) (n : TermNode) (t : NodeIn s w p n) (z : 12 ≤ n .kind) where
+  abbrev main? : calculus.Verdict
+  main? = check (programIn s w) (tryTakes (processIn s w (n .second)) (contextIn s w h)) true (processIn s w (n .second))
+
+  abbrev handler? : calculus.Verdict
+  handler? = check (programIn s w) (tryTakes (processIn s w (n .third)) (contextIn s w h)) link (processIn s w (n .third))
+
+  module _ (u : HeldIn s w h) {a b : Marks} (f : Takes s w h (OfTry (n .second)) ALL a) (g : Takes s w h (OfTry (n .third)) ALL b) (r : Bool) (d : Divides (h .count) a b true r) where
+    try-said : verdictAt s w h link p ≡ demand 13 (n .at) r (andThen main? handler?)
+    try-said = try-at s w p n t z .2 link (contextIn s w h) ∙ ap (λ c. demand 13 (n .at) c (andThen main? handler?)) (sym (tried-once s w h (n .second) (n .third) r (fair-each f u g d)))
+
+    try-by : (c : Bool) → r ≡ c → demand 13 (n .at) c (andThen main? handler?) ≡ verdictAt s w h link p
+    try-by c e = sym (try-said ∙ ap (λ c. demand 13 (n .at) c (andThen main? handler?)) e)
+
+    pub try-refused : r ≡ false → refused 13 (n .at) ≡ verdictAt s w h link p
+    try-refused e = try-by false e
+
+    module _ (e : r ≡ true) (x : Held) (k : Picks h a true x) (v : Verdict) (q : verdictOf v ≡ verdictAt s w x true (n .second)) where
+      main-is : verdictOf v ≡ main?
+      main-is = q ∙ ap (λ J. check (programIn s w) J true (processIn s w (n .second))) (tried s w h (n .second) x (keeps-so f u k))
+
+      pub try-first : {m i : ℕ} → v ≡ verdict.Refused m i → verdictOf v ≡ verdictAt s w h link p
+      try-first {m} {i} y = then-refused handler? v m i y main-is ∙ try-by true e
+
+      pub try-second : v ≡ verdict.Fine → (c : Held) → Picks h b true c → verdictAt s w c link (n .third) ≡ verdictAt s w h link p
+      try-second y c l = then-fine handler? v y main-is (ap (λ J. check (programIn s w) J link (processIn s w (n .third))) (tried s w h (n .third) c (keeps-so g u l))) ∙ try-by true e

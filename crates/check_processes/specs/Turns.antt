@@ -82,13 +82,14 @@ pub record Checking (s w : List ℕ) (h : Held) (link : Bool) (p : ℕ) (t : Tur
 abbrev pub termsLeft : List ℕ → List ℕ → Turn → ℕ
 termsLeft s w t = cond (t .on) (suc (processTerms (processIn s w (t .rest)))) 0
 
-pub check-begin : {s w : List ℕ} {h : Held} {link : Bool} {p : ℕ} {t : Turn} → t ≡ onward h link p → HeldIn s w h → ProcessIn s w p → Checking s w h link p t
-check-begin {s} {w} {h} {link} {p} e f a = subst (Checking s w h link p) (sym e) (record { is = refl; held = λ _. f; stands = λ _. a; fewer = λ _. omega arith })
+pub check-begin : {s w : List ℕ} {h : Held} {link : Bool} {p : ℕ} {t : Turn} → t ≡ onward h link p → HeldIn s w h → ProcessIn s w p → Checking s w (t .held) (t .link) (t .rest) t
+check-begin {s} {w} {h} {link} {p} e f a = subst (λ (t : Turn). Checking s w (t .held) (t .link) (t .rest) t) (sym e) (record { is = refl; held = λ _. f; stands = λ _. a; fewer = λ _. omega arith })
+
+pub check-done : {s w : List ℕ} {h : Held} {link : Bool} {p : ℕ} {t₀ t : Turn} → t₀ ≡ onward h link p → Checking s w (t₀ .held) (t₀ .link) (t₀ .rest) t → t .on ≡ false → verdictOf (t .verdict) ≡ verdictAt s w h link p
+check-done {s} {w} {t = t} e u z =
+    sym (ap (λ c. cond c (verdictAt s w (t .held) (t .link) (t .rest)) (verdictOf (t .verdict))) z) ∙ u .is ∙ ap (λ (t : Turn). verdictAt s w (t .held) (t .link) (t .rest)) e
 
 module _ {s w : List ℕ} {h : Held} {link : Bool} {p : ℕ} {t : Turn} (u : Checking s w h link p t) where
-  pub check-done : t .on ≡ false → verdictOf (t .verdict) ≡ verdictAt s w h link p
-  check-done z = sym (ap (λ c. cond c (verdictAt s w (t .held) (t .link) (t .rest)) (verdictOf (t .verdict))) z) ∙ u .is
-
   module _ {r : Turn} (z : t .on ≡ true) (v : Turned s w (t .held) (t .link) (t .rest) r) where
     pub check-next : Checking s w h link p r
     check-next = record {

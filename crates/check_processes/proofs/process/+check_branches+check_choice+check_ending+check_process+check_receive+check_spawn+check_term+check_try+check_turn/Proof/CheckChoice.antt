@@ -1,0 +1,56 @@
+-- CheckChoice: each need of its walk.
+use borrow.Author.Needs.{needs}
+use Prim.Native.Nat.{ℕ}
+use native.Mathlib.Omega.{arith}
+use mathlib.Core.Path.{sym, _∙_, ap, subst}
+use Rattle.notation.specs.Token.{nameAt}
+use Rattle.calculus.specs.Checking.{checkBranches}
+use Rattle.read_tables.specs.Program.{programIn}
+use Rattle.read_tables.specs.Roots.{branchesIn}
+use Rattle.check_terms.specs.Next.{contextIn}
+use Rattle.check_processes.specs.Offers.{choosing-with, offerOf, listed}
+use Rattle.check_processes.specs.Nodes.{choose-at}
+use Rattle.check_processes.proofs.choices.labels_offered.Reads as labels-offered-reads
+use Rattle.check_processes.proofs.process.check_branches.Reads as check-branches
+use Rattle.check_processes.proofs.process.check_choice.Reads as check-choice
+use Rattle.check_processes.proofs.process.+check_branches+check_choice+check_ending+check_process+check_receive+check_spawn+check_term+check_try+check_turn.Lts-check_choice as check-choice-lts
+use Rattle.check_processes.proofs.process.+check_branches+check_choice+check_ending+check_process+check_receive+check_spawn+check_term+check_try+check_turn.Proof.Measures.{check-branches-below, check-choice-at}
+
+pub check-choice-met : {M : Type 1} (t : ℕ) → check-choice-lts.Closed (labels-offered-reads.Asked, labels-offered-reads.Learnt, check-branches-below t, check-branches.Post) (check-choice-at t) check-choice.Post M
+check-choice-met t =
+    check-choice-lts.spec (labels-offered-reads.Asked, labels-offered-reads.Learnt, check-branches-below t, check-branches.Post) (check-choice-at t) check-choice.Post
+    -- labels-offered-requires
+    (λ c κs.
+    let entry = c .before .before in
+    let e = entry .args in
+    (entry .pre .1 .0, entry .pre .1 .1, choose-at (e .text .now) (e .scratch .now) (e .p) (e .n) (entry .pre .1 .2) (entry .pre .1 .3) .1))
+    -- enum-known-o
+    (λ c. search needs)
+    -- returns
+    (λ c.
+    let entry = c .before .before .before .before .before .before in
+    let e = entry .args in
+    let text = e .text .now in
+    let scratch = e .scratch .now in
+    let context = contextIn text scratch (e .h) in
+    let n = e .n in
+    sym (choose-at (e .text .now) (e .scratch .now) (e .p) (e .n) (entry .pre .1 .2) (entry .pre .1 .3) .2 (e .link) context ∙
+    ap (λ o. choosing-with (n .at) o (λ r. checkBranches (programIn text scratch) context (e .link) (n .at) (nameAt text (n .first)) r (branchesIn text scratch (n .second) (n .third)))) (sym (c .before .before .before .labels-offered .ensures .is) ∙ ap (offerOf text scratch) (c .before .o .given .1))))
+    -- enum-known-o-2
+    (λ c. search needs)
+    -- check-branches-requires
+    (λ c κs.
+    let entry = c .before .before .before .before .before .before in
+    let e = entry .args in
+    let chooses = choose-at (e .text .now) (e .scratch .now) (e .p) (e .n) (entry .pre .1 .2) (entry .pre .1 .3) in
+    (omega (arith, entry .pre .0, chooses .0), (entry .pre .1 .0, entry .pre .1 .1, subst (listed (e .text .now) (e .scratch .now)) (c .before .o2 .given .1) (c .before .before .before .labels-offered .ensures .labels), chooses .1)))
+    -- returns-2
+    (λ c.
+    let entry = c .before .before .before .before .before .before .before in
+    let e = entry .args in
+    let text = e .text .now in
+    let scratch = e .scratch .now in
+    let context = contextIn text scratch (e .h) in
+    let n = e .n in
+    c .check-branches .ensures ∙ sym (choose-at (e .text .now) (e .scratch .now) (e .p) (e .n) (entry .pre .1 .2) (entry .pre .1 .3) .2 (e .link) context ∙
+    ap (λ o. choosing-with (n .at) o (λ r. checkBranches (programIn text scratch) context (e .link) (n .at) (nameAt text (n .first)) r (branchesIn text scratch (n .second) (n .third)))) (sym (c .before .before .before .before .labels-offered .ensures .is) ∙ ap (offerOf text scratch) (c .before .before .o2 .given .1))))
