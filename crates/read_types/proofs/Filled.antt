@@ -1,16 +1,18 @@
 -- How answers and words follow the definition's own combinators.
 use mathlib.Core.Path.{_≡_, refl, ap, sym, subst, _∙_}
 use mathlib.Core.List.{List, [], _∷_}
-use Prim.Native.Nat.{ℕ, zero, suc, _<_, _≤_}
+use Prim.Native.Nat.{ℕ, zero, suc, _+_, _<_, _≤_}
 use native.Mathlib.Nat.{le-of-suc-le-suc, not-suc-le-zero}
 use native.Mathlib.Omega.{arith}
 use lib.ListN.{drop, set, length-set}
-use Rattle.notation.specs.Reader.{Result, got, refused}
+use Rattle.notation.specs.Limits.{typeTermLimit}
+use Rattle.notation.specs.Reader.{Result, got, refused, lastly}
 use Rattle.notation.specs.declared.reading.Cursor.{Cursor}
 use Rattle.notation.specs.declared.reading.Tally.{Tally}
+use Rattle.notation.specs.declared.reading.TypeNode.{TypeNode}
 use Rattle.notation.specs.declared.reading.Taken.{Taken}
 use Rattle.notation.specs.declared.reading.Taken.the-variants.{Refused}
-use Rattle.notation.specs.Tables.{tableWords}
+use Rattle.notation.specs.Tables.{nodesAt, putNode, tableWords, typeWord}
 use Rattle.read_types.specs.declared.steps.Out.{Out}
 use Rattle.read_types.specs.declared.steps.Out.the-variants.{Got, Not}
 use Rattle.read_types.specs.Filling.{Kept, WordPut, Put, pastArea, Stepped, asOut, Form, Made, Meets}
@@ -63,6 +65,11 @@ infixl 30 _put-more_
 pub _put-more_ : {w x v u : List ℕ} {i n : ℕ} {k r : Tally} → Put w x k r v → WordPut v i n u → Put w (set x i n) k r u
 _put-more_ q p = record { is = q .is; words = q .words set-more p; kept = p .kept upon q .kept }
 
+-- a type node is put
+pub node-kept : {w v : List ℕ} (i : ℕ) (n : TypeNode) → v ≡ putNode w i n → i < typeTermLimit → Kept w v
+unfolding putNode
+node-kept {w} i n e l = subst (Kept w) (sym e) (kept-set w (nodesAt + i) (typeWord n) (omega arith))
+
 -- ── what an answer says of the definition's answer
 module _ {A : Type 0} {F : Form A} {w v : List ℕ} {k : Tally} {r : Out} where
   pub made-no : {n i : ℕ} {x : Result A} → x ≡ refused n i → r ≡ Not n i → Made F w k x r v
@@ -83,6 +90,19 @@ module _ {A : Type 0} {F : Form A} {w v : List ℕ} {k : Tally} {r : Out} where
   pub stopped : {n i : ℕ} (x : Result A) → Made F w k x r v → r ≡ Not n i → x ≡ refused n i
   stopped {n} {i} (got a c) h q = never-got (sym q ∙ h .said .0)
   stopped {n} {i} (refused m j) h q = let two : Not m j ≡ Not n i = sym (h .said) ∙ q in cc
+
+-- the same answer for what a last part becomes, which is written as the part is
+pub made-lastly : {A B : Type 0} (F : Form A) (G : Form B) {w u v : List ℕ} {k l : Tally} {r : Out} (g : A → B) (x : Result A)
+    → ((a : A) → F .Fine a → (F .after a l ≡ G .after (g a) k) × (F .write a l u ≡ G .write (g a) k w) × G .Fine (g a))
+    → Made F u l x r v → Made G w k (lastly g x) r v
+made-lastly F G g (got a d) h m = let z = h a (m .said .2) in record { said = (m .said .0 ∙ ap (Got d) (z .0), m .said .1 ∙ z .1, z .2) }
+made-lastly F G g (refused n i) h m = record { said = m .said }
+
+-- the same answer, which is written otherwise
+pub made-same : {A : Type 0} (F G : Form A) {w u v : List ℕ} {k l : Tally} {r : Out} (x : Result A)
+    → ((a : A) → F .Fine a → (F .after a l ≡ G .after a k) × (F .write a l u ≡ G .write a k w) × G .Fine a) → Made F u l x r v → Made G w k x r v
+made-same F G (got a d) h m = let z = h a (m .said .2) in record { said = (m .said .0 ∙ ap (Got d) (z .0), m .said .1 ∙ z .1, z .2) }
+made-same F G (refused n i) h m = record { said = m .said }
 
 -- ── meeting the definition at every fuel above a bound
 module _ {A : Type 0} {F : Form A} (s w : List ℕ) (c : Cursor) (k : Tally) {b : ℕ} {f : ℕ → Result A} where

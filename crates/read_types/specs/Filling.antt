@@ -6,12 +6,12 @@ use mathlib.Core.Bool.{cond}
 use lib.ListN.{length, getD, drop, set}
 use lib.Dec.{eqb}
 use Rattle.notation.specs.Fine.{SomeAlternative, FineType, FineAlternatives}
-use Rattle.notation.specs.Limits.{textLimit, typeTermLimit, processTermLimit}
+use Rattle.notation.specs.Limits.{textLimit, labelLimit, typeTermLimit, processTermLimit}
 use Rattle.notation.specs.Token.{tokenAt, width, kColon, kRoundClose, kBraceOpen, kStar, kAt, kOne, kName, kPlus}
 use Rattle.notation.specs.Tree.{Located, Ty, unit, named, tensor, par, lolli, plus, with, Alternatives, alternative}
 use Rattle.notation.specs.Reader.{Result, got, refused, take, fault, expect, opening, typeTerm, closed, thenToken, nameIn}
-use Rattle.notation.specs.Types.{readType, readAtom, readAlternatives, labelTerm, rightBy, roundBy, choiceBy, moreBy}
-use Rattle.notation.specs.Tables.{afterType, afterAlternatives, writeType, writeAlternatives, moreNodes, putInfix, Area, offsetRadix, pointerRadix, tableWords}
+use Rattle.notation.specs.Types.{readType, readAtom, readAlternatives, isInfix, labelTerm, rightBy, roundBy, choiceBy}
+use Rattle.notation.specs.Tables.{afterType, afterAlternatives, writeType, writeAlternatives, moreNodes, Area, offsetRadix, pointerRadix, tableWords}
 use Rattle.notation.specs.declared.reading.Tally.{Tally}
 use Rattle.notation.specs.declared.reading.TypeNode.{TypeNode}
 use Rattle.notation.specs.declared.reading.TermNode.{TermNode}
@@ -179,13 +179,12 @@ typeForm = record {
   Ahead = λ s c k d l. AheadType 0 s c k d l × (l .last < l .nodes);
 }
 
--- a list of which n labels came before
-abbrev pub alternativesForm : ℕ → Form (Alternatives Located)
-alternativesForm n = record {
+abbrev pub alternativesForm : Form (Alternatives Located)
+alternativesForm = record {
   after = afterAlternatives;
   write = writeAlternatives;
   Fine = λ r. FineAlternatives r × SomeAlternative r;
-  Ahead = λ s c k d l. AheadType 1 s c k d l × (l .last + n ≤ 16);
+  Ahead = λ s c k d l. AheadType 1 s c k d l × (l .last ≤ labelLimit);
 }
 
 abbrev pub unread : List ℕ → Cursor → ℕ
@@ -197,8 +196,8 @@ TypeRead s w c k = Meets typeForm s w c k (3 * unread s c + 2) (λ m. readType m
 abbrev pub AtomRead : List ℕ → List ℕ → Cursor → Tally → Out → List ℕ → Type 0
 AtomRead s w c k = Meets typeForm s w c k (3 * unread s c + 1) (λ m. readAtom m s c)
 
-abbrev pub AlternativesRead : ℕ → List ℕ → List ℕ → Cursor → Tally → Out → List ℕ → Type 0
-AlternativesRead n s w c k = Meets (alternativesForm n) s w c k (3 * unread s c + 1) (λ m. readAlternatives m s n c)
+abbrev pub AlternativesRead : List ℕ → List ℕ → Cursor → Tally → Out → List ℕ → Type 0
+AlternativesRead s w c k = Meets alternativesForm s w c k (3 * unread s c + 1) (λ m. readAlternatives m s 0 c)
 
 -- ── the parts of these
 abbrev pub OneRead : List ℕ → List ℕ → Cursor → Tally → Out → List ℕ → Type 0
@@ -218,39 +217,26 @@ abbrev pub ChoiceRead : ℕ → List ℕ → List ℕ → Cursor → Tally → O
 ChoiceRead kind s w c k =
     Meets typeForm s w c k (3 * unread s c) (λ m. choiceBy (λ d. readAlternatives m s 0 d) s kind (choiceOf kind) c)
 
--- what follows an alternative, none or more, of which n came before
-abbrev pub moreForm : ℕ → Form (Alternatives Located)
-moreForm n = record {
-  after = afterAlternatives;
-  write = writeAlternatives;
-  Fine = FineAlternatives;
-  Ahead = λ s c k d l.
-      (c .at ≤ d .at)
-      × (d .at ≤ length s)
-      × (c .types ≤ d .types)
-      × (d .types ≤ typeTermLimit)
-      × (l .nodes + c .types ≤ d .types + k .nodes)
-      × (l .alternatives + c .types ≤ d .types + k .alternatives)
-      × (k .nodes ≤ l .nodes)
-      × OthersSame c k d l
-      × (l .last + n ≤ 16);
-}
-
-abbrev pub MoreRead : ℕ → List ℕ → List ℕ → Cursor → Tally → Out → List ℕ → Type 0
-MoreRead n s w c k = Meets (moreForm n) s w c k (3 * unread s c + 2) (λ m. moreBy (λ d. readAlternatives m s n d) s c)
+-- the tables with a list of n alternatives more
+abbrev pub listed : ℕ → Tally → Tally
+listed n k = record { types = k .types; processes = k .processes; execs = k .execs; entries = k .entries; nodes = k .nodes; alternatives = k .alternatives + n; terms = k .terms; branches = k .branches; last = n }
 
 -- the node kind of an infix mark
 unfoldable pub infixKind : ℕ → ℕ
 infixKind k = cond (eqb k kStar) 2 (cond (eqb k kAt) 3 4)
 
--- the right part of an infix: its own words, and the node over it and the type whose node was read last
-abbrev pub rightForm : ℕ → Form (Ty Located)
-rightForm kind = record {
-  after = λ B k. moreNodes (afterType B k);
-  write = λ B k w. putInfix (infixKind kind) k (afterType B k) (writeType B k w);
+-- the root of a type whose first atom fills the tables up to l, where a token of this kind follows: an infix mark's node, or the atom's own root
+unfoldable pub rootBefore : ℕ → Tally → ℕ
+rootBefore kind l = cond (isInfix kind) (l .nodes) (l .last)
+
+-- an atom to the right of an infix mark, whose node is counted and not yet written
+abbrev pub operandForm : Form (Ty Located)
+operandForm = record {
+  after = λ A k. afterType A (moreNodes k);
+  write = λ A k w. writeType A (moreNodes k) w;
   Fine = FineType;
   Ahead = typeForm .Ahead;
 }
 
-abbrev pub RightRead : ℕ → List ℕ → List ℕ → Cursor → Tally → Out → List ℕ → Type 0
-RightRead kind s w c k = Meets (rightForm kind) s w c k (3 * unread s c) (λ m. rightBy (λ d. readType m s d) s kind c)
+abbrev pub OperandRead : ℕ → List ℕ → List ℕ → Cursor → Tally → Out → List ℕ → Type 0
+OperandRead kind s w c k = Meets operandForm s w c k (3 * unread s c) (λ m. rightBy (λ d. readAtom m s d) s kind c)

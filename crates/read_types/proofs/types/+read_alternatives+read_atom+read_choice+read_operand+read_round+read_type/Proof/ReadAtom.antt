@@ -9,11 +9,11 @@ use Rattle.read_types.proofs.steps.misfit.Reads as misfit-reads
 use Rattle.read_types.proofs.types.name_type.Reads as name-type-reads
 use Rattle.read_types.proofs.types.one_type.Reads as one-type-reads
 use Rattle.read_types.proofs.types.read_atom.Reads as read-atom
-use Rattle.read_types.proofs.types.+more_alternatives+read_alternatives+read_atom+read_choice+read_right+read_round+read_type.Lts-read_atom as read-atom-lts
+use Rattle.read_types.proofs.types.+read_alternatives+read_atom+read_choice+read_operand+read_round+read_type.Lts-read_atom as read-atom-lts
 use Rattle.read_types.proofs.types.read_choice.Reads as read-choice
 use Rattle.read_types.proofs.types.read_round.Reads as read-round
 use Rattle.read_types.proofs.steps.type_head.Reads as type-head-reads
-use Rattle.read_types.proofs.types.+more_alternatives+read_alternatives+read_atom+read_choice+read_right+read_round+read_type.Proof.Measures.{read-atom-at, read-choice-below, read-round-below}
+use Rattle.read_types.proofs.types.+read_alternatives+read_atom+read_choice+read_operand+read_round+read_type.Proof.Measures.{read-atom-at, read-choice-below, read-round-below}
 
 pub read-atom-met : {M : Type 1} (t : ℕ) → read-atom-lts.Closed (
   kind-at-reads.Asked,
