@@ -90,7 +90,7 @@ infix-fine kind A B f g = go (eqb kind kStar) (eqb kind kAt)
     go false false = (f, g)
 
 -- ── what follows an atom: nothing, or an infix mark and a type
--- a type in whose place the whole has this root
+-- an infix mark of this kind and the type to its right, within a type that has this root
 abbrev rightForm : ℕ → ℕ → Form (Ty Located)
 rightForm root kind = record {
   after = λ B k. lasting root (afterType B (moreNodes k));
@@ -120,7 +120,8 @@ type-rest : (m : ℕ) (s : List ℕ) (c : Cursor) → readType (suc m) s c ≡ p
 unfolding readType typeBy
 type-rest m s c = refl
 
-right-rest : (m : ℕ) (s : List ℕ) (kind : ℕ) (c : Cursor) → rightBy (λ d. readType (suc m) s d) s kind c ≡ part (rightBy (λ d. readAtom m s d) s kind c) (restBy m s)
+right-rest : (m : ℕ) (s : List ℕ) (kind : ℕ) (c : Cursor)
+    → rightBy (λ d. readType (suc m) s d) s kind c ≡ part (rightBy (λ d. readAtom m s d) s kind c) (restBy m s)
 right-rest m s kind c = go (typeTerm s kind c)
   where
     go : (x : Taken) → take x (λ _ d. readType (suc m) s d) ≡ part (take x (λ _ d. readAtom m s d)) (restBy m s)
@@ -133,8 +134,10 @@ formOf after write Ahead = record { after = after; write = write; Fine = FineTyp
 
 -- an atom f that was read, and then its rest, which began with the words v₂, are the type g
 module _ (s w v v₂ : List ℕ) (c d : Cursor) (k l : Tally) (root kind : ℕ) {b bound : ℕ} (f g : ℕ → Result (Ty Located)) {q : Out}
-    (after after₂ : Ty Located → Tally → Tally) (write write₂ : Ty Located → Tally → List ℕ → List ℕ) (Ahead Ahead₂ : List ℕ → Cursor → Tally → Cursor → Tally → Type 0)
-    (a : Meets (formOf after write Ahead) s w c k b f q v) (e : q ≡ Got d l) (next : kind ≡ kindAt s (d .at)) (is : (m : ℕ) → g (suc m) ≡ part (f m) (restBy m s))
+    (after after₂ : Ty Located → Tally → Tally) (write write₂ : Ty Located → Tally → List ℕ → List ℕ)
+    (Ahead Ahead₂ : List ℕ → Cursor → Tally → Cursor → Tally → Type 0)
+    (a : Meets (formOf after write Ahead) s w c k b f q v) (e : q ≡ Got d l)
+    (next : kind ≡ kindAt s (d .at)) (is : (m : ℕ) → g (suc m) ≡ part (f m) (restBy m s))
     (more : b < bound) (less : 3 * unread s d + 1 < bound) (stays : Kept w v₂)
     (goes : (x : Cursor) (j : Tally) → rightForm root kind .Ahead s d l x j → Ahead₂ s c k x j) (ends : isInfix kind ≡ false → Ahead₂ s c k d (lasting root l))
     (one : isInfix kind ≡ false → (A : Ty Located) → l ≡ after A k → v ≡ write A k w → (lasting root l ≡ after₂ A k) × (v₂ ≡ write₂ A k w))
@@ -189,7 +192,8 @@ module _ {s w v : List ℕ} {c : Cursor} {k : Tally} (room : Room s w c k) {q : 
       ))
 
 -- ── an infix mark and the atom to its right
-module _ (s w : List ℕ) (c : Cursor) (k : Tally) (room : Room s w c k) (kind : ℕ) {q : Taken} (u : Stepped s c (width kind) 1 0 (typeTerm s kind c) q) (wide : 1 ≤ width kind) where
+module _ (s w : List ℕ) (c : Cursor) (k : Tally) (room : Room s w c k)
+    (kind : ℕ) {q : Taken} (u : Stepped s c (width kind) 1 0 (typeTerm s kind c) q) (wide : 1 ≤ width kind) where
   pub operand-no : {r : Out} {n i : ℕ} → q ≡ Refused n i → r ≡ asOut q → OperandRead kind s w c k r w
   operand-no g h = meets-no s w c k (refused-out g h) same (λ m _. rw (took u g))
 
@@ -203,7 +207,8 @@ module _ (s w : List ℕ) (c : Cursor) (k : Tally) (room : Room s w c k) (kind :
       }
 
 -- ── a turn: an infix mark and the atom to its right, whose node is written late
-module _ {s w v : List ℕ} {c : Cursor} {k : Tally} (room : Room s w c k) (root kind : ℕ) (mark : isInfix kind ≡ true) {q : Out} (a : OperandRead kind s w c k q v) where
+module _ {s w v : List ℕ} {c : Cursor} {k : Tally} (room : Room s w c k)
+    (root kind : ℕ) (mark : isInfix kind ≡ true) {q : Out} (a : OperandRead kind s w c k q v) where
   turn-no : {n i : ℕ} → q ≡ Not n i → RestRead root kind s w c k q v
   turn-no g = record {
     none = λ n. never-both mark n;
@@ -235,7 +240,8 @@ module _ {s w v : List ℕ} {c : Cursor} {k : Tally} (room : Room s w c k) (root
           record {
             none = λ n. never-both mark n;
             right = λ _. rest-whole s w v v₂ c d k l root next (λ m. rightBy (λ d. readAtom m s d) s kind c) (λ m. rightBy (λ d. readType m s d) s kind c)
-                (operandForm .after) (rightForm root kind .after) (operandForm .write) (rightForm root kind .write) (operandForm .Ahead) (rightForm root kind .Ahead) a e follows
+                (operandForm .after) (rightForm root kind .after) (operandForm .write) (rightForm root kind .write)
+                (operandForm .Ahead) (rightForm root kind .Ahead) a e follows
                 (λ m. right-rest m s kind c) (omega arith) (omega arith) stays (λ x j y. omega arith) (λ n. omega arith)
                 (λ n A al av. (ap (lasting root) al, late A av ∙ ap (behind A) (before-other next l n ∙ ap (λ (x : Tally). x .last) al)))
                 (λ n A B al av.
@@ -258,8 +264,8 @@ pub record Chain (root : ℕ) (s w₀ : List ℕ) (c₀ : Cursor) (k₀ : Tally)
   pub kept : Kept w₀ w
   pub whole : (r : Out) (u : List ℕ) → RestRead root kind s w c k r u → RestRead root kind₀ s w₀ c₀ k₀ r u
 
-pub chain-start : {root kind : ℕ} {s w v : List ℕ} {c d : Cursor} {k l : Tally} {q : Out} → Room s w c k → AtomRead s w c k q v → q ≡ Got d l → kind ≡ kindAt s (d .at)
-    → Chain root s v d l kind v d l kind
+pub chain-start : {root kind : ℕ} {s w v : List ℕ} {c d : Cursor} {k l : Tally} {q : Out} → Room s w c k → AtomRead s w c k q v → q ≡ Got d l
+    → kind ≡ kindAt s (d .at) → Chain root s v d l kind v d l kind
 chain-start {d = d} {l = l} room a e n =
     let o = a .on d l e in
     record { room = omega (arith, a .kept .long); rooted = omega arith; next = n; later = omega arith; kept = same; whole = λ r u h. h }

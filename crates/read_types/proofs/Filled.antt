@@ -129,10 +129,11 @@ module _ {A : Type 0} (F : Form A) (s w : List ℕ) (c : Cursor) (k : Tally) {b 
   pub more-no : {r : Out} {v : List ℕ} {n i : ℕ} → r ≡ Not n i → Kept w v → ((m : ℕ) → b ≤ m → f (suc m) ≡ refused n i) → Meets F s w c k b f r v
   more-no {n = n} {i} q g h = meets-no s w c k q g (at-more (λ m. f m ≡ refused n i) h)
 
-  pub more-got : {d : Cursor} {l : Tally} {v : List ℕ} → F .Ahead s c k d l → Kept w v → ((m : ℕ) → b ≤ m → Made F w k (f (suc m)) (Got d l) v) → Meets F s w c k b f (Got d l) v
+  pub more-got : {d : Cursor} {l : Tally} {v : List ℕ} → F .Ahead s c k d l → Kept w v → ((m : ℕ) → b ≤ m → Made F w k (f (suc m)) (Got d l) v)
+      → Meets F s w c k b f (Got d l) v
   more-got {d} {l} {v} o g h = meets-got s w c k o g (at-more (λ m. Made F w k (f m) (Got d l) v) h)
 
 -- the words of an answer at every fuel above the bound
-pub more-made : {A : Type 0} (F : Form A) (w : List ℕ) (k : Tally) (f : ℕ → Result A) {b : ℕ} {r : Out} {v : List ℕ} → ((m : ℕ) → b ≤ m → Made F w k (f (suc m)) r v) → (m : ℕ) → b < m → Made F w k
-    (f m) r v
+pub more-made : {A : Type 0} (F : Form A) (w : List ℕ) (k : Tally) (f : ℕ → Result A) {b : ℕ} {r : Out} {v : List ℕ}
+    → ((m : ℕ) → b ≤ m → Made F w k (f (suc m)) r v) → (m : ℕ) → b < m → Made F w k (f m) r v
 more-made F w k f {r = r} {v} = at-more (λ m. Made F w k (f m) r v)

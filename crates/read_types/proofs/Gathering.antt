@@ -8,19 +8,19 @@ use lib.Dec.{eqb, ltb}
 use lib.ListN.{length, set, length-set}
 use borrow.Author.Tests.{ltb-true}
 use Rattle.notation.specs.Fine.{FineType, FineAlternatives, SomeAlternative}
-use Rattle.notation.specs.Limits.{labelLimit, typeTermLimit}
+use Rattle.notation.specs.Limits.{labelLimit, textLimit}
 use Rattle.notation.specs.Token.{kindAt, kColon, kComma, kLabel}
 use Rattle.notation.specs.Tree.{Located, Ty, Alternatives, alternative}
 use Rattle.notation.specs.Reader.{Result, got, take, part, lastly, expect, limited, thenToken, labelIn}
 use Rattle.notation.specs.Types.{moreBy, alternativesBy, labelTerm, readType, readAlternatives}
-use Rattle.notation.specs.Tables.{alternativesAt, pairWord, lasting, moreAlternatives, putAlternative, afterType, afterAlternatives, writeType, writeAlternatives}
+use Rattle.notation.specs.Tables.{alternativesAt, pairWord, putAlternative, afterType, afterAlternatives, writeType, writeAlternatives}
 use Rattle.notation.specs.declared.reading.Cursor.{Cursor}
 use Rattle.notation.specs.declared.reading.Tally.{Tally}
 use Rattle.notation.specs.declared.reading.Taken.{Taken}
 use Rattle.notation.specs.declared.reading.Taken.the-variants.{At, Refused}
 use Rattle.read_types.specs.declared.steps.Out.{Out}
 use Rattle.read_types.specs.declared.steps.Out.the-variants.{Got, Not}
-use Rattle.read_types.specs.Filling.{Kept, Stepped, asOut, labelColon, listed, listPut, ListPut, Room, Form, Made, Meets, AheadType, alternativesForm, unread, TypeRead, AlternativesRead}
+use Rattle.read_types.specs.Filling.{Kept, Stepped, asOut, labelColon, listing, listed, listPut, ListPut, Room, Form, Made, Meets, AheadType, alternativesForm, unread, TypeRead, AlternativesRead}
 use Rattle.read_types.proofs.Taking.{never}
 use Rattle.read_types.proofs.Filled.{same, _upon_, took, refused-out, made-got, made-same, made-lastly, gone-on, stopped, at-more, more-no, more-got}
 use Rattle.read_types.proofs.Listing.{list-none, list-more}
@@ -32,7 +32,7 @@ within-limit true x g i d z = refl
 within-limit false (At j c) g i d z = never z
 within-limit false (Refused m j) g i d z = never z
 
-pub label-few : (s : List ℕ) (n : ℕ) (c : Cursor) {q : Taken} {i : ℕ} {d : Cursor} → Stepped s c 3 0 0 (labelColon s n c) q → q ≡ At i d → n < labelLimit
+label-few : (s : List ℕ) (n : ℕ) (c : Cursor) {q : Taken} {i : ℕ} {d : Cursor} → Stepped s c 3 0 0 (labelColon s n c) q → q ≡ At i d → n < labelLimit
 unfolding labelColon labelTerm
 label-few s n c {i = i} {d} u e = ltb-true n labelLimit (within-limit (ltb n labelLimit) (expect s kLabel c) (expect s kColon) i d (took u e))
 
@@ -43,10 +43,11 @@ unfolding readType labelColon alternativesBy
 alternatives-is m s n c = sym (then-take (labelTerm s n c) (expect s kColon) _)
 
 -- ── the rest of a list, after n that were kept
--- the tables with n alternatives more in the list that was read last
+-- the list that was read last has n alternatives more
 abbrev longer : ℕ → Tally → Tally
-longer n k = lasting (k .last + n) (listed n k)
+longer n k = listing (k .alternatives + n) (k .last + n) k
 
+-- alternatives, and then the n that were kept before them
 abbrev keptForm : List ℕ → ℕ → Form (Alternatives Located)
 keptForm entries n = record {
   after = λ r k. longer n (afterAlternatives r k);
@@ -58,35 +59,26 @@ keptForm entries n = record {
 abbrev RestListed : List ℕ → ℕ → List ℕ → List ℕ → Cursor → Tally → Out → List ℕ → Type 0
 RestListed entries n s w c k = Meets (keptForm entries n) s w c k (3 * unread s c + 1) (λ m. readAlternatives m s n c)
 
--- the tables by the two numbers that a list changes
-tally-path : (k : Tally) {a b x y : ℕ} → a ≡ b → x ≡ y → _≡_ {A = Tally}
-    (record { types = k .types; processes = k .processes; execs = k .execs; entries = k .entries; nodes = k .nodes; alternatives = a; terms = k .terms; branches = k .branches; last = x })
-    (record { types = k .types; processes = k .processes; execs = k .execs; entries = k .entries; nodes = k .nodes; alternatives = b; terms = k .terms; branches = k .branches; last = y })
-tally-path k p q i =
-    record { types = k .types; processes = k .processes; execs = k .execs; entries = k .entries; nodes = k .nodes; alternatives = p i; terms = k .terms; branches = k .branches; last = q i }
+listing-path : (k : Tally) {a b x y : ℕ} → a ≡ b → x ≡ y → listing a x k ≡ listing b y k
+listing-path k p q i = listing (p i) (q i) k
 
--- one more that is kept is one more that is written: the tables and the words
-longer-more : (n : ℕ) (d : Tally) → longer (n + 1) d ≡ longer n (moreAlternatives d)
-longer-more n d = tally-path d (omega arith) (omega arith)
-
-put-more : (entries : List ℕ) (n i x : ℕ) (d : Tally) (w : List ℕ) → n < length entries
-    → listPut (set entries n (pairWord i x)) (n + 1) (alternativesAt + d .alternatives) w ≡ listPut entries n (alternativesAt + moreAlternatives d .alternatives) (putAlternative w (d .alternatives) i x)
-unfolding putAlternative
-put-more entries n i x d w l =
-    let at = alternativesAt + d .alternatives in
-    let next : at + 1 ≡ alternativesAt + (d .alternatives + 1) = omega arith in
-    list-more entries n (pairWord i x) at w l ∙ ap (λ y. listPut entries n y (set w at (pairWord i x))) next
-
+-- one more that is kept is one more that is written: the tables, and the words
 after-more : (n : ℕ) (x : Located) (A : Ty Located) (r : Alternatives Located) (k : Tally)
     → longer (n + 1) (afterAlternatives r (afterType A k)) ≡ longer n (afterAlternatives (alternative x A r) k)
 unfolding afterType
-after-more n x A r k = longer-more n (afterAlternatives r (afterType A k))
+after-more n x A r k = listing-path (afterAlternatives r (afterType A k)) (omega arith) (omega arith)
 
 write-more : (entries : List ℕ) (n : ℕ) (x : Located) (A : Ty Located) (r : Alternatives Located) (k : Tally) (w : List ℕ) → n < length entries
-    → keptForm (set entries n (pairWord (x .at) (afterType A k .last))) (n + 1) .write r (afterType A k) (writeType A k w) ≡ keptForm entries n .write (alternative x A r) k w
-unfolding afterType writeType
+    → keptForm (set entries n (pairWord (x .at) (afterType A k .last))) (n + 1) .write r (afterType A k) (writeType A k w)
+    ≡ keptForm entries n .write (alternative x A r) k w
+unfolding afterType writeType putAlternative
 write-more entries n x A r k w l =
-    put-more entries n (x .at) (afterType A k .last) (afterAlternatives r (afterType A k)) (writeAlternatives r (afterType A k) (writeType A k w)) l
+    let d = afterAlternatives r (afterType A k) in
+    let v = writeAlternatives r (afterType A k) (writeType A k w) in
+    let at = alternativesAt + d .alternatives in
+    let word = pairWord (x .at) (afterType A k .last) in
+    let next : at + 1 ≡ alternativesAt + (d .alternatives + 1) = omega arith in
+    list-more entries n word at v l ∙ ap (λ y. listPut entries n y (set v at word)) next
 
 -- ── the loop: the answer from here, with those that were kept, is the answer of the whole
 pub record Gathered (s w₀ : List ℕ) (c₀ : Cursor) (k₀ : Tally) (entries w : List ℕ) (c : Cursor) (k : Tally) (n : ℕ) : Type 0 where
@@ -106,13 +98,14 @@ gathered-start {s} {w} {c} {k} entries e room = record {
   kept = same;
   whole = λ r u a. record {
     is = λ m lo. made-same (keptForm entries 0) alternativesForm (readAlternatives m s 0 c)
-        (λ B fi. (tally-path (afterAlternatives B k) (omega arith) (omega arith), list-none entries 0 _ _ refl, fi)) (a .is m lo);
+        (λ B fi. (listing-path (afterAlternatives B k) (omega arith) (omega arith), list-none entries 0 _ _ refl, fi)) (a .is m lo);
     kept = a .kept;
     on = λ d l q. let o = a .on d l q in omega arith;
   };
 }
 
-module _ {s w₀ entries w : List ℕ} {c₀ c : Cursor} {k₀ k : Tally} {n : ℕ} (h : Gathered s w₀ c₀ k₀ entries w c k n) {q : Taken} (u : Stepped s c 3 0 0 (labelColon s n c) q) where
+module _ {s w₀ entries w : List ℕ} {c₀ c : Cursor} {k₀ k : Tally} {n : ℕ} (h : Gathered s w₀ c₀ k₀ entries w c k n)
+    {q : Taken} (u : Stepped s c 3 0 0 (labelColon s n c) q) where
   abbrev read : ℕ → Result (Alternatives Located)
   read m = readAlternatives m s n c
 
@@ -127,83 +120,87 @@ module _ {s w₀ entries w : List ℕ} {c₀ c : Cursor} {k₀ k : Tally} {n : �
         (more-no (keptForm entries n) s w c k read g (t .kept)
         (λ m lo. alternatives-is m s n c ∙ rw (took u e, stopped (readType m s d) (t .is m (omega arith)) g)))
 
-    module _ {f : Cursor} {l : Tally} (g : p ≡ Got f l) {x : ℕ} (word : x ≡ pairWord i (l .last)) where
-      -- the definition from the list's next token on
-      next-is : (m : ℕ) (A : Ty Located) → readType m s d ≡ got A f
-          → read (suc m) ≡ lastly (alternative (labelIn s i) A) (moreBy (λ d. readAlternatives m s (n + 1) d) s f)
-      next-is m A y = alternatives-is m s n c ∙ rw (took u e, y)
-
-      inside : n < length entries
-      inside = omega (arith, h .places, label-few s n c u e)
-
-      -- this alternative and those after it, as n are kept and as one more is
-      more-listed : (A : Ty Located) → l ≡ afterType A k → v ≡ writeType A k w → FineType A → (r : Alternatives Located) → FineAlternatives r
-          → (keptForm (set entries n x) (n + 1) .after r l ≡ keptForm entries n .after (alternative (labelIn s i) A r) k)
-          × (keptForm (set entries n x) (n + 1) .write r l v ≡ keptForm entries n .write (alternative (labelIn s i) A r) k w)
-          × keptForm entries n .Fine (alternative (labelIn s i) A r)
-      unfolding FineAlternatives
-      more-listed A al av fi r fi₂ =
-          let o = u .on i d e in
-          let room = h .room in (
-            ap (λ y. longer (n + 1) (afterAlternatives r y)) al ∙ after-more n (labelIn s i) A r k,
-            ap (λ y. keptForm (set entries n y) (n + 1) .write r l v) word
-                ∙ (λ j. keptForm (set entries n (pairWord i (al j .last))) (n + 1) .write r (al j) (av j))
-                ∙ write-more entries n (labelIn s i) A r k w inside,
-            ((omega arith, fi, fi₂), omega arith),
-          )
-
-      module _ (comma : eqb (kindAt s (f .at)) kComma ≡ true) {y : Taken} (z : Stepped s f 1 0 0 (expect s kComma f) y) where
-        pub comma-no : {r : Out} {j b : ℕ} → y ≡ Refused j b → r ≡ asOut y → AlternativesRead s w₀ c₀ k₀ r v
-        comma-no {r} g₂ r-is =
-            let o = u .on i d e in
-            h .whole r v
-            (more-no (keptForm entries n) s w c k read (refused-out g₂ r-is) (t .kept)
-            (λ m lo. gone-on (readType m s d) (t .is m (omega arith)) g λ A a _ _ _. next-is m A a ∙ rw (comma, took z g₂)))
-
-        module _ {j : ℕ} {b : Cursor} (g₂ : y ≡ At j b) where
-          comma-whole : (r : Out) (v₂ : List ℕ) → RestListed (set entries n x) (n + 1) s v b l r v₂ → RestListed entries n s w c k r v₂
-          comma-whole r v₂ a =
-              let o = u .on i d e in
-              let o₂ = t .on f l g in
-              let o₃ = z .on j b g₂ in
-              record {
-                is = at-more (λ m. Made (keptForm entries n) w k (read m) r v₂)
-                    (λ m lo. gone-on (readType m s d) (t .is m (omega arith)) g λ A y₂ al av fi.
-                    rw (next-is m A y₂, comma, took z g₂)
-                    (made-lastly (keptForm (set entries n x) (n + 1)) (keptForm entries n) (alternative (labelIn s i) A) (readAlternatives m s (n + 1) b)
-                    (λ r₂ fi₂. more-listed A al av fi r₂ (fi₂ .0)) (a .is m (omega arith))));
-                kept = a .kept upon t .kept;
-                on = λ d₂ l₂ q₂. let o₄ = a .on d₂ l₂ q₂ in omega arith;
-              }
-
-          pub gathered-on : Gathered s w₀ c₀ k₀ (set entries n x) v b l (n + 1)
-          gathered-on =
-              let o = u .on i d e in
-              let o₂ = t .on f l g in
-              let o₃ = z .on j b g₂ in
-              let room = h .room in
-              let full = h .full in
-              let later = h .later in
-              record {
-                room = omega (arith, t .kept .long);
-                full = omega arith;
-                places = length-set entries n x ∙ h .places;
-                later = omega arith;
-                kept = t .kept upon h .kept;
-                whole = λ r v₂ a. h .whole r v₂ (comma-whole r v₂ a);
-              }
-
-      pub gathered-end : eqb (kindAt s (f .at)) kComma ≡ false → {l₂ : Tally} {v₂ : List ℕ} → ListPut v (set entries n x) (n + 1) (alternativesAt + l .alternatives) v₂
-          → l₂ ≡ listed (n + 1) l → AlternativesRead s w₀ c₀ k₀ (Got f l₂) v₂
-      unfolding afterAlternatives writeAlternatives FineAlternatives
-      gathered-end other {v₂ = v₂} p tally =
+    module _ {f : Cursor} {l : Tally} (g : p ≡ Got f l) where
+      -- the label and the type are within their limits, and leave room
+      pub read-one : Room s v f l × (n < labelLimit) × (n < length entries) × (l .alternatives + n < f .types) × (i < textLimit) × (l .last < l .nodes)
+          × (c .at < f .at)
+      read-one =
           let o = u .on i d e in
           let o₂ = t .on f l g in
-          let few = label-few s n c u e in
-          rw tally
-          (h .whole (Got f (listed (n + 1) l)) v₂
-          (more-got (keptForm entries n) s w c k read (omega arith) (p .kept upon t .kept)
-          (λ m lo. gone-on (readType m s d) (t .is m (omega arith)) g λ A a al av fi.
-          let whole = more-listed A al av fi Alternatives.none (omega arith) in
-          made-got (alternative (labelIn s i) A Alternatives.none) (next-is m A a ∙ rw other)
-          (ap (Got f) (tally-path l refl (omega arith) ∙ whole .0)) (p .words ∙ whole .1) (whole .2))))
+          let room = h .room in
+          let full = h .full in
+          omega (arith, h .places, label-few s n c u e, t .kept .long)
+
+      module _ {x : ℕ} (word : x ≡ pairWord i (l .last)) where
+        -- the definition from the list's next token on
+        next-is : (m : ℕ) (A : Ty Located) → readType m s d ≡ got A f
+            → read (suc m) ≡ lastly (alternative (labelIn s i) A) (moreBy (λ d. readAlternatives m s (n + 1) d) s f)
+        next-is m A y = alternatives-is m s n c ∙ rw (took u e, y)
+
+        -- this alternative and those after it, as n are kept and as one more is
+        more-listed : (A : Ty Located) → l ≡ afterType A k → v ≡ writeType A k w → FineType A → (r : Alternatives Located) → FineAlternatives r
+            → (keptForm (set entries n x) (n + 1) .after r l ≡ keptForm entries n .after (alternative (labelIn s i) A r) k)
+            × (keptForm (set entries n x) (n + 1) .write r l v ≡ keptForm entries n .write (alternative (labelIn s i) A r) k w)
+            × keptForm entries n .Fine (alternative (labelIn s i) A r)
+        unfolding FineAlternatives
+        more-listed A al av fi r fi₂ =
+            let one = read-one in (
+              ap (λ y. longer (n + 1) (afterAlternatives r y)) al ∙ after-more n (labelIn s i) A r k,
+              ap (λ y. keptForm (set entries n y) (n + 1) .write r l v) word
+                  ∙ (λ j. keptForm (set entries n (pairWord i (al j .last))) (n + 1) .write r (al j) (av j))
+                  ∙ write-more entries n (labelIn s i) A r k w (read-one .2),
+              ((omega arith, fi, fi₂), omega arith),
+            )
+
+        module _ (comma : eqb (kindAt s (f .at)) kComma ≡ true) {y : Taken} (z : Stepped s f 1 0 0 (expect s kComma f) y) where
+          pub comma-no : {r : Out} {j b : ℕ} → y ≡ Refused j b → r ≡ asOut y → AlternativesRead s w₀ c₀ k₀ r v
+          comma-no {r} g₂ r-is =
+              let o = u .on i d e in
+              h .whole r v
+              (more-no (keptForm entries n) s w c k read (refused-out g₂ r-is) (t .kept)
+              (λ m lo. gone-on (readType m s d) (t .is m (omega arith)) g λ A a _ _ _. next-is m A a ∙ rw (comma, took z g₂)))
+
+          module _ {j : ℕ} {b : Cursor} (g₂ : y ≡ At j b) where
+            comma-whole : (r : Out) (v₂ : List ℕ) → RestListed (set entries n x) (n + 1) s v b l r v₂ → RestListed entries n s w c k r v₂
+            comma-whole r v₂ a =
+                let o = u .on i d e in
+                let o₂ = t .on f l g in
+                let o₃ = z .on j b g₂ in
+                record {
+                  is = at-more (λ m. Made (keptForm entries n) w k (read m) r v₂)
+                      (λ m lo. gone-on (readType m s d) (t .is m (omega arith)) g λ A y₂ al av fi.
+                      rw (next-is m A y₂, comma, took z g₂)
+                      (made-lastly (keptForm (set entries n x) (n + 1)) (keptForm entries n) (alternative (labelIn s i) A) (readAlternatives m s (n + 1) b)
+                      (λ r₂ fi₂. more-listed A al av fi r₂ (fi₂ .0)) (a .is m (omega arith))));
+                  kept = a .kept upon t .kept;
+                  on = λ d₂ l₂ q₂. let o₄ = a .on d₂ l₂ q₂ in omega arith;
+                }
+
+            pub gathered-on : Gathered s w₀ c₀ k₀ (set entries n x) v b l (n + 1)
+            gathered-on =
+                let one = read-one in
+                let o = z .on j b g₂ in
+                let later = h .later in
+                record {
+                  room = omega arith;
+                  full = omega arith;
+                  places = length-set entries n x ∙ h .places;
+                  later = omega arith;
+                  kept = t .kept upon h .kept;
+                  whole = λ r v₂ a. h .whole r v₂ (comma-whole r v₂ a);
+                }
+
+        pub gathered-end : eqb (kindAt s (f .at)) kComma ≡ false → {l₂ : Tally} {v₂ : List ℕ}
+            → ListPut v (set entries n x) (n + 1) (alternativesAt + l .alternatives) v₂ → l₂ ≡ listed (n + 1) l → AlternativesRead s w₀ c₀ k₀ (Got f l₂) v₂
+        unfolding afterAlternatives writeAlternatives FineAlternatives
+        gathered-end other {v₂ = v₂} p tally =
+            let o = u .on i d e in
+            let o₂ = t .on f l g in
+            let one = read-one in
+            rw tally
+            (h .whole (Got f (listed (n + 1) l)) v₂
+            (more-got (keptForm entries n) s w c k read (omega arith) (p .kept upon t .kept)
+            (λ m lo. gone-on (readType m s d) (t .is m (omega arith)) g λ A a al av fi.
+            let whole = more-listed A al av fi Alternatives.none (omega arith) in
+            made-got (alternative (labelIn s i) A Alternatives.none) (next-is m A a ∙ rw other)
+            (ap (Got f) (listing-path l refl (omega arith) ∙ whole .0)) (p .words ∙ whole .1) (whole .2))))

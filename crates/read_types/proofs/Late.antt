@@ -69,7 +69,8 @@ module _ (i : ℕ) (n : TypeNode) (few : i < typeTermLimit) where
     type-put (plus r) k w l = past-both (writeAlternatives r (moreNodes k)) (k .nodes) _ w l refl (λ x. alternatives-put r (moreNodes k) x (omega arith))
     type-put (with r) k w l = past-both (writeAlternatives r (moreNodes k)) (k .nodes) _ w l refl (λ x. alternatives-put r (moreNodes k) x (omega arith))
 
-    pub alternatives-put : (r : Alternatives Located) (k : Tally) (w : List ℕ) → i < k .nodes → writeAlternatives r k (putNode w i n) ≡ putNode (writeAlternatives r k w) i n
+    pub alternatives-put : (r : Alternatives Located) (k : Tally) (w : List ℕ) → i < k .nodes
+        → writeAlternatives r k (putNode w i n) ≡ putNode (writeAlternatives r k w) i n
     alternatives-put Alternatives.none k w l = refl
     alternatives-put (alternative x A r) k w l =
         let a = type-nodes A k in

@@ -28,7 +28,8 @@ use Rattle.read_types.proofs.Late.{alternatives-put}
 use Rattle.read_types.proofs.Filled.{same, _upon_, node-kept, took, refused-out, made-got, gone-on, stopped, meets-no, meets-got, more-no, more-got, more-made}
 
 -- the definition at one more fuel
-atom-suc : (m : ℕ) (s : List ℕ) (c : Cursor) → readAtom (suc m) s c ≡ atomBy (λ d. readType m s d) (λ d. readAlternatives m s 0 d) s c (typeHead (kindAt s (c .at)))
+atom-suc : (m : ℕ) (s : List ℕ) (c : Cursor)
+    → readAtom (suc m) s c ≡ atomBy (λ d. readType m s d) (λ d. readAlternatives m s 0 d) s c (typeHead (kindAt s (c .at)))
 unfolding readType
 atom-suc m s c = refl
 
@@ -42,7 +43,8 @@ module _ (s w : List ℕ) (c : Cursor) (k : Tally) (room : Room s w c k) where
     unfolding afterType writeType FineType
     one-got {i} {d} e p =
         let o = u .on i d e in
-        meets-got s w c k (omega arith) (node-kept (k .nodes) (typeNode 0 0 0) p (omega arith)) (λ m _. made-got unit (rw (took u e)) refl p (omega arith))
+        meets-got s w c k (omega arith) (node-kept (k .nodes) (typeNode 0 0 0) p (omega arith))
+        (λ m _. made-got unit (rw (took u e)) refl p (omega arith))
 
   module _ {q : Taken} (u : Stepped s c 1 1 0 (typeTerm s kName c) q) where
     pub name-no : {r : Out} {n i : ℕ} → q ≡ Refused n i → r ≡ asOut q → NameRead s w c k r w
@@ -52,7 +54,8 @@ module _ (s w : List ℕ) (c : Cursor) (k : Tally) (room : Room s w c k) where
     unfolding afterType writeType FineType
     name-got {i} {d} e p =
         let o = u .on i d e in
-        meets-got s w c k (omega arith) (node-kept (k .nodes) (typeNode 1 0 i) p (omega arith)) (λ m _. made-got (named (nameIn s i)) (rw (took u e)) refl p (omega arith))
+        meets-got s w c k (omega arith) (node-kept (k .nodes) (typeNode 1 0 i) p (omega arith))
+        (λ m _. made-got (named (nameIn s i)) (rw (took u e)) refl p (omega arith))
 
   -- ── a type in round brackets
   module _ {q : Taken} (u : Stepped s c 1 0 0 (opening s kRoundOpen c) q) where
@@ -101,7 +104,8 @@ unfolding choiceOf writeType
 choice-write kind r k w l h = go (ℕ-discrete kind 28)
   where
     go : Dec (kind ≡ 28)
-        → writeType (cond (eqb kind kPlus) (plus r) (with r)) k w ≡ writeAlternatives r (moreNodes k) (putChoice (kind - 23) k (afterAlternatives r (moreNodes k)) w)
+        → writeType (cond (eqb kind kPlus) (plus r) (with r)) k w
+        ≡ writeAlternatives r (moreNodes k) (putChoice (kind - 23) k (afterAlternatives r (moreNodes k)) w)
     go (yes e) = rw e
     go (no n) = let e : kind ≡ 29 = omega arith in rw e
 
@@ -114,7 +118,8 @@ choice-fine kind r f = go (eqb kind kPlus)
     go false = f
 
 -- two tokens in a row, in the definition's words
-pub then-take : {A : Type 0} (want : Taken) (g : Cursor → Taken) (f : ℕ → Cursor → Result A) → take (thenToken want g) f ≡ take want (λ i d. take (g d) (λ _ e. f i e))
+pub then-take : {A : Type 0} (want : Taken) (g : Cursor → Taken) (f : ℕ → Cursor → Result A)
+    → take (thenToken want g) f ≡ take want (λ i d. take (g d) (λ _ e. f i e))
 then-take {A} (At i d) g f = go (g d)
   where
     go : (x : Taken) → _≡_ {A = Result A} (take (onwardFrom i x) f) (take x (λ _ e. f i e))
@@ -147,20 +152,23 @@ module _ (s w : List ℕ) (c : Cursor) (k : Tally) (room : Room s w c k) where
             meets-no s w c k (refused-out z h) (t .kept)
             (λ m lo. gone-on (readAlternatives m s 0 d) (t .is m (omega arith)) g λ r a _ _ _. choice-is m ∙ rw (took u e, a, took y z))
 
-        pub choice-got : {j : ℕ} {b : Cursor} {l₂ : Tally} {v₂ : List ℕ} → x ≡ At j b → v₂ ≡ putNode v (k .nodes) (typeNode (kind - 23) (l .alternatives) (l .last))
+        pub choice-got : {j : ℕ} {b : Cursor} {l₂ : Tally} {v₂ : List ℕ} → x ≡ At j b
+            → v₂ ≡ putNode v (k .nodes) (typeNode (kind - 23) (l .alternatives) (l .last))
             → l₂ ≡ lasting (k .nodes) l → ChoiceRead kind s w c k (Got (closed c b) l₂) v₂
         choice-got {j} {b} z words tally =
             let o = u .on i d e in
             let o₂ = t .on f l g in
             let o₃ = y .on j b z in
             let few : k .nodes < typeTermLimit = omega arith in
-            let node : Alternatives Located → TypeNode = λ r. typeNode (kind - 23) (afterAlternatives r (moreNodes k) .alternatives) (afterAlternatives r (moreNodes k) .last) in
+            let node : Tally → TypeNode = λ x. typeNode (kind - 23) (x .alternatives) (x .last) in
             rw tally
-            (meets-got s w c k (omega arith) (node-kept (k .nodes) (typeNode (kind - 23) (l .alternatives) (l .last)) words few upon t .kept)
+            (meets-got s w c k (omega arith) (node-kept (k .nodes) (node l) words few upon t .kept)
             (λ m lo. gone-on (readAlternatives m s 0 d) (t .is m (omega arith)) g λ r a al av fi.
             made-got (choiceOf kind r) (choice-is m ∙ rw (took u e, a, took y z))
             ((λ i. Got (closed c b) (lasting (k .nodes) (al i))) ∙ ap (Got (closed c b)) (sym (choice-after kind r k)))
-            (words ∙ (λ i. putChoice (kind - 23) k (al i) (av i)) ∙ sym (alternatives-put (k .nodes) (node r) few r (moreNodes k) w (omega arith)) ∙ sym (choice-write kind r k w low high))
+            (words ∙ (λ i. putChoice (kind - 23) k (al i) (av i))
+            ∙ sym (alternatives-put (k .nodes) (node (afterAlternatives r (moreNodes k))) few r (moreNodes k) w (omega arith))
+            ∙ sym (choice-write kind r k w low high))
             (choice-fine kind r fi)))
 
   -- ── atoms, by what begins them

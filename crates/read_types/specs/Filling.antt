@@ -55,8 +55,10 @@ asOut (Refused n i) = Not n i
 -- r is the answer p, and then the bracket that closes: p's refusal, the bracket's, or p with as many open as at c
 pub data Closes (s : List ℕ) (c : Cursor) (p r : Out) : Type 0 where
   not-read : {n j : ℕ} → p ≡ Not n j → r ≡ p → Closes s c p r
-  not-closed : {e : Cursor} {l : Tally} {x : Taken} {n j : ℕ} → p ≡ Got e l → Stepped s e 1 0 0 (expect s kRoundClose e) x → x ≡ Refused n j → r ≡ asOut x → Closes s c p r
-  read : {e b : Cursor} {l : Tally} {x : Taken} {j : ℕ} → p ≡ Got e l → Stepped s e 1 0 0 (expect s kRoundClose e) x → x ≡ At j b → r ≡ Got (closed c b) l → Closes s c p r
+  not-closed : {e : Cursor} {l : Tally} {x : Taken} {n j : ℕ} → p ≡ Got e l → Stepped s e 1 0 0 (expect s kRoundClose e) x → x ≡ Refused n j → r ≡ asOut x
+      → Closes s c p r
+  read : {e b : Cursor} {l : Tally} {x : Taken} {j : ℕ} → p ≡ Got e l → Stepped s e 1 0 0 (expect s kRoundClose e) x → x ≡ At j b → r ≡ Got (closed c b) l
+      → Closes s c p r
 
 -- no token fits here
 abbrev pub misfitTaken : List ℕ → Cursor → Taken
@@ -160,7 +162,7 @@ SameDeclared k l = (l .types ≡ k .types) × (l .processes ≡ k .processes) ×
 abbrev pub OthersSame : Cursor → Tally → Cursor → Tally → Type 0
 OthersSame c k d l = (d .terms ≡ c .terms) × (l .entries ≡ k .entries) × (l .terms ≡ k .terms) × (l .branches ≡ k .branches) × SameDeclared k l
 
--- past a type: `own` is 1 for a list of alternatives, of which each has a type term more than alternatives
+-- past a type: each has a type term more than alternatives; `own` is 1 for a list of them, and one more for each that was read before
 abbrev pub AheadType : ℕ → List ℕ → Cursor → Tally → Cursor → Tally → Type 0
 AheadType own s c k d l =
     (c .at < d .at)
@@ -217,9 +219,13 @@ abbrev pub ChoiceRead : ℕ → List ℕ → List ℕ → Cursor → Tally → O
 ChoiceRead kind s w c k =
     Meets typeForm s w c k (3 * unread s c) (λ m. choiceBy (λ d. readAlternatives m s 0 d) s kind (choiceOf kind) c)
 
--- the tables with a list of n alternatives more
+-- the tables with a alternatives, of which the last n are one list
+abbrev pub listing : ℕ → ℕ → Tally → Tally
+listing a n k = record { types = k .types; processes = k .processes; execs = k .execs; entries = k .entries; nodes = k .nodes; alternatives = a; terms = k .terms; branches = k .branches; last = n }
+
+-- a list of n alternatives more
 abbrev pub listed : ℕ → Tally → Tally
-listed n k = record { types = k .types; processes = k .processes; execs = k .execs; entries = k .entries; nodes = k .nodes; alternatives = k .alternatives + n; terms = k .terms; branches = k .branches; last = n }
+listed n k = listing (k .alternatives + n) n k
 
 -- the node kind of an infix mark
 unfoldable pub infixKind : ℕ → ℕ

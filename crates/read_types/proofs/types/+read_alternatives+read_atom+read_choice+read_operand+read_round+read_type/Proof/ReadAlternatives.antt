@@ -5,7 +5,7 @@ use Prim.Native.Nat.{ℕ, _-_}
 use native.Mathlib.Omega.{arith}
 use mathlib.Core.Path.{refl, sym, _∙_}
 use lib.ListN.{length}
-use Rattle.read_types.proofs.Gathering.{Gathered, gathered-start, gathered-on, gathered-end, label-no, typed-no, comma-no, label-few}
+use Rattle.read_types.proofs.Gathering.{Gathered, gathered-start, gathered-on, gathered-end, label-no, typed-no, comma-no, read-one}
 use Rattle.read_types.proofs.steps.expect.Reads as expect-reads
 use Rattle.read_types.proofs.steps.kind_at.Reads as kind-at-reads
 use Rattle.read_types.proofs.types.label_colon.Reads as label-colon-reads
@@ -24,9 +24,43 @@ read-alternatives-Inv-loop text scratch₀ d₀ l₀ n₀ kept₀ scratch d l n 
 abbrev read-alternatives-μ-loop : read-alternatives-lts.MeasureT-loop
 read-alternatives-μ-loop text scratch₀ d₀ l₀ n₀ kept₀ scratch d l n kept = length text - d .at
 
-pub read-alternatives-met : {M : Type 1} (t : ℕ) → read-alternatives-lts.Closed (label-colon-reads.Asked, label-colon-reads.Learnt, refusal-reads.Asked, refusal-reads.Learnt, read-type-below t, read-type.Post, pair-word-reads.Asked, pair-word-reads.Learnt, kind-at-reads.Asked, kind-at-reads.Learnt, expect-reads.Asked, expect-reads.Learnt, put-list-reads.Asked, put-list-reads.Learnt, listed-reads.Asked, listed-reads.Learnt) (read-alternatives-at t) read-alternatives.Post M
+pub read-alternatives-met : {M : Type 1} (t : ℕ) → read-alternatives-lts.Closed (
+  label-colon-reads.Asked,
+  label-colon-reads.Learnt,
+  refusal-reads.Asked,
+  refusal-reads.Learnt,
+  read-type-below t,
+  read-type.Post,
+  pair-word-reads.Asked,
+  pair-word-reads.Learnt,
+  kind-at-reads.Asked,
+  kind-at-reads.Learnt,
+  expect-reads.Asked,
+  expect-reads.Learnt,
+  put-list-reads.Asked,
+  put-list-reads.Learnt,
+  listed-reads.Asked,
+  listed-reads.Learnt,
+) (read-alternatives-at t) read-alternatives.Post M
 read-alternatives-met t =
-    read-alternatives-lts.spec (label-colon-reads.Asked, label-colon-reads.Learnt, refusal-reads.Asked, refusal-reads.Learnt, read-type-below t, read-type.Post, pair-word-reads.Asked, pair-word-reads.Learnt, kind-at-reads.Asked, kind-at-reads.Learnt, expect-reads.Asked, expect-reads.Learnt, put-list-reads.Asked, put-list-reads.Learnt, listed-reads.Asked, listed-reads.Learnt) (read-alternatives-at t) read-alternatives.Post read-alternatives-Inv-loop read-alternatives-μ-loop
+    read-alternatives-lts.spec (
+      label-colon-reads.Asked,
+      label-colon-reads.Learnt,
+      refusal-reads.Asked,
+      refusal-reads.Learnt,
+      read-type-below t,
+      read-type.Post,
+      pair-word-reads.Asked,
+      pair-word-reads.Learnt,
+      kind-at-reads.Asked,
+      kind-at-reads.Learnt,
+      expect-reads.Asked,
+      expect-reads.Learnt,
+      put-list-reads.Asked,
+      put-list-reads.Learnt,
+      listed-reads.Asked,
+      listed-reads.Learnt,
+    ) (read-alternatives-at t) read-alternatives.Post read-alternatives-Inv-loop read-alternatives-μ-loop
     -- loop-holds
     (λ c. gathered-start _ refl (c .before .before .pre .1))
     -- label-colon-requires
@@ -40,38 +74,57 @@ read-alternatives-met t =
     -- same-length
     (λ c. c .before .before .before .before .loop .inv .kept .long)
     -- returns
-    (λ c. label-no (c .before .before .before .before .loop .inv) (c .before .before .before .label-colon .ensures) (c .before .enum-told .given .1) (c .refusal .ensures))
+    (λ c. label-no (c .before .before .before .before .loop .inv) (c .before .before .before .label-colon .ensures) (c .before .enum-told .given .1)
+    (c .refusal .ensures))
     -- read-type-requires
-    (λ c κs.
-    let loop = c .before .before .before .before .before .loop in
-    let entry = c .before .before .before .before .before .before .before .before in
-    (omega (arith, entry .pre .0, loop .inv .room, loop .inv .later, c .before .before .before .before .label-colon .ensures .on _ _ (c .before .before .labelled .given .1)), omega (arith, loop .inv .room, c .before .before .before .before .label-colon .ensures .on _ _ (c .before .before .labelled .given .1))))
+    (λ c κs. let h = c .before .before .before .before .before .loop .inv in
+    let room = h .room in
+    let on = c .before .before .before .before .label-colon .ensures .on _ _ (c .before .before .labelled .given .1) in
+    (omega (arith, c .before .before .before .before .before .before .before .before .pre .0, h .later), omega arith))
     -- enum-known-typed
     (λ c. search needs)
     -- enum-told-2
     (λ c. search needs)
     -- same-length-2
-    (λ c. c .before .before .before .before .read-type .ensures .kept .long ∙ c .before .before .before .before .before .before .before .before .before .before .loop .inv .kept .long)
+    (λ c. c .before .before .before .before .read-type .ensures .kept .long
+    ∙ c .before .before .before .before .before .before .before .before .before .before .loop .inv .kept .long)
     -- returns-2
     (λ c.
     let after-labelled = c .before .before .before .before .before .before .before in
-    typed-no (after-labelled .before .before .before .loop .inv) (after-labelled .before .before .label-colon .ensures) (after-labelled .labelled .given .1) (c .before .before .before .before .read-type .ensures) (c .enum-told2 .given .1))
+    typed-no (after-labelled .before .before .before .loop .inv) (after-labelled .before .before .label-colon .ensures) (after-labelled .labelled .given .1)
+    (c .before .before .before .before .read-type .ensures) (c .enum-told2 .given .1))
     -- pair-word-requires
     (λ c κs.
     let after-labelled = c .before .before .before .before .before .before .before .before in
-    omega (arith, after-labelled .before .before .before .loop .inv .room, after-labelled .before .before .label-colon .ensures .on _ _ (after-labelled .labelled .given .1), c .before .before .before .before .before .read-type .ensures .on _ _ (c .before .typed .given .1)))
+    omega (
+      arith,
+      read-one (after-labelled .before .before .before .loop .inv) (after-labelled .before .before .label-colon .ensures)
+          (after-labelled .labelled .given .1) (c .before .before .before .before .before .read-type .ensures) (c .before .typed .given .1),
+    ))
     -- mul-kept
     (λ c.
     let after-labelled = c .before .before .before .before .before .before .before .before .before in
-    omega (arith, label-few _ _ _ (after-labelled .before .before .label-colon .ensures) (after-labelled .labelled .given .1)))
+    omega (
+      arith,
+      read-one (after-labelled .before .before .before .loop .inv) (after-labelled .before .before .label-colon .ensures)
+          (after-labelled .labelled .given .1) (c .before .before .before .before .before .before .read-type .ensures) (c .before .before .typed .given .1),
+    ))
     -- array-write-kept
     (λ c.
     let after-labelled = c .before .before .before .before .before .before .before .before .before in
-    omega (arith, after-labelled .before .before .before .loop .inv .places, label-few _ _ _ (after-labelled .before .before .label-colon .ensures) (after-labelled .labelled .given .1)))
+    omega (
+      arith,
+      read-one (after-labelled .before .before .before .loop .inv) (after-labelled .before .before .label-colon .ensures)
+          (after-labelled .labelled .given .1) (c .before .before .before .before .before .before .read-type .ensures) (c .before .before .typed .given .1),
+    ))
     -- add-n
     (λ c.
     let after-labelled = c .before .before .before .before .before .before .before .before .before in
-    omega (arith, label-few _ _ _ (after-labelled .before .before .label-colon .ensures) (after-labelled .labelled .given .1)))
+    omega (
+      arith,
+      read-one (after-labelled .before .before .before .loop .inv) (after-labelled .before .before .label-colon .ensures)
+          (after-labelled .labelled .given .1) (c .before .before .before .before .before .before .read-type .ensures) (c .before .before .typed .given .1),
+    ))
     -- kind-at-requires
     (λ c κs. search needs)
     -- expect-requires
@@ -91,46 +144,68 @@ read-alternatives-met t =
     let after-if1 = c .before .before .before .before in
     let after-typed = after-if1 .before .before .before .before in
     let after-labelled = after-typed .before .before .before .before .before .before .before in
-    comma-no (after-labelled .before .before .before .loop .inv) (after-labelled .before .before .label-colon .ensures) (after-labelled .labelled .given .1) (after-typed .before .before .before .before .read-type .ensures) (after-typed .typed .given .1) (after-if1 .before .before .pair-word .ensures) (eq-eqb _ _ (sym (after-if1 .before .kind-at .ensures) ∙ after-if1 .if1 .taken)) (c .before .before .before .expect .ensures) (c .before .enum-told3 .given .1) (c .refusal2 .ensures))
+    comma-no (after-labelled .before .before .before .loop .inv) (after-labelled .before .before .label-colon .ensures) (after-labelled .labelled .given .1)
+    (after-typed .before .before .before .before .read-type .ensures) (after-typed .typed .given .1) (after-if1 .before .before .pair-word .ensures)
+    (eq-eqb _ _ (sym (after-if1 .before .kind-at .ensures) ∙ after-if1 .if1 .taken)) (c .before .before .before .expect .ensures)
+    (c .before .enum-told3 .given .1) (c .refusal2 .ensures))
     -- loop-less
     (λ c.
     let after-typed = c .before .before .before .before .before .before .before .before in
     let after-labelled = after-typed .before .before .before .before .before .before .before in
-    omega (arith, after-labelled .before .before .before .loop .inv .room, after-labelled .before .before .label-colon .ensures .on _ _ (after-labelled .labelled .given .1), after-typed .before .before .before .before .read-type .ensures .on _ _ (after-typed .typed .given .1), c .before .before .before .expect .ensures .on _ _ (c .before .comma .given .1)))
+    omega (
+      arith,
+      read-one (after-labelled .before .before .before .loop .inv) (after-labelled .before .before .label-colon .ensures)
+          (after-labelled .labelled .given .1) (after-typed .before .before .before .before .read-type .ensures)
+          (after-typed .typed .given .1),
+      c .before .before .before .expect .ensures .on _ _ (c .before .comma .given .1),
+    ))
     -- loop-again
     (λ c.
     let after-if1 = c .before .before .before .before in
     let after-typed = after-if1 .before .before .before .before in
     let after-labelled = after-typed .before .before .before .before .before .before .before in
-    gathered-on (after-labelled .before .before .before .loop .inv) (after-labelled .before .before .label-colon .ensures) (after-labelled .labelled .given .1) (after-typed .before .before .before .before .read-type .ensures) (after-typed .typed .given .1) (after-if1 .before .before .pair-word .ensures) (eq-eqb _ _ (sym (after-if1 .before .kind-at .ensures) ∙ after-if1 .if1 .taken)) (c .before .before .before .expect .ensures) (c .before .comma .given .1))
+    gathered-on (after-labelled .before .before .before .loop .inv) (after-labelled .before .before .label-colon .ensures)
+    (after-labelled .labelled .given .1) (after-typed .before .before .before .before .read-type .ensures) (after-typed .typed .given .1)
+    (after-if1 .before .before .pair-word .ensures) (eq-eqb _ _ (sym (after-if1 .before .kind-at .ensures) ∙ after-if1 .if1 .taken))
+    (c .before .before .before .expect .ensures) (c .before .comma .given .1))
     -- add-put-list
     (λ c.
     let after-typed = c .before .before .before .before .before .before .before in
     let after-labelled = after-typed .before .before .before .before .before .before .before in
-    omega (arith, after-labelled .before .before .before .loop .inv .room, after-labelled .before .before .label-colon .ensures .on _ _ (after-labelled .labelled .given .1), after-typed .before .before .before .before .read-type .ensures .on _ _ (after-typed .typed .given .1)))
+    omega (
+      arith,
+      read-one (after-labelled .before .before .before .loop .inv) (after-labelled .before .before .label-colon .ensures)
+          (after-labelled .labelled .given .1) (after-typed .before .before .before .before .read-type .ensures) (after-typed .typed .given .1),
+    ))
     -- put-list-requires
     (λ c κs.
     let after-typed = c .before .before .before .before .before .before .before in
-    let read-type = after-typed .before .before .before .before .read-type in
     let after-labelled = after-typed .before .before .before .before .before .before .before in
-    let labelled = after-labelled .labelled in
-    let label-colon = after-labelled .before .before .label-colon in
-    let loop = after-labelled .before .before .before .loop in
-    omega (arith, loop .inv .room, loop .inv .full, label-colon .ensures .on _ _ (labelled .given .1), read-type .ensures .on _ _ (after-typed .typed .given .1), read-type .ensures .kept .long, label-few _ _ _ (label-colon .ensures) (labelled .given .1)))
+    omega (
+      arith,
+      read-one (after-labelled .before .before .before .loop .inv) (after-labelled .before .before .label-colon .ensures)
+          (after-labelled .labelled .given .1) (after-typed .before .before .before .before .read-type .ensures) (after-typed .typed .given .1),
+    ))
     -- listed-requires
     (λ c κs.
     let after-typed = c .before .before .before .before .before .before .before .before .before .before in
     let after-labelled = after-typed .before .before .before .before .before .before .before in
-    let labelled = after-labelled .labelled in
-    let label-colon = after-labelled .before .before .label-colon in
-    omega (arith, after-labelled .before .before .before .loop .inv .room, label-colon .ensures .on _ _ (labelled .given .1), after-typed .before .before .before .before .read-type .ensures .on _ _ (after-typed .typed .given .1), label-few _ _ _ (label-colon .ensures) (labelled .given .1)))
+    omega (
+      arith,
+      read-one (after-labelled .before .before .before .loop .inv) (after-labelled .before .before .label-colon .ensures)
+          (after-labelled .labelled .given .1) (after-typed .before .before .before .before .read-type .ensures) (after-typed .typed .given .1),
+    ))
     -- same-length-4
     (λ c.
     let after-read-type = c .before .before .before .before .before .before .before .before .before .before .before .before .before .before .before in
-    c .before .before .before .put-list .ensures .kept .long ∙ after-read-type .read-type .ensures .kept .long ∙ after-read-type .before .before .before .before .before .before .loop .inv .kept .long)
+    c .before .before .before .put-list .ensures .kept .long ∙ after-read-type .read-type .ensures .kept .long
+    ∙ after-read-type .before .before .before .before .before .before .loop .inv .kept .long)
     -- returns-4
     (λ c.
     let after-if1 = c .before .before .before .before .before .before .before in
     let after-typed = after-if1 .before .before .before .before in
     let after-labelled = after-typed .before .before .before .before .before .before .before in
-    gathered-end (after-labelled .before .before .before .loop .inv) (after-labelled .before .before .label-colon .ensures) (after-labelled .labelled .given .1) (after-typed .before .before .before .before .read-type .ensures) (after-typed .typed .given .1) (after-if1 .before .before .pair-word .ensures) (ne-eqb _ _ (λ q. after-if1 .if1 .left (after-if1 .before .kind-at .ensures ∙ q))) (c .before .before .before .put-list .ensures) (c .listed .ensures))
+    gathered-end (after-labelled .before .before .before .loop .inv) (after-labelled .before .before .label-colon .ensures)
+    (after-labelled .labelled .given .1) (after-typed .before .before .before .before .read-type .ensures) (after-typed .typed .given .1)
+    (after-if1 .before .before .pair-word .ensures) (ne-eqb _ _ (λ q. after-if1 .if1 .left (after-if1 .before .kind-at .ensures ∙ q)))
+    (c .before .before .before .put-list .ensures) (c .listed .ensures))

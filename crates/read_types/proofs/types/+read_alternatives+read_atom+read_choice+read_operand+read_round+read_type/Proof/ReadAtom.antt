@@ -86,29 +86,38 @@ read-atom-met t =
     -- same-length
     (λ c. search needs)
     -- returns
-    (λ c. atom-one _ _ _ _ (c .before .before .before .before .before .before .before .before .before .before .pre .1) _ (c .before .before .before .before .before .before .before .kind-at .ensures)
-    (sym (c .before .before .before .before .before .before .type-head .ensures) ∙ c .before .before .before .before .enum-told .given .1) (c .before .before .one-type .ensures))
+    (λ c. atom-one _ _ _ _ (c .before .before .before .before .before .before .before .before .before .before .pre .1) _
+    (c .before .before .before .before .before .before .before .kind-at .ensures)
+    (sym (c .before .before .before .before .before .before .type-head .ensures) ∙ c .before .before .before .before .enum-told .given .1)
+    (c .before .before .one-type .ensures))
     -- same-length-2
     (λ c. search needs)
     -- returns-2
-    (λ c. atom-name _ _ _ _ (c .before .before .before .before .before .before .before .before .before .before .pre .1) _ (c .before .before .before .before .before .before .before .kind-at .ensures)
-    (sym (c .before .before .before .before .before .before .type-head .ensures) ∙ c .before .before .before .before .enum-told2 .given .1) (c .before .before .name-type .ensures))
+    (λ c. atom-name _ _ _ _ (c .before .before .before .before .before .before .before .before .before .before .pre .1) _
+    (c .before .before .before .before .before .before .before .kind-at .ensures)
+    (sym (c .before .before .before .before .before .before .type-head .ensures) ∙ c .before .before .before .before .enum-told2 .given .1)
+    (c .before .before .name-type .ensures))
     -- same-length-3
     (λ c. search needs)
     -- returns-3
     (λ c. atom-round _ _ _ _ (c .before .before .before .before .before .before .before .before .before .before .pre .1) _
     (c .before .before .before .before .before .before .before .kind-at .ensures)
-    (sym (c .before .before .before .before .before .before .type-head .ensures) ∙ c .before .before .before .before .enum-told3 .given .1) (c .before .before .read-round .ensures))
+    (sym (c .before .before .before .before .before .before .type-head .ensures) ∙ c .before .before .before .before .enum-told3 .given .1)
+    (c .before .before .read-round .ensures))
     -- same-length-4
     (λ c. search needs)
     -- returns-4
-    (λ c. atom-plus _ _ _ _ (c .before .before .before .before .before .before .before .before .before .before .pre .1) _ (c .before .before .before .before .before .before .before .kind-at .ensures)
-    (sym (c .before .before .before .before .before .before .type-head .ensures) ∙ c .before .before .before .before .enum-told4 .given .1) (c .before .before .read-choice .ensures))
+    (λ c. atom-plus _ _ _ _ (c .before .before .before .before .before .before .before .before .before .before .pre .1) _
+    (c .before .before .before .before .before .before .before .kind-at .ensures)
+    (sym (c .before .before .before .before .before .before .type-head .ensures) ∙ c .before .before .before .before .enum-told4 .given .1)
+    (c .before .before .read-choice .ensures))
     -- same-length-5
     (λ c. search needs)
     -- returns-5
-    (λ c. atom-with _ _ _ _ (c .before .before .before .before .before .before .before .before .before .before .pre .1) _ (c .before .before .before .before .before .before .before .kind-at .ensures)
-    (sym (c .before .before .before .before .before .before .type-head .ensures) ∙ c .before .before .before .before .enum-told5 .given .1) (c .before .before .read-choice2 .ensures))
+    (λ c. atom-with _ _ _ _ (c .before .before .before .before .before .before .before .before .before .before .pre .1) _
+    (c .before .before .before .before .before .before .before .kind-at .ensures)
+    (sym (c .before .before .before .before .before .before .type-head .ensures) ∙ c .before .before .before .before .enum-told5 .given .1)
+    (c .before .before .read-choice2 .ensures))
     -- returns-6
     (λ c. atom-other _ _ _ _ (c .before .before .before .before .before .before .before .pre .1) _ (c .before .before .before .before .kind-at .ensures)
     (sym (c .before .before .before .type-head .ensures) ∙ c .before .enum-told6 .given .1) (c .misfit .ensures))

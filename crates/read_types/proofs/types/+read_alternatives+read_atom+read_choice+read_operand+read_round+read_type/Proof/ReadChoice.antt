@@ -13,9 +13,35 @@ use Rattle.read_types.proofs.types.+read_alternatives+read_atom+read_ch
 use Rattle.read_types.proofs.steps.refusal.Reads as refusal-reads
 use Rattle.read_types.proofs.types.+read_alternatives+read_atom+read_choice+read_operand+read_round+read_type.Proof.Measures.{read-alternatives-below, read-choice-at}
 
-pub read-choice-met : {M : Type 1} (t : ℕ) → read-choice-lts.Closed (choice-opening-reads.Asked, choice-opening-reads.Learnt, refusal-reads.Asked, refusal-reads.Learnt, read-alternatives-below t, read-alternatives.Post, expect-reads.Asked, expect-reads.Learnt, put-node-reads.Asked, put-node-reads.Learnt, lasting-reads.Asked, lasting-reads.Learnt) (read-choice-at t) read-choice.Post M
+pub read-choice-met : {M : Type 1} (t : ℕ) → read-choice-lts.Closed (
+  choice-opening-reads.Asked,
+  choice-opening-reads.Learnt,
+  refusal-reads.Asked,
+  refusal-reads.Learnt,
+  read-alternatives-below t,
+  read-alternatives.Post,
+  expect-reads.Asked,
+  expect-reads.Learnt,
+  put-node-reads.Asked,
+  put-node-reads.Learnt,
+  lasting-reads.Asked,
+  lasting-reads.Learnt,
+) (read-choice-at t) read-choice.Post M
 read-choice-met t =
-    read-choice-lts.spec (choice-opening-reads.Asked, choice-opening-reads.Learnt, refusal-reads.Asked, refusal-reads.Learnt, read-alternatives-below t, read-alternatives.Post, expect-reads.Asked, expect-reads.Learnt, put-node-reads.Asked, put-node-reads.Learnt, lasting-reads.Asked, lasting-reads.Learnt) (read-choice-at t) read-choice.Post
+    read-choice-lts.spec (
+      choice-opening-reads.Asked,
+      choice-opening-reads.Learnt,
+      refusal-reads.Asked,
+      refusal-reads.Learnt,
+      read-alternatives-below t,
+      read-alternatives.Post,
+      expect-reads.Asked,
+      expect-reads.Learnt,
+      put-node-reads.Asked,
+      put-node-reads.Learnt,
+      lasting-reads.Asked,
+      lasting-reads.Learnt,
+    ) (read-choice-at t) read-choice.Post
     -- choice-opening-requires
     (λ c κs. omega (arith, c .before .before .pre .1 .1))
     -- enum-known-opened
@@ -27,14 +53,15 @@ read-choice-met t =
     -- returns
     (λ c.
     let entry = c .before .before .before .before .before .before in
-    choice-no _ _ _ _ (entry .pre .1 .0) _ (entry .pre .1 .1 .0) (entry .pre .1 .1 .1) (c .before .before .before .choice-opening .ensures) (c .before .enum-told .given .1) (c .refusal .ensures))
+    choice-no _ _ _ _ (entry .pre .1 .0) _ (entry .pre .1 .1 .0) (entry .pre .1 .1 .1) (c .before .before .before .choice-opening .ensures)
+    (c .before .enum-told .given .1) (c .refusal .ensures))
     -- add-j
     (λ c. omega (arith, c .before .before .before .before .before .before .before .pre .1 .0))
     -- read-alternatives-requires
     (λ c κs.
-    let after-opened = c .before .before .before in
-    let entry = after-opened .before .before .before .before .before in
-    (omega (arith, entry .pre, after-opened .before .before .choice-opening .ensures .on _ _ (after-opened .opened .given .1)), omega (arith, entry .pre, after-opened .before .before .choice-opening .ensures .on _ _ (after-opened .opened .given .1))))
+    let entry = c .before .before .before .before .before .before .before .before in
+    let on = c .before .before .before .before .before .choice-opening .ensures .on _ _ (c .before .before .before .opened .given .1) in
+    (omega (arith, entry .pre), omega (arith, entry .pre)))
     -- enum-known-inner
     (λ c. search needs)
     -- enum-told-2
@@ -45,7 +72,8 @@ read-choice-met t =
     (λ c.
     let after-opened = c .before .before .before .before .before .before .before .before in
     let entry = after-opened .before .before .before .before .before in
-    choice-list-no _ _ _ _ (entry .pre .1 .0) _ (entry .pre .1 .1 .0) (entry .pre .1 .1 .1) (after-opened .before .before .choice-opening .ensures) (after-opened .opened .given .1) (c .before .before .before .before .read-alternatives .ensures) (c .enum-told2 .given .1))
+    choice-list-no _ _ _ _ (entry .pre .1 .0) _ (entry .pre .1 .1 .0) (entry .pre .1 .1 .1) (after-opened .before .before .choice-opening .ensures)
+    (after-opened .opened .given .1) (c .before .before .before .before .read-alternatives .ensures) (c .enum-told2 .given .1))
     -- expect-requires
     (λ c κs. search needs)
     -- enum-known-closed
@@ -61,16 +89,27 @@ read-choice-met t =
     let after-inner = c .before .before .before .before .before in
     let after-opened = after-inner .before .before .before .before .before .before .before .before in
     let entry = after-opened .before .before .before .before .before in
-    choice-close-no _ _ _ _ (entry .pre .1 .0) _ (entry .pre .1 .1 .0) (entry .pre .1 .1 .1) (after-opened .before .before .choice-opening .ensures) (after-opened .opened .given .1) (after-inner .before .before .before .before .read-alternatives .ensures) (after-inner .inner .given .1) (c .before .before .before .expect .ensures) (c .before .enum-told3 .given .1) (c .refusal2 .ensures))
+    choice-close-no _ _ _ _ (entry .pre .1 .0) _ (entry .pre .1 .1 .0) (entry .pre .1 .1 .1) (after-opened .before .before .choice-opening .ensures)
+    (after-opened .opened .given .1) (after-inner .before .before .before .before .read-alternatives .ensures) (after-inner .inner .given .1)
+    (c .before .before .before .expect .ensures) (c .before .enum-told3 .given .1) (c .refusal2 .ensures))
     -- sub-t19
-    (λ c. omega (arith, c .before .before .before .before .before .before .before .before .before .before .before .before .before .before .before .before .before .before .before .pre .1 .1))
+    (λ c.
+    let after-opened = c .before .before .before .before .before .before .before .before .before .before .before .before .before .before in
+    omega (arith, after-opened .before .before .before .before .before .pre .1 .1))
     -- put-node-requires
     (λ c κs.
     let after-inner = c .before .before .before .before .before .before in
     let read-alternatives = after-inner .before .before .before .before .read-alternatives in
     let after-opened = after-inner .before .before .before .before .before .before .before .before in
     let entry = after-opened .before .before .before .before .before in
-    omega (arith, entry .pre, after-opened .before .before .choice-opening .ensures .on _ _ (after-opened .opened .given .1), read-alternatives .ensures .kept .long, read-alternatives .ensures .on _ _ (after-inner .inner .given .1)))
+    omega (
+      arith,
+      entry .pre,
+      after-opened .before .before .choice-opening .ensures .on _ _
+          (after-opened .opened .given .1),
+      read-alternatives .ensures .kept .long,
+      read-alternatives .ensures .on _ _ (after-inner .inner .given .1),
+    ))
     -- lasting-requires
     (λ c κs. search needs)
     -- same-length-3
@@ -81,4 +120,6 @@ read-choice-met t =
     let after-inner = after-closed .before .before .before .before in
     let after-opened = after-inner .before .before .before .before .before .before .before .before in
     let entry = after-opened .before .before .before .before .before in
-    choice-got _ _ _ _ (entry .pre .1 .0) _ (entry .pre .1 .1 .0) (entry .pre .1 .1 .1) (after-opened .before .before .choice-opening .ensures) (after-opened .opened .given .1) (after-inner .before .before .before .before .read-alternatives .ensures) (after-inner .inner .given .1) (after-closed .before .before .expect .ensures) (after-closed .closed .given .1) (c .before .before .before .put-node .ensures) (c .lasting .ensures))
+    choice-got _ _ _ _ (entry .pre .1 .0) _ (entry .pre .1 .1 .0) (entry .pre .1 .1 .1) (after-opened .before .before .choice-opening .ensures)
+    (after-opened .opened .given .1) (after-inner .before .before .before .before .read-alternatives .ensures) (after-inner .inner .given .1)
+    (after-closed .before .before .expect .ensures) (after-closed .closed .given .1) (c .before .before .before .put-node .ensures) (c .lasting .ensures))

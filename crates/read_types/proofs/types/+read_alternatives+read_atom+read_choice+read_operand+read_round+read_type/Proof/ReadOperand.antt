@@ -11,9 +11,23 @@ use Rattle.read_types.proofs.steps.refusal.Reads as refusal-reads
 use Rattle.read_types.proofs.steps.type_term.Reads as type-term-reads
 use Rattle.read_types.proofs.types.+read_alternatives+read_atom+read_choice+read_operand+read_round+read_type.Proof.Measures.{read-atom-below, read-operand-at}
 
-pub read-operand-met : {M : Type 1} (t : ℕ) → read-operand-lts.Closed (type-term-reads.Asked, type-term-reads.Learnt, refusal-reads.Asked, refusal-reads.Learnt, read-atom-below t, read-atom.Post) (read-operand-at t) read-operand.Post M
+pub read-operand-met : {M : Type 1} (t : ℕ) → read-operand-lts.Closed (
+  type-term-reads.Asked,
+  type-term-reads.Learnt,
+  refusal-reads.Asked,
+  refusal-reads.Learnt,
+  read-atom-below t,
+  read-atom.Post,
+) (read-operand-at t) read-operand.Post M
 read-operand-met t =
-    read-operand-lts.spec (type-term-reads.Asked, type-term-reads.Learnt, refusal-reads.Asked, refusal-reads.Learnt, read-atom-below t, read-atom.Post) (read-operand-at t) read-operand.Post
+    read-operand-lts.spec (
+      type-term-reads.Asked,
+      type-term-reads.Learnt,
+      refusal-reads.Asked,
+      refusal-reads.Learnt,
+      read-atom-below t,
+      read-atom.Post,
+    ) (read-operand-at t) read-operand.Post
     -- type-term-requires
     (λ c κs. c .before .before .pre .1 .1)
     -- enum-known-mark
@@ -25,19 +39,21 @@ read-operand-met t =
     -- returns
     (λ c.
     let entry = c .before .before .before .before .before .before in
-    operand-no _ _ _ _ (entry .pre .1 .0) _ (c .before .before .before .type-term .ensures) (width-pos (entry .args .kind)) (c .before .enum-told .given .1) (c .refusal .ensures))
+    operand-no _ _ _ _ (entry .pre .1 .0) _ (c .before .before .before .type-term .ensures) (width-pos (entry .args .kind)) (c .before .enum-told .given .1)
+    (c .refusal .ensures))
     -- add-j
     (λ c. omega (arith, c .before .before .before .before .before .before .before .pre .1 .0))
     -- read-atom-requires
     (λ c κs.
-    let mark = c .before .before .before .mark in
-    let type-term = c .before .before .before .before .before .type-term in
     let entry = c .before .before .before .before .before .before .before .before in
-    (omega (arith, entry .pre, type-term .ensures .on _ _ (mark .given .1), width-pos (entry .args .kind)), omega (arith, entry .pre, type-term .ensures .on _ _ (mark .given .1), width-pos (entry .args .kind))))
+    let on = c .before .before .before .before .before .type-term .ensures .on _ _ (c .before .before .before .mark .given .1) in
+    let wide = width-pos (entry .args .kind) in
+    (omega (arith, entry .pre), omega (arith, entry .pre)))
     -- same-length
     (λ c. search needs)
     -- returns-2
     (λ c.
     let after-mark = c .before .before .before .before .before .before in
     let entry = after-mark .before .before .before .before .before in
-    operand-atom _ _ _ _ (entry .pre .1 .0) _ (after-mark .before .before .type-term .ensures) (width-pos (entry .args .kind)) (after-mark .mark .given .1) (c .before .before .read-atom .ensures))
+    operand-atom _ _ _ _ (entry .pre .1 .0) _ (after-mark .before .before .type-term .ensures) (width-pos (entry .args .kind)) (after-mark .mark .given .1)
+    (c .before .before .read-atom .ensures))

@@ -22,7 +22,16 @@ pub read-round-met : {M : Type 1} (t : ℕ) → read-round-lts.Closed (
   closing-reads.Learnt,
 ) (read-round-at t) read-round.Post M
 read-round-met t =
-    read-round-lts.spec (opening-reads.Asked, opening-reads.Learnt, refusal-reads.Asked, refusal-reads.Learnt, read-type-below t, read-type.Post, closing-reads.Asked, closing-reads.Learnt)
+    read-round-lts.spec (
+      opening-reads.Asked,
+      opening-reads.Learnt,
+      refusal-reads.Asked,
+      refusal-reads.Learnt,
+      read-type-below t,
+      read-type.Post,
+      closing-reads.Asked,
+      closing-reads.Learnt,
+    )
     (read-round-at t) read-round.Post
     -- opening-requires
     (λ c κs. search needs)
@@ -33,12 +42,16 @@ read-round-met t =
     -- refusal-requires
     (λ c κs. search needs)
     -- returns
-    (λ c. round-no _ _ _ _ (c .before .before .before .before .before .before .pre .1) (c .before .before .before .opening .ensures) (c .before .enum-told .given .1) (c .refusal .ensures))
+    (λ c. round-no _ _ _ _ (c .before .before .before .before .before .before .pre .1) (c .before .before .before .opening .ensures)
+    (c .before .enum-told .given .1) (c .refusal .ensures))
     -- read-type-requires
     (λ c κs.
     let opening = c .before .before .before .before .opening in
-    let entry = c .before .before .before .before .before .before .before in
-    (omega (arith, entry .pre, opening .ensures .on _ _ (c .before .before .opened .given .1)), omega (arith, entry .pre, opening .ensures .on _ _ (c .before .before .opened .given .1))))
+    let entry = c .before .before .before .before .before .before .before in (
+      omega (arith, entry .pre, opening .ensures .on _ _ (c .before .before .opened .given .1)),
+      omega
+          (arith, entry .pre, opening .ensures .on _ _ (c .before .before .opened .given .1)),
+    ))
     -- closing-requires
     (λ c κs. search needs)
     -- same-length
@@ -47,4 +60,5 @@ read-round-met t =
     (λ c.
     let after-opened = c .before .before .before .before .before .before in
     let entry = after-opened .before .before .before .before .before in
-    round-closed _ _ _ _ (entry .pre .1) (after-opened .before .before .opening .ensures) (after-opened .opened .given .1) (c .before .before .before .read-type .ensures) (c .closing .ensures))
+    round-closed _ _ _ _ (entry .pre .1) (after-opened .before .before .opening .ensures) (after-opened .opened .given .1)
+    (c .before .before .before .read-type .ensures) (c .closing .ensures))
