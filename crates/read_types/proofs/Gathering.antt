@@ -2,7 +2,7 @@
 use mathlib.Core.Path.{_≡_, refl, ap, sym, _∙_}
 use mathlib.Core.List.{List}
 use mathlib.Core.Bool.{Bool, true, false}
-use Prim.Native.Nat.{ℕ, suc, _+_, _-_, _*_, _<_, _≤_}
+use Prim.Native.Nat.{ℕ, suc, _+_, _*_, _<_, _≤_}
 use native.Mathlib.Omega.{arith}
 use lib.Dec.{eqb, ltb}
 use lib.ListN.{length, set, length-set}
@@ -20,7 +20,7 @@ use Rattle.notation.specs.declared.reading.Taken.{Taken}
 use Rattle.notation.specs.declared.reading.Taken.the-variants.{At, Refused}
 use Rattle.read_types.specs.declared.steps.Out.{Out}
 use Rattle.read_types.specs.declared.steps.Out.the-variants.{Got, Not}
-use Rattle.read_types.specs.Filling.{Kept, Stepped, asOut, labelColon, listing, listed, listPut, ListPut, Room, Form, Made, Meets, AheadType, alternativesForm, unread, TypeRead, AlternativesRead}
+use Rattle.read_types.specs.Filling.{Kept, Stepped, asOut, labelColon, listing, listed, listPut, putListed, Put, Room, Form, Made, Meets, AheadType, alternativesForm, unread, TypeRead, AlternativesRead}
 use Rattle.read_types.proofs.Taking.{never}
 use Rattle.read_types.proofs.Filled.{same, _upon_, took, refused-out, made-got, made-same, made-lastly, gone-on, stopped, at-more, more-no, more-got}
 use Rattle.read_types.proofs.Listing.{list-none, list-more}
@@ -51,7 +51,7 @@ longer n k = listing (k .alternatives + n) (k .last + n) k
 abbrev keptForm : List ℕ → ℕ → Form (Alternatives Located)
 keptForm entries n = record {
   after = λ r k. longer n (afterAlternatives r k);
-  write = λ r k w. listPut entries n (alternativesAt + afterAlternatives r k .alternatives) (writeAlternatives r k w);
+  write = λ r k w. putListed entries n (afterAlternatives r k) (writeAlternatives r k w);
   Fine = λ r. FineAlternatives r × SomeAlternative r;
   Ahead = λ s c k d l. AheadType (n + 1) s c k d l × (l .last ≤ labelLimit);
 }
@@ -84,6 +84,7 @@ write-more entries n x A r k w l =
 pub record Gathered (s w₀ : List ℕ) (c₀ : Cursor) (k₀ : Tally) (entries w : List ℕ) (c : Cursor) (k : Tally) (n : ℕ) : Type 0 where
   pub room : Room s w c k
   pub full : k .alternatives + n ≤ c .types
+  pub few : n ≤ labelLimit
   pub places : length entries ≡ labelLimit
   pub later : c₀ .at ≤ c .at
   pub kept : Kept w₀ w
@@ -93,6 +94,7 @@ pub gathered-start : {s w : List ℕ} {c : Cursor} {k : Tally} (entries : List �
 gathered-start {s} {w} {c} {k} entries e room = record {
   room = room;
   full = omega arith;
+  few = omega arith;
   places = e;
   later = omega arith;
   kept = same;
@@ -184,6 +186,7 @@ module _ {s w₀ entries w : List ℕ} {c₀ c : Cursor} {k₀ k : Tally} {n : �
                 record {
                   room = omega arith;
                   full = omega arith;
+                  few = omega arith;
                   places = length-set entries n x ∙ h .places;
                   later = omega arith;
                   kept = t .kept upon h .kept;
@@ -191,13 +194,13 @@ module _ {s w₀ entries w : List ℕ} {c₀ c : Cursor} {k₀ k : Tally} {n : �
                 }
 
         pub gathered-end : eqb (kindAt s (f .at)) kComma ≡ false → {l₂ : Tally} {v₂ : List ℕ}
-            → ListPut v (set entries n x) (n + 1) (alternativesAt + l .alternatives) v₂ → l₂ ≡ listed (n + 1) l → AlternativesRead s w₀ c₀ k₀ (Got f l₂) v₂
+            → Put v (putListed (set entries n x) (n + 1) l v) (listed (n + 1) l) l₂ v₂ → AlternativesRead s w₀ c₀ k₀ (Got f l₂) v₂
         unfolding afterAlternatives writeAlternatives FineAlternatives
-        gathered-end other {v₂ = v₂} p tally =
+        gathered-end other {v₂ = v₂} p =
             let o = u .on i d e in
             let o₂ = t .on f l g in
             let one = read-one in
-            rw tally
+            rw (p .is)
             (h .whole (Got f (listed (n + 1) l)) v₂
             (more-got (keptForm entries n) s w c k read (omega arith) (p .kept upon t .kept)
             (λ m lo. gone-on (readType m s d) (t .is m (omega arith)) g λ A a al av fi.

@@ -3,11 +3,10 @@ use mathlib.Core.Path.{_≡_, refl, ap, _∙_}
 use mathlib.Core.List.{List}
 use Prim.Native.Nat.{ℕ, _+_, _<_, _≤_}
 use native.Mathlib.Omega.{arith}
-use lib.ListN.{set}
 use lib.Seq.{set-comm}
 use Rattle.notation.specs.Limits.{typeTermLimit}
 use Rattle.notation.specs.Tree.{Located, Ty, unit, named, tensor, par, lolli, plus, with, Alternatives, alternative}
-use Rattle.notation.specs.Tables.{nodesAt, alternativesAt, typeWord, pairWord, typeNode, moreNodes, putNode, putAlternative, putInfix, putChoice, afterType, afterAlternatives, writeType, writeAlternatives}
+use Rattle.notation.specs.Tables.{nodesAt, alternativesAt, typeWord, pairWord, typeNode, moreNodes, putNode, putAlternative, afterType, afterAlternatives, writeType, writeAlternatives}
 use Rattle.notation.specs.declared.reading.Tally.{Tally}
 use Rattle.notation.specs.declared.reading.TypeNode.{TypeNode}
 

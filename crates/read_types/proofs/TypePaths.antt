@@ -1,19 +1,18 @@
 -- What the definition says on each way through the code that reads an atom.
 use mathlib.Core.Path.{_≡_, refl, ap, sym, _∙_}
 use mathlib.Core.List.{List}
-use mathlib.Core.Bool.{Bool, true, false, cond, _||_}
-use Prim.Native.Nat.{ℕ, suc, _+_, _-_, _*_, _<_, _≤_}
+use mathlib.Core.Bool.{Bool, true, false, cond}
+use Prim.Native.Nat.{ℕ, suc, _-_, _*_, _<_, _≤_}
 use native.Mathlib.Omega.{arith}
 use native.Mathlib.Decide.{ℕ-discrete}
-use lib.Dec.{eqb, ltb}
-use borrow.Author.Tests.{ltb-true, eqb-true}
+use lib.Dec.{eqb}
 use Rattle.notation.specs.Fine.{FineAlternatives, FineType, SomeAlternative}
 use Rattle.notation.specs.Limits.{typeTermLimit}
-use Rattle.notation.specs.Token.{kindAt, kOne, kName, kRoundOpen, kRoundClose, kBraceOpen, kBraceClose, kColon, kComma, kPlus, kStar, kAt, kLolli, kLabel}
-use Rattle.notation.specs.Tree.{Located, Ty, unit, named, tensor, par, lolli, plus, with, Alternatives, alternative}
-use Rattle.notation.specs.Reader.{Result, got, take, part, lastly, expect, limited, misfit, opening, typeTerm, closed, thenToken, onwardFrom, nameIn, labelIn}
-use Rattle.notation.specs.Types.{typeHead, isInfix, infixOf, rightBy, typeBy, choiceBy, atomBy, moreBy, alternativesBy, labelTerm, readType, readAtom, readAlternatives}
-use Rattle.notation.specs.Tables.{moreNodes, moreAlternatives, lasting, typeNode, putNode, putAlternative, putInfix, putChoice, afterType, afterAlternatives, writeType, writeAlternatives}
+use Rattle.notation.specs.Token.{kindAt, kOne, kName, kRoundOpen, kRoundClose, kBraceOpen, kBraceClose, kPlus}
+use Rattle.notation.specs.Tree.{Located, Ty, unit, named, plus, with, Alternatives}
+use Rattle.notation.specs.Reader.{Result, got, take, part, expect, misfit, opening, typeTerm, closed, thenToken, onwardFrom, nameIn}
+use Rattle.notation.specs.Types.{typeHead, choiceBy, atomBy, readType, readAtom, readAlternatives}
+use Rattle.notation.specs.Tables.{moreNodes, lasting, typeNode, putNode, putChoice, afterType, afterAlternatives, writeType, writeAlternatives}
 use Rattle.notation.specs.declared.reading.Cursor.{Cursor}
 use Rattle.notation.specs.declared.reading.Tally.{Tally}
 use Rattle.notation.specs.declared.reading.TypeNode.{TypeNode}
@@ -23,9 +22,9 @@ use Rattle.notation.specs.declared.token.TypeHead.{TypeHead}
 use Rattle.notation.specs.declared.token.TypeHead.the-variants.{One, Name, Round, Plus, With, Other}
 use Rattle.read_types.specs.declared.steps.Out.{Out}
 use Rattle.read_types.specs.declared.steps.Out.the-variants.{Got, Not}
-use Rattle.read_types.specs.Filling.{Stepped, Closes, not-read, not-closed, read, labelColon, choiceOpening, asOut, misfitOut, Put, Room, Meets, typeForm, alternativesForm, infixKind, choiceOf, unread, TypeRead, AtomRead, AlternativesRead, OneRead, NameRead, RoundRead, ChoiceRead}
+use Rattle.read_types.specs.Filling.{Stepped, Closes, not-read, not-closed, read, choiceOpening, asOut, misfitOut, Room, Meets, typeForm, choiceOf, unread, TypeRead, AtomRead, AlternativesRead, OneRead, NameRead, RoundRead, ChoiceRead}
 use Rattle.read_types.proofs.Late.{alternatives-put}
-use Rattle.read_types.proofs.Filled.{same, _upon_, node-kept, took, refused-out, made-got, gone-on, stopped, meets-no, meets-got, more-no, more-got, more-made}
+use Rattle.read_types.proofs.Filled.{same, _upon_, node-kept, took, refused-out, made-got, gone-on, stopped, meets-no, meets-got, more-no, more-made}
 
 -- the definition at one more fuel
 atom-suc : (m : ℕ) (s : List ℕ) (c : Cursor)

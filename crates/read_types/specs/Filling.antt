@@ -11,7 +11,7 @@ use Rattle.notation.specs.Token.{tokenAt, width, kColon, kRoundClose, kBraceOpe
 use Rattle.notation.specs.Tree.{Located, Ty, unit, named, tensor, par, lolli, plus, with, Alternatives, alternative}
 use Rattle.notation.specs.Reader.{Result, got, refused, take, fault, expect, opening, typeTerm, closed, thenToken, nameIn}
 use Rattle.notation.specs.Types.{readType, readAtom, readAlternatives, isInfix, labelTerm, rightBy, roundBy, choiceBy}
-use Rattle.notation.specs.Tables.{afterType, afterAlternatives, writeType, writeAlternatives, moreNodes, Area, offsetRadix, pointerRadix, tableWords}
+use Rattle.notation.specs.Tables.{afterType, afterAlternatives, writeType, writeAlternatives, moreNodes, alternativesAt, Area, offsetRadix, pointerRadix, tableWords}
 use Rattle.notation.specs.declared.reading.Tally.{Tally}
 use Rattle.notation.specs.declared.reading.TypeNode.{TypeNode}
 use Rattle.notation.specs.declared.reading.TermNode.{TermNode}
@@ -226,6 +226,9 @@ listing a n k = record { types = k .types; processes = k .processes; execs = k .
 -- a list of n alternatives more
 abbrev pub listed : ℕ → Tally → Tally
 listed n k = listing (k .alternatives + n) n k
+
+abbrev pub putListed : List ℕ → ℕ → Tally → List ℕ → List ℕ
+putListed kept n k w = listPut kept n (alternativesAt + k .alternatives) w
 
 -- the node kind of an infix mark
 unfoldable pub infixKind : ℕ → ℕ

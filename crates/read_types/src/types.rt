@@ -26,10 +26,10 @@ use notation::tables::ALTERNATIVES_AT;
 use notation::token::Token;
 use notation::token::TypeHead;
 ghost use mathlib.Core.Path.{_≡_};
-ghost use Prim.Native.Nat.{_<_, _≤_};
+ghost use Prim.Native.Nat.{_+_, _<_, _≤_};
 ghost use Rattle.notation.specs.Limits.{labelLimit, typeTermLimit};
 ghost use Rattle.notation.specs.Tables.{Area, putNode, typeNode};
-ghost use Rattle.read_types.specs.Filling.{Stepped, labelColon, choiceOpening, infixKind, rootBefore, listed, Room, TypeRead, AtomRead, OperandRead, AlternativesRead, OneRead, NameRead, RoundRead, ChoiceRead};
+ghost use Rattle.read_types.specs.Filling.{Stepped, labelColon, choiceOpening, infixKind, rootBefore, listed, putListed, Put, Room, TypeRead, AtomRead, OperandRead, AlternativesRead, OneRead, NameRead, RoundRead, ChoiceRead};
 
 // From the kind of a choice's mark to the kind of its node.
 const CHOICE_SHIFT: usize = Token::PLUS - kinds::PLUS;
@@ -99,11 +99,12 @@ fn put_infix(scratch: &mut [u32], k: Tally, kind: usize, right: usize)
     );
 }
 
-// The tables with a list of n alternatives more.
-fn listed(k: Tally, n: usize) -> Tally
-    requires { ⌜ (k .alternatives ≤ typeTermLimit) × (n ≤ labelLimit) ⌝ }
-    ensures { λ r. ⌜ r ≡ listed n k ⌝ }
+// Appends a list of n alternatives, whose words were kept.
+fn put_alternatives(scratch: &mut [u32], kept: &[u32; Script::LABELS], n: usize, k: Tally) -> Tally
+    requires { ⌜ Area (now scratch) × (n ≤ labelLimit) × (k .alternatives + n ≤ typeTermLimit) ⌝ }
+    ensures { λ r. ⌜ Put (now (scratch .entry)) (putListed (now (kept .entry)) n k (now (scratch .entry))) (listed n k) r (now (scratch .exit)) ⌝ }
 {
+    put_list(scratch, kept, n, ALTERNATIVES_AT + k.alternatives);
     let mut l = k;
     l.alternatives = k.alternatives + n;
     l.last = n;
@@ -259,8 +260,7 @@ fn read_alternatives(text: &[u8], scratch: &mut [u32], c: Cursor, k: Tally) -> O
             d = g;
             l = m;
         } else {
-            put_list(scratch, &kept, n, ALTERNATIVES_AT + m.alternatives);
-            return Out::Got(f, listed(m, n));
+            return Out::Got(f, put_alternatives(scratch, &kept, n, m));
         }
     }
 }

@@ -9,9 +9,8 @@ use Rattle.read_types.proofs.Gathering.{Gathered, gathered-start, gathe
 use Rattle.read_types.proofs.steps.expect.Reads as expect-reads
 use Rattle.read_types.proofs.steps.kind_at.Reads as kind-at-reads
 use Rattle.read_types.proofs.types.label_colon.Reads as label-colon-reads
-use Rattle.read_types.proofs.types.listed.Reads as listed-reads
 use Rattle.read_types.proofs.store.pair_word.Reads as pair-word-reads
-use Rattle.read_types.proofs.store.put_list.Reads as put-list-reads
+use Rattle.read_types.proofs.types.put_alternatives.Reads as put-alternatives-reads
 use Rattle.read_types.proofs.types.read_alternatives.Reads as read-alternatives
 use Rattle.read_types.proofs.types.+read_alternatives+read_atom+read_choice+read_operand+read_round+read_type.Lts-read_alternatives as read-alternatives-lts
 use Rattle.read_types.proofs.types.read_type.Reads as read-type
@@ -24,7 +23,8 @@ read-alternatives-Inv-loop text scratch₀ d₀ l₀ n₀ kept₀ scratch d l n 
 abbrev read-alternatives-μ-loop : read-alternatives-lts.MeasureT-loop
 read-alternatives-μ-loop text scratch₀ d₀ l₀ n₀ kept₀ scratch d l n kept = length text - d .at
 
-pub read-alternatives-met : {M : Type 1} (t : ℕ) → read-alternatives-lts.Closed (
+abbrev claims : ℕ → read-alternatives-lts.Claims
+claims t = (
   label-colon-reads.Asked,
   label-colon-reads.Learnt,
   refusal-reads.Asked,
@@ -37,30 +37,13 @@ pub read-alternatives-met : {M : Type 1} (t : ℕ) → read-alternatives-lts.Clo
   kind-at-reads.Learnt,
   expect-reads.Asked,
   expect-reads.Learnt,
-  put-list-reads.Asked,
-  put-list-reads.Learnt,
-  listed-reads.Asked,
-  listed-reads.Learnt,
-) (read-alternatives-at t) read-alternatives.Post M
+  put-alternatives-reads.Asked,
+  put-alternatives-reads.Learnt,
+)
+
+pub read-alternatives-met : {M : Type 1} (t : ℕ) → read-alternatives-lts.Closed (claims t) (read-alternatives-at t) read-alternatives.Post M
 read-alternatives-met t =
-    read-alternatives-lts.spec (
-      label-colon-reads.Asked,
-      label-colon-reads.Learnt,
-      refusal-reads.Asked,
-      refusal-reads.Learnt,
-      read-type-below t,
-      read-type.Post,
-      pair-word-reads.Asked,
-      pair-word-reads.Learnt,
-      kind-at-reads.Asked,
-      kind-at-reads.Learnt,
-      expect-reads.Asked,
-      expect-reads.Learnt,
-      put-list-reads.Asked,
-      put-list-reads.Learnt,
-      listed-reads.Asked,
-      listed-reads.Learnt,
-    ) (read-alternatives-at t) read-alternatives.Post read-alternatives-Inv-loop read-alternatives-μ-loop
+    read-alternatives-lts.spec (claims t) (read-alternatives-at t) read-alternatives.Post read-alternatives-Inv-loop read-alternatives-μ-loop
     -- loop-holds
     (λ c. gathered-start _ refl (c .before .before .pre .1))
     -- label-colon-requires
@@ -102,13 +85,7 @@ read-alternatives-met t =
           (after-labelled .labelled .given .1) (c .before .before .before .before .before .read-type .ensures) (c .before .typed .given .1),
     ))
     -- mul-kept
-    (λ c.
-    let after-labelled = c .before .before .before .before .before .before .before .before .before in
-    omega (
-      arith,
-      read-one (after-labelled .before .before .before .loop .inv) (after-labelled .before .before .label-colon .ensures)
-          (after-labelled .labelled .given .1) (c .before .before .before .before .before .before .read-type .ensures) (c .before .before .typed .given .1),
-    ))
+    (λ c. search needs)
     -- array-write-kept
     (λ c.
     let after-labelled = c .before .before .before .before .before .before .before .before .before in
@@ -118,13 +95,7 @@ read-alternatives-met t =
           (after-labelled .labelled .given .1) (c .before .before .before .before .before .before .read-type .ensures) (c .before .before .typed .given .1),
     ))
     -- add-n
-    (λ c.
-    let after-labelled = c .before .before .before .before .before .before .before .before .before in
-    omega (
-      arith,
-      read-one (after-labelled .before .before .before .loop .inv) (after-labelled .before .before .label-colon .ensures)
-          (after-labelled .labelled .given .1) (c .before .before .before .before .before .before .read-type .ensures) (c .before .before .typed .given .1),
-    ))
+    (λ c. search needs)
     -- kind-at-requires
     (λ c κs. search needs)
     -- expect-requires
@@ -168,27 +139,9 @@ read-alternatives-met t =
     (after-labelled .labelled .given .1) (after-typed .before .before .before .before .read-type .ensures) (after-typed .typed .given .1)
     (after-if1 .before .before .pair-word .ensures) (eq-eqb _ _ (sym (after-if1 .before .kind-at .ensures) ∙ after-if1 .if1 .taken))
     (c .before .before .before .expect .ensures) (c .before .comma .given .1))
-    -- add-put-list
-    (λ c.
-    let after-typed = c .before .before .before .before .before .before .before in
-    let after-labelled = after-typed .before .before .before .before .before .before .before in
-    omega (
-      arith,
-      read-one (after-labelled .before .before .before .loop .inv) (after-labelled .before .before .label-colon .ensures)
-          (after-labelled .labelled .given .1) (after-typed .before .before .before .before .read-type .ensures) (after-typed .typed .given .1),
-    ))
-    -- put-list-requires
+    -- put-alternatives-requires
     (λ c κs.
-    let after-typed = c .before .before .before .before .before .before .before in
-    let after-labelled = after-typed .before .before .before .before .before .before .before in
-    omega (
-      arith,
-      read-one (after-labelled .before .before .before .loop .inv) (after-labelled .before .before .label-colon .ensures)
-          (after-labelled .labelled .given .1) (after-typed .before .before .before .before .read-type .ensures) (after-typed .typed .given .1),
-    ))
-    -- listed-requires
-    (λ c κs.
-    let after-typed = c .before .before .before .before .before .before .before .before .before .before in
+    let after-typed = c .before .before .before .before .before .before in
     let after-labelled = after-typed .before .before .before .before .before .before .before in
     omega (
       arith,
@@ -197,15 +150,15 @@ read-alternatives-met t =
     ))
     -- same-length-4
     (λ c.
-    let after-read-type = c .before .before .before .before .before .before .before .before .before .before .before .before .before .before .before in
-    c .before .before .before .put-list .ensures .kept .long ∙ after-read-type .read-type .ensures .kept .long
+    let after-read-type = c .before .before .before .before .before .before .before .before .before .before .before .before .before in
+    c .before .before .put-alternatives .ensures .kept .long ∙ after-read-type .read-type .ensures .kept .long
     ∙ after-read-type .before .before .before .before .before .before .loop .inv .kept .long)
     -- returns-4
     (λ c.
-    let after-if1 = c .before .before .before .before .before .before .before in
+    let after-if1 = c .before .before .before .before .before in
     let after-typed = after-if1 .before .before .before .before in
     let after-labelled = after-typed .before .before .before .before .before .before .before in
     gathered-end (after-labelled .before .before .before .loop .inv) (after-labelled .before .before .label-colon .ensures)
     (after-labelled .labelled .given .1) (after-typed .before .before .before .before .read-type .ensures) (after-typed .typed .given .1)
     (after-if1 .before .before .pair-word .ensures) (ne-eqb _ _ (λ q. after-if1 .if1 .left (after-if1 .before .kind-at .ensures ∙ q)))
-    (c .before .before .before .put-list .ensures) (c .listed .ensures))
+    (c .before .before .put-alternatives .ensures))

@@ -15,7 +15,8 @@ use Rattle.read_types.proofs.types.read_round.Reads as read-round
 use Rattle.read_types.proofs.steps.type_head.Reads as type-head-reads
 use Rattle.read_types.proofs.types.+read_alternatives+read_atom+read_choice+read_operand+read_round+read_type.Proof.Measures.{read-atom-at, read-choice-below, read-round-below}
 
-pub read-atom-met : {M : Type 1} (t : ℕ) → read-atom-lts.Closed (
+abbrev claims : ℕ → read-atom-lts.Claims
+claims t = (
   kind-at-reads.Asked,
   kind-at-reads.Learnt,
   type-head-reads.Asked,
@@ -30,25 +31,12 @@ pub read-atom-met : {M : Type 1} (t : ℕ) → read-atom-lts.Closed (
   read-choice.Post,
   misfit-reads.Asked,
   misfit-reads.Learnt,
-) (read-atom-at t) read-atom.Post
+)
+
+pub read-atom-met : {M : Type 1} (t : ℕ) → read-atom-lts.Closed (claims t) (read-atom-at t) read-atom.Post
     M
 read-atom-met t =
-    read-atom-lts.spec (
-      kind-at-reads.Asked,
-      kind-at-reads.Learnt,
-      type-head-reads.Asked,
-      type-head-reads.Learnt,
-      one-type-reads.Asked,
-      one-type-reads.Learnt,
-      name-type-reads.Asked,
-      name-type-reads.Learnt,
-      read-round-below t,
-      read-round.Post,
-      read-choice-below t,
-      read-choice.Post,
-      misfit-reads.Asked,
-      misfit-reads.Learnt,
-    ) (read-atom-at t) read-atom.Post
+    read-atom-lts.spec (claims t) (read-atom-at t) read-atom.Post
     -- kind-at-requires
     (λ c κs. search needs)
     -- type-head-requires

@@ -13,7 +13,8 @@ use Rattle.read_types.proofs.types.+read_alternatives+read_atom+read_ch
 use Rattle.read_types.proofs.steps.refusal.Reads as refusal-reads
 use Rattle.read_types.proofs.types.+read_alternatives+read_atom+read_choice+read_operand+read_round+read_type.Proof.Measures.{read-alternatives-below, read-choice-at}
 
-pub read-choice-met : {M : Type 1} (t : ℕ) → read-choice-lts.Closed (
+abbrev claims : ℕ → read-choice-lts.Claims
+claims t = (
   choice-opening-reads.Asked,
   choice-opening-reads.Learnt,
   refusal-reads.Asked,
@@ -26,22 +27,11 @@ pub read-choice-met : {M : Type 1} (t : ℕ) → read-choice-lts.Closed (
   put-node-reads.Learnt,
   lasting-reads.Asked,
   lasting-reads.Learnt,
-) (read-choice-at t) read-choice.Post M
+)
+
+pub read-choice-met : {M : Type 1} (t : ℕ) → read-choice-lts.Closed (claims t) (read-choice-at t) read-choice.Post M
 read-choice-met t =
-    read-choice-lts.spec (
-      choice-opening-reads.Asked,
-      choice-opening-reads.Learnt,
-      refusal-reads.Asked,
-      refusal-reads.Learnt,
-      read-alternatives-below t,
-      read-alternatives.Post,
-      expect-reads.Asked,
-      expect-reads.Learnt,
-      put-node-reads.Asked,
-      put-node-reads.Learnt,
-      lasting-reads.Asked,
-      lasting-reads.Learnt,
-    ) (read-choice-at t) read-choice.Post
+    read-choice-lts.spec (claims t) (read-choice-at t) read-choice.Post
     -- choice-opening-requires
     (λ c κs. omega (arith, c .before .before .pre .1 .1))
     -- enum-known-opened

@@ -11,23 +11,19 @@ use Rattle.read_types.proofs.steps.refusal.Reads as refusal-reads
 use Rattle.read_types.proofs.steps.type_term.Reads as type-term-reads
 use Rattle.read_types.proofs.types.+read_alternatives+read_atom+read_choice+read_operand+read_round+read_type.Proof.Measures.{read-atom-below, read-operand-at}
 
-pub read-operand-met : {M : Type 1} (t : ℕ) → read-operand-lts.Closed (
+abbrev claims : ℕ → read-operand-lts.Claims
+claims t = (
   type-term-reads.Asked,
   type-term-reads.Learnt,
   refusal-reads.Asked,
   refusal-reads.Learnt,
   read-atom-below t,
   read-atom.Post,
-) (read-operand-at t) read-operand.Post M
+)
+
+pub read-operand-met : {M : Type 1} (t : ℕ) → read-operand-lts.Closed (claims t) (read-operand-at t) read-operand.Post M
 read-operand-met t =
-    read-operand-lts.spec (
-      type-term-reads.Asked,
-      type-term-reads.Learnt,
-      refusal-reads.Asked,
-      refusal-reads.Learnt,
-      read-atom-below t,
-      read-atom.Post,
-    ) (read-operand-at t) read-operand.Post
+    read-operand-lts.spec (claims t) (read-operand-at t) read-operand.Post
     -- type-term-requires
     (λ c κs. c .before .before .pre .1 .1)
     -- enum-known-mark

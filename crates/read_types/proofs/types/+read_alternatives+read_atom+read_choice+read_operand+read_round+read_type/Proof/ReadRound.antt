@@ -11,7 +11,8 @@ use Rattle.read_types.proofs.types.read_type.Reads as read-type
 use Rattle.read_types.proofs.steps.refusal.Reads as refusal-reads
 use Rattle.read_types.proofs.types.+read_alternatives+read_atom+read_choice+read_operand+read_round+read_type.Proof.Measures.{read-round-at, read-type-below}
 
-pub read-round-met : {M : Type 1} (t : ℕ) → read-round-lts.Closed (
+abbrev claims : ℕ → read-round-lts.Claims
+claims t = (
   opening-reads.Asked,
   opening-reads.Learnt,
   refusal-reads.Asked,
@@ -20,19 +21,11 @@ pub read-round-met : {M : Type 1} (t : ℕ) → read-round-lts.Closed (
   read-type.Post,
   closing-reads.Asked,
   closing-reads.Learnt,
-) (read-round-at t) read-round.Post M
+)
+
+pub read-round-met : {M : Type 1} (t : ℕ) → read-round-lts.Closed (claims t) (read-round-at t) read-round.Post M
 read-round-met t =
-    read-round-lts.spec (
-      opening-reads.Asked,
-      opening-reads.Learnt,
-      refusal-reads.Asked,
-      refusal-reads.Learnt,
-      read-type-below t,
-      read-type.Post,
-      closing-reads.Asked,
-      closing-reads.Learnt,
-    )
-    (read-round-at t) read-round.Post
+    read-round-lts.spec (claims t) (read-round-at t) read-round.Post
     -- opening-requires
     (λ c κs. search needs)
     -- enum-known-opened

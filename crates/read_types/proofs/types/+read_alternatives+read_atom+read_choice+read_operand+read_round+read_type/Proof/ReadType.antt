@@ -22,7 +22,8 @@ read-type-Inv-loop text scratch₀ d₀ l₀ kind₀ root scratch d l kind = Cha
 abbrev read-type-μ-loop : read-type-lts.MeasureT-loop
 read-type-μ-loop text scratch₀ d₀ l₀ kind₀ root scratch d l kind = length text - d .at
 
-pub read-type-met : {M : Type 1} (t : ℕ) → read-type-lts.Closed (
+abbrev claims : ℕ → read-type-lts.Claims
+claims t = (
   read-atom-below t,
   read-atom.Post,
   kind-at-reads.Asked,
@@ -37,24 +38,11 @@ pub read-type-met : {M : Type 1} (t : ℕ) → read-type-lts.Closed (
   put-infix-reads.Learnt,
   lasting-reads.Asked,
   lasting-reads.Learnt,
-) (read-type-at t) read-type.Post M
+)
+
+pub read-type-met : {M : Type 1} (t : ℕ) → read-type-lts.Closed (claims t) (read-type-at t) read-type.Post M
 read-type-met t =
-    read-type-lts.spec (
-      read-atom-below t,
-      read-atom.Post,
-      kind-at-reads.Asked,
-      kind-at-reads.Learnt,
-      root-before-reads.Asked,
-      root-before-reads.Learnt,
-      is-infix-reads.Asked,
-      is-infix-reads.Learnt,
-      read-operand-below t,
-      read-operand.Post,
-      put-infix-reads.Asked,
-      put-infix-reads.Learnt,
-      lasting-reads.Asked,
-      lasting-reads.Learnt,
-    ) (read-type-at t) read-type.Post read-type-Inv-loop read-type-μ-loop
+    read-type-lts.spec (claims t) (read-type-at t) read-type.Post read-type-Inv-loop read-type-μ-loop
     -- read-atom-requires
     (λ c κs. (omega (arith, c .before .before .before .pre), c .before .before .before .pre .1))
     -- enum-known-first
