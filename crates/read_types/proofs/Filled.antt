@@ -1,16 +1,18 @@
 -- How answers and words follow the definition's own combinators.
 use mathlib.Core.Path.{_≡_, refl, ap, sym, subst, _∙_}
 use mathlib.Core.List.{List, [], _∷_}
-use Prim.Native.Nat.{ℕ, zero, suc, _<_, _≤_}
+use Prim.Native.Nat.{ℕ, zero, suc, _+_, _<_, _≤_}
 use native.Mathlib.Nat.{le-of-suc-le-suc, not-suc-le-zero}
 use native.Mathlib.Omega.{arith}
 use lib.ListN.{drop, set, length-set}
-use Rattle.notation.specs.Reader.{Result, got, refused}
+use Rattle.notation.specs.Limits.{typeTermLimit}
+use Rattle.notation.specs.Reader.{Result, got, refused, lastly}
 use Rattle.notation.specs.declared.reading.Cursor.{Cursor}
 use Rattle.notation.specs.declared.reading.Tally.{Tally}
+use Rattle.notation.specs.declared.reading.TypeNode.{TypeNode}
 use Rattle.notation.specs.declared.reading.Taken.{Taken}
 use Rattle.notation.specs.declared.reading.Taken.the-variants.{Refused}
-use Rattle.notation.specs.Tables.{tableWords}
+use Rattle.notation.specs.Tables.{nodesAt, putNode, tableWords, typeWord}
 use Rattle.read_types.specs.declared.steps.Out.{Out}
 use Rattle.read_types.specs.declared.steps.Out.the-variants.{Got, Not}
 use Rattle.read_types.specs.Filling.{Kept, WordPut, Put, pastArea, Stepped, asOut, Form, Made, Meets}
@@ -48,6 +50,9 @@ pub kept-set : (w : List ℕ) (i a : ℕ) → i < tableWords → Kept w (set w i
 unfolding pastArea
 kept-set w i a l = record { long = length-set w i a; past = drop-set tableWords w i a l }
 
+pub word-put : {w : List ℕ} {i n m : ℕ} → n ≡ m → i < tableWords → WordPut w i m (set w i n)
+word-put {w} {i} {n} e l = record { words = ap (set w i) e; kept = kept-set w i n l }
+
 -- the words that puts leave, one after another
 infixl 30 _set-more_
 pub _set-more_ : {v x u : List ℕ} {i n : ℕ} → v ≡ x → WordPut v i n u → u ≡ set x i n
@@ -59,6 +64,11 @@ put-one p = record { is = refl; words = p .words; kept = p .kept }
 infixl 30 _put-more_
 pub _put-more_ : {w x v u : List ℕ} {i n : ℕ} {k r : Tally} → Put w x k r v → WordPut v i n u → Put w (set x i n) k r u
 _put-more_ q p = record { is = q .is; words = q .words set-more p; kept = p .kept upon q .kept }
+
+-- a type node is put
+pub node-kept : {w v : List ℕ} (i : ℕ) (n : TypeNode) → v ≡ putNode w i n → i < typeTermLimit → Kept w v
+unfolding putNode
+node-kept {w} i n e l = subst (Kept w) (sym e) (kept-set w (nodesAt + i) (typeWord n) (omega arith))
 
 -- ── what an answer says of the definition's answer
 module _ {A : Type 0} {F : Form A} {w v : List ℕ} {k : Tally} {r : Out} where
@@ -80,6 +90,19 @@ module _ {A : Type 0} {F : Form A} {w v : List ℕ} {k : Tally} {r : Out} where
   pub stopped : {n i : ℕ} (x : Result A) → Made F w k x r v → r ≡ Not n i → x ≡ refused n i
   stopped {n} {i} (got a c) h q = never-got (sym q ∙ h .said .0)
   stopped {n} {i} (refused m j) h q = let two : Not m j ≡ Not n i = sym (h .said) ∙ q in cc
+
+-- the same answer for what a last part becomes, which is written as the part is
+pub made-lastly : {A B : Type 0} (F : Form A) (G : Form B) {w u v : List ℕ} {k l : Tally} {r : Out} (g : A → B) (x : Result A)
+    → ((a : A) → F .Fine a → (F .after a l ≡ G .after (g a) k) × (F .write a l u ≡ G .write (g a) k w) × G .Fine (g a))
+    → Made F u l x r v → Made G w k (lastly g x) r v
+made-lastly F G g (got a d) h m = let z = h a (m .said .2) in record { said = (m .said .0 ∙ ap (Got d) (z .0), m .said .1 ∙ z .1, z .2) }
+made-lastly F G g (refused n i) h m = record { said = m .said }
+
+-- the same answer, which is written otherwise
+pub made-same : {A : Type 0} (F G : Form A) {w u v : List ℕ} {k l : Tally} {r : Out} (x : Result A)
+    → ((a : A) → F .Fine a → (F .after a l ≡ G .after a k) × (F .write a l u ≡ G .write a k w) × G .Fine a) → Made F u l x r v → Made G w k x r v
+made-same F G (got a d) h m = let z = h a (m .said .2) in record { said = (m .said .0 ∙ ap (Got d) (z .0), m .said .1 ∙ z .1, z .2) }
+made-same F G (refused n i) h m = record { said = m .said }
 
 -- ── meeting the definition at every fuel above a bound
 module _ {A : Type 0} {F : Form A} (s w : List ℕ) (c : Cursor) (k : Tally) {b : ℕ} {f : ℕ → Result A} where
@@ -106,10 +129,11 @@ module _ {A : Type 0} (F : Form A) (s w : List ℕ) (c : Cursor) (k : Tally) {b 
   pub more-no : {r : Out} {v : List ℕ} {n i : ℕ} → r ≡ Not n i → Kept w v → ((m : ℕ) → b ≤ m → f (suc m) ≡ refused n i) → Meets F s w c k b f r v
   more-no {n = n} {i} q g h = meets-no s w c k q g (at-more (λ m. f m ≡ refused n i) h)
 
-  pub more-got : {d : Cursor} {l : Tally} {v : List ℕ} → F .Ahead s c k d l → Kept w v → ((m : ℕ) → b ≤ m → Made F w k (f (suc m)) (Got d l) v) → Meets F s w c k b f (Got d l) v
+  pub more-got : {d : Cursor} {l : Tally} {v : List ℕ} → F .Ahead s c k d l → Kept w v → ((m : ℕ) → b ≤ m → Made F w k (f (suc m)) (Got d l) v)
+      → Meets F s w c k b f (Got d l) v
   more-got {d} {l} {v} o g h = meets-got s w c k o g (at-more (λ m. Made F w k (f m) (Got d l) v) h)
 
 -- the words of an answer at every fuel above the bound
-pub more-made : {A : Type 0} (F : Form A) (w : List ℕ) (k : Tally) (f : ℕ → Result A) {b : ℕ} {r : Out} {v : List ℕ} → ((m : ℕ) → b ≤ m → Made F w k (f (suc m)) r v) → (m : ℕ) → b < m → Made F w k
-    (f m) r v
+pub more-made : {A : Type 0} (F : Form A) (w : List ℕ) (k : Tally) (f : ℕ → Result A) {b : ℕ} {r : Out} {v : List ℕ}
+    → ((m : ℕ) → b ≤ m → Made F w k (f (suc m)) r v) → (m : ℕ) → b < m → Made F w k (f m) r v
 more-made F w k f {r = r} {v} = at-more (λ m. Made F w k (f m) r v)

@@ -1,17 +1,17 @@
 -- What the reader's code promises: its steps, where a reading goes on, and the words that it leaves.
 use mathlib.Core.Path.{_≡_}
-use Prim.Native.Nat.{ℕ, _+_, _-_, _*_, _<_, _≤_}
+use Prim.Native.Nat.{ℕ, zero, suc, _+_, _-_, _*_, _<_, _≤_}
 use mathlib.Core.List.{List}
 use mathlib.Core.Bool.{cond}
-use lib.ListN.{length, drop, set}
+use lib.ListN.{length, getD, drop, set}
 use lib.Dec.{eqb}
 use Rattle.notation.specs.Fine.{SomeAlternative, FineType, FineAlternatives}
-use Rattle.notation.specs.Limits.{textLimit, typeTermLimit, processTermLimit}
+use Rattle.notation.specs.Limits.{textLimit, labelLimit, typeTermLimit, processTermLimit}
 use Rattle.notation.specs.Token.{tokenAt, width, kColon, kRoundClose, kBraceOpen, kStar, kAt, kOne, kName, kPlus}
 use Rattle.notation.specs.Tree.{Located, Ty, unit, named, tensor, par, lolli, plus, with, Alternatives, alternative}
 use Rattle.notation.specs.Reader.{Result, got, refused, take, fault, expect, opening, typeTerm, closed, thenToken, nameIn}
-use Rattle.notation.specs.Types.{readType, readAtom, readAlternatives, labelTerm, rightBy, roundBy, choiceBy, moreBy}
-use Rattle.notation.specs.Tables.{afterType, afterAlternatives, writeType, writeAlternatives, moreNodes, putInfix, Area, offsetRadix, pointerRadix, tableWords}
+use Rattle.notation.specs.Types.{readType, readAtom, readAlternatives, isInfix, labelTerm, rightBy, roundBy, choiceBy}
+use Rattle.notation.specs.Tables.{afterType, afterAlternatives, writeType, writeAlternatives, moreNodes, alternativesAt, Area, offsetRadix, pointerRadix, tableWords}
 use Rattle.notation.specs.declared.reading.Tally.{Tally}
 use Rattle.notation.specs.declared.reading.TypeNode.{TypeNode}
 use Rattle.notation.specs.declared.reading.TermNode.{TermNode}
@@ -55,8 +55,10 @@ asOut (Refused n i) = Not n i
 -- r is the answer p, and then the bracket that closes: p's refusal, the bracket's, or p with as many open as at c
 pub data Closes (s : List ℕ) (c : Cursor) (p r : Out) : Type 0 where
   not-read : {n j : ℕ} → p ≡ Not n j → r ≡ p → Closes s c p r
-  not-closed : {e : Cursor} {l : Tally} {x : Taken} {n j : ℕ} → p ≡ Got e l → Stepped s e 1 0 0 (expect s kRoundClose e) x → x ≡ Refused n j → r ≡ asOut x → Closes s c p r
-  read : {e b : Cursor} {l : Tally} {x : Taken} {j : ℕ} → p ≡ Got e l → Stepped s e 1 0 0 (expect s kRoundClose e) x → x ≡ At j b → r ≡ Got (closed c b) l → Closes s c p r
+  not-closed : {e : Cursor} {l : Tally} {x : Taken} {n j : ℕ} → p ≡ Got e l → Stepped s e 1 0 0 (expect s kRoundClose e) x → x ≡ Refused n j → r ≡ asOut x
+      → Closes s c p r
+  read : {e b : Cursor} {l : Tally} {x : Taken} {j : ℕ} → p ≡ Got e l → Stepped s e 1 0 0 (expect s kRoundClose e) x → x ≡ At j b → r ≡ Got (closed c b) l
+      → Closes s c p r
 
 -- no token fits here
 abbrev pub misfitTaken : List ℕ → Cursor → Taken
@@ -86,6 +88,15 @@ pub record Kept (w v : List ℕ) : Type 0 where
 -- the word i of the tables is n
 pub record WordPut (w : List ℕ) (i n : ℕ) (v : List ℕ) : Type 0 where
   pub words : v ≡ set w i n
+  pub kept : Kept w v
+
+-- the first n of the kept words, put from `at` on, the last of them first
+unfoldable pub listPut : List ℕ → ℕ → ℕ → List ℕ → List ℕ
+listPut kept zero at w = w
+listPut kept (suc n) at w = listPut kept n (at + 1) (set w at (getD kept n 0))
+
+pub record ListPut (w entries : List ℕ) (n at : ℕ) (v : List ℕ) : Type 0 where
+  pub words : v ≡ listPut entries n at w
   pub kept : Kept w v
 
 -- words are put: the tally r and the words v
@@ -151,7 +162,7 @@ SameDeclared k l = (l .types ≡ k .types) × (l .processes ≡ k .processes) ×
 abbrev pub OthersSame : Cursor → Tally → Cursor → Tally → Type 0
 OthersSame c k d l = (d .terms ≡ c .terms) × (l .entries ≡ k .entries) × (l .terms ≡ k .terms) × (l .branches ≡ k .branches) × SameDeclared k l
 
--- past a type: `own` is 1 for a list of alternatives, of which each has a type term more than alternatives
+-- past a type: each has a type term more than alternatives; `own` is 1 for a list of them, and one more for each that was read before
 abbrev pub AheadType : ℕ → List ℕ → Cursor → Tally → Cursor → Tally → Type 0
 AheadType own s c k d l =
     (c .at < d .at)
@@ -170,13 +181,12 @@ typeForm = record {
   Ahead = λ s c k d l. AheadType 0 s c k d l × (l .last < l .nodes);
 }
 
--- a list of which n labels came before
-abbrev pub alternativesForm : ℕ → Form (Alternatives Located)
-alternativesForm n = record {
+abbrev pub alternativesForm : Form (Alternatives Located)
+alternativesForm = record {
   after = afterAlternatives;
   write = writeAlternatives;
   Fine = λ r. FineAlternatives r × SomeAlternative r;
-  Ahead = λ s c k d l. AheadType 1 s c k d l × (l .last + n ≤ 16);
+  Ahead = λ s c k d l. AheadType 1 s c k d l × (l .last ≤ labelLimit);
 }
 
 abbrev pub unread : List ℕ → Cursor → ℕ
@@ -188,8 +198,8 @@ TypeRead s w c k = Meets typeForm s w c k (3 * unread s c + 2) (λ m. readType m
 abbrev pub AtomRead : List ℕ → List ℕ → Cursor → Tally → Out → List ℕ → Type 0
 AtomRead s w c k = Meets typeForm s w c k (3 * unread s c + 1) (λ m. readAtom m s c)
 
-abbrev pub AlternativesRead : ℕ → List ℕ → List ℕ → Cursor → Tally → Out → List ℕ → Type 0
-AlternativesRead n s w c k = Meets (alternativesForm n) s w c k (3 * unread s c + 1) (λ m. readAlternatives m s n c)
+abbrev pub AlternativesRead : List ℕ → List ℕ → Cursor → Tally → Out → List ℕ → Type 0
+AlternativesRead s w c k = Meets alternativesForm s w c k (3 * unread s c + 1) (λ m. readAlternatives m s 0 c)
 
 -- ── the parts of these
 abbrev pub OneRead : List ℕ → List ℕ → Cursor → Tally → Out → List ℕ → Type 0
@@ -209,39 +219,33 @@ abbrev pub ChoiceRead : ℕ → List ℕ → List ℕ → Cursor → Tally → O
 ChoiceRead kind s w c k =
     Meets typeForm s w c k (3 * unread s c) (λ m. choiceBy (λ d. readAlternatives m s 0 d) s kind (choiceOf kind) c)
 
--- what follows an alternative, none or more, of which n came before
-abbrev pub moreForm : ℕ → Form (Alternatives Located)
-moreForm n = record {
-  after = afterAlternatives;
-  write = writeAlternatives;
-  Fine = FineAlternatives;
-  Ahead = λ s c k d l.
-      (c .at ≤ d .at)
-      × (d .at ≤ length s)
-      × (c .types ≤ d .types)
-      × (d .types ≤ typeTermLimit)
-      × (l .nodes + c .types ≤ d .types + k .nodes)
-      × (l .alternatives + c .types ≤ d .types + k .alternatives)
-      × (k .nodes ≤ l .nodes)
-      × OthersSame c k d l
-      × (l .last + n ≤ 16);
-}
+-- the tables with a alternatives, of which the last n are one list
+abbrev pub listing : ℕ → ℕ → Tally → Tally
+listing a n k = record { types = k .types; processes = k .processes; execs = k .execs; entries = k .entries; nodes = k .nodes; alternatives = a; terms = k .terms; branches = k .branches; last = n }
 
-abbrev pub MoreRead : ℕ → List ℕ → List ℕ → Cursor → Tally → Out → List ℕ → Type 0
-MoreRead n s w c k = Meets (moreForm n) s w c k (3 * unread s c + 2) (λ m. moreBy (λ d. readAlternatives m s n d) s c)
+-- a list of n alternatives more
+abbrev pub listed : ℕ → Tally → Tally
+listed n k = listing (k .alternatives + n) n k
+
+abbrev pub putListed : List ℕ → ℕ → Tally → List ℕ → List ℕ
+putListed kept n k w = listPut kept n (alternativesAt + k .alternatives) w
 
 -- the node kind of an infix mark
 unfoldable pub infixKind : ℕ → ℕ
 infixKind k = cond (eqb k kStar) 2 (cond (eqb k kAt) 3 4)
 
--- the right part of an infix: its own words, and the node over it and the type whose node was read last
-abbrev pub rightForm : ℕ → Form (Ty Located)
-rightForm kind = record {
-  after = λ B k. moreNodes (afterType B k);
-  write = λ B k w. putInfix (infixKind kind) k (afterType B k) (writeType B k w);
+-- the root of a type whose first atom fills the tables up to l, where a token of this kind follows: an infix mark's node, or the atom's own root
+unfoldable pub rootBefore : ℕ → Tally → ℕ
+rootBefore kind l = cond (isInfix kind) (l .nodes) (l .last)
+
+-- an atom to the right of an infix mark, whose node is counted and not yet written
+abbrev pub operandForm : Form (Ty Located)
+operandForm = record {
+  after = λ A k. afterType A (moreNodes k);
+  write = λ A k w. writeType A (moreNodes k) w;
   Fine = FineType;
   Ahead = typeForm .Ahead;
 }
 
-abbrev pub RightRead : ℕ → List ℕ → List ℕ → Cursor → Tally → Out → List ℕ → Type 0
-RightRead kind s w c k = Meets (rightForm kind) s w c k (3 * unread s c) (λ m. rightBy (λ d. readType m s d) s kind c)
+abbrev pub OperandRead : ℕ → List ℕ → List ℕ → Cursor → Tally → Out → List ℕ → Type 0
+OperandRead kind s w c k = Meets operandForm s w c k (3 * unread s c) (λ m. rightBy (λ d. readAtom m s d) s kind c)

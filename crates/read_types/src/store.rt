@@ -1,9 +1,9 @@
-// The words of the tables, entry by entry: each appends one and counts it.
+// The words of the tables, entry by entry.
 use notation::reading::ProcessEntry;
 use notation::reading::Tally;
 use notation::reading::TermNode;
 use notation::reading::TypeNode;
-use notation::tables::ALTERNATIVES_AT;
+use notation::script::Script;
 use notation::tables::BRANCHES_AT;
 use notation::tables::ENTRIES_AT;
 use notation::tables::EXECS_AT;
@@ -19,9 +19,9 @@ use notation::tables::TYPE_KIND_RADIX;
 use notation::tables::TYPE_SECOND_UNIT;
 use notation::tables::TYPES_AT;
 ghost use mathlib.Core.Path.{_≡_};
-ghost use Prim.Native.Nat.{_<_};
-ghost use Rattle.notation.specs.Tables.{moreNodes, moreAlternatives, moreTerms, moreBranches, pairWord, putNode, putAlternative, putTerm, putBranch, putEntry, putType, putProcess, putExec, moreEntries, moreTypes, moreProcesses, moreExecs, lasting, branchRoom, offsetRadix, pointerRadix, tableWords};
-ghost use Rattle.read_types.specs.Filling.{WordPut, Put, Fits, FitsTerm, FitsEntry};
+ghost use Prim.Native.Nat.{_+_, _<_, _≤_};
+ghost use Rattle.notation.specs.Tables.{moreTerms, moreBranches, pairWord, putNode, putTerm, putBranch, putEntry, putType, putProcess, putExec, moreEntries, moreTypes, moreProcesses, moreExecs, lasting, branchRoom, offsetRadix, pointerRadix, tableWords};
+ghost use Rattle.read_types.specs.Filling.{WordPut, ListPut, Put, Fits, FitsTerm, FitsEntry};
 ghost use Rattle.notation.specs.Tables.{Area};
 ghost use Rattle.notation.specs.Limits.{execLimit, labelLimit, processLimit, processTermLimit, typeLimit, typeTermLimit};
 
@@ -33,41 +33,46 @@ pub fn put_word(scratch: &mut [u32], i: usize, n: usize)
     scratch[i] = n as u32;
 }
 
+// The word of a name or label with the number that belongs to it.
+pub fn pair_word(at: usize, n: usize) -> u32
+    requires { ⌜ (at < offsetRadix) × (n < pointerRadix) ⌝ }
+    ensures { λ r. ⌜ r ≡ pairWord at n ⌝ }
+{
+    (at + OFFSET_RADIX * n) as u32
+}
+
 // The word at i is a name or label with the number that belongs to it.
-fn put_pair(scratch: &mut [u32], i: usize, at: usize, n: usize)
+pub fn put_pair(scratch: &mut [u32], i: usize, at: usize, n: usize)
     requires { ⌜ Area (now scratch) × (i < tableWords) × (at < offsetRadix) × (n < pointerRadix) ⌝ }
     ensures { λ r. ⌜ WordPut (now (scratch .entry)) i (pairWord at n) (now (scratch .exit)) ⌝ }
 {
-    put_word(scratch, i, at + OFFSET_RADIX * n);
+    scratch[i] = pair_word(at, n);
 }
 
-// Appends a type node.
-pub(crate) fn put_node(scratch: &mut [u32], k: Tally, n: TypeNode) -> Tally
-    requires { ⌜ Area (now scratch) × (k .nodes < typeTermLimit) ⌝ }
-    requires { ⌜ Fits n ⌝ }
-    ensures { λ r. ⌜ Put (now (scratch .entry)) (putNode (now (scratch .entry)) (k .nodes) n) (moreNodes k) r (now (scratch .exit)) ⌝ }
+// The first n of the kept words stand from `at` on, the last of them first.
+pub fn put_list(scratch: &mut [u32], kept: &[u32; Script::LABELS], n: usize, at: usize)
+    requires { ⌜ Area (now scratch) × (n ≤ labelLimit) × (at + n ≤ tableWords) ⌝ }
+    ensures { λ r. ⌜ ListPut (now (scratch .entry)) (now (kept .entry)) n at (now (scratch .exit)) ⌝ }
+{
+    let mut i = n;
+    let mut next = at;
+    while 0 < i {
+        i -= 1;
+        scratch[next] = kept[i];
+        next += 1;
+    }
+}
+
+// The type node of this number is n.
+pub(crate) fn put_node(scratch: &mut [u32], i: usize, n: TypeNode)
+    requires { ⌜ Area (now scratch) × (i < typeTermLimit) × Fits n ⌝ }
+    ensures { λ r. ⌜ now (scratch .exit) ≡ putNode (now (scratch .entry)) i n ⌝ }
 {
     put_word(
         scratch,
-        NODES_AT + k.nodes,
+        NODES_AT + i,
         n.kind + TYPE_KIND_RADIX * n.first + TYPE_SECOND_UNIT * n.second,
     );
-    let mut l = k;
-    l.nodes = k.nodes + 1;
-    l.last = k.nodes;
-    l
-}
-
-// Appends an alternative: the label at `at` with a type's node.
-pub(crate) fn put_alternative(scratch: &mut [u32], k: Tally, at: usize, node: usize) -> Tally
-    requires { ⌜ Area (now scratch) × (k .alternatives < typeTermLimit) × (k .last < labelLimit) × (at < offsetRadix) × (node < typeTermLimit) ⌝ }
-    ensures { λ r. ⌜ Put (now (scratch .entry)) (putAlternative (now (scratch .entry)) (k .alternatives) at node) (moreAlternatives k) r (now (scratch .exit)) ⌝ }
-{
-    put_pair(scratch, ALTERNATIVES_AT + k.alternatives, at, node);
-    let mut l = k;
-    l.alternatives = k.alternatives + 1;
-    l.last = k.last + 1;
-    l
 }
 
 // Appends a process node.
@@ -85,7 +90,6 @@ pub fn put_term(scratch: &mut [u32], k: Tally, n: TermNode) -> Tally
     put_word(scratch, i + 1, n.second + POINTER_RADIX * n.third);
     let mut l = k;
     l.terms = k.terms + 1;
-    l.last = k.terms;
     l
 }
 

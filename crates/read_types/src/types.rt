@@ -1,4 +1,5 @@
-// The reading of types: "a type is an atom, or an atom, an infix mark and a type".
+// The reading of types: "a type is an atom, or an atom, an infix mark and a type". Calls go as deep as brackets are open: a type is a loop over
+// its infix marks, a choice one over its alternatives.
 use crate::steps::Out;
 use crate::steps::closing;
 use crate::steps::expect;
@@ -11,18 +12,24 @@ use crate::steps::refusal;
 use crate::steps::then_expect;
 use crate::steps::type_head;
 use crate::steps::type_term;
-use crate::store::put_alternative;
+use crate::store::lasting;
+use crate::store::pair_word;
+use crate::store::put_list;
 use crate::store::put_node;
 use notation::kinds;
 use notation::reading::Cursor;
 use notation::reading::Taken;
 use notation::reading::Tally;
 use notation::reading::TypeNode;
+use notation::script::Script;
+use notation::tables::ALTERNATIVES_AT;
 use notation::token::Token;
 use notation::token::TypeHead;
 ghost use mathlib.Core.Path.{_≡_};
-ghost use Prim.Native.Nat.{_<_, _≤_};
-ghost use Rattle.read_types.specs.Filling.{Stepped, labelColon, choiceOpening, infixKind, Room, TypeRead, AtomRead, RightRead, AlternativesRead, MoreRead, OneRead, NameRead, RoundRead, ChoiceRead};
+ghost use Prim.Native.Nat.{_+_, _<_, _≤_};
+ghost use Rattle.notation.specs.Limits.{labelLimit, typeTermLimit};
+ghost use Rattle.notation.specs.Tables.{Area, putNode, typeNode};
+ghost use Rattle.read_types.specs.Filling.{Stepped, labelColon, choiceOpening, infixKind, rootBefore, listed, putListed, Put, Room, TypeRead, AtomRead, OperandRead, AlternativesRead, OneRead, NameRead, RoundRead, ChoiceRead};
 
 // From the kind of a choice's mark to the kind of its node.
 const CHOICE_SHIFT: usize = Token::PLUS - kinds::PLUS;
@@ -64,6 +71,46 @@ fn infix_kind(kind: usize) -> usize
     kinds::LOLLI
 }
 
+// The root of a type whose first atom fills the tables up to l, where a token of this kind follows.
+fn root_before(kind: usize, l: Tally) -> usize
+    requires { ⌜ l .last < l .nodes ⌝ }
+    ensures { λ r. ⌜ r ≡ rootBefore kind l ⌝ }
+    ensures { λ r. ⌜ r ≤ l .nodes ⌝ }
+{
+    if is_infix(kind) {
+        return l.nodes;
+    }
+    l.last
+}
+
+// The node of an infix mark of this kind, to the left of which the tables were filled up to k; `right` is the root to its right.
+fn put_infix(scratch: &mut [u32], k: Tally, kind: usize, right: usize)
+    requires { ⌜ Area (now scratch) × (k .nodes < typeTermLimit) × (k .last < typeTermLimit) × (right ≤ typeTermLimit) ⌝ }
+    ensures { λ r. ⌜ now (scratch .exit) ≡ putNode (now (scratch .entry)) (k .nodes) (typeNode (infixKind kind) (k .last) right) ⌝ }
+{
+    put_node(
+        scratch,
+        k.nodes,
+        TypeNode {
+            kind: infix_kind(kind),
+            first: k.last,
+            second: right,
+        },
+    );
+}
+
+// Appends a list of n alternatives, whose words were kept.
+fn put_alternatives(scratch: &mut [u32], kept: &[u32; Script::LABELS], n: usize, k: Tally) -> Tally
+    requires { ⌜ Area (now scratch) × (n ≤ labelLimit) × (k .alternatives + n ≤ typeTermLimit) ⌝ }
+    ensures { λ r. ⌜ Put (now (scratch .entry)) (putListed (now (kept .entry)) n k (now (scratch .entry))) (listed n k) r (now (scratch .exit)) ⌝ }
+{
+    put_list(scratch, kept, n, ALTERNATIVES_AT + k.alternatives);
+    let mut l = k;
+    l.alternatives = k.alternatives + n;
+    l.last = n;
+    l
+}
+
 // The type 1.
 fn one_type(text: &[u8], scratch: &mut [u32], c: Cursor, k: Tally) -> Out
     requires { ⌜ Room (now text) (now scratch) c k ⌝ }
@@ -73,16 +120,19 @@ fn one_type(text: &[u8], scratch: &mut [u32], c: Cursor, k: Tally) -> Out
     let Taken::At(_, d) = taken else {
         return refusal(taken);
     };
-    let q = put_node(
+    put_node(
         scratch,
-        k,
+        k.nodes,
         TypeNode {
             kind: kinds::UNIT,
             first: 0,
             second: 0,
         },
     );
-    Out::Got(d, q)
+    let mut l = k;
+    l.nodes = k.nodes + 1;
+    l.last = k.nodes;
+    Out::Got(d, l)
 }
 
 // A type that is a name, which its node keeps by the offset.
@@ -94,16 +144,19 @@ fn name_type(text: &[u8], scratch: &mut [u32], c: Cursor, k: Tally) -> Out
     let Taken::At(i, d) = taken else {
         return refusal(taken);
     };
-    let q = put_node(
+    put_node(
         scratch,
-        k,
+        k.nodes,
         TypeNode {
             kind: kinds::NAMED,
             first: 0,
             second: i,
         },
     );
-    Out::Got(d, q)
+    let mut l = k;
+    l.nodes = k.nodes + 1;
+    l.last = k.nodes;
+    Out::Got(d, l)
 }
 
 // An atom, by what begins it.
@@ -137,7 +190,7 @@ fn read_round(text: &[u8], scratch: &mut [u32], c: Cursor, k: Tally) -> Out
     closing(text, c, inner)
 }
 
-// A choice whose mark has this kind: `+`, 28, or `&`, 29.
+// A choice whose mark has this kind: `+`, 28, or `&`, 29. It has its number before its alternatives, and its node after them.
 fn read_choice(text: &[u8], scratch: &mut [u32], c: Cursor, k: Tally, kind: usize) -> Out
     requires { ⌜ Room (now text) (now scratch) c k ⌝ }
     requires { ⌜ (28 ≤ kind) × (kind ≤ 29) ⌝ }
@@ -147,7 +200,10 @@ fn read_choice(text: &[u8], scratch: &mut [u32], c: Cursor, k: Tally, kind: usiz
     let Taken::At(_, d) = opened else {
         return refusal(opened);
     };
-    let inner = read_alternatives(text, scratch, d, k, 0);
+    let mut j = k;
+    j.nodes = k.nodes + 1;
+    j.last = k.nodes;
+    let inner = read_alternatives(text, scratch, d, j);
     let Out::Got(e, l) = inner else {
         return inner;
     };
@@ -155,9 +211,9 @@ fn read_choice(text: &[u8], scratch: &mut [u32], c: Cursor, k: Tally, kind: usiz
     let Taken::At(_, f) = closed else {
         return refusal(closed);
     };
-    let q = put_node(
+    put_node(
         scratch,
-        l,
+        k.nodes,
         TypeNode {
             kind: kind - CHOICE_SHIFT,
             first: l.alternatives,
@@ -171,99 +227,83 @@ fn read_choice(text: &[u8], scratch: &mut [u32], c: Cursor, k: Tally, kind: usiz
             terms: f.terms,
             depth: c.depth,
         },
-        q,
+        lasting(l, k.nodes),
     )
 }
 
-// The alternatives of a choice, of which n came before; each is appended after those that follow it.
-fn read_alternatives(text: &[u8], scratch: &mut [u32], c: Cursor, k: Tally, n: usize) -> Out
+// The alternatives of a choice; the words of those that were read are kept until the list ends.
+fn read_alternatives(text: &[u8], scratch: &mut [u32], c: Cursor, k: Tally) -> Out
     requires { ⌜ Room (now text) (now scratch) c k ⌝ }
-    ensures { λ r. ⌜ AlternativesRead n (now (text .entry)) (now (scratch .entry)) c k r (now (scratch .exit)) ⌝ }
+    ensures { λ r. ⌜ AlternativesRead (now (text .entry)) (now (scratch .entry)) c k r (now (scratch .exit)) ⌝ }
 {
-    let labelled = label_colon(text, c, n);
-    let Taken::At(i, d) = labelled else {
-        return refusal(labelled);
-    };
-    let typed = read_type(text, scratch, d, k);
-    let Out::Got(e, l) = typed else {
-        return typed;
-    };
-    let rest = more_alternatives(text, scratch, e, l, n + 1);
-    let Out::Got(f, m) = rest else {
-        return rest;
-    };
-    let q = put_alternative(scratch, m, i, l.last);
-    Out::Got(f, q)
-}
-
-// After an alternative: a comma and more, or none.
-fn more_alternatives(text: &[u8], scratch: &mut [u32], c: Cursor, k: Tally, n: usize) -> Out
-    requires { ⌜ Room (now text) (now scratch) c k × (n ≤ 16) ⌝ }
-    ensures { λ r. ⌜ MoreRead n (now (text .entry)) (now (scratch .entry)) c k r (now (scratch .exit)) ⌝ }
-{
-    let at = c.at;
-    if kind_at(text, at) == Token::COMMA {
-        let comma = expect(text, c, Token::COMMA);
-        let Taken::At(_, d) = comma else {
-            return refusal(comma);
+    let mut d = c;
+    let mut l = k;
+    let mut n: usize = 0;
+    let mut kept: [u32; Script::LABELS] = [0; Script::LABELS];
+    loop {
+        let labelled = label_colon(text, d, n);
+        let Taken::At(i, e) = labelled else {
+            return refusal(labelled);
         };
-        return read_alternatives(text, scratch, d, k, n);
+        let typed = read_type(text, scratch, e, l);
+        let Out::Got(f, m) = typed else {
+            return typed;
+        };
+        kept[n] = pair_word(i, m.last);
+        n += 1;
+        let at = f.at;
+        if kind_at(text, at) == Token::COMMA {
+            let comma = expect(text, f, Token::COMMA);
+            let Taken::At(_, g) = comma else {
+                return refusal(comma);
+            };
+            d = g;
+            l = m;
+        } else {
+            return Out::Got(f, put_alternatives(scratch, &kept, n, m));
+        }
     }
-    Out::Got(
-        c,
-        Tally {
-            types: k.types,
-            processes: k.processes,
-            execs: k.execs,
-            entries: k.entries,
-            nodes: k.nodes,
-            alternatives: k.alternatives,
-            terms: k.terms,
-            branches: k.branches,
-            last: 0,
-        },
-    )
 }
 
-// A type.
+// A type: an atom, and a turn for each infix mark. A mark's node is written once the root to its right is known.
 pub fn read_type(text: &[u8], scratch: &mut [u32], c: Cursor, k: Tally) -> Out
     requires { ⌜ Room (now text) (now scratch) c k ⌝ }
     ensures { λ r. ⌜ TypeRead (now (text .entry)) (now (scratch .entry)) c k r (now (scratch .exit)) ⌝ }
 {
     let first = read_atom(text, scratch, c, k);
-    let Out::Got(d, l) = first else {
+    let Out::Got(first_end, first_tally) = first else {
         return first;
     };
-    let at = d.at;
-    let kind = kind_at(text, at);
-    if is_infix(kind) {
-        return read_right(text, scratch, d, l, kind);
+    let mut d = first_end;
+    let mut l = first_tally;
+    let mut kind = kind_at(text, first_end.at);
+    let root = root_before(kind, l);
+    while is_infix(kind) {
+        let operand = read_operand(text, scratch, d, l, kind);
+        let Out::Got(e, m) = operand else {
+            return operand;
+        };
+        let next = kind_at(text, e.at);
+        put_infix(scratch, l, kind, root_before(next, m));
+        d = e;
+        l = m;
+        kind = next;
     }
-    first
+    Out::Got(d, lasting(l, root))
 }
 
-// The infix mark of this kind and the type to its right, after a type whose node is the last one.
-fn read_right(text: &[u8], scratch: &mut [u32], c: Cursor, k: Tally, kind: usize) -> Out
+// The infix mark of this kind and the atom to its right. The mark's node is counted, not yet written.
+fn read_operand(text: &[u8], scratch: &mut [u32], c: Cursor, k: Tally, kind: usize) -> Out
     requires { ⌜ Room (now text) (now scratch) c k ⌝ }
-    requires { ⌜ (kind ≤ 31) × (k .last < k .nodes) ⌝ }
-    ensures { λ r. ⌜ RightRead kind (now (text .entry)) (now (scratch .entry)) c k r (now (scratch .exit)) ⌝ }
+    requires { ⌜ kind ≤ 31 ⌝ }
+    ensures { λ r. ⌜ OperandRead kind (now (text .entry)) (now (scratch .entry)) c k r (now (scratch .exit)) ⌝ }
 {
     let mark = type_term(text, c, kind);
     let Taken::At(_, d) = mark else {
         return refusal(mark);
     };
-    let second = read_type(text, scratch, d, k);
-    let Out::Got(e, l) = second else {
-        return second;
-    };
-    let q = put_node(
-        scratch,
-        l,
-        TypeNode {
-            kind: infix_kind(kind),
-            first: k.last,
-            second: l.last,
-        },
-    );
-    Out::Got(e, q)
+    let mut j = k;
+    j.nodes = k.nodes + 1;
+    j.last = k.nodes;
+    read_atom(text, scratch, d, j)
 }

@@ -1,5 +1,4 @@
 use Rattle.notation.specs.Tables.{putNode, typeWord}
-use Rattle.read_types.proofs.Filled.{put-one}
 use borrow.Author.Needs.{needs}
 use Rattle.read_types.proofs.store.put_node.Statement.{statement}
 use Rattle.read_types.proofs.store.put_node.Tie as tie
@@ -25,15 +24,12 @@ add-put-word-3 c = search needs
 put-word-requires : tie.Need-put-word-requires
 put-word-requires c κs = search needs
 
-add-l : tie.Need-add-l
-add-l c = search needs
-
 same-length : tie.Need-same-length
 same-length c = search needs
 
 returns : tie.Need-returns
 unfolding putNode typeWord
-returns c = put-one (c .before .before .before .put-word .ensures)
+returns c = c .before .before .put-word .ensures .words
 
 pub put-node-spec : {M : Type 1} → statement M
 put-node-spec =
@@ -45,6 +41,5 @@ put-node-spec =
     mul-put-word-2
     add-put-word-3
     put-word-requires
-    add-l
     same-length
     returns)

@@ -22,20 +22,29 @@ refusal-requires : tie.Need-refusal-requires
 refusal-requires c κs = search needs
 
 returns : tie.Need-returns
-returns c = one-no _ _ _ _ (c .before .before .before .before .before .before .pre) (c .before .before .before .type-term .ensures) (c .before .enum-told .given .1) (c .refusal .ensures)
+returns c = one-no _ _ _ _ (c .before .before .before .before .before .before .pre) (c .before .before .before .type-term .ensures)
+    (c .before .enum-told .given .1) (c .refusal .ensures)
 
 put-node-requires : tie.Need-put-node-requires
-put-node-requires c κs =
-    let type-term = c .before .before .before .before .type-term in
-    let entry = c .before .before .before .before .before .before .before in
-    (omega (arith, entry .pre, type-term .ensures .on _ _ (c .before .before .taken .given .1)), omega (arith, entry .pre, type-term .ensures .on _ _ (c .before .before .taken .given .1)))
+put-node-requires c κs = omega (
+  arith,
+  c .before .before .before .before .before .before .before .pre,
+  c .before .before .before .before .type-term .ensures .on _ _
+      (c .before .before .taken .given .1),
+)
+
+add-l : tie.Need-add-l
+add-l c = omega (arith, c .before .before .before .before .before .before .before .before .before .before .before .pre)
 
 same-length : tie.Need-same-length
 same-length c = search needs
 
 returns-2 : tie.Need-returns-2
-returns-2 c = one-got _ _ _ _ (c .before .before .before .before .before .before .before .before .before .before .pre) (c .before .before .before .before .before .before .before .type-term .ensures)
-    (c .before .before .before .before .before .taken .given .1) (c .before .before .put-node .ensures)
+returns-2 c =
+    let after-taken = c .before .before .before .before .before .before in
+    let entry = after-taken .before .before .before .before .before in
+    one-got _ _ _ _ (entry .pre) (after-taken .before .before .type-term .ensures) (after-taken .taken .given .1)
+    (c .before .before .before .put-node .ensures)
 
 pub one-type-spec : {M : Type 1} → statement M
 one-type-spec =
@@ -47,5 +56,6 @@ one-type-spec =
     refusal-requires
     returns
     put-node-requires
+    add-l
     same-length
     returns-2)

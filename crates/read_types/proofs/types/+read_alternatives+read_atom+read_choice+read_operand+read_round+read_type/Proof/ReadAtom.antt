@@ -9,13 +9,14 @@ use Rattle.read_types.proofs.steps.misfit.Reads as misfit-reads
 use Rattle.read_types.proofs.types.name_type.Reads as name-type-reads
 use Rattle.read_types.proofs.types.one_type.Reads as one-type-reads
 use Rattle.read_types.proofs.types.read_atom.Reads as read-atom
-use Rattle.read_types.proofs.types.+more_alternatives+read_alternatives+read_atom+read_choice+read_right+read_round+read_type.Lts-read_atom as read-atom-lts
+use Rattle.read_types.proofs.types.+read_alternatives+read_atom+read_choice+read_operand+read_round+read_type.Lts-read_atom as read-atom-lts
 use Rattle.read_types.proofs.types.read_choice.Reads as read-choice
 use Rattle.read_types.proofs.types.read_round.Reads as read-round
 use Rattle.read_types.proofs.steps.type_head.Reads as type-head-reads
-use Rattle.read_types.proofs.types.+more_alternatives+read_alternatives+read_atom+read_choice+read_right+read_round+read_type.Proof.Measures.{read-atom-at, read-choice-below, read-round-below}
+use Rattle.read_types.proofs.types.+read_alternatives+read_atom+read_choice+read_operand+read_round+read_type.Proof.Measures.{read-atom-at, read-choice-below, read-round-below}
 
-pub read-atom-met : {M : Type 1} (t : ℕ) → read-atom-lts.Closed (
+abbrev claims : ℕ → read-atom-lts.Claims
+claims t = (
   kind-at-reads.Asked,
   kind-at-reads.Learnt,
   type-head-reads.Asked,
@@ -30,25 +31,12 @@ pub read-atom-met : {M : Type 1} (t : ℕ) → read-atom-lts.Closed (
   read-choice.Post,
   misfit-reads.Asked,
   misfit-reads.Learnt,
-) (read-atom-at t) read-atom.Post
+)
+
+pub read-atom-met : {M : Type 1} (t : ℕ) → read-atom-lts.Closed (claims t) (read-atom-at t) read-atom.Post
     M
 read-atom-met t =
-    read-atom-lts.spec (
-      kind-at-reads.Asked,
-      kind-at-reads.Learnt,
-      type-head-reads.Asked,
-      type-head-reads.Learnt,
-      one-type-reads.Asked,
-      one-type-reads.Learnt,
-      name-type-reads.Asked,
-      name-type-reads.Learnt,
-      read-round-below t,
-      read-round.Post,
-      read-choice-below t,
-      read-choice.Post,
-      misfit-reads.Asked,
-      misfit-reads.Learnt,
-    ) (read-atom-at t) read-atom.Post
+    read-atom-lts.spec (claims t) (read-atom-at t) read-atom.Post
     -- kind-at-requires
     (λ c κs. search needs)
     -- type-head-requires
@@ -86,29 +74,38 @@ read-atom-met t =
     -- same-length
     (λ c. search needs)
     -- returns
-    (λ c. atom-one _ _ _ _ (c .before .before .before .before .before .before .before .before .before .before .pre .1) _ (c .before .before .before .before .before .before .before .kind-at .ensures)
-    (sym (c .before .before .before .before .before .before .type-head .ensures) ∙ c .before .before .before .before .enum-told .given .1) (c .before .before .one-type .ensures))
+    (λ c. atom-one _ _ _ _ (c .before .before .before .before .before .before .before .before .before .before .pre .1) _
+    (c .before .before .before .before .before .before .before .kind-at .ensures)
+    (sym (c .before .before .before .before .before .before .type-head .ensures) ∙ c .before .before .before .before .enum-told .given .1)
+    (c .before .before .one-type .ensures))
     -- same-length-2
     (λ c. search needs)
     -- returns-2
-    (λ c. atom-name _ _ _ _ (c .before .before .before .before .before .before .before .before .before .before .pre .1) _ (c .before .before .before .before .before .before .before .kind-at .ensures)
-    (sym (c .before .before .before .before .before .before .type-head .ensures) ∙ c .before .before .before .before .enum-told2 .given .1) (c .before .before .name-type .ensures))
+    (λ c. atom-name _ _ _ _ (c .before .before .before .before .before .before .before .before .before .before .pre .1) _
+    (c .before .before .before .before .before .before .before .kind-at .ensures)
+    (sym (c .before .before .before .before .before .before .type-head .ensures) ∙ c .before .before .before .before .enum-told2 .given .1)
+    (c .before .before .name-type .ensures))
     -- same-length-3
     (λ c. search needs)
     -- returns-3
     (λ c. atom-round _ _ _ _ (c .before .before .before .before .before .before .before .before .before .before .pre .1) _
     (c .before .before .before .before .before .before .before .kind-at .ensures)
-    (sym (c .before .before .before .before .before .before .type-head .ensures) ∙ c .before .before .before .before .enum-told3 .given .1) (c .before .before .read-round .ensures))
+    (sym (c .before .before .before .before .before .before .type-head .ensures) ∙ c .before .before .before .before .enum-told3 .given .1)
+    (c .before .before .read-round .ensures))
     -- same-length-4
     (λ c. search needs)
     -- returns-4
-    (λ c. atom-plus _ _ _ _ (c .before .before .before .before .before .before .before .before .before .before .pre .1) _ (c .before .before .before .before .before .before .before .kind-at .ensures)
-    (sym (c .before .before .before .before .before .before .type-head .ensures) ∙ c .before .before .before .before .enum-told4 .given .1) (c .before .before .read-choice .ensures))
+    (λ c. atom-plus _ _ _ _ (c .before .before .before .before .before .before .before .before .before .before .pre .1) _
+    (c .before .before .before .before .before .before .before .kind-at .ensures)
+    (sym (c .before .before .before .before .before .before .type-head .ensures) ∙ c .before .before .before .before .enum-told4 .given .1)
+    (c .before .before .read-choice .ensures))
     -- same-length-5
     (λ c. search needs)
     -- returns-5
-    (λ c. atom-with _ _ _ _ (c .before .before .before .before .before .before .before .before .before .before .pre .1) _ (c .before .before .before .before .before .before .before .kind-at .ensures)
-    (sym (c .before .before .before .before .before .before .type-head .ensures) ∙ c .before .before .before .before .enum-told5 .given .1) (c .before .before .read-choice2 .ensures))
+    (λ c. atom-with _ _ _ _ (c .before .before .before .before .before .before .before .before .before .before .pre .1) _
+    (c .before .before .before .before .before .before .before .kind-at .ensures)
+    (sym (c .before .before .before .before .before .before .type-head .ensures) ∙ c .before .before .before .before .enum-told5 .given .1)
+    (c .before .before .read-choice2 .ensures))
     -- returns-6
     (λ c. atom-other _ _ _ _ (c .before .before .before .before .before .before .before .pre .1) _ (c .before .before .before .before .kind-at .ensures)
     (sym (c .before .before .before .type-head .ensures) ∙ c .before .enum-told6 .given .1) (c .misfit .ensures))
