@@ -18,8 +18,8 @@ counts : words 0 9 ≡ (1 ∷ 1 ∷ 1 ∷ 1 ∷ 4 ∷ 2 ∷ 2 ∷ 0 ∷ 0 ∷ []
 unfolding words
 counts = refl
 
--- the type b: its name at 5, its node 0
-types : words typesAt 3 ≡ (5 ∷ 0 ∷ 0 ∷ [])
+-- the type b: its name at 5, its node 2
+types : words typesAt 3 ≡ (5 ∷ 2 ∷ 0 ∷ [])
 unfolding words
 types = refl
 
@@ -37,13 +37,13 @@ entries : words entriesAt 1 ≡ ((35 + 8192 * 3) ∷ [])
 unfolding words
 entries = refl
 
--- the choice with two alternatives up to place 2, its unit, its name b at 24, and the name b at 39
-nodes : words nodesAt 4 ≡ ((5 + 8 * 2 + 8192 * 2) ∷ 0 ∷ (1 + 8192 * 24) ∷ (1 + 8192 * 39) ∷ [])
+-- the unit, the name b at 24, the choice with two alternatives up to place 2, and the name b at 39
+nodes : words nodesAt 4 ≡ (0 ∷ (1 + 8192 * 24) ∷ (5 + 8 * 2 + 8192 * 2) ∷ (1 + 8192 * 39) ∷ [])
 unfolding words
 nodes = refl
 
--- 'f with node 2, then 't with node 1: the first stands last
-alternatives : words alternativesAt 2 ≡ ((19 + 8192 * 2) ∷ (11 + 8192 * 1) ∷ [])
+-- 'f with node 1, then 't with node 0: the first stands last
+alternatives : words alternativesAt 2 ≡ ((19 + 8192 * 1) ∷ 11 ∷ [])
 unfolding words
 alternatives = refl
 

@@ -144,19 +144,15 @@ moreExecs k = record { types = k .types; processes = k .processes; execs = k .ex
 
 -- ── types: kinds 0 to 6 in the order of `Ty`. A choice keeps the place past its first alternative and how many there are:
 -- one list's alternatives stand side by side, the first of them last.
--- after an infix type whose left part fills the tables up to d
-abbrev pub afterInfix : Tally → (Tally → Tally) → Tally
-afterInfix d right = lasting (d .nodes) (right (moreNodes d))
-
 unfoldable mutual
   pub afterType : Ty Located → Tally → Tally
   afterType unit k = moreNodes k
   afterType (named n) k = moreNodes k
-  afterType (tensor A B) k = afterInfix (afterType A k) (λ d. afterType B d)
-  afterType (par A B) k = afterInfix (afterType A k) (λ d. afterType B d)
-  afterType (lolli A B) k = afterInfix (afterType A k) (λ d. afterType B d)
-  afterType (plus r) k = lasting (k .nodes) (afterAlternatives r (moreNodes k))
-  afterType (with r) k = lasting (k .nodes) (afterAlternatives r (moreNodes k))
+  afterType (tensor A B) k = moreNodes (afterType B (afterType A k))
+  afterType (par A B) k = moreNodes (afterType B (afterType A k))
+  afterType (lolli A B) k = moreNodes (afterType B (afterType A k))
+  afterType (plus r) k = moreNodes (afterAlternatives r k)
+  afterType (with r) k = moreNodes (afterAlternatives r k)
 
   pub afterAlternatives : Alternatives Located → Tally → Tally
   afterAlternatives Alternatives.none k = lasting 0 k
@@ -165,23 +161,22 @@ unfoldable mutual
 abbrev pub typeNode : ℕ → ℕ → ℕ → TypeNode
 typeNode kind first second = record { kind = kind; first = first; second = second }
 
--- the node of an infix type whose left part fills the tables up to d, and its right part, written after it, up to e
+-- a node over two parts, after which the tables are filled by d and e; a node over the list just written
 abbrev pub putInfix : ℕ → Tally → Tally → List ℕ → List ℕ
-putInfix kind d e w = putNode w (d .nodes) (typeNode kind (d .last) (e .last))
+putInfix kind d e w = putNode w (e .nodes) (typeNode kind (d .last) (e .last))
 
--- the node of a choice after k, whose list fills the tables up to d
-abbrev pub putChoice : ℕ → Tally → Tally → List ℕ → List ℕ
-putChoice kind k d w = putNode w (k .nodes) (typeNode kind (d .alternatives) (d .last))
+abbrev pub putChoice : ℕ → Tally → List ℕ → List ℕ
+putChoice kind d w = putNode w (d .nodes) (typeNode kind (d .alternatives) (d .last))
 
 unfoldable mutual
   pub writeType : Ty Located → Tally → List ℕ → List ℕ
   writeType unit k w = putNode w (k .nodes) (typeNode 0 0 0)
   writeType (named n) k w = putNode w (k .nodes) (typeNode 1 0 (n .at))
-  writeType (tensor A B) k w = let d = afterType A k in writeType B (moreNodes d) (putInfix 2 d (afterType B (moreNodes d)) (writeType A k w))
-  writeType (par A B) k w = let d = afterType A k in writeType B (moreNodes d) (putInfix 3 d (afterType B (moreNodes d)) (writeType A k w))
-  writeType (lolli A B) k w = let d = afterType A k in writeType B (moreNodes d) (putInfix 4 d (afterType B (moreNodes d)) (writeType A k w))
-  writeType (plus r) k w = writeAlternatives r (moreNodes k) (putChoice 5 k (afterAlternatives r (moreNodes k)) w)
-  writeType (with r) k w = writeAlternatives r (moreNodes k) (putChoice 6 k (afterAlternatives r (moreNodes k)) w)
+  writeType (tensor A B) k w = putInfix 2 (afterType A k) (afterType B (afterType A k)) (writeType B (afterType A k) (writeType A k w))
+  writeType (par A B) k w = putInfix 3 (afterType A k) (afterType B (afterType A k)) (writeType B (afterType A k) (writeType A k w))
+  writeType (lolli A B) k w = putInfix 4 (afterType A k) (afterType B (afterType A k)) (writeType B (afterType A k) (writeType A k w))
+  writeType (plus r) k w = putChoice 5 (afterAlternatives r k) (writeAlternatives r k w)
+  writeType (with r) k w = putChoice 6 (afterAlternatives r k) (writeAlternatives r k w)
 
   pub writeAlternatives : Alternatives Located → Tally → List ℕ → List ℕ
   writeAlternatives Alternatives.none k w = w
