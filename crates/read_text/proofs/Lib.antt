@@ -1,5 +1,3 @@
-pub mod NamePaths
-pub mod ProcessPaths
-pub mod SignaturePaths
-pub mod ScriptPaths
-pub mod Whole
+pub mod Turning
+pub mod Order
+pub mod Pointers

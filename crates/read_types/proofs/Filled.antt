@@ -48,6 +48,9 @@ pub kept-set : (w : List ℕ) (i a : ℕ) → i < tableWords → Kept w (set w i
 unfolding pastArea
 kept-set w i a l = record { long = length-set w i a; past = drop-set tableWords w i a l }
 
+pub word-put : {w : List ℕ} {i n m : ℕ} → n ≡ m → i < tableWords → WordPut w i m (set w i n)
+word-put {w} {i} {n} e l = record { words = ap (set w i) e; kept = kept-set w i n l }
+
 -- the words that puts leave, one after another
 infixl 30 _set-more_
 pub _set-more_ : {v x u : List ℕ} {i n : ℕ} → v ≡ x → WordPut v i n u → u ≡ set x i n

@@ -1,3 +1,4 @@
 pub mod Taking
 pub mod Filled
+pub mod Listing
 pub mod TypePaths

@@ -1,9 +1,9 @@
 -- What the reader's code promises: its steps, where a reading goes on, and the words that it leaves.
 use mathlib.Core.Path.{_≡_}
-use Prim.Native.Nat.{ℕ, _+_, _-_, _*_, _<_, _≤_}
+use Prim.Native.Nat.{ℕ, zero, suc, _+_, _-_, _*_, _<_, _≤_}
 use mathlib.Core.List.{List}
 use mathlib.Core.Bool.{cond}
-use lib.ListN.{length, drop, set}
+use lib.ListN.{length, getD, drop, set}
 use lib.Dec.{eqb}
 use Rattle.notation.specs.Fine.{SomeAlternative, FineType, FineAlternatives}
 use Rattle.notation.specs.Limits.{textLimit, typeTermLimit, processTermLimit}
@@ -86,6 +86,15 @@ pub record Kept (w v : List ℕ) : Type 0 where
 -- the word i of the tables is n
 pub record WordPut (w : List ℕ) (i n : ℕ) (v : List ℕ) : Type 0 where
   pub words : v ≡ set w i n
+  pub kept : Kept w v
+
+-- the first n of the kept words, put from `at` on, the last of them first
+unfoldable pub listPut : List ℕ → ℕ → ℕ → List ℕ → List ℕ
+listPut kept zero at w = w
+listPut kept (suc n) at w = listPut kept n (at + 1) (set w at (getD kept n 0))
+
+pub record ListPut (w entries : List ℕ) (n at : ℕ) (v : List ℕ) : Type 0 where
+  pub words : v ≡ listPut entries n at w
   pub kept : Kept w v
 
 -- words are put: the tally r and the words v

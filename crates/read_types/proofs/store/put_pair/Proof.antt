@@ -1,27 +1,26 @@
-use Rattle.notation.specs.Tables.{pairWord}
+use Rattle.read_types.proofs.Filled.{word-put}
 use borrow.Author.Needs.{needs}
 use Rattle.read_types.proofs.store.put_pair.Statement.{statement}
 use Rattle.read_types.proofs.store.put_pair.Tie as tie
 use Rattle.read_types.proofs.store.put_pair.Reads as reads
 use Rattle.read_types.proofs.store.put_pair.Lts as lts
-use Rattle.read_types.proofs.store.put_word.Reads as put-word-reads
+use Rattle.read_types.proofs.store.pair_word.Reads as pair-word-reads
 
-mul-put-word : tie.Need-mul-put-word
-mul-put-word c = search needs
+pair-word-requires : tie.Need-pair-word-requires
+pair-word-requires c κs = search needs
 
-add-put-word : tie.Need-add-put-word
-add-put-word c = search needs
+mul-scratch : tie.Need-mul-scratch
+mul-scratch c = search needs
 
-put-word-requires : tie.Need-put-word-requires
-put-word-requires c κs = search needs
+slice-write-scratch : tie.Need-slice-write-scratch
+slice-write-scratch c = search needs
 
 same-length : tie.Need-same-length
 same-length c = search needs
 
 returns : tie.Need-returns
-unfolding pairWord
-returns c = c .before .before .put-word .ensures
+returns c = word-put (c .pair-word .ensures) (c .before .before .pre .1)
 
 pub put-pair-spec : {M : Type 1} → statement M
 put-pair-spec =
-    tie.close (tie.spec mul-put-word add-put-word put-word-requires same-length returns)
+    tie.close (tie.spec pair-word-requires mul-scratch slice-write-scratch same-length returns)

@@ -1,5 +1,5 @@
 use mathlib.Core.Path.{refl}
-use Rattle.read_types.proofs.Filled.{kept-set}
+use Rattle.read_types.proofs.Filled.{word-put}
 use borrow.Author.Needs.{needs}
 use Rattle.read_types.proofs.store.put_word.Statement.{statement}
 use Rattle.read_types.proofs.store.put_word.Tie as tie
@@ -19,7 +19,7 @@ same-length : tie.Need-same-length
 same-length c = search needs
 
 returns : tie.Need-returns
-returns c = record { words = refl; kept = kept-set _ _ _ (c .pre .1) }
+returns c = word-put refl (c .pre .1)
 
 pub put-word-spec : {M : Type 1} → statement M
 put-word-spec =
