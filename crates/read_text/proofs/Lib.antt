@@ -1,3 +1,9 @@
 pub mod Turning
 pub mod Order
 pub mod Pointers
+pub mod TermPaths
+pub mod NamePaths
+pub mod ProcessPaths
+pub mod SignaturePaths
+pub mod ScriptPaths
+pub mod Whole

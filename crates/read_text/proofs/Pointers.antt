@@ -1,5 +1,5 @@
 -- The pointer to a process is known by its first token.
-use mathlib.Core.Path.{_≡_, refl, ap, _∙_}
+use mathlib.Core.Path.{_≡_, refl, ap, sym, _∙_}
 use mathlib.Core.List.{List}
 use mathlib.Core.Bool.{Bool, true, false, cond}
 use Prim.Native.Nat.{ℕ, zero, suc}
@@ -10,7 +10,7 @@ use Rattle.notation.specs.Tree.{Located, Ty, Proc, empty, fwd, call, try, Branc
 use Rattle.notation.specs.Reader.{Result, got, refused, take, part, lastly, expect, limited, mayOpen, deeper, past, fault, opening, processTerm, misfit, closed, nameIn}
 use Rattle.notation.specs.Processes.{termHead, payload, unitTaken, bracketedBy, sendBy, recvBy, nameList, processBy, readProcess, readRest, readBranches}
 use Rattle.notation.specs.Types.{readType}
-use Rattle.notation.specs.Tables.{pointerTo}
+use Rattle.notation.specs.Tables.{pointerTo, emptyPointer}
 use Rattle.notation.specs.declared.token.Token.{Token}
 use Rattle.notation.specs.declared.reading.Cursor.{Cursor}
 use Rattle.notation.specs.declared.reading.Taken.{Taken}
@@ -100,6 +100,21 @@ unfolding readProcess peek
 pointer-at zero s c d P n e = absurd (let z : _≡_ {A = ℕ} 0 1 = cc in omega arith)
 pointer-at (suc m) s c d P n e =
     pointer-by (λ x. readType m s x) (λ x. readProcess m s x) (λ x. readRest m s x) (λ x. readBranches m s 0 x) m s c d P n (termHead (kindAt s (c .at))) e
+
+-- the same by the token and its head
+module _ (s : List ℕ) (at n : ℕ) {t : Token} (e : t ≡ tokenAt s at) where
+  peek-is : {h : TermHead} → h ≡ termHead (t .kind) → peek s at n ≡ peekBy h (t .start) n
+  unfolding peek
+  peek-is q = ap (λ (x : Token). peekBy (termHead (x .kind)) (x .start) n) (sym e) ∙ ap (λ h. peekBy h (t .start) n) (sym q)
+
+  pub peek-empty : {h : TermHead} → h ≡ termHead (t .kind) → h ≡ Empty → emptyPointer (t .start) ≡ peek s at n
+  peek-empty q z = sym (peek-is q ∙ ap (λ h. peekBy h (t .start) n) z)
+
+  pub peek-node : {h : TermHead} → h ≡ termHead (t .kind) → peekBy h (t .start) n ≡ n → n ≡ peek s at n
+  peek-node q z = sym (peek-is q ∙ z)
+
+  pub peek-past : {r : ℕ} → r ≡ peek s (t .end) n → r ≡ peek s (tokenAt s at .end) n
+  peek-past q = q ∙ ap (λ (x : Token). peek s (x .end) n) e
 
 -- past a bracket that opens
 opening-end : (s : List ℕ) (k : ℕ) (c : Cursor) {i : ℕ} {d : Cursor} → opening s k c ≡ At i d → d .at ≡ tokenAt s (c .at) .end

@@ -13,7 +13,7 @@ use Rattle.read_text.proofs.scripts.declared_name.Reads as declared-nam
 use Rattle.read_text.proofs.signatures.entry_list.Reads as entry-list-reads
 use Rattle.read_types.proofs.steps.expect.Reads as expect-reads
 use Rattle.read_types.proofs.steps.refusal.Reads as refusal-reads
-use Rattle.read_types.proofs.store.put_process.Reads as put-process-reads
+use Rattle.read_text.proofs.store.put_process.Reads as put-process-reads
 
 declared-name-requires : tie.Need-declared-name-requires
 declared-name-requires c κs = search needs

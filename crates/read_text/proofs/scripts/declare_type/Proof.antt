@@ -10,7 +10,7 @@ use Rattle.read_text.proofs.scripts.declare_type.Lts as lts
 use Rattle.read_text.proofs.scripts.declared_name.Reads as declared-name-reads
 use Rattle.read_types.proofs.steps.expect.Reads as expect-reads
 use Rattle.read_types.proofs.steps.refusal.Reads as refusal-reads
-use Rattle.read_types.proofs.store.put_type.Reads as put-type-reads
+use Rattle.read_text.proofs.store.put_type.Reads as put-type-reads
 use Rattle.read_types.proofs.types.read_type.Reads as read-type-reads
 
 declared-name-requires : tie.Need-declared-name-requires

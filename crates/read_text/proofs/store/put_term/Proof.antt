@@ -1,5 +1,5 @@
 use Rattle.notation.specs.Tables.{putTerm, termWord, termWord′}
-use Rattle.read_types.proofs.Filled.{put-one, _put-more_}
+use Rattle.read_text.proofs.Turning.{laid-one, _laid-more_}
 use borrow.Author.Needs.{needs}
 use Rattle.read_text.proofs.store.put_term.Statement.{statement}
 use Rattle.read_text.proofs.store.put_term.Tie as tie
@@ -7,11 +7,11 @@ use Rattle.read_text.proofs.store.put_term.Reads as reads
 use Rattle.read_text.proofs.store.put_term.Lts as lts
 use Rattle.read_types.proofs.store.put_word.Reads as put-word-reads
 
-mul-i : tie.Need-mul-i
-mul-i c = search needs
+mul-at : tie.Need-mul-at
+mul-at c = search needs
 
-add-i : tie.Need-add-i
-add-i c = search needs
+add-at : tie.Need-add-at
+add-at c = search needs
 
 mul-put-word : tie.Need-mul-put-word
 mul-put-word c = search needs
@@ -40,22 +40,19 @@ add-put-word-4 c = search needs
 put-word-requires-2 : tie.Need-put-word-requires-2
 put-word-requires-2 c κs = search needs
 
-add-l : tie.Need-add-l
-add-l c = search needs
-
 same-length : tie.Need-same-length
 same-length c = search needs
 
 returns : tie.Need-returns
 unfolding putTerm termWord termWord′
-returns c = put-one (c .before .before .before .before .before .before .before .before .before .put-word .ensures) put-more c .before .before .before .put-word2 .ensures
+returns c = laid-one (c .before .before .before .before .before .before .before .before .put-word .ensures) laid-more c .before .before .put-word2 .ensures
 
 pub put-term-spec : {M : Type 1} → statement M
 put-term-spec =
     tie.close
     (tie.spec
-    mul-i
-    add-i
+    mul-at
+    add-at
     mul-put-word
     add-put-word
     mul-put-word-2
@@ -65,6 +62,5 @@ put-term-spec =
     mul-put-word-3
     add-put-word-4
     put-word-requires-2
-    add-l
     same-length
     returns)
