@@ -3,6 +3,7 @@ pub mod Order
 pub mod Pointers
 pub mod TermPaths
 pub mod NamePaths
+pub mod BranchPaths
 pub mod ProcessPaths
 pub mod SignaturePaths
 pub mod ScriptPaths

@@ -5,7 +5,11 @@ use Prim.Native.Nat.{ℕ, suc, _+_, _*_, _<_, _≤_}
 use native.Mathlib.Omega.{arith}
 use lib.ListN.{length, set}
 use Rattle.notation.specs.Reader.{Result, got, refused, lastly}
-use Rattle.notation.specs.Processes.{readProcess}
+use Rattle.notation.specs.Limits.{textLimit}
+use Rattle.notation.specs.Token.{tokenAt, kindAt}
+use Rattle.notation.specs.Processes.{termHead, readProcess}
+use Rattle.notation.specs.declared.token.Token.{Token}
+use Rattle.notation.specs.declared.token.TermHead.{TermHead}
 use Rattle.notation.specs.declared.reading.Cursor.{Cursor}
 use Rattle.notation.specs.declared.reading.Tally.{Tally}
 use Rattle.read_types.specs.declared.steps.Out.{Out}
@@ -23,6 +27,14 @@ laid-one p = record { words = p .words; kept = p .kept }
 infixl 30 _laid-more_
 pub _laid-more_ : {w x v u : List ℕ} {i n : ℕ} → Laid w x v → WordPut v i n u → Laid w (set x i n) u
 _laid-more_ q p = record { words = q .words set-more p; kept = p .kept upon q .kept }
+
+-- ── the token that a term begins with, as the code has it
+module _ (s : List ℕ) (at : ℕ) {t : Token} (e : t ≡ tokenAt s at) where
+  pub head-is : {h x : TermHead} → h ≡ termHead (t .kind) → h ≡ x → termHead (kindAt s at) ≡ x
+  head-is q z = ap (λ (y : Token). termHead (y .kind)) (sym e) ∙ sym q ∙ z
+
+  pub start-is : t .start ≤ textLimit → tokenAt s at .start ≤ textLimit
+  start-is l = subst (λ (y : Token). y .start ≤ textLimit) e l
 
 -- ── an answer for a, as one for the tree over it
 -- the tree b, from k′ and w′ on, is counted and written as a is

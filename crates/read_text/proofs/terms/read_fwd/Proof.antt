@@ -1,3 +1,5 @@
+use native.Mathlib.Omega.{arith}
+use Rattle.read_text.proofs.TermPaths.{fwd-no, fwd-provided-no, fwd-used-no, fwd-got}
 use borrow.Author.Needs.{needs}
 use Rattle.read_text.proofs.terms.read_fwd.Statement.{statement}
 use Rattle.read_text.proofs.terms.read_fwd.Tie as tie
@@ -8,81 +10,62 @@ use Rattle.read_types.proofs.steps.expect.Reads as expect-reads
 use Rattle.read_types.proofs.steps.process_term.Reads as process-term-reads
 use Rattle.read_types.proofs.steps.refusal.Reads as refusal-reads
 
--- src/terms.rt:120:9
 process-term-requires : tie.Need-process-term-requires
 process-term-requires c κs = search needs
 
--- src/terms.rt:121:19
 enum-known-term : tie.Need-enum-known-term
 enum-known-term c = search needs
 
--- src/terms.rt:122:9
 enum-told : tie.Need-enum-told
 enum-told c = search needs
 
--- src/terms.rt:122:9
 refusal-requires : tie.Need-refusal-requires
 refusal-requires c κs = search needs
 
--- src/terms.rt:122:9
 returns : tie.Need-returns
-returns c = ?
+returns c = fwd-no _ _ _ _ (c .before .before .before .before .before .before .pre) (c .before .before .before .process-term .ensures) (c .before .enum-told .given .1) (c .refusal .ensures)
 
--- src/terms.rt:124:9
 expect-requires : tie.Need-expect-requires
 expect-requires c κs = search needs
 
--- src/terms.rt:125:19
 enum-known-provided : tie.Need-enum-known-provided
 enum-known-provided c = search needs
 
--- src/terms.rt:126:9
 enum-told-2 : tie.Need-enum-told-2
 enum-told-2 c = search needs
 
--- src/terms.rt:126:9
 refusal-requires-2 : tie.Need-refusal-requires-2
 refusal-requires-2 c κs = search needs
 
--- src/terms.rt:126:9
 returns-2 : tie.Need-returns-2
-returns-2 c = ?
+returns-2 c = fwd-provided-no _ _ _ _ (c .before .before .before .before .before .before .before .before .before .before .pre) (c .before .before .before .before .before .before .before .process-term .ensures) (c .before .before .before .before .before .term .given .1) (c .before .before .before .expect .ensures) (c .before .enum-told2 .given .1) (c .refusal2 .ensures)
 
--- src/terms.rt:128:9
 expect-requires-2 : tie.Need-expect-requires-2
 expect-requires-2 c κs = search needs
 
--- src/terms.rt:129:19
 enum-known-used : tie.Need-enum-known-used
 enum-known-used c = search needs
 
--- src/terms.rt:130:9
 enum-told-3 : tie.Need-enum-told-3
 enum-told-3 c = search needs
 
--- src/terms.rt:130:9
 refusal-requires-3 : tie.Need-refusal-requires-3
 refusal-requires-3 c κs = search needs
 
--- src/terms.rt:130:9
 returns-3 : tie.Need-returns-3
-returns-3 c = ?
+returns-3 c = fwd-used-no _ _ _ _ (c .before .before .before .before .before .before .before .before .before .before .before .before .before .before .pre) (c .before .before .before .before .before .before .before .before .before .before .before .process-term .ensures) (c .before .before .before .before .before .before .before .before .before .term .given .1) (c .before .before .before .before .before .before .before .expect .ensures) (c .before .before .before .before .before .provided .given .1) (c .before .before .before .expect2 .ensures) (c .before .enum-told3 .given .1) (c .refusal3 .ensures)
 
--- src/terms.rt:139:5
 put-term-requires : tie.Need-put-term-requires
-put-term-requires c κs = ?
+put-term-requires c κs = (omega (arith, c .before .before .before .before .before .before .before .before .before .before .before .before .before .before .before .pre, c .before .before .before .before .before .before .before .before .before .before .before .before .process-term .ensures .on _ _ (c .before .before .before .before .before .before .before .before .before .before .term .given .1), c .before .before .before .before .before .before .before .before .expect .ensures .on _ _ (c .before .before .before .before .before .before .provided .given .1), c .before .before .before .before .expect2 .ensures .on _ _ (c .before .before .used .given .1)), omega (arith, c .before .before .before .before .before .before .before .before .before .before .before .before .before .before .before .pre, c .before .before .before .before .before .before .before .before .before .before .before .before .process-term .ensures .on _ _ (c .before .before .before .before .before .before .before .before .before .before .term .given .1), c .before .before .before .before .before .before .before .before .expect .ensures .on _ _ (c .before .before .before .before .before .before .provided .given .1), c .before .before .before .before .expect2 .ensures .on _ _ (c .before .before .used .given .1)))
 
--- src/terms.rt:141:15
 add-l : tie.Need-add-l
-add-l c = ?
+add-l c = omega (arith, c .before .before .before .before .before .before .before .before .before .before .before .before .before .before .before .before .before .before .before .pre, c .before .before .before .before .before .before .before .before .before .before .before .before .before .before .before .before .process-term .ensures .on _ _ (c .before .before .before .before .before .before .before .before .before .before .before .before .before .before .term .given .1))
 
--- src/terms.rt:116:1
 same-length : tie.Need-same-length
-same-length c = search needs
+same-length c = c .before .before .before .put-term .ensures .kept .long
 
--- src/terms.rt:116:1
 returns-4 : tie.Need-returns-4
-returns-4 c = ?
+returns-4 c = fwd-got _ _ _ _ (c .before .before .before .before .before .before .before .before .before .before .before .before .before .before .before .before .before .before .before .pre) (c .before .before .before .before .before .before .before .before .before .before .before .before .before .before .before .before .process-term .ensures) (c .before .before .before .before .before .before .before .before .before .before .before .before .before .before .term .given .1) (c .before .before .before .before .before .before .before .before .before .before .before .before .expect .ensures) (c .before .before .before .before .before .before .before .before .before .before .provided .given .1) (c .before .before .before .before .before .before .before .before .expect2 .ensures) (c .before .before .before .before .before .before .used .given .1) (c .before .before .before .put-term .ensures)
 
 pub read-fwd-spec : {M : Type 1} → statement M
 read-fwd-spec =

@@ -27,7 +27,7 @@ refusal-requires : tie.Need-refusal-requires
 refusal-requires c κs = search needs
 
 returns : tie.Need-returns
-returns c = rest-no _ _ _ _ _ _ (c .before .before .before .before .before .before .before .before .before .pre .0 .0) (c .before .before .before .before .before .before .next-token .result) (c .before .before .before .before .before .before .next-token .ensures .0) (c .before .before .before .before .before .before .next-token .ensures .1) (c .before .before .before .before .if1 .taken) (c .before .before .before .expect .ensures) (c .before .enum-told .given .1) (c .refusal .ensures)
+returns c = rest-no _ (c .before .before .before .before .before .before .before .before .before .args .n) _ _ _ _ (c .before .before .before .before .before .before .before .before .before .pre .0 .0) (c .before .before .before .before .before .before .next-token .result) (c .before .before .before .before .before .before .next-token .ensures .0) (c .before .before .before .before .before .before .next-token .ensures .1) (c .before .before .before .before .if1 .taken) (c .before .before .before .expect .ensures) (c .before .enum-told .given .1) (c .refusal .ensures)
 
 put-before-requires : tie.Need-put-before-requires
 put-before-requires c κs = (omega (arith, c .before .before .before .before .before .before .before .before .before .before .pre, c .before .before .before .before .expect .ensures .on _ _ (c .before .before .mark .given .1)), c .before .before .before .before .before .before .before .before .before .before .pre .1)
@@ -36,7 +36,7 @@ same-length : tie.Need-same-length
 same-length c = c .before .before .put-before .ensures .kept .long
 
 returns-2 : tie.Need-returns-2
-returns-2 c = rest-on _ _ _ _ _ _ (c .before .before .before .before .before .before .before .before .before .before .before .before .before .pre .0 .0) (c .before .before .before .before .before .before .before .before .before .before .next-token .result) (c .before .before .before .before .before .before .before .before .before .before .next-token .ensures .0) (c .before .before .before .before .before .before .before .before .before .before .next-token .ensures .1) (c .before .before .before .before .before .before .before .before .if1 .taken) (c .before .before .before .before .before .before .before .expect .ensures) (c .before .before .before .before .before .mark .given .1) (c .before .before .put-before .ensures)
+returns-2 c = rest-on _ (c .before .before .before .before .before .before .before .before .before .before .before .before .before .args .n) _ _ _ _ (c .before .before .before .before .before .before .before .before .before .before .before .before .before .pre .0 .0) (c .before .before .before .before .before .before .before .before .before .before .next-token .result) (c .before .before .before .before .before .before .before .before .before .before .next-token .ensures .0) (c .before .before .before .before .before .before .before .before .before .before .next-token .ensures .1) (c .before .before .before .before .before .before .before .before .if1 .taken) (c .before .before .before .before .before .before .before .expect .ensures) (c .before .before .before .before .before .mark .given .1) (c .before .before .put-before .ensures)
 
 add-put-pointing : tie.Need-add-put-pointing
 add-put-pointing c = omega (arith, c .before .before .before .before .before .before .before .pre, c .before .before .before .before .next-token .ensures .1 .starts)
@@ -48,7 +48,7 @@ same-length-2 : tie.Need-same-length-2
 same-length-2 c = c .before .before .put-pointing .ensures .kept .long
 
 returns-3 : tie.Need-returns-3
-returns-3 c = rest-none _ _ _ _ _ _ (c .before .before .before .before .before .before .before .before .before .before .pre .0 .0) (c .before .before .before .before .before .before .before .next-token .result) (c .before .before .before .before .before .before .before .next-token .ensures .0) (c .before .before .before .before .before .before .before .next-token .ensures .1) (c .before .before .before .before .before .if1 .left) (c .before .before .put-pointing .ensures)
+returns-3 c = rest-none _ (c .before .before .before .before .before .before .before .before .before .before .args .n) _ _ _ _ (c .before .before .before .before .before .before .before .before .before .before .pre .0 .0) (c .before .before .before .before .before .before .before .next-token .result) (c .before .before .before .before .before .before .before .next-token .ensures .0) (c .before .before .before .before .before .before .before .next-token .ensures .1) (c .before .before .before .before .before .if1 .left) (c .before .before .put-pointing .ensures)
 
 pub follow-spec : {M : Type 1} → statement M
 follow-spec =
