@@ -32,7 +32,17 @@ use Rattle.read_text.proofs.Pointers.{pointer-at}
 
 -- so many branches, and the length of their list
 abbrev filled : Tally → ℕ → ℕ → Tally
-filled k branches last = record { types = k .types; processes = k .processes; execs = k .execs; entries = k .entries; nodes = k .nodes; alternatives = k .alternatives; terms = k .terms; branches = branches; last = last }
+filled k branches last = record {
+  types = k .types;
+  processes = k .processes;
+  execs = k .execs;
+  entries = k .entries;
+  nodes = k .nodes;
+  alternatives = k .alternatives;
+  terms = k .terms;
+  branches = branches;
+  last = last;
+}
 
 filled-path : (k : Tally) {a b c d : ℕ} → a ≡ b → c ≡ d → filled k a c ≡ filled k b d
 filled-path k p q i = filled k (p i) (q i)
@@ -68,7 +78,12 @@ keeping-start {s} {w} {c} {k} kept e h = record {
   later = omega arith;
   stays = same;
   whole = λ r u a. meets-as a (λ B. B) w k (λ m lo. (lastly-same (readBranches m s 0 c), lo)) same
-      (λ m B d _ fi _. (filled-path (afterBranches B k) (omega arith) (omega arith), list-none kept 0 (branchesAt + afterBranches B k .branches) (writeBranches B k w) refl, fi))
+      (λ m B d _ fi _. (
+        filled-path (afterBranches B k) (omega arith) (omega arith),
+        list-none kept 0 (branchesAt + afterBranches B k .branches)
+            (writeBranches B k w) refl,
+        fi,
+      ))
       (λ d l o. omega arith);
 }
 
@@ -77,7 +92,8 @@ pub branch-few : (s : List ℕ) (n : ℕ) (c : Cursor) {q : Taken} {i : ℕ} {d 
 unfolding labelThen labelTerm
 branch-few s n c {i = i} {d} u e = ltb-true n labelLimit (within-limit (ltb n labelLimit) (expect s kLabel c) (expect s kThen) i d (took u e))
 
-module _ {s w₀ : List ℕ} {c₀ : Cursor} {k₀ : Tally} (kept w : List ℕ) (c : Cursor) (k : Tally) (n : ℕ) (h : Keeping s w₀ c₀ k₀ kept w c k n) {q : Taken} (u : Stepped s c 4 0 0 (labelThen s n c) q) where
+module _ {s w₀ : List ℕ} {c₀ : Cursor} {k₀ : Tally} (kept w : List ℕ) (c : Cursor) (k : Tally) (n : ℕ) (h : Keeping s w₀ c₀ k₀ kept w c k n) {q : Taken}
+    (u : Stepped s c 4 0 0 (labelThen s n c) q) where
   branches-is : (m : ℕ) → readBranches (suc m) s n c
       ≡ take (labelThen s n c) (λ i e. part (readProcess m s e) λ P f. lastly (branch (labelIn s i) P) (moreBranchesBy (λ d. readBranches m s (n + 1) d) s f))
   unfolding labelThen branchesBy readProcess
@@ -107,8 +123,10 @@ module _ {s w₀ : List ℕ} {c₀ : Cursor} {k₀ : Tally} (kept w : List ℕ) 
           let after = afterBranches B (afterProcess P k) in (
             ap (λ j. listed (n + 1) (afterBranches B j)) al ∙ filled-path after (omega arith) (omega arith),
             list-more kept n x (branchesAt + afterBranches B l .branches) (writeBranches B l v) (omega arith)
-                ∙ (λ j. listPut kept n (branchesAt + afterBranches B (al j) .branches + 1) (set (writeBranches B (al j) (av j)) (branchesAt + afterBranches B (al j) .branches) (word j)))
-                ∙ ap (λ y. listPut kept n y (set (writeBranches B (afterProcess P k) (writeProcess P k w)) (branchesAt + after .branches) (pairWord i (pointerTo P (k .terms))))) (omega arith),
+                ∙ (λ j. listPut kept n (branchesAt + afterBranches B (al j) .branches + 1) (set (writeBranches B (al j) (av j))
+                (branchesAt + afterBranches B (al j) .branches) (word j)))
+                ∙ ap (λ y. listPut kept n y (set (writeBranches B (afterProcess P k) (writeProcess P k w)) (branchesAt + after .branches)
+                (pairWord i (pointerTo P (k .terms))))) (omega arith),
           )
 
       module _ (bar : eqb (kindAt s (f .at)) kBar ≡ true) {z : Taken} (y : Stepped s f 1 0 0 (expect s kBar f) z) where

@@ -87,7 +87,8 @@ module _ (w : List ℕ) (i : ℕ) (n : TermNode) (j : ℕ) (m : TermNode) (l : i
       ∙ set-put (set w (termsAt + 2 * j) (termWord m)) i n (termsAt + 2 * j + 1) (termWord′ m) (λ e. absurd (omega arith)) (λ e. absurd (omega arith))
 
   -- the node of a later term, and then what commutes
-  pub later-put : (f : List ℕ → List ℕ) → ((v : List ℕ) → f (putTerm v i n) ≡ putTerm (f v) i n) → f (putTerm (putTerm w i n) j m) ≡ putTerm (f (putTerm w j m)) i n
+  pub later-put : (f : List ℕ → List ℕ) → ((v : List ℕ) → f (putTerm v i n) ≡ putTerm (f v) i n)
+      → f (putTerm (putTerm w i n) j m) ≡ putTerm (f (putTerm w j m)) i n
   later-put f h = ap f term-put ∙ h (putTerm w j m)
 
 -- ── types: their tables are apart from the terms
@@ -95,30 +96,35 @@ abbrev Small : Tally → Type 0
 Small l = (l .nodes ≤ typeTermLimit) × (l .alternatives ≤ typeTermLimit)
 
 -- the words of an infix, by those of its parts
-infix-put : (f g : List ℕ → List ℕ) (j : ℕ) (m : TypeNode) (w : List ℕ) (i : ℕ) (n : TermNode) → j < typeTermLimit → ((v : List ℕ) → f (putTerm v i n) ≡ putTerm (f v) i n)
+infix-put : (f g : List ℕ → List ℕ) (j : ℕ) (m : TypeNode) (w : List ℕ) (i : ℕ) (n : TermNode) → j < typeTermLimit
+    → ((v : List ℕ) → f (putTerm v i n) ≡ putTerm (f v) i n)
     → ((v : List ℕ) → g (putTerm v i n) ≡ putTerm (g v) i n) → putNode (g (f (putTerm w i n))) j m ≡ putTerm (putNode (g (f w)) j m) i n
 infix-put f g j m w i n l p q = ap (λ v. putNode (g v) j m) (p w) ∙ ap (λ v. putNode v j m) (q (f w)) ∙ node-put (g (f w)) i n j m l
 
 mutual
   unfolding afterType writeType
 
-  pub type-put : (A : Ty Located) (k : Tally) (w : List ℕ) (i : ℕ) (n : TermNode) → Small (afterType A k) → writeType A k (putTerm w i n) ≡ putTerm (writeType A k w) i n
+  pub type-put : (A : Ty Located) (k : Tally) (w : List ℕ) (i : ℕ) (n : TermNode) → Small (afterType A k)
+      → writeType A k (putTerm w i n) ≡ putTerm (writeType A k w) i n
   type-put unit k w i n h = node-put w i n (k .nodes) (typeNode 0 0 0) (omega arith)
   type-put (named x) k w i n h = node-put w i n (k .nodes) (typeNode 1 0 (x .at)) (omega arith)
   type-put (tensor A B) k w i n h =
       let d = afterType A k in
       let g = type-grown B d in
-      infix-put (writeType A k) (writeType B d) (afterType B d .nodes) (typeNode 2 (d .last) (afterType B d .last)) w i n (omega arith) (λ v. type-put A k v i n (omega arith))
+      infix-put (writeType A k) (writeType B d) (afterType B d .nodes) (typeNode 2 (d .last) (afterType B d .last)) w i n (omega arith)
+      (λ v. type-put A k v i n (omega arith))
       (λ v. type-put B d v i n (omega arith))
   type-put (par A B) k w i n h =
       let d = afterType A k in
       let g = type-grown B d in
-      infix-put (writeType A k) (writeType B d) (afterType B d .nodes) (typeNode 3 (d .last) (afterType B d .last)) w i n (omega arith) (λ v. type-put A k v i n (omega arith))
+      infix-put (writeType A k) (writeType B d) (afterType B d .nodes) (typeNode 3 (d .last) (afterType B d .last)) w i n (omega arith)
+      (λ v. type-put A k v i n (omega arith))
       (λ v. type-put B d v i n (omega arith))
   type-put (lolli A B) k w i n h =
       let d = afterType A k in
       let g = type-grown B d in
-      infix-put (writeType A k) (writeType B d) (afterType B d .nodes) (typeNode 4 (d .last) (afterType B d .last)) w i n (omega arith) (λ v. type-put A k v i n (omega arith))
+      infix-put (writeType A k) (writeType B d) (afterType B d .nodes) (typeNode 4 (d .last) (afterType B d .last)) w i n (omega arith)
+      (λ v. type-put A k v i n (omega arith))
       (λ v. type-put B d v i n (omega arith))
   type-put (plus r) k w i n h =
       let d = afterAlternatives r k in
@@ -129,7 +135,8 @@ mutual
       ap (λ v. putNode v (d .nodes) (typeNode 6 (d .alternatives) (d .last))) (alternatives-put r k w i n (omega arith))
       ∙ node-put (writeAlternatives r k w) i n (d .nodes) (typeNode 6 (d .alternatives) (d .last)) (omega arith)
 
-  alternatives-put : (r : Alternatives Located) (k : Tally) (w : List ℕ) (i : ℕ) (n : TermNode) → Small (afterAlternatives r k) → writeAlternatives r k (putTerm w i n) ≡ putTerm (writeAlternatives r k w) i n
+  alternatives-put : (r : Alternatives Located) (k : Tally) (w : List ℕ) (i : ℕ) (n : TermNode) → Small (afterAlternatives r k)
+      → writeAlternatives r k (putTerm w i n) ≡ putTerm (writeAlternatives r k w) i n
   alternatives-put Alternatives.none k w i n h = refl
   alternatives-put (alternative l A r) k w i n h =
       let d = afterType A k in
@@ -145,16 +152,21 @@ Inside l = (l .nodes ≤ typeTermLimit) × (l .alternatives ≤ typeTermLimit) �
 mutual
   unfolding afterProcess writeProcess
 
-  pub process-put : (P : Proc) (k : Tally) (w : List ℕ) (i : ℕ) (n : TermNode) → i < k .terms → Inside (afterProcess P k) → writeProcess P k (putTerm w i n) ≡ putTerm (writeProcess P k w) i n
+  pub process-put : (P : Proc) (k : Tally) (w : List ℕ) (i : ℕ) (n : TermNode) → i < k .terms → Inside (afterProcess P k)
+      → writeProcess P k (putTerm w i n) ≡ putTerm (writeProcess P k w) i n
   process-put (empty at) k w i n l h = refl
   process-put (sendUnit at c P) k w i n l h =
-      later-put w i n (k .terms) (termNode 1 at (c .at) 0 (pointerTo P (k .terms + 1))) l (writeProcess P (moreTerms k)) (λ v. process-put P (moreTerms k) v i n (omega arith) h)
+      later-put w i n (k .terms) (termNode 1 at (c .at) 0 (pointerTo P (k .terms + 1))) l (writeProcess P (moreTerms k))
+      (λ v. process-put P (moreTerms k) v i n (omega arith) h)
   process-put (sendChannel at c a P) k w i n l h =
-      later-put w i n (k .terms) (termNode 2 at (c .at) (a .at) (pointerTo P (k .terms + 1))) l (writeProcess P (moreTerms k)) (λ v. process-put P (moreTerms k) v i n (omega arith) h)
+      later-put w i n (k .terms) (termNode 2 at (c .at) (a .at) (pointerTo P (k .terms + 1))) l (writeProcess P (moreTerms k))
+      (λ v. process-put P (moreTerms k) v i n (omega arith) h)
   process-put (sendLabel at c a P) k w i n l h =
-      later-put w i n (k .terms) (termNode 3 at (c .at) (a .at) (pointerTo P (k .terms + 1))) l (writeProcess P (moreTerms k)) (λ v. process-put P (moreTerms k) v i n (omega arith) h)
+      later-put w i n (k .terms) (termNode 3 at (c .at) (a .at) (pointerTo P (k .terms + 1))) l (writeProcess P (moreTerms k))
+      (λ v. process-put P (moreTerms k) v i n (omega arith) h)
   process-put (cancel at c P) k w i n l h =
-      later-put w i n (k .terms) (termNode 4 at (c .at) 0 (pointerTo P (k .terms + 1))) l (writeProcess P (moreTerms k)) (λ v. process-put P (moreTerms k) v i n (omega arith) h)
+      later-put w i n (k .terms) (termNode 4 at (c .at) 0 (pointerTo P (k .terms + 1))) l (writeProcess P (moreTerms k))
+      (λ v. process-put P (moreTerms k) v i n (omega arith) h)
   process-put (spawn x A P Q) k w i n l h =
       let d = afterType A (moreTerms k) in
       let e = afterProcess P d in
@@ -164,33 +176,40 @@ mutual
       later-put w i n (k .terms) (termNode 5 (x .at) (d .last) (pointerTo P (d .terms)) (pointerTo Q (e .terms))) l
       (λ v. writeProcess Q e (writeProcess P d (writeType A (moreTerms k) v)))
       (λ v. ap (λ u. writeProcess Q e (writeProcess P d u)) (type-put A (moreTerms k) v i n (omega arith))
-          ∙ ap (writeProcess Q e) (process-put P d (writeType A (moreTerms k) v) i n (omega arith) (omega arith))
-          ∙ process-put Q e (writeProcess P d (writeType A (moreTerms k) v)) i n (omega arith) h)
+      ∙ ap (writeProcess Q e) (process-put P d (writeType A (moreTerms k) v) i n (omega arith) (omega arith))
+      ∙ process-put Q e (writeProcess P d (writeType A (moreTerms k) v)) i n (omega arith) h)
   process-put (recvUnit at c P) k w i n l h =
-      later-put w i n (k .terms) (termNode 6 at (c .at) 0 (pointerTo P (k .terms + 1))) l (writeProcess P (moreTerms k)) (λ v. process-put P (moreTerms k) v i n (omega arith) h)
+      later-put w i n (k .terms) (termNode 6 at (c .at) 0 (pointerTo P (k .terms + 1))) l (writeProcess P (moreTerms k))
+      (λ v. process-put P (moreTerms k) v i n (omega arith) h)
   process-put (recvChannel at c x P) k w i n l h =
-      later-put w i n (k .terms) (termNode 7 at (c .at) (x .at) (pointerTo P (k .terms + 1))) l (writeProcess P (moreTerms k)) (λ v. process-put P (moreTerms k) v i n (omega arith) h)
+      later-put w i n (k .terms) (termNode 7 at (c .at) (x .at) (pointerTo P (k .terms + 1))) l (writeProcess P (moreTerms k))
+      (λ v. process-put P (moreTerms k) v i n (omega arith) h)
   process-put (recvLabel at c B) k w i n l h =
       let d = afterBranches B (moreTerms k) in
-      later-put w i n (k .terms) (termNode 8 at (c .at) (d .branches) (d .last)) l (writeBranches B (moreTerms k)) (λ v. branches-put B (moreTerms k) v i n (omega arith) h)
+      later-put w i n (k .terms) (termNode 8 at (c .at) (d .branches) (d .last)) l (writeBranches B (moreTerms k))
+      (λ v. branches-put B (moreTerms k) v i n (omega arith) h)
   process-put (fwd at x c) k w i n l h = term-put w i n (k .terms) (termNode 9 at (x .at) (c .at) 0) l
   process-put (call at p bracket xs ys) k w i n l h = term-put w i n (k .terms) (termNode 10 at (p .at) bracket 0) l
   process-put (raise at P) k w i n l h =
-      later-put w i n (k .terms) (termNode 11 at 0 0 (pointerTo P (k .terms + 1))) l (writeProcess P (moreTerms k)) (λ v. process-put P (moreTerms k) v i n (omega arith) h)
+      later-put w i n (k .terms) (termNode 11 at 0 0 (pointerTo P (k .terms + 1))) l (writeProcess P (moreTerms k))
+      (λ v. process-put P (moreTerms k) v i n (omega arith) h)
   process-put (try at P Q) k w i n l h =
       let e = afterProcess P (moreTerms k) in
       let b = process-grown P (moreTerms k) in
       let c = process-grown Q e in
       later-put w i n (k .terms) (termNode 12 at 0 (pointerTo P (k .terms + 1)) (pointerTo Q (e .terms))) l
       (λ v. writeProcess Q e (writeProcess P (moreTerms k) v))
-      (λ v. ap (writeProcess Q e) (process-put P (moreTerms k) v i n (omega arith) (omega arith)) ∙ process-put Q e (writeProcess P (moreTerms k) v) i n (omega arith) h)
+      (λ v. ap (writeProcess Q e) (process-put P (moreTerms k) v i n (omega arith) (omega arith)) ∙ process-put Q e (writeProcess P (moreTerms k) v) i n
+      (omega arith) h)
 
-  pub branches-put : (B : Branches) (k : Tally) (w : List ℕ) (i : ℕ) (n : TermNode) → i < k .terms → Inside (afterBranches B k) → writeBranches B k (putTerm w i n) ≡ putTerm (writeBranches B k w) i n
+  pub branches-put : (B : Branches) (k : Tally) (w : List ℕ) (i : ℕ) (n : TermNode) → i < k .terms → Inside (afterBranches B k)
+      → writeBranches B k (putTerm w i n) ≡ putTerm (writeBranches B k w) i n
   branches-put Branches.none k w i n l h = refl
   branches-put (branch a P B) k w i n l h =
       let d = afterProcess P k in
       let b = process-grown P k in
       let c = branches-grown B d in
       ap (λ v. putBranch (writeBranches B d v) (afterBranches B d .branches) (a .at) (pointerTo P (k .terms))) (process-put P k w i n l (omega arith))
-      ∙ ap (λ v. putBranch v (afterBranches B d .branches) (a .at) (pointerTo P (k .terms))) (branches-put B d (writeProcess P k w) i n (omega arith) (omega arith))
+      ∙ ap (λ v. putBranch v (afterBranches B d .branches) (a .at) (pointerTo P (k .terms)))
+      (branches-put B d (writeProcess P k w) i n (omega arith) (omega arith))
       ∙ branch-put (writeBranches B d (writeProcess P k w)) i n (afterBranches B d .branches) (a .at) (pointerTo P (k .terms)) (omega arith)

@@ -38,7 +38,8 @@ module _ {B : Type 0} {b : B} {d : Cursor} {P : Type 0} where
 
 module _ (n : ℕ) {P : Proc} {d : Cursor} where
   -- a send and a recv have a node
-  sent-pointer : (rest : Cursor → Result Proc) (s : List ℕ) (at : ℕ) (x : Located) (c : Cursor) (h : Payload) → sendBy rest s at x c h ≡ got P d → pointerTo P n ≡ n
+  sent-pointer : (rest : Cursor → Result Proc) (s : List ℕ) (at : ℕ) (x : Located) (c : Cursor) (h : Payload) → sendBy rest s at x c h ≡ got P d
+      → pointerTo P n ≡ n
   unfolding sendBy misfit
   sent-pointer rest s at x c UnitPayload e = take-got (unitTaken s c) _ e λ _ c₁ _ e₁. lastly-got (rest c₁) _ e₁ λ Q q. ap (λ y. pointerTo y n) q
   sent-pointer rest s at x c Channel e = take-got (expect s kName c) _ e λ _ c₁ _ e₁. lastly-got (rest c₁) _ e₁ λ Q q. ap (λ y. pointerTo y n) q
@@ -55,11 +56,13 @@ module _ (n : ℕ) {P : Proc} {d : Cursor} where
   recvd-pointer process branches s at x c Label e = lastly-got (branches c) _ e λ B q. ap (λ y. pointerTo y n) q
   recvd-pointer process branches s at x c Other e = absurd (let z : _≡_ {A = ℕ} 0 1 = cc in omega arith)
 
-pub pointer-by : (type : Cursor → Result (Ty Located)) (process rest : Cursor → Result Proc) (branches : Cursor → Result Branches) (m : ℕ) (s : List ℕ) (c d : Cursor) (P : Proc) (n : ℕ) (h : TermHead)
+pub pointer-by : (type : Cursor → Result (Ty Located)) (process rest : Cursor → Result Proc) (branches : Cursor
+    → Result Branches) (m : ℕ) (s : List ℕ) (c d : Cursor) (P : Proc) (n : ℕ) (h : TermHead)
     → processBy type process rest branches m s c h ≡ got P d → pointerTo P n ≡ peekBy h (tokenAt s (c .at) .start) n
 unfolding processBy
 pointer-by type process rest branches m s c d P n Send e =
-    take-got (processTerm s kSend c) _ e λ at c₁ _ e₁. take-got (expect s kName c₁) _ e₁ λ i c₂ _ e₂. sent-pointer n rest s at (nameIn s i) c₂ (payload (kindAt s (c₂ .at))) e₂
+    take-got (processTerm s kSend c) _ e λ at c₁ _ e₁. take-got (expect s kName c₁) _ e₁ λ i c₂ _ e₂. sent-pointer n rest s at (nameIn s i) c₂
+    (payload (kindAt s (c₂ .at))) e₂
 pointer-by type process rest branches m s c d P n Recv e =
     take-got (processTerm s kRecv c) _ e λ at c₁ _ e₁.
     take-got (expect s kName c₁) _ e₁ λ i c₂ _ e₂.
@@ -79,8 +82,10 @@ pointer-by type process rest branches m s c d P n Call e =
     part-got (nameList m s kSquareOpen kSquareClose c₃) _ e₃ λ ys c₄ _ e₄.
     let q : P ≡ call at (nameIn s i) (tokenAt s (c₂ .at) .start) xs ys = cc in ap (λ y. pointerTo y n) q
 pointer-by type process rest branches m s c d P n Cancel e =
-    take-got (processTerm s kCancel c) _ e λ at c₁ _ e₁. take-got (expect s kName c₁) _ e₁ λ i c₂ _ e₂. lastly-got (rest c₂) _ e₂ λ Q q. ap (λ y. pointerTo y n) q
-pointer-by type process rest branches m s c d P n Raise e = take-got (processTerm s kRaise c) _ e λ at c₁ _ e₁. lastly-got (process c₁) _ e₁ λ Q q. ap (λ y. pointerTo y n) q
+    take-got (processTerm s kCancel c) _ e λ at c₁ _ e₁. take-got (expect s kName c₁) _ e₁ λ i c₂ _ e₂. lastly-got (rest c₂) _ e₂ λ Q q. ap
+    (λ y. pointerTo y n) q
+pointer-by type process rest branches m s c d P n Raise e = take-got (processTerm s kRaise c) _ e λ at c₁ _ e₁. lastly-got (process c₁) _ e₁ λ Q q. ap
+    (λ y. pointerTo y n) q
 pointer-by type process rest branches m s c d P n Try e =
     take-got (processTerm s kTry c) _ e λ at c₁ _ e₁.
     part-got (bracketedBy process s c₁) _ e₁ λ Q c₂ _ e₂.
@@ -130,7 +135,8 @@ opening-end s k c {i} {d} = go (eqb (tokenAt s (c .at) .kind) k) (tokenAt s (c .
     go false t e = never e
 
 -- the pointer to a process in brackets
-pub pointer-in : (m : ℕ) (s : List ℕ) (c d : Cursor) (P : Proc) (n : ℕ) → bracketedBy (λ x. readProcess m s x) s c ≡ got P d → pointerTo P n ≡ peek s (tokenAt s (c .at) .end) n
+pub pointer-in : (m : ℕ) (s : List ℕ) (c d : Cursor) (P : Proc) (n : ℕ) → bracketedBy (λ x. readProcess m s x) s c ≡ got P d
+    → pointerTo P n ≡ peek s (tokenAt s (c .at) .end) n
 unfolding bracketedBy
 pointer-in m s c d P n e =
     take-got (opening s kRoundOpen c) _ e λ i c₁ x e₁.

@@ -35,9 +35,11 @@ use Rattle.read_text.proofs.Order.{Inside, process-grown, type-put, pro
 
 -- ── a process and the bracket that closes it
 module _ {F G : Form Proc} {s w : List ℕ} {c₀ c d : Cursor} {k k′ : Tally} {b bs : ℕ} {f sub : ℕ → Result Proc}
-    (is : (m : ℕ) → b < m → (f m ≡ part (sub m) (λ P g. take (expect s kRoundClose g) λ _ h. got P (closed c h))) × (bs < m)) {p : Out} {v : List ℕ} (t : Meets F s w d k′ bs sub p v)
+    (is : (m : ℕ) → b < m → (f m ≡ part (sub m) (λ P g. take (expect s kRoundClose g) λ _ h. got P (closed c h))) × (bs < m)) {p : Out} {v : List ℕ}
+    (t : Meets F s w d k′ bs sub p v)
     (alike : (P : Proc) → (F .after P k′ ≡ G .after P k) × (F .write P k′ w ≡ G .write P k w) × (F .Fine P → G .Fine P)) where
-  closed-meets : ((g h : Cursor) (i : ℕ) (l : Tally) → F .Ahead s d k′ g l → Further s g 1 0 0 i h → G .Ahead s c₀ k (closed c h) l) → {r : Out} → Closes s c p r → Meets G s w c₀ k b f r v
+  closed-meets : ((g h : Cursor) (i : ℕ) (l : Tally) → F .Ahead s d k′ g l → Further s g 1 0 0 i h → G .Ahead s c₀ k (closed c h) l) → {r : Out}
+      → Closes s c p r → Meets G s w c₀ k b f r v
   closed-meets ahead (not-read g h) = meets-no s w c₀ k (h ∙ g) (t .kept) (λ m lo. is m lo .0 ∙ rw (stopped (sub m) (t .is m (is m lo .1)) g))
   closed-meets ahead (not-closed g y z h) =
       meets-no s w c₀ k (refused-out z h) (t .kept) (λ m lo. gone-on (sub m) (t .is m (is m lo .1)) g λ P a _ _ _. is m lo .0 ∙ rw (a, took y z))
@@ -52,7 +54,8 @@ module _ (s w : List ℕ) (c : Cursor) (k : Tally) (room : Room s w c k) {q : Ta
   unfolding bracketedBy
   bracketed-no g h = meets-no s w c k (refused-out g h) same (λ m _. rw (took u g))
 
-  pub bracketed-closed : {i : ℕ} {d : Cursor} → q ≡ At i d → {p : Out} {v : List ℕ} → ProcessRead s w d k p v → {r : Out} → Closes s c p r → BracketedRead s w c k r v
+  pub bracketed-closed : {i : ℕ} {d : Cursor} → q ≡ At i d → {p : Out} {v : List ℕ} → ProcessRead s w d k p v → {r : Out} → Closes s c p r
+      → BracketedRead s w c k r v
   unfolding bracketedBy
   bracketed-closed {i} {d} e t =
       let o = u .on i d e in
@@ -74,7 +77,8 @@ module _ (s w : List ℕ) (c : Cursor) (k : Tally) (room : Room s w c k) {q : Ta
       unfolding processBy
       recv-open-no h l = meets-no s w c k (refused-out h l) same (λ m _. rw (took u e, took y g, took a h))
 
-      pub recv-closed : {j : ℕ} {b : Cursor} → z ≡ At j b → {p : Out} {v : List ℕ} → HandlerRead at i s w b k p v → {r : Out} → Closes s f p r → TermRead Recv s w c k r v
+      pub recv-closed : {j : ℕ} {b : Cursor} → z ≡ At j b → {p : Out} {v : List ℕ} → HandlerRead at i s w b k p v → {r : Out} → Closes s f p r
+          → TermRead Recv s w c k r v
       unfolding processBy
       recv-closed {j} {b} h t =
           let o₁ = u .on at d e in
@@ -85,7 +89,8 @@ module _ (s w : List ℕ) (c : Cursor) (k : Tally) (room : Room s w c k) {q : Ta
 -- ── what stands in a recv's bracket
 module _ (s w : List ℕ) (c : Cursor) (k : Tally) (at i : ℕ) where
   handler-as : {h : Payload} → payload (kindAt s (c .at)) ≡ h → {f : ℕ → Result Proc} {r : Out} {v : List ℕ}
-      → ((m : ℕ) → recvBy (λ d. readProcess m s d) (λ d. readBranches m s 0 d) s at (nameIn s i) c h ≡ f m) → Meets (termForm 1 k) s w c (moreTerms k) (3 * unread s c + 1) f r v
+      → ((m : ℕ) → recvBy (λ d. readProcess m s d) (λ d. readBranches m s 0 d) s at (nameIn s i) c h ≡ f m)
+      → Meets (termForm 1 k) s w c (moreTerms k) (3 * unread s c + 1) f r v
       → HandlerRead at i s w c k r v
   handler-as e {f} same t = record { is = λ m lo. rw (e, same m) (t .is m (omega arith)); kept = t .kept; on = t .on }
 
@@ -106,7 +111,8 @@ module _ (s w : List ℕ) (c : Cursor) (k : Tally) (at i : ℕ) where
   handler-other e h = meets-no s w c (moreTerms k) h same (λ m _. rw e)
 
 -- ── () or a name, => and a process
-received-after : (s : List ℕ) (h : Payload) (at : ℕ) (c : Located) (j : ℕ) (P : Proc) (k : Tally) → afterProcess P (moreTerms k) ≡ afterProcess (recvdOf s h at c j P) k
+received-after : (s : List ℕ) (h : Payload) (at : ℕ) (c : Located) (j : ℕ) (P : Proc) (k : Tally)
+    → afterProcess P (moreTerms k) ≡ afterProcess (recvdOf s h at c j P) k
 unfolding recvdOf afterProcess
 received-after s UnitPayload at c j P k = refl
 received-after s Channel at c j P k = refl
@@ -121,7 +127,8 @@ received-write s Channel at i j P k w = refl
 received-write s Label at i j P k w = refl
 received-write s Other at i j P k w = refl
 
-received-fine : (s : List ℕ) (h : Payload) (at i j : ℕ) (P : Proc) → at < textLimit → i < textLimit → j < textLimit → FineProcess P → FineProcess (recvdOf s h at (nameIn s i) j P)
+received-fine : (s : List ℕ) (h : Payload) (at i j : ℕ) (P : Proc) → at < textLimit → i < textLimit → j < textLimit → FineProcess P
+    → FineProcess (recvdOf s h at (nameIn s i) j P)
 unfolding recvdOf FineProcess
 received-fine s UnitPayload at i j P a b d f = (a, b, f)
 received-fine s Channel at i j P a b d f = (a, b, d, f)
@@ -133,7 +140,8 @@ module _ (s w : List ℕ) (c : Cursor) (k : Tally) (room : Room s w c (moreTerms
     pub one-no : {r : Out} {n j : ℕ} → q ≡ Refused n j → r ≡ asOut q → OneRead at i h s w c k r w
     one-no g y = meets-no s w c (moreTerms k) (refused-out g y) same (λ m _. rw (took u g))
 
-    pub one-read : {j : ℕ} {d : Cursor} → q ≡ At j d → {node : TermNode} → node ≡ recvdNode h at i j → {v : List ℕ} → Laid w (putTerm w (k .terms) (pointing node (peek s (d .at) (k .terms + 1)))) v
+    pub one-read : {j : ℕ} {d : Cursor} → q ≡ At j d → {node : TermNode} → node ≡ recvdNode h at i j → {v : List ℕ}
+        → Laid w (putTerm w (k .terms) (pointing node (peek s (d .at) (k .terms + 1)))) v
         → {p : Out} {v₂ : List ℕ} → ProcessRead s v d (moreTerms k) p v₂ → OneRead at i h s w c k p v₂
     one-read {j} {d} e {node} ne x t =
         let o = u .on j d e in
@@ -152,7 +160,8 @@ module _ (s w : List ℕ) (c : Cursor) (k : Tally) (room : Room s w c (moreTerms
     pub labels-no : {n x : ℕ} → p ≡ Not n x → LabelsRead at i s w c k p v
     labels-no g = meets-no s w c (moreTerms k) g (t .kept) (λ m lo. ap (lastly (recvLabel at (nameIn s i))) (stopped (readBranches m s 0 c) (t .is m lo) g))
 
-    pub labels-got : {d : Cursor} {l : Tally} → p ≡ Got d l → {v₂ : List ℕ} → Laid v (putTerm v (k .terms) (termNode 8 at i (l .branches) (l .last))) v₂ → LabelsRead at i s w c k (Got d l) v₂
+    pub labels-got : {d : Cursor} {l : Tally} → p ≡ Got d l → {v₂ : List ℕ} → Laid v (putTerm v (k .terms) (termNode 8 at i (l .branches) (l .last))) v₂
+        → LabelsRead at i s w c k (Got d l) v₂
     unfolding afterProcess writeProcess FineProcess
     labels-got {d} {l} g x =
         let o = t .on d l g in
@@ -162,8 +171,8 @@ module _ (s w : List ℕ) (c : Cursor) (k : Tally) (room : Room s w c (moreTerms
         let e₂ = afterBranches B (moreTerms k) in
         made-got (recvLabel at (nameIn s i) B) (ap (lastly (recvLabel at (nameIn s i))) e) (ap (Got d) al)
         (x .words
-            ∙ (λ j. putTerm (av j) (k .terms) (termNode 8 at i (al j .branches) (al j .last)))
-            ∙ sym (branches-put B (moreTerms k) w (k .terms) (termNode 8 at i (e₂ .branches) (e₂ .last)) (omega arith) (subst Inside al inside)))
+        ∙ (λ j. putTerm (av j) (k .terms) (termNode 8 at i (al j .branches) (al j .last)))
+        ∙ sym (branches-put B (moreTerms k) w (k .terms) (termNode 8 at i (e₂ .branches) (e₂ .last)) (omega arith) (subst Inside al inside)))
         (a, b, fi .0, fi .1))
 
 -- ── try
@@ -191,10 +200,12 @@ module _ (s w : List ℕ) (c : Cursor) (k : Tally) (room : Room s w c k) {q : Ta
           meets-no s w c k (refused-out z h) (t .kept)
           (λ m lo. gone-on (bracketedBy (λ d. readProcess m s d) s d) (t .is m (omega arith)) g λ P a _ _ _. rw (took u e, a, took y z))
 
-      module _ {i : ℕ} {b : Cursor} (z : x ≡ At i b) {second third : ℕ} (sp : second ≡ peek s (tokenAt s (d .at) .end) (k .terms + 1)) (tp : third ≡ peek s (tokenAt s (b .at) .end) (l .terms)) {v₂ : List ℕ}
+      module _ {i : ℕ} {b : Cursor} (z : x ≡ At i b) {second third : ℕ} (sp : second ≡ peek s (tokenAt s (d .at) .end) (k .terms + 1))
+          (tp : third ≡ peek s (tokenAt s (b .at) .end) (l .terms)) {v₂ : List ℕ}
           (laid : Laid v (putTerm v (k .terms) (termNode 12 at 0 second third)) v₂) where
         -- the node between the halves is the one before them
-        try-words : (m : ℕ) (P Q : Proc) (b₂ : Cursor) → bracketedBy (λ d. readProcess m s d) s d ≡ got P f → bracketedBy (λ d. readProcess m s d) s b ≡ got Q b₂
+        try-words : (m : ℕ) (P Q : Proc) (b₂ : Cursor) → bracketedBy (λ d. readProcess m s d) s d ≡ got P f
+            → bracketedBy (λ d. readProcess m s d) s b ≡ got Q b₂
             → l ≡ afterProcess P (moreTerms k) → v ≡ writeProcess P (moreTerms k) w → writeProcess Q l v₂ ≡ writeProcess (try at P Q) k w
         unfolding writeProcess
         try-words m P Q b₂ a a₂ al av =
@@ -205,9 +216,10 @@ module _ (s w : List ℕ) (c : Cursor) (k : Tally) (room : Room s w c k) {q : Ta
             let first : second ≡ pointerTo P (k .terms + 1) = sp ∙ sym (pointer-in m s d f P (k .terms + 1) a) in
             let after : third ≡ pointerTo Q (e₂ .terms) = tp ∙ sym (pointer-in m s b b₂ Q (l .terms) a₂) ∙ ap (λ (x : Tally). pointerTo Q (x .terms)) al in
             let words : v₂ ≡ writeProcess P (moreTerms k) (putTerm w (k .terms) (termNode 12 at 0 (pointerTo P (k .terms + 1)) (pointerTo Q (e₂ .terms)))) =
-                laid .words
-                ∙ (λ j. putTerm (av j) (k .terms) (termNode 12 at 0 (first j) (after j)))
-                ∙ sym (process-put P (moreTerms k) w (k .terms) (termNode 12 at 0 (pointerTo P (k .terms + 1)) (pointerTo Q (e₂ .terms))) (omega arith) (subst Inside al inside)) in
+            laid .words
+            ∙ (λ j. putTerm (av j) (k .terms) (termNode 12 at 0 (first j) (after j)))
+            ∙ sym (process-put P (moreTerms k) w (k .terms) (termNode 12 at 0 (pointerTo P (k .terms + 1)) (pointerTo Q (e₂ .terms))) (omega arith)
+            (subst Inside al inside)) in
             λ j. writeProcess Q (al j) (words j)
 
         pub try-read : {p₂ : Out} {v₃ : List ℕ} → BracketedRead s v₂ b l p₂ v₃ → TermRead Try s w c k p₂ v₃
@@ -238,7 +250,12 @@ module _ (s w : List ℕ) (c : Cursor) (k : Tally) (room : Room s w c k) (i at :
           is = λ m lo. gone-on (bracketedBy (λ d. readProcess m s d) s c) (t .is m (omega arith)) g λ P a al av fi.
               let to : second ≡ pointerTo P (k .terms) = sp ∙ sym (pointer-in m s c d P (k .terms) a) in
               made-as z (λ Q. (P, Q)) w k m (omega arith) (rw a)
-              (λ Q _ _ fi₂ _. (ap (afterProcess Q) al, (λ j. writeProcess Q (al j) (putTerm (av j) i (termNode 5 at (k .last) (to j) (pointerTo Q (al j .terms))))), (fi, fi₂)));
+              (λ Q _ _ fi₂ _. (
+                ap (afterProcess Q) al,
+                (λ j. writeProcess Q (al j) (putTerm (av j) i
+                    (termNode 5 at (k .last) (to j) (pointerTo Q (al j .terms))))),
+                (fi, fi₂),
+              ));
           kept = z .kept upon t .kept;
           on = λ b l₂ h. let o₂ = z .on b l₂ h in omega arith;
         }
@@ -261,7 +278,8 @@ spawn-parts x A (refused n i) rest = refl
 
 module _ (s w : List ℕ) (c : Cursor) (k : Tally) (room : Room s w c k) {q : Taken} (u : Stepped s c 2 0 1 (nameColon s c) q) where
   spawn-is : (m : ℕ) → termBy Spawn s c m
-      ≡ take (nameColon s c) (λ i e. part (readType m s e) λ A f. take (expect s kFrom f) λ _ g. part (bracketedBy (λ d. readProcess m s d) s g) λ P h. lastly (spawn (nameIn s i) A P)
+      ≡ take (nameColon s c) (λ i e. part (readType m s e) λ A f. take (expect s kFrom f) λ _ g. part
+      (bracketedBy (λ d. readProcess m s d) s g) λ P h. lastly (spawn (nameIn s i) A P)
       (readRest m s h))
   unfolding nameColon processBy
   spawn-is m = sym (then-take (processTerm s kName c) (expect s kColon) _)
@@ -284,7 +302,8 @@ module _ (s w : List ℕ) (c : Cursor) (k : Tally) (room : Room s w c k) {q : Ta
 
       module _ {j : ℕ} {b : Cursor} (z : x ≡ At j b) where
         -- the node after the type and the first half is the one before them
-        spawn-words : (A : Ty Located) (P Q : Proc) → l ≡ afterType A (moreTerms k) → v ≡ writeType A (moreTerms k) w → Inside (afterProcess Q (afterProcess P l))
+        spawn-words : (A : Ty Located) (P Q : Proc) → l ≡ afterType A (moreTerms k) → v ≡ writeType A (moreTerms k) w
+            → Inside (afterProcess Q (afterProcess P l))
             → (partsForm (k .terms) i) .write (P, Q) l v ≡ writeProcess (spawn (nameIn s i) A P Q) k w
         unfolding writeProcess
         spawn-words A P Q al av inside =
@@ -300,9 +319,11 @@ module _ (s w : List ℕ) (c : Cursor) (k : Tally) (room : Room s w c k) {q : Ta
             (λ j. (partsForm (k .terms) i) .write (P, Q) (al j) (av j))
             ∙ ap (writeProcess Q e₂)
             (sym (process-put P d₂ (writeType A (moreTerms k) w) (k .terms) node before (subst (λ x. Inside (afterProcess P x)) al within))
-                ∙ ap (writeProcess P d₂) (sym (type-put A (moreTerms k) w (k .terms) node (subst (λ (x : Tally). (x .nodes ≤ 512) × (x .alternatives ≤ 512)) al (omega arith)))))
+            ∙ ap (writeProcess P d₂) (sym (type-put A (moreTerms k) w (k .terms) node (subst (λ (x : Tally). (x .nodes ≤ 512) × (x .alternatives ≤ 512)) al
+            (omega arith)))))
 
-        spawn-whole : (r : Out) (y₂ : List ℕ) → Meets (partsForm (k .terms) i) s v b l (3 * unread s b + 1) (partsBy s b) r y₂ → Meets processForm s w c k (3 * unread s c) (termBy Spawn s c) r y₂
+        spawn-whole : (r : Out) (y₂ : List ℕ) → Meets (partsForm (k .terms) i) s v b l (3 * unread s b + 1) (partsBy s b) r y₂
+            → Meets processForm s w c k (3 * unread s c) (termBy Spawn s c) r y₂
         unfolding afterProcess FineProcess
         spawn-whole r y₂ t₂ =
             let o = u .on i d e in
@@ -312,8 +333,11 @@ module _ (s w : List ℕ) (c : Cursor) (k : Tally) (room : Room s w c k) {q : Ta
               is = λ m lo. gone-on (readType m s d) (t .is m (omega arith)) g λ A a al av fi.
                   made-as t₂ (spawned (nameIn s i) A) w k m (omega arith)
                   (spawn-is m ∙ rw (took u e, a, took y z) (spawn-parts (nameIn s i) A (bracketedBy (λ d. readProcess m s d) s b) (λ d. readRest m s d)))
-                  (λ B _ _ fi₂ ah.
-                  ((λ j. afterProcess (B .1) (afterProcess (B .0) (al j))), spawn-words A (B .0) (B .1) al av (omega arith), (omega arith, fi, fi₂ .0, fi₂ .1)));
+                  (λ B _ _ fi₂ ah. (
+                    (λ j. afterProcess (B .1) (afterProcess (B .0) (al j))),
+                    spawn-words A (B .0) (B .1) al av (omega arith),
+                    (omega arith, fi, fi₂ .0, fi₂ .1),
+                  ));
               kept = t₂ .kept upon t .kept;
               on = λ b₂ l₂ h. let o₄ = t₂ .on b₂ l₂ h in omega arith;
             }
@@ -332,7 +356,12 @@ module _ (s w : List ℕ) (c : Cursor) (k : Tally) (room : Room s w c k) where
   process-suc m = refl
 
   turn-whole : (h : TermHead) → termHead (kindAt s (c .at)) ≡ h → (r : Out) (v : List ℕ) → TermRead h s w c k r v → ProcessRead s w c k r v
-  turn-whole h e r v y = record { is = more-made processForm w k (λ m. readProcess m s c) (λ m lo. rw (process-suc m, e) (y .is m (omega arith))); kept = y .kept; on = y .on }
+  turn-whole h e r v y = record {
+    is = more-made processForm w k (λ m. readProcess m s c) (λ m lo. rw (process-suc m, e)
+        (y .is m (omega arith)));
+    kept = y .kept;
+    on = y .on;
+  }
 
   pub turn-by : (h : TermHead) → termHead (kindAt s (c .at)) ≡ h → {t : Turn} {v : List ℕ} → TermTurned h s w c k t v → TurnRead s w c k t v
   turn-by h e {t} a = turn-under t (omega arith) same (turn-whole h e) a

@@ -53,8 +53,14 @@ entries-suc m s close c =
 -- an entry more changes nothing else
 pub entry-added : (k l : Tally) → l ≡ moreEntries k
     → (l .entries ≡ k .entries + 1) × (l .nodes ≡ k .nodes) × (l .alternatives ≡ k .alternatives) × (l .terms ≡ k .terms) × (l .branches ≡ k .branches) × SameDeclared k l
-entry-added k l e =
-    (ap (λ x. x .entries) e, ap (λ x. x .nodes) e, ap (λ x. x .alternatives) e, ap (λ x. x .terms) e, ap (λ x. x .branches) e, (ap (λ x. x .types) e, ap (λ x. x .processes) e, ap (λ x. x .execs) e))
+entry-added k l e = (
+  ap (λ x. x .entries) e,
+  ap (λ x. x .nodes) e,
+  ap (λ x. x .alternatives) e,
+  ap (λ x. x .terms) e,
+  ap (λ x. x .branches) e,
+  (ap (λ x. x .types) e, ap (λ x. x .processes) e, ap (λ x. x .execs) e),
+)
 
 -- ── the bracket that closes
 module _ (s w : List ℕ) (c : Cursor) (k : Tally) (room : Room s w c k) (close n : ℕ) {q : Taken} (u : Stepped s c n 0 0 (expect s close c) q) where
@@ -69,10 +75,12 @@ module _ (s w : List ℕ) (c : Cursor) (k : Tally) (room : Room s w c k) (close 
 
 -- ── a list that may be empty
 module _ (s w : List ℕ) (c : Cursor) (k : Tally) (room : Room s w c k) (close : ℕ) where
-  pub some-entries : eqb (kindAt s (c .at)) kName ≡ true → {r : Out} {v : List ℕ} → EntriesRead (λ m. readEntries m s close c) s w c k r v → EntriesRead (λ m. entriesOrNone m s close c) s w c k r v
+  pub some-entries : eqb (kindAt s (c .at)) kName ≡ true → {r : Out} {v : List ℕ} → EntriesRead (λ m. readEntries m s close c) s w c k r v
+      → EntriesRead (λ m. entriesOrNone m s close c) s w c k r v
   some-entries f t = record { is = λ m lo. rw f (t .is m lo); kept = t .kept; on = t .on }
 
-  pub no-entries : eqb (kindAt s (c .at)) kName ≡ false → {r : Out} {v : List ℕ} → EntriesRead (λ _. closeBy s close c) s w c k r v → EntriesRead (λ m. entriesOrNone m s close c) s w c k r v
+  pub no-entries : eqb (kindAt s (c .at)) kName ≡ false → {r : Out} {v : List ℕ} → EntriesRead (λ _. closeBy s close c) s w c k r v
+      → EntriesRead (λ m. entriesOrNone m s close c) s w c k r v
   no-entries f t = record { is = λ m lo. rw f (t .is m lo); kept = t .kept; on = t .on }
 
 -- ── entries
@@ -90,7 +98,8 @@ module _ (s w : List ℕ) (c : Cursor) (k : Tally) (room : Room s w c k) (close 
         more-no entriesForm s w c k (λ m. readEntries m s close c) g (t .kept)
         (λ m lo. entries-suc m s close c ∙ rw (took u e, stopped (readType m s d) (t .is m (omega arith)) g))
 
-    module _ {f : Cursor} {l : Tally} (g : p ≡ Got f l) {l₂ : Tally} {v₂ : List ℕ} (pt : Put v (putEntry v (l .entries) i (l .last)) (moreEntries l) l₂ v₂) where
+    module _ {f : Cursor} {l : Tally} (g : p ≡ Got f l) {l₂ : Tally} {v₂ : List ℕ} (pt : Put v (putEntry v (l .entries) i (l .last))
+        (moreEntries l) l₂ v₂) where
       entries-more : {x : Out} {v₃ : List ℕ} → EntriesRead (λ m. moreEntriesBy m s close f) s v₂ f l₂ x v₃ → Entries s close w c k x v₃
       unfolding afterEntries writeEntries FineEntries
       entries-more y =
@@ -104,7 +113,8 @@ module _ (s w : List ℕ) (c : Cursor) (k : Tally) (room : Room s w c k) (close 
                 (λ es _ _ fi₂ _.
                 let number : l .entries ≡ k .entries = o₂ .0 .6 .1 in
                 let tally : l₂ ≡ moreEntries (afterType A k) = pt .is ∙ ap moreEntries al in
-                let words : v₂ ≡ putEntry (writeType A k w) (k .entries) i (afterType A k .last) = pt .words ∙ (λ j. putEntry (av j) (number j) i (al j .last)) in
+                let words : v₂ ≡ putEntry (writeType A k w) (k .entries) i (afterType A k .last) = pt .words ∙
+                (λ j. putEntry (av j) (number j) i (al j .last)) in
                 (ap (afterEntries es) tally, (λ j. writeEntries es (tally j) (words j)), (omega arith, fi, fi₂))));
             kept = y .kept upon pt .kept upon t .kept;
             on = λ b l₃ z. let o₃ = y .on b l₃ z in omega arith;
@@ -114,20 +124,24 @@ module _ (s w : List ℕ) (c : Cursor) (k : Tally) (room : Room s w c k) (close 
         pub entries-comma-no : {r : Out} {n j : ℕ} → x ≡ Refused n j → r ≡ asOut x → Entries s close w c k r v₂
         entries-comma-no h z = entries-more (meets-no s v₂ f l₂ (refused-out h z) same (λ m _. rw (comma, took y h)))
 
-        pub entries-on : {w₀ : List ℕ} {c₀ : Cursor} {k₀ : Tally} → Through (Entries s close) s w₀ c₀ k₀ w c k → {j : ℕ} {b : Cursor} → x ≡ At j b → Through (Entries s close) s w₀ c₀ k₀ v₂ b l₂
+        pub entries-on : {w₀ : List ℕ} {c₀ : Cursor} {k₀ : Tally} → Through (Entries s close) s w₀ c₀ k₀ w c k → {j : ℕ} {b : Cursor} → x ≡ At j b
+            → Through (Entries s close) s w₀ c₀ k₀ v₂ b l₂
         entries-on h {j} {b} z =
             let o = u .on i d e in
             let o₂ = t .on f l g in
             let o₃ = y .on j b z in
             let added = entry-added l l₂ (pt .is) in
             through-on h (omega (arith, pt .kept .long, t .kept .long)) (omega arith) (pt .kept upon t .kept)
-            (λ r a x. entries-more (record { is = λ m lo. rw (comma, took y z) (x .is m (omega arith)); kept = x .kept; on = λ b l q. let o₄ = x .on b l q in omega arith }))
+            (λ r a x. entries-more
+            (record { is = λ m lo. rw (comma, took y z) (x .is m (omega arith)); kept = x .kept; on = λ b l q. let o₄ = x .on b l q in omega arith }))
 
-      pub entries-end : eqb (kindAt s (f .at)) kComma ≡ false → {x : Out} {v₃ : List ℕ} → EntriesRead (λ _. closeBy s close f) s v₂ f l₂ x v₃ → Entries s close w c k x v₃
+      pub entries-end : eqb (kindAt s (f .at)) kComma ≡ false → {x : Out} {v₃ : List ℕ} → EntriesRead (λ _. closeBy s close f) s v₂ f l₂ x v₃
+          → Entries s close w c k x v₃
       entries-end comma y = entries-more (record { is = λ m lo. rw comma (y .is m lo); kept = y .kept; on = y .on })
 
 -- ── a list in its brackets
-module _ (s w : List ℕ) (c : Cursor) (k : Tally) (room : Room s w c k) (opens closes n : ℕ) (wide : 1 ≤ n) {q : Taken} (u : Stepped s c n 0 0 (opening s opens c) q) where
+module _ (s w : List ℕ) (c : Cursor) (k : Tally) (room : Room s w c k) (opens closes n : ℕ) (wide : 1 ≤ n) {q : Taken}
+    (u : Stepped s c n 0 0 (opening s opens c) q) where
   list-is : (m : ℕ) → entryList m s opens closes c ≡ take (opening s opens c) (λ _ d. part (entriesOrNone m s closes d) λ entries e. got entries (closed c e))
   unfolding entryList
   list-is m = refl

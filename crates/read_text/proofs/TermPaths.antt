@@ -38,16 +38,19 @@ rest-suc : (m : ℕ) (s : List ℕ) (c : Cursor) → readRest (suc m) s c ≡ re
 unfolding readProcess
 rest-suc m s c = refl
 
-module _ (i : ℕ) (n : TermNode) (s w : List ℕ) (c : Cursor) (k : Tally) (room : Room s w c k) (t : Token) (is : t ≡ tokenAt s (c .at)) (o : Onward s (c .at) t) where
+module _ (i : ℕ) (n : TermNode) (s w : List ℕ) (c : Cursor) (k : Tally) (room : Room s w c k) (t : Token) (is : t ≡ tokenAt s (c .at))
+    (o : Onward s (c .at) t) where
   kind-is : kindAt s (c .at) ≡ t .kind
   kind-is = ap (λ x. x .kind) (sym is)
 
   -- nothing follows
-  pub rest-none : ((t .kind ≡ kSemicolon) → ⊥) → {v : List ℕ} → Laid w (putTerm w i (pointing n (emptyPointer (t .start)))) v → RestTurned i n s w c k (Done (Got c k)) v
+  pub rest-none : ((t .kind ≡ kSemicolon) → ⊥) → {v : List ℕ} → Laid w (putTerm w i (pointing n (emptyPointer (t .start)))) v
+      → RestTurned i n s w c k (Done (Got c k)) v
   unfolding restBy afterProcess writeProcess FineProcess
   rest-none d x =
       turn-done (more-got (nodeForm i n) s w c k (λ m. readRest m s c) (omega (arith, o .starts)) (x .kept)
-      (λ m _. made-got (empty (t .start)) (rest-suc m s c ∙ rw (ne-eqb _ _ (λ e. d (sym kind-is ∙ e))) (ap (λ x. got (empty (x .start)) c) (sym is))) refl (x .words) (omega (arith, o .starts))))
+      (λ m _. made-got (empty (t .start)) (rest-suc m s c ∙ rw (ne-eqb _ _ (λ e. d (sym kind-is ∙ e))) (ap (λ x. got (empty (x .start)) c) (sym is))) refl
+      (x .words) (omega (arith, o .starts))))
 
   module _ (e : t .kind ≡ kSemicolon) {q : Taken} (u : Stepped s c 1 0 0 (expect s kSemicolon c) q) where
     semicolon : eqb (kindAt s (c .at)) kSemicolon ≡ true
@@ -88,7 +91,8 @@ sent-is rest s at c d Channel = refl
 sent-is rest s at c d Label = refl
 sent-is rest s at c d Other = refl
 
-sent-after : (s : List ℕ) (h : Payload) (at : ℕ) (c : Located) (j : ℕ) (P : Proc) (k : Tally) → afterProcess P (moreTerms k) ≡ afterProcess (sentOf s h at c j P) k
+sent-after : (s : List ℕ) (h : Payload) (at : ℕ) (c : Located) (j : ℕ) (P : Proc) (k : Tally)
+    → afterProcess P (moreTerms k) ≡ afterProcess (sentOf s h at c j P) k
 unfolding sentOf afterProcess
 sent-after s UnitPayload at c j P k = refl
 sent-after s Channel at c j P k = refl
@@ -103,7 +107,8 @@ sent-write s Channel at i j P k w = refl
 sent-write s Label at i j P k w = refl
 sent-write s Other at i j P k w = refl
 
-sent-fine : (s : List ℕ) (h : Payload) (at i j : ℕ) (P : Proc) → at < textLimit → i < textLimit → j < textLimit → FineProcess P → FineProcess (sentOf s h at (nameIn s i) j P)
+sent-fine : (s : List ℕ) (h : Payload) (at i j : ℕ) (P : Proc) → at < textLimit → i < textLimit → j < textLimit → FineProcess P
+    → FineProcess (sentOf s h at (nameIn s i) j P)
 unfolding sentOf FineProcess
 sent-fine s UnitPayload at i j P a b d f = (a, b, f)
 sent-fine s Channel at i j P a b d f = (a, b, d, f)
@@ -116,13 +121,18 @@ module _ (s w : List ℕ) (c : Cursor) (k : Tally) (room : Room s w c (moreTerms
   pub sent-no : {r : Out} {n j : ℕ} → q ≡ Refused n j → r ≡ asOut q → SentTurned at i h s w c k (Done r) w
   sent-no g y = turn-done (meets-no s w c (moreTerms k) (refused-out g y) same (λ m _. sent-is _ s at (nameIn s i) c h ∙ rw (took u g)))
 
-  pub sent-on : {j : ℕ} {d : Cursor} → q ≡ At j d → {n : TermNode} → n ≡ sentNode h at i j → {t : Turn} {v : List ℕ} → RestTurned (k .terms) n s w d (moreTerms k) t v
+  pub sent-on : {j : ℕ} {d : Cursor} → q ≡ At j d → {n : TermNode} → n ≡ sentNode h at i j → {t : Turn} {v : List ℕ}
+      → RestTurned (k .terms) n s w d (moreTerms k) t v
       → SentTurned at i h s w c k t v
   sent-on {j} {d} e {n} ne {t} y =
       let o = u .on j d e in
       turn-under t (omega arith) same
       (λ r v z. meets-as z (sentOf s h at (nameIn s i) j) w (moreTerms k) (λ m lo. (sent-is _ s at (nameIn s i) c h ∙ rw (took u e), omega arith)) same
-      (λ m P f _ fi _. (sent-after s h at (nameIn s i) j P k, ap (λ n. nodeForm (k .terms) n .write P (moreTerms k) w) ne ∙ sent-write s h at i j P k w, sent-fine s h at i j P a b (omega arith) fi)) (λ d l p. omega arith))
+      (λ m P f _ fi _. (
+        sent-after s h at (nameIn s i) j P k,
+        ap (λ n. nodeForm (k .terms) n .write P (moreTerms k) w) ne ∙ sent-write s h at i j P k w,
+        sent-fine s h at i j P a b (omega arith) fi,
+      )) (λ d l p. omega arith))
       y
 
 -- ── a term's keyword
@@ -138,13 +148,15 @@ module _ (s w : List ℕ) (c : Cursor) (k : Tally) (room : Room s w c k) where
       unfolding processBy
       send-name-no g h = turn-done (meets-no s w c k (refused-out g h) same (λ m _. rw (took u e, took y g)))
 
-      pub send-on : {i : ℕ} {f : Cursor} → x ≡ At i f → {h : Payload} → h ≡ payload (kindAt s (f .at)) → {t : Turn} {v : List ℕ} → SentTurned at i h s w f k t v → TermTurned Send s w c k t v
+      pub send-on : {i : ℕ} {f : Cursor} → x ≡ At i f → {h : Payload} → h ≡ payload (kindAt s (f .at)) → {t : Turn} {v : List ℕ}
+          → SentTurned at i h s w f k t v → TermTurned Send s w c k t v
       unfolding processBy
       send-on {i} {f} g {h} p {t} z =
           let o = u .on at d e in
           let o₂ = y .on i f g in
           turn-under t (omega arith) same
-          (λ r v b. meets-as b (λ P. P) w k (λ m lo. (rw (took u e, took y g, ← p) (lastly-same _), omega arith)) same (λ m P _ _ fi _. (refl, refl, fi)) (λ d l p. omega arith))
+          (λ r v b. meets-as b (λ P. P) w k (λ m lo. (rw (took u e, took y g, ← p) (lastly-same _), omega arith)) same (λ m P _ _ fi _. (refl, refl, fi))
+          (λ d l p. omega arith))
           z
 
   -- cancel
@@ -158,13 +170,15 @@ module _ (s w : List ℕ) (c : Cursor) (k : Tally) (room : Room s w c k) where
       unfolding processBy
       cancel-name-no g h = turn-done (meets-no s w c k (refused-out g h) same (λ m _. rw (took u e, took y g)))
 
-      pub cancel-on : {i : ℕ} {f : Cursor} → x ≡ At i f → {t : Turn} {v : List ℕ} → RestTurned (k .terms) (termNode 4 at i 0 0) s w f (moreTerms k) t v → TermTurned Cancel s w c k t v
+      pub cancel-on : {i : ℕ} {f : Cursor} → x ≡ At i f → {t : Turn} {v : List ℕ} → RestTurned (k .terms) (termNode 4 at i 0 0) s w f (moreTerms k) t v
+          → TermTurned Cancel s w c k t v
       unfolding processBy afterProcess writeProcess FineProcess
       cancel-on {i} {f} g {t} z =
           let o = u .on at d e in
           let o₂ = y .on i f g in
           turn-under t (omega arith) same
-          (λ r v b. meets-as b (cancel at (nameIn s i)) w k (λ m lo. (rw (took u e, took y g), omega arith)) same (λ m P _ _ fi _. (refl, refl, (omega arith, omega arith, fi))) (λ d l p. omega arith))
+          (λ r v b. meets-as b (cancel at (nameIn s i)) w k (λ m lo. (rw (took u e, took y g), omega arith)) same
+          (λ m P _ _ fi _. (refl, refl, (omega arith, omega arith, fi))) (λ d l p. omega arith))
           z
 
   -- raise
@@ -173,7 +187,8 @@ module _ (s w : List ℕ) (c : Cursor) (k : Tally) (room : Room s w c k) where
     unfolding processBy
     raise-no g h = turn-done (meets-no s w c k (refused-out g h) same (λ m _. rw (took u g)))
 
-    pub raise-on : {at : ℕ} {d : Cursor} → q ≡ At at d → {v : List ℕ} → Laid w (putTerm w (k .terms) (pointing (termNode 11 at 0 0 0) (peek s (d .at) (k .terms + 1)))) v
+    pub raise-on : {at : ℕ} {d : Cursor} → q ≡ At at d → {v : List ℕ}
+        → Laid w (putTerm w (k .terms) (pointing (termNode 11 at 0 0 0) (peek s (d .at) (k .terms + 1)))) v
         → TermTurned Raise s w c k (On d (moreTerms k)) v
     unfolding processBy afterProcess writeProcess FineProcess
     raise-on {at} {d} e x =
@@ -182,7 +197,12 @@ module _ (s w : List ℕ) (c : Cursor) (k : Tally) (room : Room s w c k) where
           room = omega (arith, x .kept .long);
           later = omega arith;
           whole = λ r y a. meets-as a (raise at) w k (λ m lo. (rw (took u e), omega arith)) (x .kept)
-              (λ m P f p fi _. (refl, ap (writeProcess P (moreTerms k)) (x .words ∙ ap (λ y. putTerm w (k .terms) (termNode 11 at 0 0 y)) (sym (pointer-at m s d f P (k .terms + 1) p))), (omega arith, fi)))
+              (λ m P f p fi _. (
+                refl,
+                ap (writeProcess P (moreTerms k)) (x .words ∙ ap (λ y. putTerm w (k .terms) (termNode 11 at 0 0 y))
+                    (sym (pointer-at m s d f P (k .terms + 1) p))),
+                (omega arith, fi),
+              ))
               (λ d l p. omega arith);
         })
 
@@ -202,7 +222,8 @@ module _ (s w : List ℕ) (c : Cursor) (k : Tally) (room : Room s w c k) where
         unfolding processBy
         fwd-used-no h l = meets-no s w c k (refused-out h l) same (λ m _. rw (took u e, took y g, took o h))
 
-        pub fwd-got : {j : ℕ} {b : Cursor} {v : List ℕ} → z ≡ At j b → Laid w (putTerm w (k .terms) (termNode 9 at i j 0)) v → TermRead Fwd s w c k (Got b (moreTerms k)) v
+        pub fwd-got : {j : ℕ} {b : Cursor} {v : List ℕ} → z ≡ At j b → Laid w (putTerm w (k .terms) (termNode 9 at i j 0)) v
+            → TermRead Fwd s w c k (Got b (moreTerms k)) v
         unfolding processBy afterProcess writeProcess FineProcess
         fwd-got {j} {b} h x =
             let o₁ = u .on at d e in

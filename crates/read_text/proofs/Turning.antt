@@ -41,9 +41,11 @@ module _ (s : List ℕ) (at : ℕ) {t : Token} (e : t ≡ tokenAt s at) where
 abbrev pub Over : {A B : Type 0} → Form A → Form B → List ℕ → Tally → List ℕ → Tally → A → B → Type 0
 Over F G w k w′ k′ a b = (F .after a k ≡ G .after b k′) × (F .write a k w ≡ G .write b k′ w′) × G .Fine b
 
-module _ {A B : Type 0} {F : Form A} {G : Form B} {s w : List ℕ} {c : Cursor} {k : Tally} {b : ℕ} {f : ℕ → Result A} {r : Out} {v : List ℕ} (t : Meets F s w c k b f r v) (h : A → B) (w′ : List ℕ)
+module _ {A B : Type 0} {F : Form A} {G : Form B} {s w : List ℕ} {c : Cursor} {k : Tally} {b : ℕ} {f : ℕ → Result A} {r : Out} {v : List ℕ}
+    (t : Meets F s w c k b f r v) (h : A → B) (w′ : List ℕ)
     (k′ : Tally) where
-  pub made-as : (m : ℕ) → b < m → {x : Result B} → x ≡ lastly h (f m) → ((a : A) (d : Cursor) → f m ≡ got a d → F .Fine a → F .Ahead s c k d (F .after a k) → Over F G w k w′ k′ a (h a)) → Made G w′ k′ x r v
+  pub made-as : (m : ℕ) → b < m → {x : Result B} → x ≡ lastly h (f m) → ((a : A) (d : Cursor) → f m ≡ got a d → F .Fine a → F .Ahead s c k d (F .after a k)
+      → Over F G w k w′ k′ a (h a)) → Made G w′ k′ x r v
   made-as m lo {x} e words = subst (λ y. Made G w′ k′ y r v) (sym e) (go (f m) refl (t .is m lo))
     where
       go : (y : Result A) → f m ≡ y → Made F w k y r v → Made G w′ k′ (lastly h y) r v
@@ -53,7 +55,8 @@ module _ {A B : Type 0} {F : Form A} {G : Form B} {s w : List ℕ} {c : Cursor} 
       go (refused n i) q y = record { said = y .said }
 
   pub meets-as : {c′ : Cursor} {b′ : ℕ} {g : ℕ → Result B} → ((m : ℕ) → b′ < m → (g m ≡ lastly h (f m)) × (b < m)) → Kept w′ w
-      → ((m : ℕ) (a : A) (d : Cursor) → f m ≡ got a d → F .Fine a → F .Ahead s c k d (F .after a k) → Over F G w k w′ k′ a (h a)) → ((d : Cursor) (l : Tally) → F .Ahead s c k d l → G .Ahead s c′ k′ d l)
+      → ((m : ℕ) (a : A) (d : Cursor) → f m ≡ got a d → F .Fine a → F .Ahead s c k d (F .after a k) → Over F G w k w′ k′ a (h a))
+      → ((d : Cursor) (l : Tally) → F .Ahead s c k d l → G .Ahead s c′ k′ d l)
       → Meets G s w′ c′ k′ b′ g r v
   meets-as is kept words ahead = record {
     is = λ m lo. made-as m (is m lo .1) (is m lo .0) (words m);
@@ -85,7 +88,8 @@ module _ {A : Type 0} {F : Form A} {s w : List ℕ} {c : Cursor} {k : Tally} {b 
   turn-under (Done r) h q go m = record { said = go r v (m .said); kept = m .kept upon q }
 
 -- ── a loop over what follows: the answer from here, with these words, is the answer of the whole
-pub record Through (R : List ℕ → Cursor → Tally → Out → List ℕ → Type 0) (s w₀ : List ℕ) (c₀ : Cursor) (k₀ : Tally) (w : List ℕ) (c : Cursor) (k : Tally) : Type 0 where
+pub record Through (R : List ℕ → Cursor → Tally → Out → List ℕ → Type 0) (s w₀ : List ℕ) (c₀ : Cursor) (k₀ : Tally) (w : List ℕ) (c : Cursor)
+    (k : Tally) : Type 0 where
   pub room : Room s w c k
   pub later : c₀ .at ≤ c .at
   pub kept : Kept w₀ w
@@ -94,7 +98,8 @@ pub record Through (R : List ℕ → Cursor → Tally → Out → List ℕ → T
 pub through-start : {R : List ℕ → Cursor → Tally → Out → List ℕ → Type 0} {s w : List ℕ} {c : Cursor} {k : Tally} → Room s w c k → Through R s w c k w c k
 through-start h = record { room = h; later = omega arith; kept = same; whole = λ r u a. a }
 
-pub through-on : {R : List ℕ → Cursor → Tally → Out → List ℕ → Type 0} {s w₀ w v : List ℕ} {c₀ c d : Cursor} {k₀ k l : Tally} → Through R s w₀ c₀ k₀ w c k → Room s v d l → c .at ≤ d .at → Kept w v
+pub through-on : {R : List ℕ → Cursor → Tally → Out → List ℕ → Type 0} {s w₀ w v : List ℕ} {c₀ c d : Cursor} {k₀ k l : Tally} → Through R s w₀ c₀ k₀ w c k
+    → Room s v d l → c .at ≤ d .at → Kept w v
     → ((r : Out) (u : List ℕ) → R v d l r u → R w c k r u) → Through R s w₀ c₀ k₀ v d l
 through-on h room later g on =
     let y = h .later in

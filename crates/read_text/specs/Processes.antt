@@ -84,7 +84,8 @@ recvdNode Other at i j = termNode 6 at i 0 0
 
 abbrev pub OneRead : ℕ → ℕ → Payload → List ℕ → List ℕ → Cursor → Tally → Out → List ℕ → Type 0
 OneRead at i h s w c k =
-    Meets (termForm 1 k) s w c (moreTerms k) (3 * unread s c + 1) (λ m. take (payloadThen s c h) λ j d. lastly (recvdOf s h at (nameIn s i) j) (readProcess m s d))
+    Meets (termForm 1 k) s w c (moreTerms k) (3 * unread s c + 1) (λ m. take (payloadThen s c h) λ j d. lastly (recvdOf s h at (nameIn s i) j)
+    (readProcess m s d))
 
 -- ── branches
 abbrev pub branchesForm : Form Branches

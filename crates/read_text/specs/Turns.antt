@@ -93,7 +93,8 @@ ProcessRead s w c k = Meets processForm s w c k (3 * unread s c + 1) (λ m. read
 
 -- ── turns
 -- a process follows at d: whatever is its answer, with these words v, is the answer of the whole
-pub record Onward {A : Type 0} (F : Form A) (s w : List ℕ) (c : Cursor) (k : Tally) (bound : ℕ) (f : ℕ → Result A) (v : List ℕ) (d : Cursor) (l : Tally) : Type 0 where
+pub record Onward {A : Type 0} (F : Form A) (s w : List ℕ) (c : Cursor) (k : Tally) (bound : ℕ) (f : ℕ → Result A) (v : List ℕ) (d : Cursor)
+    (l : Tally) : Type 0 where
   pub room : Room s v d l
   pub later : c .at < d .at
   pub whole : (r : Out) (u : List ℕ) → ProcessRead s v d l r u → Meets F s w c k bound f r u

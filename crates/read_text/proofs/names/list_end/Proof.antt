@@ -20,7 +20,8 @@ returns : tie.Need-returns
 returns c = end-no _ _ _ _ (width-pos (c .before .before .before .before .args .close)) (c .before .before .expect .ensures) (c .enum-told .given .1)
 
 returns-2 : tie.Need-returns-2
-returns-2 c = end-at _ _ _ _ (width-pos (c .before .before .before .before .before .args .close)) (c .before .before .before .expect .ensures) (c .before .closed .given .1)
+returns-2 c = end-at _ _ _ _ (width-pos (c .before .before .before .before .before .args .close)) (c .before .before .before .expect .ensures)
+    (c .before .closed .given .1)
 
 pub list-end-spec : {M : Type 1} → statement M
 list-end-spec = tie.close (tie.spec expect-requires enum-known-closed enum-told returns returns-2)

@@ -31,11 +31,13 @@ enum-told-2 c = search needs
 
 returns-2 : tie.Need-returns-2
 returns-2 c = list-names-no _ _ _ _ _ (width-pos (c .before .before .before .before .before .before .before .before .args .opens))
-    (c .before .before .before .before .before .before .opening .ensures) (c .before .before .before .before .opened .given .1) (c .before .before .names-or-none .ensures) (c .enum-told2 .given .1)
+    (c .before .before .before .before .before .before .opening .ensures) (c .before .before .before .before .opened .given .1)
+    (c .before .before .names-or-none .ensures) (c .enum-told2 .given .1)
 
 returns-3 : tie.Need-returns-3
 returns-3 c = list-got _ _ _ _ _ (width-pos (c .before .before .before .before .before .before .before .before .before .args .opens))
-    (c .before .before .before .before .before .before .before .opening .ensures) (c .before .before .before .before .before .opened .given .1) (c .before .before .before .names-or-none .ensures)
+    (c .before .before .before .before .before .before .before .opening .ensures) (c .before .before .before .before .before .opened .given .1)
+    (c .before .before .before .names-or-none .ensures)
     (c .before .names .given .1)
 
 pub name-list-spec : {M : Type 1} → statement M

@@ -7,11 +7,6 @@ use Rattle.read_text.proofs.NamePaths.{NamesThrough, names-start, names
 use borrow.Author.Needs.{needs}
 use Rattle.read_text.proofs.names.read_names.Statement.{statement}
 use Rattle.read_text.proofs.names.read_names.Tie as tie
-use Rattle.read_text.proofs.names.read_names.Reads as reads
-use Rattle.read_text.proofs.names.read_names.Lts as lts
-use Rattle.read_text.proofs.names.list_end.Reads as list-end-reads
-use Rattle.read_types.proofs.steps.expect.Reads as expect-reads
-use Rattle.read_types.proofs.steps.kind_at.Reads as kind-at-reads
 
 abbrev Inv-loop : tie.InvT-loop
 Inv-loop text close b₀ b = NamesThrough text close b₀ b
@@ -47,19 +42,35 @@ enum-told-2 : tie.Need-enum-told-2 Inv-loop μ-loop
 enum-told-2 c = search needs
 
 returns-2 : tie.Need-returns-2 Inv-loop μ-loop
-returns-2 c = c .before .before .before .before .before .before .before .before .before .loop .inv .whole _ (names-comma-no _ _ _ (c .before .before .before .before .before .before .before .before .expect .ensures) (c .before .before .before .before .before .before .named .given .1) (eq-eqb _ _ (sym (c .before .before .before .before .kind-at .ensures) ∙ c .before .before .before .if1 .taken)) (c .before .before .expect2 .ensures) (c .enum-told2 .given .1))
+returns-2 c =
+    let after-named = c .before .before .before .before .before .before in
+    after-named .before .before .before .loop .inv .whole _ (names-comma-no _ _ _ (after-named .before .before .expect .ensures)
+    (after-named .named .given .1) (eq-eqb _ _ (sym (c .before .before .before .before .kind-at .ensures) ∙ c .before .before .before .if1 .taken))
+    (c .before .before .expect2 .ensures) (c .enum-told2 .given .1))
 
 loop-less : tie.Need-loop-less Inv-loop μ-loop
-loop-less c = omega (arith, c .before .before .before .before .before .before .before .before .before .expect .ensures .on _ _ (c .before .before .before .before .before .before .before .named .given .1), c .before .before .before .expect2 .ensures .on _ _ (c .before .comma .given .1))
+loop-less c = omega (
+  arith,
+  c .before .before .before .before .before .before .before .before .before .expect .ensures .on _ _
+      (c .before .before .before .before .before .before .before .named .given .1),
+  c .before .before .before .expect2 .ensures .on _ _
+      (c .before .comma .given .1),
+)
 
 loop-again : tie.Need-loop-again Inv-loop μ-loop
-loop-again c = names-on (c .before .before .before .before .before .before .before .before .before .before .loop .inv) (c .before .before .before .before .before .before .before .before .before .expect .ensures) (c .before .before .before .before .before .before .before .named .given .1) (eq-eqb _ _ (sym (c .before .before .before .before .before .kind-at .ensures) ∙ c .before .before .before .before .if1 .taken)) (c .before .before .before .expect2 .ensures) (c .before .comma .given .1)
+loop-again c =
+    let after-if1 = c .before .before .before .before in
+    names-on (after-if1 .before .before .before .before .before .before .loop .inv) (after-if1 .before .before .before .before .before .expect .ensures)
+    (after-if1 .before .before .before .named .given .1) (eq-eqb _ _ (sym (after-if1 .before .kind-at .ensures) ∙ after-if1 .if1 .taken))
+    (c .before .before .before .expect2 .ensures) (c .before .comma .given .1)
 
 list-end-requires : tie.Need-list-end-requires Inv-loop μ-loop
 list-end-requires c κs = c .before .before .before .before .before .before .before .before .pre
 
 returns-3 : tie.Need-returns-3 Inv-loop μ-loop
-returns-3 c = c .before .before .before .before .before .before .before .loop .inv .whole _ (names-end _ _ _ (c .before .before .before .before .before .before .expect .ensures) (c .before .before .before .before .named .given .1) (ne-eqb _ _ (λ e. c .before .if1 .left (c .before .before .kind-at .ensures ∙ e))) (c .list-end .ensures))
+returns-3 c = c .before .before .before .before .before .before .before .loop .inv .whole _
+    (names-end _ _ _ (c .before .before .before .before .before .before .expect .ensures) (c .before .before .before .before .named .given .1)
+    (ne-eqb _ _ (λ e. c .before .if1 .left (c .before .before .kind-at .ensures ∙ e))) (c .list-end .ensures))
 
 pub read-names-spec : {M : Type 1} → statement M
 read-names-spec =

@@ -3,10 +3,6 @@ use Rattle.notation.specs.Processes.{payload}
 use borrow.Author.Needs.{needs}
 use Rattle.read_text.proofs.payloads.payload_at.Statement.{statement}
 use Rattle.read_text.proofs.payloads.payload_at.Tie as tie
-use Rattle.read_text.proofs.payloads.payload_at.Reads as reads
-use Rattle.read_text.proofs.payloads.payload_at.Lts as lts
-use Rattle.read_types.proofs.steps.kind_at.Reads as kind-at-reads
-use Rattle.read_types.proofs.steps.payload_head.Reads as payload-head-reads
 
 kind-at-requires : tie.Need-kind-at-requires
 kind-at-requires c κs = search needs
@@ -18,4 +14,9 @@ returns : tie.Need-returns
 returns c = c .payload-head .ensures ∙ ap payload (c .before .kind-at .ensures)
 
 pub payload-at-spec : {M : Type 1} → statement M
-payload-at-spec = tie.close (tie.spec kind-at-requires payload-head-requires returns)
+payload-at-spec =
+    tie.close
+    (tie.spec
+    kind-at-requires
+    payload-head-requires
+    returns)

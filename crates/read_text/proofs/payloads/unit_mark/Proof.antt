@@ -23,11 +23,13 @@ enum-told c = search needs
 
 returns : tie.Need-returns
 unfolding unitTaken
-returns c = closing-no (followed (c .before .before .before .opening .ensures) (c .before .before .then-expect .ensures) 2 (omega arith)) (c .enum-told .given .1)
+returns c = closing-no (followed (c .before .before .before .opening .ensures) (c .before .before .then-expect .ensures) 2 (omega arith))
+    (c .enum-told .given .1)
 
 returns-2 : tie.Need-returns-2
 unfolding unitTaken
-returns-2 c = closing-at (followed (c .before .before .before .before .opening .ensures) (c .before .before .before .then-expect .ensures) 2 (omega arith)) (c .before .mark .given .1)
+returns-2 c = closing-at (followed (c .before .before .before .before .opening .ensures) (c .before .before .before .then-expect .ensures) 2 (omega arith))
+    (c .before .mark .given .1)
 
 pub unit-mark-spec : {M : Type 1} → statement M
 unit-mark-spec =

@@ -24,7 +24,8 @@ refusal-requires : tie.Need-refusal-requires
 refusal-requires c κs = search needs
 
 returns : tie.Need-returns
-returns c = exec-no _ _ _ _ (c .before .before .before .before .before .before .pre) (c .before .before .before .declared-name .ensures) (c .before .enum-told .given .1) (c .refusal .ensures)
+returns c = exec-no _ _ _ _ (c .before .before .before .before .before .before .pre) (c .before .before .before .declared-name .ensures)
+    (c .before .enum-told .given .1) (c .refusal .ensures)
 
 put-exec-requires : tie.Need-put-exec-requires
 put-exec-requires c κs =
@@ -42,7 +43,8 @@ same-length c = search needs
 
 returns-2 : tie.Need-returns-2
 returns-2 c = exec-got _ _ _ _ (c .before .before .before .before .before .before .before .before .before .before .pre)
-    (c .before .before .before .before .before .before .before .declared-name .ensures) (c .before .before .before .before .before .named .given .1) (c .before .before .put-exec .ensures)
+    (c .before .before .before .before .before .before .before .declared-name .ensures) (c .before .before .before .before .before .named .given .1)
+    (c .before .before .put-exec .ensures)
 
 pub declare-exec-spec : {M : Type 1} → statement M
 declare-exec-spec =

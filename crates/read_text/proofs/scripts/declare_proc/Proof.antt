@@ -20,10 +20,15 @@ refusal-requires : tie.Need-refusal-requires
 refusal-requires c κs = search needs
 
 returns : tie.Need-returns
-returns c = proc-no _ _ _ _ (c .before .before .before .before .before .before .pre) (c .before .before .before .declared-name .ensures) (c .before .enum-told .given .1) (c .refusal .ensures)
+returns c = proc-no _ _ _ _ (c .before .before .before .before .before .before .pre) (c .before .before .before .declared-name .ensures)
+    (c .before .enum-told .given .1) (c .refusal .ensures)
 
 entry-list-requires : tie.Need-entry-list-requires
-entry-list-requires c κs = (omega (arith, c .before .before .before .before .before .before .before .pre, c .before .before .before .before .declared-name .ensures .on _ _ (c .before .before .named .given .1)), omega arith, omega arith)
+entry-list-requires c κs = omega (
+  arith,
+  c .before .before .before .before .before .before .before .pre,
+  c .before .before .before .before .declared-name .ensures .on _ _ (c .before .before .named .given .1),
+)
 
 enum-known-provides : tie.Need-enum-known-provides
 enum-known-provides c = search needs
@@ -32,13 +37,28 @@ enum-told-2 : tie.Need-enum-told-2
 enum-told-2 c = search needs
 
 same-length : tie.Need-same-length
-same-length c = c .before .before .before .before .entry-list .ensures .kept .long
+same-length c = search needs
 
 returns-2 : tie.Need-returns-2
-returns-2 c = proc-provides-no _ _ _ _ (c .before .before .before .before .before .before .before .before .before .before .before .before .pre) (c .before .before .before .before .before .before .before .before .before .declared-name .ensures) (c .before .before .before .before .before .before .before .named .given .1) (c .before .before .before .before .entry-list .ensures) (c .enum-told2 .given .1)
+returns-2 c =
+    let after-named = c .before .before .before .before .before .before .before in
+    let entry = after-named .before .before .before .before .before in
+    proc-provides-no _ _ _ _ (entry .pre) (after-named .before .before .declared-name .ensures) (after-named .named .given .1)
+    (c .before .before .before .before .entry-list .ensures) (c .enum-told2 .given .1)
 
 entry-list-requires-2 : tie.Need-entry-list-requires-2
-entry-list-requires-2 c κs = (omega (arith, c .before .before .before .before .before .before .before .before .before .before .before .before .before .before .pre, c .before .before .before .before .before .before .before .before .before .before .before .declared-name .ensures .on _ _ (c .before .before .before .before .before .before .before .before .before .named .given .1), c .before .before .before .before .before .before .entry-list .ensures .on _ _ (c .before .before .provides .given .1), c .before .before .before .before .before .before .entry-list .ensures .kept .long), omega arith, omega arith)
+entry-list-requires-2 c κs =
+    let entry-list = c .before .before .before .before .before .before .entry-list in
+    let after-named = c .before .before .before .before .before .before .before .before .before in
+    let entry = after-named .before .before .before .before .before in
+    omega (
+      arith,
+      entry .pre,
+      after-named .before .before .declared-name .ensures .on _ _ (after-named .named .given .1),
+      entry-list .ensures .on _ _
+          (c .before .before .provides .given .1),
+      entry-list .ensures .kept .long,
+    )
 
 enum-known-uses : tie.Need-enum-known-uses
 enum-known-uses c = search needs
@@ -47,10 +67,16 @@ enum-told-3 : tie.Need-enum-told-3
 enum-told-3 c = search needs
 
 same-length-2 : tie.Need-same-length-2
-same-length-2 c = (c .before .before .before .before .entry-list2 .ensures .kept upon c .before .before .before .before .before .before .before .before .before .before .before .entry-list .ensures .kept) .long
+same-length-2 c = search needs
 
 returns-3 : tie.Need-returns-3
-returns-3 c = proc-uses-no _ _ _ _ (c .before .before .before .before .before .before .before .before .before .before .before .before .before .before .before .before .before .before .before .pre) (c .before .before .before .before .before .before .before .before .before .before .before .before .before .before .before .before .declared-name .ensures) (c .before .before .before .before .before .before .before .before .before .before .before .before .before .before .named .given .1) (c .before .before .before .before .before .before .before .before .before .before .before .entry-list .ensures) (c .before .before .before .before .before .before .before .provides .given .1) (c .before .before .before .before .entry-list2 .ensures) (c .enum-told3 .given .1)
+returns-3 c =
+    let after-provides = c .before .before .before .before .before .before .before in
+    let after-named = after-provides .before .before .before .before .before .before .before in
+    let entry = after-named .before .before .before .before .before in
+    proc-uses-no _ _ _ _ (entry .pre) (after-named .before .before .declared-name .ensures) (after-named .named .given .1)
+    (after-provides .before .before .before .before .entry-list .ensures) (after-provides .provides .given .1)
+    (c .before .before .before .before .entry-list2 .ensures) (c .enum-told3 .given .1)
 
 expect-requires : tie.Need-expect-requires
 expect-requires c κs = search needs
@@ -65,16 +91,52 @@ refusal-requires-2 : tie.Need-refusal-requires-2
 refusal-requires-2 c κs = search needs
 
 same-length-3 : tie.Need-same-length-3
-same-length-3 c = (c .before .before .before .before .before .before .before .before .before .entry-list2 .ensures .kept upon c .before .before .before .before .before .before .before .before .before .before .before .before .before .before .before .before .entry-list .ensures .kept) .long
+same-length-3 c = search needs
 
 returns-4 : tie.Need-returns-4
-returns-4 c = proc-equals-no _ _ _ _ (c .before .before .before .before .before .before .before .before .before .before .before .before .before .before .before .before .before .before .before .before .before .before .before .before .pre) (c .before .before .before .before .before .before .before .before .before .before .before .before .before .before .before .before .before .before .before .before .before .declared-name .ensures) (c .before .before .before .before .before .before .before .before .before .before .before .before .before .before .before .before .before .before .before .named .given .1) (c .before .before .before .before .before .before .before .before .before .before .before .before .before .before .before .before .entry-list .ensures) (c .before .before .before .before .before .before .before .before .before .before .before .before .provides .given .1) (c .before .before .before .before .before .before .before .before .before .entry-list2 .ensures) (c .before .before .before .before .before .uses .given .1) (c .before .before .before .expect .ensures) (c .before .enum-told4 .given .1) (c .refusal2 .ensures)
+returns-4 c =
+    let after-uses = c .before .before .before .before .before in
+    let after-provides = after-uses .before .before .before .before .before .before .before in
+    let after-named = after-provides .before .before .before .before .before .before .before in
+    let entry = after-named .before .before .before .before .before in
+    proc-equals-no _ _ _ _ (entry .pre) (after-named .before .before .declared-name .ensures) (after-named .named .given .1)
+    (after-provides .before .before .before .before .entry-list .ensures) (after-provides .provides .given .1)
+    (after-uses .before .before .before .before .entry-list2 .ensures) (after-uses .uses .given .1) (c .before .before .before .expect .ensures)
+    (c .before .enum-told4 .given .1) (c .refusal2 .ensures)
 
 pointer-requires : tie.Need-pointer-requires
-pointer-requires c κs = omega (arith, c .before .before .before .before .before .before .before .before .before .before .before .before .before .before .before .before .before .before .before .before .before .before .before .before .pre, c .before .before .before .before .before .before .before .before .before .before .before .before .before .before .before .before .before .before .before .before .before .declared-name .ensures .on _ _ (c .before .before .before .before .before .before .before .before .before .before .before .before .before .before .before .before .before .before .before .named .given .1), c .before .before .before .before .before .before .before .before .before .before .before .before .before .before .before .before .entry-list .ensures .on _ _ (c .before .before .before .before .before .before .before .before .before .before .before .before .provides .given .1), c .before .before .before .before .before .before .before .before .before .entry-list2 .ensures .on _ _ (c .before .before .before .before .before .uses .given .1))
+pointer-requires c κs =
+    let after-uses = c .before .before .before .before .before in
+    let after-provides = after-uses .before .before .before .before .before .before .before in
+    let after-named = after-provides .before .before .before .before .before .before .before in
+    let entry = after-named .before .before .before .before .before in
+    omega (
+      arith,
+      entry .pre,
+      after-named .before .before .declared-name .ensures .on _ _ (after-named .named .given .1),
+      after-provides .before .before .before .before .entry-list .ensures .on _ _ (after-provides .provides .given .1),
+      after-uses .before .before .before .before .entry-list2 .ensures .on _ _ (after-uses .uses .given .1),
+    )
 
 read-process-requires : tie.Need-read-process-requires
-read-process-requires c κs = omega (arith, c .before .before .before .before .before .before .before .before .before .before .before .before .before .before .before .before .before .before .before .before .before .before .before .before .before .before .pre, c .before .before .before .before .before .before .before .before .before .before .before .before .before .before .before .before .before .before .before .before .before .before .before .declared-name .ensures .on _ _ (c .before .before .before .before .before .before .before .before .before .before .before .before .before .before .before .before .before .before .before .before .before .named .given .1), c .before .before .before .before .before .before .before .before .before .before .before .before .before .before .before .before .before .before .entry-list .ensures .on _ _ (c .before .before .before .before .before .before .before .before .before .before .before .before .before .before .provides .given .1), c .before .before .before .before .before .before .before .before .before .before .before .before .before .before .before .before .before .before .entry-list .ensures .kept .long, c .before .before .before .before .before .before .before .before .before .before .before .entry-list2 .ensures .on _ _ (c .before .before .before .before .before .before .before .uses .given .1), c .before .before .before .before .before .before .before .before .before .before .before .entry-list2 .ensures .kept .long, c .before .before .before .before .before .expect .ensures .on _ _ (c .before .before .before .equals .given .1))
+read-process-requires c κs =
+    let after-uses = c .before .before .before .before .before .before .before in
+    let entry-list2 = after-uses .before .before .before .before .entry-list2 in
+    let after-provides = after-uses .before .before .before .before .before .before .before in
+    let entry-list = after-provides .before .before .before .before .entry-list in
+    let after-named = after-provides .before .before .before .before .before .before .before in
+    let entry = after-named .before .before .before .before .before in
+    omega (
+      arith,
+      entry .pre,
+      after-named .before .before .declared-name .ensures .on _ _ (after-named .named .given .1),
+      entry-list .ensures .on _ _
+          (after-provides .provides .given .1),
+      entry-list .ensures .kept .long,
+      entry-list2 .ensures .on _ _ (after-uses .uses .given .1),
+      entry-list2 .ensures .kept .long,
+      c .before .before .before .before .before .expect .ensures .on _ _ (c .before .before .before .equals .given .1),
+    )
 
 enum-known-inner : tie.Need-enum-known-inner
 enum-known-inner c = search needs
@@ -83,25 +145,128 @@ enum-told-5 : tie.Need-enum-told-5
 enum-told-5 c = search needs
 
 same-length-4 : tie.Need-same-length-4
-same-length-4 c = (c .before .before .before .before .read-process .ensures .kept upon c .before .before .before .before .before .before .before .before .before .before .before .before .before .before .before .before .entry-list2 .ensures .kept upon c .before .before .before .before .before .before .before .before .before .before .before .before .before .before .before .before .before .before .before .before .before .before .before .entry-list .ensures .kept) .long
+same-length-4 c =
+    let after-entry-list2 = c .before .before .before .before .before .before .before .before .before .before .before .before .before .before .before .before in
+    (c .before .before .before .before .read-process .ensures .kept upon after-entry-list2 .entry-list2 .ensures .kept
+    upon after-entry-list2 .before .before .before .before .before .before .before .entry-list .ensures .kept) .long
 
 returns-5 : tie.Need-returns-5
-returns-5 c = proc-body-no _ _ _ _ (c .before .before .before .before .before .before .before .before .before .before .before .before .before .before .before .before .before .before .before .before .before .before .before .before .before .before .before .before .before .before .before .pre) (c .before .before .before .before .before .before .before .before .before .before .before .before .before .before .before .before .before .before .before .before .before .before .before .before .before .before .before .before .declared-name .ensures) (c .before .before .before .before .before .before .before .before .before .before .before .before .before .before .before .before .before .before .before .before .before .before .before .before .before .before .named .given .1) (c .before .before .before .before .before .before .before .before .before .before .before .before .before .before .before .before .before .before .before .before .before .before .before .entry-list .ensures) (c .before .before .before .before .before .before .before .before .before .before .before .before .before .before .before .before .before .before .before .provides .given .1) (c .before .before .before .before .before .before .before .before .before .before .before .before .before .before .before .before .entry-list2 .ensures) (c .before .before .before .before .before .before .before .before .before .before .before .before .uses .given .1) (c .before .before .before .before .before .before .before .before .before .before .expect .ensures) (c .before .before .before .before .before .before .before .before .equals .given .1) (c .before .before .before .before .read-process .ensures) (c .enum-told5 .given .1)
+returns-5 c =
+    let after-equals = c .before .before .before .before .before .before .before .before in
+    let after-uses = after-equals .before .before .before .before in
+    let after-provides = after-uses .before .before .before .before .before .before .before in
+    let after-named = after-provides .before .before .before .before .before .before .before in
+    let entry = after-named .before .before .before .before .before in
+    proc-body-no _ _ _ _ (entry .pre) (after-named .before .before .declared-name .ensures) (after-named .named .given .1)
+    (after-provides .before .before .before .before .entry-list .ensures) (after-provides .provides .given .1)
+    (after-uses .before .before .before .before .entry-list2 .ensures) (after-uses .uses .given .1) (after-equals .before .before .expect .ensures)
+    (after-equals .equals .given .1) (c .before .before .before .before .read-process .ensures) (c .enum-told5 .given .1)
 
 sub-t28 : tie.Need-sub-t28
-sub-t28 c = omega (arith, c .before .before .before .before .before .before .before .before .before .before .before .before .before .before .before .before .before .before .before .before .before .before .before .before .before .before .entry-list .ensures .on _ _ (c .before .before .before .before .before .before .before .before .before .before .before .before .before .before .before .before .before .before .before .before .before .before .provides .given .1), c .before .before .before .before .before .before .before .before .before .before .before .before .before .before .before .before .before .before .before .entry-list2 .ensures .on _ _ (c .before .before .before .before .before .before .before .before .before .before .before .before .before .before .before .uses .given .1))
+sub-t28 c =
+    let after-uses = c .before .before .before .before .before .before .before .before .before .before .before .before .before .before .before in
+    omega (
+      arith,
+      after-uses .before .before .before .before .before .before .before .before .before .before .before .entry-list .ensures .on _ _
+          (after-uses .before .before .before .before .before .before .before .provides .given .1),
+      after-uses .before .before .before .before .entry-list2 .ensures .on _ _ (after-uses .uses .given .1),
+    )
 
 sub-t29 : tie.Need-sub-t29
-sub-t29 c = omega (arith, c .before .before .before .before .before .before .before .before .before .before .before .before .before .before .before .before .before .before .before .before .before .before .before .before .before .before .before .before .entry-list .ensures .on _ _ (c .before .before .before .before .before .before .before .before .before .before .before .before .before .before .before .before .before .before .before .before .before .before .before .before .provides .given .1), c .before .before .before .before .before .before .before .before .before .before .before .before .before .before .before .before .before .before .before .before .before .entry-list2 .ensures .on _ _ (c .before .before .before .before .before .before .before .before .before .before .before .before .before .before .before .before .before .uses .given .1))
+sub-t29 c =
+    let after-uses = c .before .before .before .before .before .before .before .before .before .before .before .before .before .before .before .before .before in
+    omega (
+      arith,
+      after-uses .before .before .before .before .before .before .before .before .before .before .before .entry-list .ensures .on _ _
+          (after-uses .before .before .before .before .before .before .before .provides .given .1),
+      after-uses .before .before .before .before .entry-list2 .ensures .on _ _ (after-uses .uses .given .1),
+    )
 
 put-process-requires : tie.Need-put-process-requires
-put-process-requires c κs = (omega (arith, c .before .before .before .before .before .before .before .before .before .before .before .before .before .before .before .before .before .before .before .before .before .before .before .before .before .before .before .before .before .before .before .before .before .before .before .before .before .pre, c .before .before .before .before .before .before .before .before .before .before .before .before .before .before .before .before .before .before .before .before .before .before .before .before .before .before .before .before .before .before .before .before .before .before .declared-name .ensures .on _ _ (c .before .before .before .before .before .before .before .before .before .before .before .before .before .before .before .before .before .before .before .before .before .before .before .before .before .before .before .before .before .before .before .before .named .given .1), c .before .before .before .before .before .before .before .before .before .before .before .before .before .before .before .before .before .before .before .before .before .before .before .before .before .before .before .before .before .entry-list .ensures .on _ _ (c .before .before .before .before .before .before .before .before .before .before .before .before .before .before .before .before .before .before .before .before .before .before .before .before .before .provides .given .1), c .before .before .before .before .before .before .before .before .before .before .before .before .before .before .before .before .before .before .before .before .before .before .entry-list2 .ensures .on _ _ (c .before .before .before .before .before .before .before .before .before .before .before .before .before .before .before .before .before .before .uses .given .1), c .before .before .before .before .before .before .before .before .before .before .read-process .ensures .on _ _ (c .before .before .before .before .before .before .inner .given .1), c .before .before .before .before .before .before .before .before .before .before .before .before .before .before .before .before .before .before .before .before .before .before .before .before .before .before .before .before .before .entry-list .ensures .kept .long, c .before .before .before .before .before .before .before .before .before .before .before .before .before .before .before .before .before .before .before .before .before .before .entry-list2 .ensures .kept .long, c .before .before .before .before .before .before .before .before .before .before .read-process .ensures .kept .long, name-held kProc (c .before .before .before .before .before .before .before .before .before .before .before .before .before .before .before .before .before .before .before .before .before .before .before .before .before .before .before .before .before .before .before .before .before .before .before .before .before .args .k .processes) processLimit (c .before .before .before .before .before .before .before .before .before .before .before .before .before .before .before .before .before .before .before .before .before .before .before .before .before .before .before .before .before .before .before .before .before .before .declared-name .ensures) (c .before .before .before .before .before .before .before .before .before .before .before .before .before .before .before .before .before .before .before .before .before .before .before .before .before .before .before .before .before .before .before .before .named .given .1)), omega (arith, c .before .before .before .before .before .before .before .before .before .before .before .before .before .before .before .before .before .before .before .before .before .before .before .before .before .before .before .before .before .before .before .before .before .before .before .before .before .pre, c .before .before .before .before .before .before .before .before .before .before .before .before .before .before .before .before .before .before .before .before .before .before .before .before .before .before .before .before .before .before .before .before .before .before .declared-name .ensures .on _ _ (c .before .before .before .before .before .before .before .before .before .before .before .before .before .before .before .before .before .before .before .before .before .before .before .before .before .before .before .before .before .before .before .before .named .given .1), c .before .before .before .before .before .before .before .before .before .before .before .before .before .before .before .before .before .before .before .before .before .before .before .before .before .before .before .before .before .entry-list .ensures .on _ _ (c .before .before .before .before .before .before .before .before .before .before .before .before .before .before .before .before .before .before .before .before .before .before .before .before .before .provides .given .1), c .before .before .before .before .before .before .before .before .before .before .before .before .before .before .before .before .before .before .before .before .before .before .entry-list2 .ensures .on _ _ (c .before .before .before .before .before .before .before .before .before .before .before .before .before .before .before .before .before .before .uses .given .1), c .before .before .before .before .before .before .before .before .before .before .before .before .before .before .before .before .expect .ensures .on _ _ (c .before .before .before .before .before .before .before .before .before .before .before .before .before .before .equals .given .1), c .before .before .before .before .before .before .before .before .before .before .before .before .pointer .ensures .1))
+put-process-requires c κs =
+    let after-inner = c .before .before .before .before .before .before in
+    let read-process = after-inner .before .before .before .before .read-process in
+    let after-pointer = after-inner .before .before .before .before .before .before in
+    let after-uses = after-pointer .before .before .before .before .before .before in
+    let entry-list2 = after-uses .before .before .before .before .entry-list2 in
+    let after-provides = after-uses .before .before .before .before .before .before .before in
+    let entry-list = after-provides .before .before .before .before .entry-list in
+    let after-named = after-provides .before .before .before .before .before .before .before in
+    let named = after-named .named in
+    let declared-name = after-named .before .before .declared-name in
+    let entry = after-named .before .before .before .before .before in
+    omega (
+      arith,
+      entry .pre,
+      declared-name .ensures .on _ _ (named .given .1),
+      entry-list .ensures .on _ _ (after-provides .provides .given .1),
+      entry-list2 .ensures .on _ _ (after-uses .uses .given .1),
+      after-pointer .before .before .before .before .expect .ensures .on _ _
+          (after-pointer .before .before .equals .given .1),
+      read-process .ensures .on _ _ (after-inner .inner .given .1),
+      entry-list .ensures .kept .long,
+      entry-list2 .ensures .kept .long,
+      read-process .ensures .kept .long,
+      after-pointer .pointer .ensures .1,
+      name-held kProc
+          (entry .args .k .processes) processLimit (declared-name .ensures) (named .given .1),
+    )
 
 same-length-5 : tie.Need-same-length-5
-same-length-5 c = (c .before .before .put-process .ensures .kept upon c .before .before .before .before .before .before .before .before .before .before .before .before .before .read-process .ensures .kept upon c .before .before .before .before .before .before .before .before .before .before .before .before .before .before .before .before .before .before .before .before .before .before .before .before .before .entry-list2 .ensures .kept upon c .before .before .before .before .before .before .before .before .before .before .before .before .before .before .before .before .before .before .before .before .before .before .before .before .before .before .before .before .before .before .before .before .entry-list .ensures .kept) .long
+same-length-5 c =
+    let after-read-process = c .before .before .before .before .before .before .before .before .before .before .before .before .before in
+    let after-entry-list2 = after-read-process .before .before .before .before .before .before .before .before .before .before .before .before in
+    (c .before .before .put-process .ensures .kept upon after-read-process .read-process .ensures .kept upon after-entry-list2 .entry-list2 .ensures .kept
+    upon after-entry-list2 .before .before .before .before .before .before .before .entry-list .ensures .kept) .long
 
 returns-6 : tie.Need-returns-6
-returns-6 c = proc-got _ _ _ _ (c .before .before .before .before .before .before .before .before .before .before .before .before .before .before .before .before .before .before .before .before .before .before .before .before .before .before .before .before .before .before .before .before .before .before .before .before .before .before .before .before .pre) (c .before .before .before .before .before .before .before .before .before .before .before .before .before .before .before .before .before .before .before .before .before .before .before .before .before .before .before .before .before .before .before .before .before .before .before .before .before .declared-name .ensures) (c .before .before .before .before .before .before .before .before .before .before .before .before .before .before .before .before .before .before .before .before .before .before .before .before .before .before .before .before .before .before .before .before .before .before .before .named .given .1) (c .before .before .before .before .before .before .before .before .before .before .before .before .before .before .before .before .before .before .before .before .before .before .before .before .before .before .before .before .before .before .before .before .entry-list .ensures) (c .before .before .before .before .before .before .before .before .before .before .before .before .before .before .before .before .before .before .before .before .before .before .before .before .before .before .before .before .provides .given .1) (c .before .before .before .before .before .before .before .before .before .before .before .before .before .before .before .before .before .before .before .before .before .before .before .before .before .entry-list2 .ensures) (c .before .before .before .before .before .before .before .before .before .before .before .before .before .before .before .before .before .before .before .before .before .uses .given .1) (c .before .before .before .before .before .before .before .before .before .before .before .before .before .before .before .before .before .before .before .expect .ensures) (c .before .before .before .before .before .before .before .before .before .before .before .before .before .before .before .before .before .equals .given .1) (c .before .before .before .before .before .before .before .before .before .before .before .before .before .read-process .ensures) (c .before .before .before .before .before .before .before .before .before .before .before .before .before .before .before .pointer .ensures .0) (c .before .before .before .before .before .before .before .before .before .inner .given .1) (c .before .before .put-process .ensures)
+returns-6 c =
+    let after-inner = c .before .before .before .before .before .before .before .before .before in
+    let after-pointer = after-inner .before .before .before .before .before .before in
+    let after-uses = after-pointer .before .before .before .before .before .before in
+    let after-provides = after-uses .before .before .before .before .before .before .before in
+    let after-named = after-provides .before .before .before .before .before .before .before in
+    let entry = after-named .before .before .before .before .before in
+    proc-got _ _ _ _ (entry .pre) (after-named .before .before .declared-name .ensures) (after-named .named .given .1)
+    (after-provides .before .before .before .before .entry-list .ensures) (after-provides .provides .given .1)
+    (after-uses .before .before .before .before .entry-list2 .ensures) (after-uses .uses .given .1)
+    (after-pointer .before .before .before .before .expect .ensures) (after-pointer .before .before .equals .given .1)
+    (after-inner .before .before .before .before .read-process .ensures) (after-pointer .pointer .ensures .0) (after-inner .inner .given .1)
+    (c .before .before .put-process .ensures)
 
 pub declare-proc-spec : {M : Type 1} → statement M
-declare-proc-spec = tie.close (tie.spec declared-name-requires enum-known-named enum-told refusal-requires returns entry-list-requires enum-known-provides enum-told-2 same-length returns-2 entry-list-requires-2 enum-known-uses enum-told-3 same-length-2 returns-3 expect-requires enum-known-equals enum-told-4 refusal-requires-2 same-length-3 returns-4 pointer-requires read-process-requires enum-known-inner enum-told-5 same-length-4 returns-5 sub-t28 sub-t29 put-process-requires same-length-5 returns-6)
+declare-proc-spec =
+    tie.close
+    (tie.spec
+    declared-name-requires
+    enum-known-named
+    enum-told
+    refusal-requires
+    returns
+    entry-list-requires
+    enum-known-provides
+    enum-told-2
+    same-length
+    returns-2
+    entry-list-requires-2
+    enum-known-uses
+    enum-told-3
+    same-length-2
+    returns-3
+    expect-requires
+    enum-known-equals
+    enum-told-4
+    refusal-requires-2
+    same-length-3
+    returns-4
+    pointer-requires
+    read-process-requires
+    enum-known-inner
+    enum-told-5
+    same-length-4
+    returns-5
+    sub-t28
+    sub-t29
+    put-process-requires
+    same-length-5
+    returns-6)

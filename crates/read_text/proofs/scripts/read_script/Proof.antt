@@ -1,18 +1,12 @@
 use native.Mathlib.Omega.{arith}
 use Prim.Native.Nat.{_-_}
 use lib.ListN.{length}
-use Rattle.read_types.proofs.Filled.{_upon_}
 use Rattle.read_text.specs.Scripts.{ScriptRead, Counted}
 use Rattle.read_text.proofs.Turning.{Through, through-start}
 use Rattle.read_text.proofs.ScriptPaths.{script-end, script-no, script-on}
 use borrow.Author.Needs.{needs}
 use Rattle.read_text.proofs.scripts.read_script.Statement.{statement}
 use Rattle.read_text.proofs.scripts.read_script.Tie as tie
-use Rattle.read_text.proofs.scripts.read_script.Reads as reads
-use Rattle.read_text.proofs.scripts.read_script.Lts as lts
-use Rattle.read_text.proofs.scripts.declaration_head.Reads as declaration-head-reads
-use Rattle.read_text.proofs.scripts.declare.Reads as declare-reads
-use Rattle.read_types.proofs.steps.kind_at.Reads as kind-at-reads
 
 abbrev Inv-loop : tie.InvT-loop
 Inv-loop text scratch₀ d₀ l₀ scratch d l = Through (ScriptRead text) text scratch₀ d₀ l₀ scratch d l × Counted l
@@ -27,10 +21,12 @@ kind-at-requires : tie.Need-kind-at-requires Inv-loop μ-loop
 kind-at-requires c κs = search needs
 
 same-length : tie.Need-same-length Inv-loop μ-loop
-same-length c = c .before .before .loop .inv .0 .kept .long
+same-length c = search needs
 
 returns : tie.Need-returns Inv-loop μ-loop
-returns c = c .before .before .loop .inv .0 .whole _ _ (script-end _ _ _ _ (c .before .before .loop .inv .0 .room) (c .before .before .loop .inv .1) (c .before .kind-at .ensures) (c .if1 .taken))
+returns c =
+    let loop = c .before .before .loop in
+    loop .inv .0 .whole _ _ (script-end _ _ _ _ (loop .inv .0 .room) (loop .inv .1) (c .before .kind-at .ensures) (c .if1 .taken))
 
 declaration-head-requires : tie.Need-declaration-head-requires Inv-loop μ-loop
 declaration-head-requires c κs = search needs
@@ -45,16 +41,29 @@ enum-told : tie.Need-enum-told Inv-loop μ-loop
 enum-told c = search needs
 
 same-length-2 : tie.Need-same-length-2 Inv-loop μ-loop
-same-length-2 c = (c .before .before .before .before .declare .ensures .kept upon c .before .before .before .before .before .before .before .before .before .loop .inv .0 .kept) .long
+same-length-2 c = search needs
 
 returns-2 : tie.Need-returns-2 Inv-loop μ-loop
-returns-2 c = c .before .before .before .before .before .before .before .before .before .loop .inv .0 .whole _ _ (script-no _ _ _ _ (c .before .before .before .before .before .before .before .before .before .loop .inv .0 .room) (c .before .before .before .before .before .before .before .before .before .loop .inv .1) (c .before .before .before .before .before .before .before .before .kind-at .ensures) (c .before .before .before .before .before .before .before .if1 .left) (c .before .before .before .before .before .declaration-head .ensures) (c .before .before .before .before .declare .ensures) (c .enum-told .given .1))
+returns-2 c =
+    let after-if1 = c .before .before .before .before .before .before .before in
+    let loop = after-if1 .before .before .loop in
+    loop .inv .0 .whole _ _ (script-no _ _ _ _ (loop .inv .0 .room) (loop .inv .1) (after-if1 .before .kind-at .ensures) (after-if1 .if1 .left)
+    (c .before .before .before .before .before .declaration-head .ensures) (c .before .before .before .before .declare .ensures) (c .enum-told .given .1))
 
 loop-less : tie.Need-loop-less Inv-loop μ-loop
-loop-less c = omega (arith, c .before .before .before .before .before .before .before .before .before .before .loop .inv .0 .room, c .before .before .before .before .before .declare .ensures .on _ _ (c .before .one .given .1) .0)
+loop-less c = omega (
+  arith,
+  c .before .before .before .before .before .before .before .before .before .before .loop .inv .0 .room,
+  c .before .before .before .before .before .declare .ensures .on _ _ (c .before .one .given .1) .0,
+)
 
 loop-again : tie.Need-loop-again Inv-loop μ-loop
-loop-again c = script-on _ _ _ _ (c .before .before .before .before .before .before .before .before .before .before .loop .inv .0 .room) (c .before .before .before .before .before .before .before .before .before .before .loop .inv .1) (c .before .before .before .before .before .before .before .before .before .kind-at .ensures) (c .before .before .before .before .before .before .before .before .if1 .left) (c .before .before .before .before .before .before .declaration-head .ensures) (c .before .before .before .before .before .declare .ensures) (c .before .before .before .before .before .before .before .before .before .before .loop .inv .0) (c .before .one .given .1)
+loop-again c =
+    let after-declare = c .before .before .before .before .before in
+    let after-if1 = after-declare .before .before .before in
+    let loop = after-if1 .before .before .loop in
+    script-on _ _ _ _ (loop .inv .0 .room) (loop .inv .1) (after-if1 .before .kind-at .ensures) (after-if1 .if1 .left)
+    (after-declare .before .declaration-head .ensures) (after-declare .declare .ensures) (loop .inv .0) (c .before .one .given .1)
 
 pub read-script-spec : {M : Type 1} → statement M
 read-script-spec =

@@ -3,9 +3,6 @@ use Rattle.read_text.proofs.Turning.{laid-one, _laid-more_}
 use borrow.Author.Needs.{needs}
 use Rattle.read_text.proofs.store.put_term.Statement.{statement}
 use Rattle.read_text.proofs.store.put_term.Tie as tie
-use Rattle.read_text.proofs.store.put_term.Reads as reads
-use Rattle.read_text.proofs.store.put_term.Lts as lts
-use Rattle.read_types.proofs.store.put_word.Reads as put-word-reads
 
 mul-at : tie.Need-mul-at
 mul-at c = search needs

@@ -3,11 +3,6 @@ use Rattle.read_text.proofs.TermPaths.{raise-no, raise-on}
 use borrow.Author.Needs.{needs}
 use Rattle.read_text.proofs.terms.read_raise.Statement.{statement}
 use Rattle.read_text.proofs.terms.read_raise.Tie as tie
-use Rattle.read_text.proofs.terms.read_raise.Reads as reads
-use Rattle.read_text.proofs.terms.read_raise.Lts as lts
-use Rattle.read_text.proofs.turns.put_before.Reads as put-before-reads
-use Rattle.read_types.proofs.steps.process_term.Reads as process-term-reads
-use Rattle.read_types.proofs.steps.refusal.Reads as refusal-reads
 
 process-term-requires : tie.Need-process-term-requires
 process-term-requires c κs = search needs
@@ -22,19 +17,32 @@ refusal-requires : tie.Need-refusal-requires
 refusal-requires c κs = search needs
 
 returns : tie.Need-returns
-returns c = raise-no _ _ _ _ (c .before .before .before .before .before .before .pre) (c .before .before .before .process-term .ensures) (c .before .enum-told .given .1) (c .refusal .ensures)
+returns c = raise-no _ _ _ _ (c .before .before .before .before .before .before .pre) (c .before .before .before .process-term .ensures)
+    (c .before .enum-told .given .1) (c .refusal .ensures)
 
 add-l : tie.Need-add-l
-add-l c = omega (arith, c .before .before .before .before .before .before .before .pre, c .before .before .before .before .process-term .ensures .on _ _ (c .before .before .term .given .1))
+add-l c = omega (
+  arith,
+  c .before .before .before .before .before .before .before .pre,
+  c .before .before .before .before .process-term .ensures .on _ _
+      (c .before .before .term .given .1),
+)
 
 put-before-requires : tie.Need-put-before-requires
-put-before-requires c κs = (omega (arith, c .before .before .before .before .before .before .before .before .pre, c .before .before .before .before .before .process-term .ensures .on _ _ (c .before .before .before .term .given .1)), omega (arith, c .before .before .before .before .before .before .before .before .pre, c .before .before .before .before .before .process-term .ensures .on _ _ (c .before .before .before .term .given .1)))
+put-before-requires c κs = omega (
+  arith,
+  c .before .before .before .before .before .before .before .before .pre,
+  c .before .before .before .before .before .process-term .ensures .on _ _ (c .before .before .before .term .given .1),
+)
 
 same-length : tie.Need-same-length
-same-length c = c .before .before .put-before .ensures .kept .long
+same-length c = search needs
 
 returns-2 : tie.Need-returns-2
-returns-2 c = raise-on _ _ _ _ (c .before .before .before .before .before .before .before .before .before .before .before .pre) (c .before .before .before .before .before .before .before .before .process-term .ensures) (c .before .before .before .before .before .before .term .given .1) (c .before .before .put-before .ensures)
+returns-2 c =
+    let after-term = c .before .before .before .before .before .before in
+    let entry = after-term .before .before .before .before .before in
+    raise-on _ _ _ _ (entry .pre) (after-term .before .before .process-term .ensures) (after-term .term .given .1) (c .before .before .put-before .ensures)
 
 pub read-raise-spec : {M : Type 1} → statement M
 read-raise-spec =

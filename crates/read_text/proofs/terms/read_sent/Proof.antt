@@ -1,15 +1,8 @@
 use native.Mathlib.Omega.{arith}
-use mathlib.Core.Path.{subst}
 use Rattle.read_text.proofs.TermPaths.{sent-no, sent-on}
 use borrow.Author.Needs.{needs}
 use Rattle.read_text.proofs.terms.read_sent.Statement.{statement}
 use Rattle.read_text.proofs.terms.read_sent.Tie as tie
-use Rattle.read_text.proofs.terms.read_sent.Reads as reads
-use Rattle.read_text.proofs.terms.read_sent.Lts as lts
-use Rattle.read_text.proofs.payloads.payload_token.Reads as payload-token-reads
-use Rattle.read_text.proofs.payloads.sent_node.Reads as sent-node-reads
-use Rattle.read_text.proofs.turns.follow.Reads as follow-reads
-use Rattle.read_types.proofs.steps.refusal.Reads as refusal-reads
 
 payload-token-requires : tie.Need-payload-token-requires
 payload-token-requires c κs = search needs
@@ -24,22 +17,40 @@ refusal-requires : tie.Need-refusal-requires
 refusal-requires c κs = search needs
 
 returns : tie.Need-returns
-returns c = sent-no _ _ _ _ (c .before .before .before .before .before .before .pre .0) _ _ (c .before .before .before .before .before .before .pre .1 .0) (c .before .before .before .before .before .before .pre .1 .1) _ (c .before .before .before .payload-token .ensures) (c .before .enum-told .given .1) (c .refusal .ensures)
+returns c =
+    let entry = c .before .before .before .before .before .before in
+    sent-no _ _ _ _ (entry .pre .0) _ _ (entry .pre .1 .0) (entry .pre .1 .1) _ (c .before .before .before .payload-token .ensures)
+    (c .before .enum-told .given .1) (c .refusal .ensures)
 
 add-l : tie.Need-add-l
 add-l c = omega (arith, c .before .before .before .before .before .before .before .pre)
 
 sent-node-requires : tie.Need-sent-node-requires
-sent-node-requires c κs = omega (arith, c .before .before .before .before .before .before .before .before .pre, c .before .before .before .before .before .payload-token .ensures .on _ _ (c .before .before .before .sent .given .1))
+sent-node-requires c κs = omega (
+  arith,
+  c .before .before .before .before .before .before .before .before .pre,
+  c .before .before .before .before .before .payload-token .ensures .on _ _ (c .before .before .before .sent .given .1),
+)
 
 follow-requires : tie.Need-follow-requires
-follow-requires c κs = (omega (arith, c .before .before .before .before .before .before .before .before .before .pre, c .before .before .before .before .before .before .payload-token .ensures .on _ _ (c .before .before .before .before .sent .given .1)), c .sent-node .ensures .1)
+follow-requires c κs = (
+  omega (
+    arith,
+    c .before .before .before .before .before .before .before .before .before .pre,
+    c .before .before .before .before .before .before .payload-token .ensures .on _ _ (c .before .before .before .before .sent .given .1),
+  ),
+  c .sent-node .ensures .1,
+)
 
 same-length : tie.Need-same-length
-same-length c = c .before .before .follow .ensures .kept .long
+same-length c = search needs
 
 returns-2 : tie.Need-returns-2
-returns-2 c = sent-on _ _ _ _ (c .before .before .before .before .before .before .before .before .before .before .before .before .pre .0) _ _ (c .before .before .before .before .before .before .before .before .before .before .before .before .pre .1 .0) (c .before .before .before .before .before .before .before .before .before .before .before .before .pre .1 .1) _ (c .before .before .before .before .before .before .before .before .before .payload-token .ensures) (c .before .before .before .before .before .before .before .sent .given .1) (c .before .before .before .sent-node .ensures .0) (c .before .before .follow .ensures)
+returns-2 c =
+    let after-sent = c .before .before .before .before .before .before .before in
+    let entry = after-sent .before .before .before .before .before in
+    sent-on _ _ _ _ (entry .pre .0) _ _ (entry .pre .1 .0) (entry .pre .1 .1) _ (after-sent .before .before .payload-token .ensures)
+    (after-sent .sent .given .1) (c .before .before .before .sent-node .ensures .0) (c .before .before .follow .ensures)
 
 pub read-sent-spec : {M : Type 1} → statement M
 read-sent-spec =

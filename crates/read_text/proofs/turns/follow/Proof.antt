@@ -3,13 +3,6 @@ use Rattle.read_text.proofs.TermPaths.{rest-none, rest-no, rest-on}
 use borrow.Author.Needs.{needs}
 use Rattle.read_text.proofs.turns.follow.Statement.{statement}
 use Rattle.read_text.proofs.turns.follow.Tie as tie
-use Rattle.read_text.proofs.turns.follow.Reads as reads
-use Rattle.read_text.proofs.turns.follow.Lts as lts
-use Rattle.notation.proofs.token.next_token.Reads as next-token-reads
-use Rattle.read_text.proofs.turns.put_before.Reads as put-before-reads
-use Rattle.read_text.proofs.turns.put_pointing.Reads as put-pointing-reads
-use Rattle.read_types.proofs.steps.expect.Reads as expect-reads
-use Rattle.read_types.proofs.steps.refusal.Reads as refusal-reads
 
 next-token-requires : tie.Need-next-token-requires
 next-token-requires c κs = search needs
@@ -27,28 +20,52 @@ refusal-requires : tie.Need-refusal-requires
 refusal-requires c κs = search needs
 
 returns : tie.Need-returns
-returns c = rest-no _ (c .before .before .before .before .before .before .before .before .before .args .n) _ _ _ _ (c .before .before .before .before .before .before .before .before .before .pre .0 .0) (c .before .before .before .before .before .before .next-token .result) (c .before .before .before .before .before .before .next-token .ensures .0) (c .before .before .before .before .before .before .next-token .ensures .1) (c .before .before .before .before .if1 .taken) (c .before .before .before .expect .ensures) (c .before .enum-told .given .1) (c .refusal .ensures)
+returns c =
+    let after-if1 = c .before .before .before .before in
+    let next-token = after-if1 .before .before .next-token in
+    let entry = after-if1 .before .before .before .before .before in
+    rest-no _ (entry .args .n) _ _ _ _ (entry .pre .0 .0) (next-token .result) (next-token .ensures .0) (next-token .ensures .1) (after-if1 .if1 .taken)
+    (c .before .before .before .expect .ensures) (c .before .enum-told .given .1) (c .refusal .ensures)
 
 put-before-requires : tie.Need-put-before-requires
-put-before-requires c κs = (omega (arith, c .before .before .before .before .before .before .before .before .before .before .pre, c .before .before .before .before .expect .ensures .on _ _ (c .before .before .mark .given .1)), c .before .before .before .before .before .before .before .before .before .before .pre .1)
+put-before-requires c κs =
+    let entry = c .before .before .before .before .before .before .before .before .before .before in
+    (omega (arith, entry .pre, c .before .before .before .before .expect .ensures .on _ _ (c .before .before .mark .given .1)), entry .pre .1)
 
 same-length : tie.Need-same-length
-same-length c = c .before .before .put-before .ensures .kept .long
+same-length c = search needs
 
 returns-2 : tie.Need-returns-2
-returns-2 c = rest-on _ (c .before .before .before .before .before .before .before .before .before .before .before .before .before .args .n) _ _ _ _ (c .before .before .before .before .before .before .before .before .before .before .before .before .before .pre .0 .0) (c .before .before .before .before .before .before .before .before .before .before .next-token .result) (c .before .before .before .before .before .before .before .before .before .before .next-token .ensures .0) (c .before .before .before .before .before .before .before .before .before .before .next-token .ensures .1) (c .before .before .before .before .before .before .before .before .if1 .taken) (c .before .before .before .before .before .before .before .expect .ensures) (c .before .before .before .before .before .mark .given .1) (c .before .before .put-before .ensures)
+returns-2 c =
+    let after-mark = c .before .before .before .before .before in
+    let after-if1 = after-mark .before .before .before in
+    let next-token = after-if1 .before .before .next-token in
+    let entry = after-if1 .before .before .before .before .before in
+    rest-on _ (entry .args .n) _ _ _ _ (entry .pre .0 .0) (next-token .result) (next-token .ensures .0) (next-token .ensures .1) (after-if1 .if1 .taken)
+    (after-mark .before .before .expect .ensures) (after-mark .mark .given .1) (c .before .before .put-before .ensures)
 
 add-put-pointing : tie.Need-add-put-pointing
-add-put-pointing c = omega (arith, c .before .before .before .before .before .before .before .pre, c .before .before .before .before .next-token .ensures .1 .starts)
+add-put-pointing c = omega (
+  arith,
+  c .before .before .before .before .before .before .before .pre,
+  c .before .before .before .before .next-token .ensures .1 .starts,
+)
 
 put-pointing-requires : tie.Need-put-pointing-requires
-put-pointing-requires c κs = (omega (arith, c .before .before .before .before .before .before .before .pre, c .before .before .before .before .next-token .ensures .1 .starts), c .before .before .before .before .before .before .before .pre .1)
+put-pointing-requires c κs =
+    let entry = c .before .before .before .before .before .before .before in
+    (omega (arith, entry .pre, c .before .before .before .before .next-token .ensures .1 .starts), entry .pre .1)
 
 same-length-2 : tie.Need-same-length-2
-same-length-2 c = c .before .before .put-pointing .ensures .kept .long
+same-length-2 c = search needs
 
 returns-3 : tie.Need-returns-3
-returns-3 c = rest-none _ (c .before .before .before .before .before .before .before .before .before .before .args .n) _ _ _ _ (c .before .before .before .before .before .before .before .before .before .before .pre .0 .0) (c .before .before .before .before .before .before .before .next-token .result) (c .before .before .before .before .before .before .before .next-token .ensures .0) (c .before .before .before .before .before .before .before .next-token .ensures .1) (c .before .before .before .before .before .if1 .left) (c .before .before .put-pointing .ensures)
+returns-3 c =
+    let after-if1 = c .before .before .before .before .before in
+    let next-token = after-if1 .before .before .next-token in
+    let entry = after-if1 .before .before .before .before .before in
+    rest-none _ (entry .args .n) _ _ _ _ (entry .pre .0 .0) (next-token .result) (next-token .ensures .0) (next-token .ensures .1) (after-if1 .if1 .left)
+    (c .before .before .put-pointing .ensures)
 
 pub follow-spec : {M : Type 1} → statement M
 follow-spec =

@@ -12,10 +12,6 @@ use Rattle.read_text.proofs.Pointers.{peek-empty, peek-node}
 use borrow.Author.Needs.{needs}
 use Rattle.read_text.proofs.turns.pointer.Statement.{statement}
 use Rattle.read_text.proofs.turns.pointer.Tie as tie
-use Rattle.read_text.proofs.turns.pointer.Reads as reads
-use Rattle.read_text.proofs.turns.pointer.Lts as lts
-use Rattle.notation.proofs.token.next_token.Reads as next-token-reads
-use Rattle.read_types.proofs.steps.term_head.Reads as term-head-reads
 
 -- what is no empty process has a node
 next : (h : TermHead) (at n : ℕ) → OneOf (0 ∷ 1 ∷ 2 ∷ 3 ∷ 4 ∷ 5 ∷ 6 ∷ 7 ∷ []) (tagOf the-type h) → peekBy h at n ≡ n
@@ -42,12 +38,30 @@ add-result : tie.Need-add-result
 add-result c = omega (arith, c .before .before .before .before .before .before .pre, c .before .before .before .before .next-token .ensures .1 .starts)
 
 returns : tie.Need-returns
-returns c = (peek-empty _ _ _ (c .before .before .before .before .next-token .ensures .0) (c .before .before .before .term-head .ensures) (c .before .enum-told .given .1), omega (arith, c .before .before .before .before .before .before .pre, c .before .before .before .before .next-token .ensures .1 .starts))
+returns c = (
+  peek-empty _ _ _ (c .before .before .before .before .next-token .ensures .0) (c .before .before .before .term-head .ensures)
+      (c .before .enum-told .given .1),
+  omega (
+    arith,
+    c .before .before .before .before .before .before .pre,
+    c .before .before .before .before .next-token .ensures .1 .starts,
+  ),
+)
 
 returns-2 : tie.Need-returns-2
-returns-2 c = (peek-node _ _ _ (c .before .before .next-token .ensures .0) (c .before .term-head .ensures) (next (c .before .term-head .result) _ _ (c .match .keys2)), omega (arith, c .before .before .before .before .pre))
+returns-2 c = (
+  peek-node _ _ _ (c .before .before .next-token .ensures .0) (c .before .term-head .ensures)
+      (next (c .before .term-head .result) _ _ (c .match .keys2)),
+  omega (arith, c .before .before .before .before .pre),
+)
 
 pub pointer-spec : {M : Type 1} → statement M
 pointer-spec =
     tie.close
-    (tie.spec next-token-requires term-head-requires enum-told add-result returns returns-2)
+    (tie.spec
+    next-token-requires
+    term-head-requires
+    enum-told
+    add-result
+    returns
+    returns-2)

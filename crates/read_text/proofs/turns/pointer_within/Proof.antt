@@ -2,10 +2,6 @@ use Rattle.read_text.proofs.Pointers.{peek-past}
 use borrow.Author.Needs.{needs}
 use Rattle.read_text.proofs.turns.pointer_within.Statement.{statement}
 use Rattle.read_text.proofs.turns.pointer_within.Tie as tie
-use Rattle.read_text.proofs.turns.pointer_within.Reads as reads
-use Rattle.read_text.proofs.turns.pointer_within.Lts as lts
-use Rattle.notation.proofs.token.next_token.Reads as next-token-reads
-use Rattle.read_text.proofs.turns.pointer.Reads as pointer-reads
 
 next-token-requires : tie.Need-next-token-requires
 next-token-requires c κs = search needs
@@ -17,4 +13,9 @@ returns : tie.Need-returns
 returns c = (peek-past _ _ _ (c .before .next-token .ensures .0) (c .pointer .ensures .0), c .pointer .ensures .1)
 
 pub pointer-within-spec : {M : Type 1} → statement M
-pointer-within-spec = tie.close (tie.spec next-token-requires pointer-requires returns)
+pointer-within-spec =
+    tie.close
+    (tie.spec
+    next-token-requires
+    pointer-requires
+    returns)

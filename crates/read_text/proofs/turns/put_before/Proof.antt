@@ -2,10 +2,6 @@ use native.Mathlib.Omega.{arith}
 use borrow.Author.Needs.{needs}
 use Rattle.read_text.proofs.turns.put_before.Statement.{statement}
 use Rattle.read_text.proofs.turns.put_before.Tie as tie
-use Rattle.read_text.proofs.turns.put_before.Reads as reads
-use Rattle.read_text.proofs.turns.put_before.Lts as lts
-use Rattle.read_text.proofs.turns.pointer.Reads as pointer-reads
-use Rattle.read_text.proofs.turns.put_pointing.Reads as put-pointing-reads
 
 pointer-requires : tie.Need-pointer-requires
 pointer-requires c κs = search needs
@@ -20,4 +16,10 @@ returns : tie.Need-returns
 returns c = rw (← c .before .before .before .before .pointer .ensures .0) (c .before .before .put-pointing .ensures)
 
 pub put-before-spec : {M : Type 1} → statement M
-put-before-spec = tie.close (tie.spec pointer-requires put-pointing-requires same-length returns)
+put-before-spec =
+    tie.close
+    (tie.spec
+    pointer-requires
+    put-pointing-requires
+    same-length
+    returns)

@@ -26,9 +26,29 @@ read-branches-Inv-loop text scratch₀ d₀ l₀ n₀ kept₀ scratch d l n kept
 abbrev read-branches-μ-loop : read-branches-lts.MeasureT-loop
 read-branches-μ-loop text scratch₀ d₀ l₀ n₀ kept₀ scratch d l n kept = length text - d .at
 
-pub read-branches-met : {M : Type 1} (t : ℕ) → read-branches-lts.Closed (label-then-reads.Asked, label-then-reads.Learnt, refusal-reads.Asked, refusal-reads.Learnt, pointer-reads.Asked, pointer-reads.Learnt, read-process-below t, read-process.Post, pair-word-reads.Asked, pair-word-reads.Learnt, kind-at-reads.Asked, kind-at-reads.Learnt, expect-reads.Asked, expect-reads.Learnt, put-list-reads.Asked, put-list-reads.Learnt) (read-branches-at t) read-branches.Post M
+abbrev claims : ℕ → read-branches-lts.Claims
+claims t = (
+  label-then-reads.Asked,
+  label-then-reads.Learnt,
+  refusal-reads.Asked,
+  refusal-reads.Learnt,
+  pointer-reads.Asked,
+  pointer-reads.Learnt,
+  read-process-below t,
+  read-process.Post,
+  pair-word-reads.Asked,
+  pair-word-reads.Learnt,
+  kind-at-reads.Asked,
+  kind-at-reads.Learnt,
+  expect-reads.Asked,
+  expect-reads.Learnt,
+  put-list-reads.Asked,
+  put-list-reads.Learnt,
+)
+
+pub read-branches-met : {M : Type 1} (t : ℕ) → read-branches-lts.Closed (claims t) (read-branches-at t) read-branches.Post M
 read-branches-met t =
-    read-branches-lts.spec (label-then-reads.Asked, label-then-reads.Learnt, refusal-reads.Asked, refusal-reads.Learnt, pointer-reads.Asked, pointer-reads.Learnt, read-process-below t, read-process.Post, pair-word-reads.Asked, pair-word-reads.Learnt, kind-at-reads.Asked, kind-at-reads.Learnt, expect-reads.Asked, expect-reads.Learnt, put-list-reads.Asked, put-list-reads.Learnt) (read-branches-at t) read-branches.Post read-branches-Inv-loop read-branches-μ-loop
+    read-branches-lts.spec (claims t) (read-branches-at t) read-branches.Post read-branches-Inv-loop read-branches-μ-loop
     -- loop-holds
     (λ c. keeping-start _ refl (c .before .before .pre .1))
     -- label-then-requires
@@ -40,29 +60,54 @@ read-branches-met t =
     -- refusal-requires
     (λ c κs. search needs)
     -- same-length
-    (λ c. c .before .before .before .before .loop .inv .stays .long)
+    (λ c. search needs)
     -- returns
-    (λ c. branches-no _ _ _ _ _ (c .before .before .before .before .loop .inv) (c .before .before .before .label-then .ensures) (c .before .enum-told .given .1) (c .refusal .ensures))
+    (λ c. branches-no _ _ _ _ _ (c .before .before .before .before .loop .inv) (c .before .before .before .label-then .ensures)
+    (c .before .enum-told .given .1) (c .refusal .ensures))
     -- pointer-requires
     (λ c κs. omega (arith, c .before .before .before .before .loop .inv .room))
     -- read-process-requires
-    (λ c κs. (omega (arith, c .before .before .before .before .before .before .before .before .before .pre .0, c .before .before .before .before .before .before .loop .inv .room, c .before .before .before .before .before .before .loop .inv .later, c .before .before .before .before .before .label-then .ensures .on _ _ (c .before .before .before .labelled .given .1)), omega (arith, c .before .before .before .before .before .before .loop .inv .room, c .before .before .before .before .before .label-then .ensures .on _ _ (c .before .before .before .labelled .given .1))))
+    (λ c κs. omega (
+      arith,
+      c .before .before .before .before .before .before .before .before .before .pre .0,
+      c .before .before .before .before .before .before .loop .inv .room,
+      c .before .before .before .before .before .before .loop .inv .later,
+      c .before .before .before .before .before .label-then .ensures .on _ _ (c .before .before .before .labelled .given .1),
+    ))
     -- enum-known-inner
     (λ c. search needs)
     -- enum-told-2
     (λ c. search needs)
     -- same-length-2
-    (λ c. (c .before .before .before .before .read-process .ensures .kept upon c .before .before .before .before .before .before .before .before .before .before .before .loop .inv .stays) .long)
+    (λ c. search needs)
     -- returns-2
-    (λ c. branches-inner-no _ _ _ _ _ (c .before .before .before .before .before .before .before .before .before .before .before .loop .inv) (c .before .before .before .before .before .before .before .before .before .before .label-then .ensures) (c .before .before .before .before .before .before .before .before .labelled .given .1) (c .before .before .before .before .read-process .ensures) (c .enum-told2 .given .1))
+    (λ c.
+    let after-labelled = c .before .before .before .before .before .before .before .before in
+    branches-inner-no _ _ _ _ _ (after-labelled .before .before .before .loop .inv) (after-labelled .before .before .label-then .ensures)
+    (after-labelled .labelled .given .1) (c .before .before .before .before .read-process .ensures) (c .enum-told2 .given .1))
     -- pair-word-requires
-    (λ c κs. omega (arith, c .before .before .before .before .before .before .before .before .before .before .before .before .loop .inv .room, c .before .before .before .before .before .before .before .before .before .before .before .label-then .ensures .on _ _ (c .before .before .before .before .before .before .before .before .before .labelled .given .1), c .before .before .before .before .before .before .before .pointer .ensures .1))
+    (λ c κs.
+    let after-pointer = c .before .before .before .before .before .before .before in
+    omega (
+      arith,
+      after-pointer .before .before .before .before .before .loop .inv .room,
+      after-pointer .before .before .before .before .label-then .ensures .on _ _ (after-pointer .before .before .labelled .given .1),
+      after-pointer .pointer .ensures .1,
+    ))
     -- mul-kept
     (λ c. search needs)
     -- array-write-kept
-    (λ c. omega (arith, branch-few _ _ _ (c .before .before .before .before .before .before .before .before .before .before .before .before .label-then .ensures) (c .before .before .before .before .before .before .before .before .before .before .labelled .given .1), c .before .before .before .before .before .before .before .before .before .before .before .before .before .loop .inv .wide))
+    (λ c.
+    let after-labelled = c .before .before .before .before .before .before .before .before .before .before in
+    omega (
+      arith,
+      branch-few _ _ _ (after-labelled .before .before .label-then .ensures) (after-labelled .labelled .given .1),
+      after-labelled .before .before .before .loop .inv .wide,
+    ))
     -- add-n
-    (λ c. omega (arith, branch-few _ _ _ (c .before .before .before .before .before .before .before .before .before .before .before .before .label-then .ensures) (c .before .before .before .before .before .before .before .before .before .before .labelled .given .1)))
+    (λ c.
+    let after-labelled = c .before .before .before .before .before .before .before .before .before .before in
+    omega (arith, branch-few _ _ _ (after-labelled .before .before .label-then .ensures) (after-labelled .labelled .given .1)))
     -- kind-at-requires
     (λ c κs. search needs)
     -- expect-requires
@@ -74,20 +119,99 @@ read-branches-met t =
     -- refusal-requires-2
     (λ c κs. search needs)
     -- same-length-3
-    (λ c. (c .before .before .before .before .before .before .before .before .before .before .before .before .read-process .ensures .kept upon c .before .before .before .before .before .before .before .before .before .before .before .before .before .before .before .before .before .before .before .loop .inv .stays) .long)
+    (λ c.
+    let after-read-process = c .before .before .before .before .before .before .before .before .before .before .before .before in
+    (after-read-process .read-process .ensures .kept upon after-read-process .before .before .before .before .before .before .before .loop .inv .stays) .long)
     -- returns-3
-    (λ c. branches-bar-no _ _ _ _ _ (c .before .before .before .before .before .before .before .before .before .before .before .before .before .before .before .before .before .before .before .loop .inv) (c .before .before .before .before .before .before .before .before .before .before .before .before .before .before .before .before .before .before .label-then .ensures) (c .before .before .before .before .before .before .before .before .before .before .before .before .before .before .before .before .labelled .given .1) (c .before .before .before .before .before .before .before .before .before .before .before .before .read-process .ensures) (c .before .before .before .before .before .before .before .before .inner .given .1) (c .before .before .before .before .before .before .before .before .before .before .before .before .before .before .pointer .ensures .0) (c .before .before .before .before .before .before .pair-word .ensures) (eq-eqb _ _ (sym (c .before .before .before .before .before .kind-at .ensures) ∙ c .before .before .before .before .if1 .taken)) (c .before .before .before .expect .ensures) (c .before .enum-told3 .given .1) (c .refusal2 .ensures))
+    (λ c.
+    let after-if1 = c .before .before .before .before in
+    let after-inner = after-if1 .before .before .before .before in
+    let after-pointer = after-inner .before .before .before .before .before .before in
+    branches-bar-no _ _ _ _ _ (after-pointer .before .before .before .before .before .loop .inv)
+    (after-pointer .before .before .before .before .label-then .ensures) (after-pointer .before .before .labelled .given .1)
+    (after-inner .before .before .before .before .read-process .ensures) (after-inner .inner .given .1) (after-pointer .pointer .ensures .0)
+    (after-if1 .before .before .pair-word .ensures) (eq-eqb _ _ (sym (after-if1 .before .kind-at .ensures) ∙ after-if1 .if1 .taken))
+    (c .before .before .before .expect .ensures) (c .before .enum-told3 .given .1) (c .refusal2 .ensures))
     -- loop-less
-    (λ c. omega (arith, c .before .before .before .before .before .before .before .before .before .before .before .before .before .before .before .before .before .before .before .loop .inv .room, c .before .before .before .before .before .before .before .before .before .before .before .before .before .before .before .before .before .before .label-then .ensures .on _ _ (c .before .before .before .before .before .before .before .before .before .before .before .before .before .before .before .before .labelled .given .1), c .before .before .before .before .before .before .before .before .before .before .before .before .read-process .ensures .on _ _ (c .before .before .before .before .before .before .before .before .inner .given .1), c .before .before .before .expect .ensures .on _ _ (c .before .bar .given .1)))
+    (λ c.
+    let after-inner = c .before .before .before .before .before .before .before .before in
+    let after-labelled = after-inner .before .before .before .before .before .before .before .before in
+    omega (
+      arith,
+      after-labelled .before .before .before .loop .inv .room,
+      after-labelled .before .before .label-then .ensures .on _ _
+          (after-labelled .labelled .given .1),
+      after-inner .before .before .before .before .read-process .ensures .on _ _ (after-inner .inner .given .1),
+      c .before .before .before .expect .ensures .on _ _ (c .before .bar .given .1),
+    ))
     -- loop-again
-    (λ c. keeping-on _ _ _ _ _ (c .before .before .before .before .before .before .before .before .before .before .before .before .before .before .before .before .before .before .before .loop .inv) (c .before .before .before .before .before .before .before .before .before .before .before .before .before .before .before .before .before .before .label-then .ensures) (c .before .before .before .before .before .before .before .before .before .before .before .before .before .before .before .before .labelled .given .1) (c .before .before .before .before .before .before .before .before .before .before .before .before .read-process .ensures) (c .before .before .before .before .before .before .before .before .inner .given .1) (c .before .before .before .before .before .before .before .before .before .before .before .before .before .before .pointer .ensures .0) (c .before .before .before .before .before .before .pair-word .ensures) (eq-eqb _ _ (sym (c .before .before .before .before .before .kind-at .ensures) ∙ c .before .before .before .before .if1 .taken)) (c .before .before .before .expect .ensures) (c .before .bar .given .1))
+    (λ c.
+    let after-if1 = c .before .before .before .before in
+    let after-inner = after-if1 .before .before .before .before in
+    let after-pointer = after-inner .before .before .before .before .before .before in
+    keeping-on _ _ _ _ _ (after-pointer .before .before .before .before .before .loop .inv)
+    (after-pointer .before .before .before .before .label-then .ensures) (after-pointer .before .before .labelled .given .1)
+    (after-inner .before .before .before .before .read-process .ensures) (after-inner .inner .given .1) (after-pointer .pointer .ensures .0)
+    (after-if1 .before .before .pair-word .ensures) (eq-eqb _ _ (sym (after-if1 .before .kind-at .ensures) ∙ after-if1 .if1 .taken))
+    (c .before .before .before .expect .ensures) (c .before .bar .given .1))
     -- add-put-list
-    (λ c. omega (arith, c .before .before .before .before .before .before .before .before .before .before .before .before .before .before .before .before .before .before .loop .inv .room, c .before .before .before .before .before .before .before .before .before .before .before .before .before .before .before .before .before .before .loop .inv .bytes, c .before .before .before .before .before .before .before .before .before .before .before .before .before .before .before .before .before .label-then .ensures .on _ _ (c .before .before .before .before .before .before .before .before .before .before .before .before .before .before .before .labelled .given .1), c .before .before .before .before .before .before .before .before .before .before .before .read-process .ensures .on _ _ (c .before .before .before .before .before .before .before .inner .given .1)))
+    (λ c.
+    let after-inner = c .before .before .before .before .before .before .before in
+    let after-labelled = after-inner .before .before .before .before .before .before .before .before in
+    let loop = after-labelled .before .before .before .loop in
+    omega (
+      arith,
+      loop .inv .room,
+      loop .inv .bytes,
+      after-labelled .before .before .label-then .ensures .on _ _ (after-labelled .labelled .given .1),
+      after-inner .before .before .before .before .read-process .ensures .on _ _ (after-inner .inner .given .1),
+    ))
     -- put-list-requires
-    (λ c κs. omega (arith, c .before .before .before .before .before .before .before .before .before .before .before .before .before .before .before .before .before .before .loop .inv .room, c .before .before .before .before .before .before .before .before .before .before .before .before .before .before .before .before .before .before .loop .inv .bytes, branch-few _ _ _ (c .before .before .before .before .before .before .before .before .before .before .before .before .before .before .before .before .before .label-then .ensures) (c .before .before .before .before .before .before .before .before .before .before .before .before .before .before .before .labelled .given .1), c .before .before .before .before .before .before .before .before .before .before .before .before .before .before .before .before .before .label-then .ensures .on _ _ (c .before .before .before .before .before .before .before .before .before .before .before .before .before .before .before .labelled .given .1), c .before .before .before .before .before .before .before .before .before .before .before .read-process .ensures .on _ _ (c .before .before .before .before .before .before .before .inner .given .1), c .before .before .before .before .before .before .before .before .before .before .before .read-process .ensures .kept .long))
+    (λ c κs.
+    let after-inner = c .before .before .before .before .before .before .before in
+    let read-process = after-inner .before .before .before .before .read-process in
+    let after-labelled = after-inner .before .before .before .before .before .before .before .before in
+    let labelled = after-labelled .labelled in
+    let label-then = after-labelled .before .before .label-then in
+    let loop = after-labelled .before .before .before .loop in
+    omega (
+      arith,
+      loop .inv .room,
+      loop .inv .bytes,
+      branch-few _ _ _ (label-then .ensures) (labelled .given .1),
+      label-then .ensures .on _ _
+          (labelled .given .1),
+      read-process .ensures .on _ _ (after-inner .inner .given .1),
+      read-process .ensures .kept .long,
+    ))
     -- add-q
-    (λ c. omega (arith, c .before .before .before .before .before .before .before .before .before .before .before .before .before .before .before .before .before .before .before .before .before .before .loop .inv .room, c .before .before .before .before .before .before .before .before .before .before .before .before .before .before .before .before .before .before .before .before .before .before .loop .inv .bytes, branch-few _ _ _ (c .before .before .before .before .before .before .before .before .before .before .before .before .before .before .before .before .before .before .before .before .before .label-then .ensures) (c .before .before .before .before .before .before .before .before .before .before .before .before .before .before .before .before .before .before .before .labelled .given .1), c .before .before .before .before .before .before .before .before .before .before .before .before .before .before .before .before .before .before .before .before .before .label-then .ensures .on _ _ (c .before .before .before .before .before .before .before .before .before .before .before .before .before .before .before .before .before .before .before .labelled .given .1), c .before .before .before .before .before .before .before .before .before .before .before .before .before .before .before .read-process .ensures .on _ _ (c .before .before .before .before .before .before .before .before .before .before .before .inner .given .1)))
+    (λ c.
+    let after-inner = c .before .before .before .before .before .before .before .before .before .before .before in
+    let after-labelled = after-inner .before .before .before .before .before .before .before .before in
+    let labelled = after-labelled .labelled in
+    let label-then = after-labelled .before .before .label-then in
+    let loop = after-labelled .before .before .before .loop in
+    omega (
+      arith,
+      loop .inv .room,
+      loop .inv .bytes,
+      branch-few _ _ _ (label-then .ensures) (labelled .given .1),
+      label-then .ensures .on _ _
+          (labelled .given .1),
+      after-inner .before .before .before .before .read-process .ensures .on _ _ (after-inner .inner .given .1),
+    ))
     -- same-length-4
-    (λ c. (c .before .before .before .put-list .ensures .kept upon c .before .before .before .before .before .before .before .before .before .before .before .before .before .before .before .read-process .ensures .kept upon c .before .before .before .before .before .before .before .before .before .before .before .before .before .before .before .before .before .before .before .before .before .before .loop .inv .stays) .long)
+    (λ c.
+    let after-read-process = c .before .before .before .before .before .before .before .before .before .before .before .before .before .before .before in
+    (c .before .before .before .put-list .ensures .kept upon after-read-process .read-process .ensures .kept
+    upon after-read-process .before .before .before .before .before .before .before .loop .inv .stays) .long)
     -- returns-4
-    (λ c. branches-end _ _ _ _ _ (c .before .before .before .before .before .before .before .before .before .before .before .before .before .before .before .before .before .before .before .before .before .before .loop .inv) (c .before .before .before .before .before .before .before .before .before .before .before .before .before .before .before .before .before .before .before .before .before .label-then .ensures) (c .before .before .before .before .before .before .before .before .before .before .before .before .before .before .before .before .before .before .before .labelled .given .1) (c .before .before .before .before .before .before .before .before .before .before .before .before .before .before .before .read-process .ensures) (c .before .before .before .before .before .before .before .before .before .before .before .inner .given .1) (c .before .before .before .before .before .before .before .before .before .before .before .before .before .before .before .before .before .pointer .ensures .0) (c .before .before .before .before .before .before .before .before .before .pair-word .ensures) (ne-eqb _ _ (λ e. c .before .before .before .before .before .before .before .if1 .left (c .before .before .before .before .before .before .before .before .kind-at .ensures ∙ e))) (c .before .before .before .put-list .ensures))
+    (λ c.
+    let after-if1 = c .before .before .before .before .before .before .before in
+    let after-inner = after-if1 .before .before .before .before in
+    let after-pointer = after-inner .before .before .before .before .before .before in
+    branches-end _ _ _ _ _ (after-pointer .before .before .before .before .before .loop .inv)
+    (after-pointer .before .before .before .before .label-then .ensures) (after-pointer .before .before .labelled .given .1)
+    (after-inner .before .before .before .before .read-process .ensures) (after-inner .inner .given .1) (after-pointer .pointer .ensures .0)
+    (after-if1 .before .before .pair-word .ensures) (ne-eqb _ _ (λ e. after-if1 .if1 .left (after-if1 .before .kind-at .ensures ∙ e)))
+    (c .before .before .before .put-list .ensures))

@@ -19,9 +19,17 @@ read-process-Inv-loop text scratch₀ d₀ l₀ scratch d l = Through (ProcessRe
 abbrev read-process-μ-loop : read-process-lts.MeasureT-loop
 read-process-μ-loop text scratch₀ d₀ l₀ scratch d l = length text - d .at
 
-pub read-process-met : {M : Type 1} (t : ℕ) → read-process-lts.Closed (read-turn-below t, read-turn.Post, finished-reads.Asked, finished-reads.Learnt) (read-process-at t) read-process.Post M
+abbrev claims : ℕ → read-process-lts.Claims
+claims t = (
+  read-turn-below t,
+  read-turn.Post,
+  finished-reads.Asked,
+  finished-reads.Learnt,
+)
+
+pub read-process-met : {M : Type 1} (t : ℕ) → read-process-lts.Closed (claims t) (read-process-at t) read-process.Post M
 read-process-met t =
-    read-process-lts.spec (read-turn-below t, read-turn.Post, finished-reads.Asked, finished-reads.Learnt) (read-process-at t) read-process.Post read-process-Inv-loop read-process-μ-loop
+    read-process-lts.spec (claims t) (read-process-at t) read-process.Post read-process-Inv-loop read-process-μ-loop
     -- loop-holds
     (λ c. through-start (c .before .before .pre .1))
     -- read-turn-requires
@@ -33,10 +41,16 @@ read-process-met t =
     -- finished-requires
     (λ c κs. search needs)
     -- same-length
-    (λ c. (c .before .before .before .before .before .read-turn .ensures .kept upon c .before .before .before .before .before .before .before .loop .inv .kept) .long)
+    (λ c. search needs)
     -- returns
-    (λ c. turns-end (c .before .before .before .before .before .before .before .loop .inv) (c .before .before .before .before .before .read-turn .ensures) (c .before .enum-told .given .1) (c .finished .ensures))
+    (λ c. turns-end (c .before .before .before .before .before .before .before .loop .inv) (c .before .before .before .before .before .read-turn .ensures)
+    (c .before .enum-told .given .1) (c .finished .ensures))
     -- loop-less
-    (λ c. omega (arith, turns-later (c .before .before .before .before .before .before .before .loop .inv) (c .before .before .before .before .before .read-turn .ensures) (c .before .turn .given .1)))
+    (λ c. omega (
+      arith,
+      turns-later (c .before .before .before .before .before .before .before .loop .inv)
+          (c .before .before .before .before .before .read-turn .ensures) (c .before .turn .given .1),
+    ))
     -- loop-again
-    (λ c. turns-on (c .before .before .before .before .before .before .before .loop .inv) (c .before .before .before .before .before .read-turn .ensures) (c .before .turn .given .1))
+    (λ c. turns-on (c .before .before .before .before .before .before .before .loop .inv) (c .before .before .before .before .before .read-turn .ensures)
+    (c .before .turn .given .1))

@@ -2,9 +2,6 @@
 use borrow.Author.Needs.{needs}
 use Prim.Native.Nat.{ℕ}
 use native.Mathlib.Omega.{arith}
-use mathlib.Core.Path.{ap, sym, _∙_}
-use Rattle.notation.specs.Processes.{termHead}
-use Rattle.notation.specs.declared.token.Token.{Token}
 use Rattle.read_text.proofs.ProcessPaths.{turn-by, turn-read, turn-empty}
 use Rattle.read_text.proofs.Turning.{head-is, start-is}
 use Rattle.notation.proofs.token.next_token.Reads as next-token-reads
@@ -21,9 +18,33 @@ use Rattle.read_text.proofs.processes.read_turn.Reads as read-turn
 use Rattle.read_text.proofs.processes.+read_bracketed+read_branches+read_handler+read_parts+read_process+read_recv+read_spawn+read_try+read_turn+receive_label+receive_one.Lts-read_turn as read-turn-lts
 use Rattle.read_text.proofs.processes.+read_bracketed+read_branches+read_handler+read_parts+read_process+read_recv+read_spawn+read_try+read_turn+receive_label+receive_one.Proof.Measures.{read-recv-below, read-spawn-below, read-try-below, read-turn-at}
 
-pub read-turn-met : {M : Type 1} (t : ℕ) → read-turn-lts.Closed (next-token-reads.Asked, next-token-reads.Learnt, term-head-reads.Asked, term-head-reads.Learnt, read-send-reads.Asked, read-send-reads.Learnt, read-recv-below t, read-recv.Post, read-fwd-reads.Asked, read-fwd-reads.Learnt, read-call-reads.Asked, read-call-reads.Learnt, read-cancel-reads.Asked, read-cancel-reads.Learnt, read-raise-reads.Asked, read-raise-reads.Learnt, read-try-below t, read-try.Post, read-spawn-below t, read-spawn.Post) (read-turn-at t) read-turn.Post M
+abbrev claims : ℕ → read-turn-lts.Claims
+claims t = (
+  next-token-reads.Asked,
+  next-token-reads.Learnt,
+  term-head-reads.Asked,
+  term-head-reads.Learnt,
+  read-send-reads.Asked,
+  read-send-reads.Learnt,
+  read-recv-below t,
+  read-recv.Post,
+  read-fwd-reads.Asked,
+  read-fwd-reads.Learnt,
+  read-call-reads.Asked,
+  read-call-reads.Learnt,
+  read-cancel-reads.Asked,
+  read-cancel-reads.Learnt,
+  read-raise-reads.Asked,
+  read-raise-reads.Learnt,
+  read-try-below t,
+  read-try.Post,
+  read-spawn-below t,
+  read-spawn.Post,
+)
+
+pub read-turn-met : {M : Type 1} (t : ℕ) → read-turn-lts.Closed (claims t) (read-turn-at t) read-turn.Post M
 read-turn-met t =
-    read-turn-lts.spec (next-token-reads.Asked, next-token-reads.Learnt, term-head-reads.Asked, term-head-reads.Learnt, read-send-reads.Asked, read-send-reads.Learnt, read-recv-below t, read-recv.Post, read-fwd-reads.Asked, read-fwd-reads.Learnt, read-call-reads.Asked, read-call-reads.Learnt, read-cancel-reads.Asked, read-cancel-reads.Learnt, read-raise-reads.Asked, read-raise-reads.Learnt, read-try-below t, read-try.Post, read-spawn-below t, read-spawn.Post) (read-turn-at t) read-turn.Post
+    read-turn-lts.spec (claims t) (read-turn-at t) read-turn.Post
     -- next-token-requires
     (λ c κs. search needs)
     -- term-head-requires
@@ -35,7 +56,9 @@ read-turn-met t =
     -- enum-told-2
     (λ c. search needs)
     -- read-recv-requires
-    (λ c κs. (omega (arith, c .before .before .before .before .before .before .before .pre .0), c .before .before .before .before .before .before .before .pre .1))
+    (λ c κs.
+    let entry = c .before .before .before .before .before .before .before in
+    (omega (arith, entry .pre .0), entry .pre .1))
     -- enum-told-3
     (λ c. search needs)
     -- read-fwd-requires
@@ -55,44 +78,76 @@ read-turn-met t =
     -- enum-told-7
     (λ c. search needs)
     -- read-try-requires
-    (λ c κs. (omega (arith, c .before .before .before .before .before .before .before .pre .0), c .before .before .before .before .before .before .before .pre .1))
+    (λ c κs.
+    let entry = c .before .before .before .before .before .before .before in
+    (omega (arith, entry .pre .0), entry .pre .1))
     -- enum-told-8
     (λ c. search needs)
     -- read-spawn-requires
-    (λ c κs. (omega (arith, c .before .before .before .before .before .before .before .pre .0), c .before .before .before .before .before .before .before .pre .1))
+    (λ c κs.
+    let entry = c .before .before .before .before .before .before .before in
+    (omega (arith, entry .pre .0), entry .pre .1))
     -- enum-told-9
     (λ c. search needs)
     -- same-length
-    (λ c. c .before .before .read-send .ensures .kept .long)
+    (λ c. search needs)
     -- returns
-    (λ c. turn-by _ _ _ _ (c .before .before .before .before .before .before .before .before .before .before .pre .1) _ (head-is _ _ (c .before .before .before .before .before .before .before .next-token .ensures .0) (c .before .before .before .before .before .before .term-head .ensures) (c .before .before .before .before .enum-told .given .1)) (c .before .before .read-send .ensures))
+    (λ c. turn-by _ _ _ _ (c .before .before .before .before .before .before .before .before .before .before .pre .1) _
+    (head-is _ _ (c .before .before .before .before .before .before .before .next-token .ensures .0)
+    (c .before .before .before .before .before .before .term-head .ensures) (c .before .before .before .before .enum-told .given .1))
+    (c .before .before .read-send .ensures))
     -- same-length-2
-    (λ c. c .before .before .read-recv .ensures .kept .long)
+    (λ c. search needs)
     -- returns-2
-    (λ c. turn-read _ _ _ _ (c .before .before .before .before .before .before .before .before .before .before .pre .1) _ (head-is _ _ (c .before .before .before .before .before .before .before .next-token .ensures .0) (c .before .before .before .before .before .before .term-head .ensures) (c .before .before .before .before .enum-told2 .given .1)) (c .before .before .read-recv .ensures))
+    (λ c. turn-read _ _ _ _ (c .before .before .before .before .before .before .before .before .before .before .pre .1) _
+    (head-is _ _ (c .before .before .before .before .before .before .before .next-token .ensures .0)
+    (c .before .before .before .before .before .before .term-head .ensures) (c .before .before .before .before .enum-told2 .given .1))
+    (c .before .before .read-recv .ensures))
     -- same-length-3
-    (λ c. c .before .before .read-fwd .ensures .kept .long)
+    (λ c. search needs)
     -- returns-3
-    (λ c. turn-read _ _ _ _ (c .before .before .before .before .before .before .before .before .before .before .pre .1) _ (head-is _ _ (c .before .before .before .before .before .before .before .next-token .ensures .0) (c .before .before .before .before .before .before .term-head .ensures) (c .before .before .before .before .enum-told3 .given .1)) (c .before .before .read-fwd .ensures))
+    (λ c. turn-read _ _ _ _ (c .before .before .before .before .before .before .before .before .before .before .pre .1) _
+    (head-is _ _ (c .before .before .before .before .before .before .before .next-token .ensures .0)
+    (c .before .before .before .before .before .before .term-head .ensures) (c .before .before .before .before .enum-told3 .given .1))
+    (c .before .before .read-fwd .ensures))
     -- same-length-4
-    (λ c. c .before .before .read-call .ensures .kept .long)
+    (λ c. search needs)
     -- returns-4
-    (λ c. turn-read _ _ _ _ (c .before .before .before .before .before .before .before .before .before .before .pre .1) _ (head-is _ _ (c .before .before .before .before .before .before .before .next-token .ensures .0) (c .before .before .before .before .before .before .term-head .ensures) (c .before .before .before .before .enum-told4 .given .1)) (c .before .before .read-call .ensures))
+    (λ c. turn-read _ _ _ _ (c .before .before .before .before .before .before .before .before .before .before .pre .1) _
+    (head-is _ _ (c .before .before .before .before .before .before .before .next-token .ensures .0)
+    (c .before .before .before .before .before .before .term-head .ensures) (c .before .before .before .before .enum-told4 .given .1))
+    (c .before .before .read-call .ensures))
     -- same-length-5
-    (λ c. c .before .before .read-cancel .ensures .kept .long)
+    (λ c. search needs)
     -- returns-5
-    (λ c. turn-by _ _ _ _ (c .before .before .before .before .before .before .before .before .before .before .pre .1) _ (head-is _ _ (c .before .before .before .before .before .before .before .next-token .ensures .0) (c .before .before .before .before .before .before .term-head .ensures) (c .before .before .before .before .enum-told5 .given .1)) (c .before .before .read-cancel .ensures))
+    (λ c. turn-by _ _ _ _ (c .before .before .before .before .before .before .before .before .before .before .pre .1) _
+    (head-is _ _ (c .before .before .before .before .before .before .before .next-token .ensures .0)
+    (c .before .before .before .before .before .before .term-head .ensures) (c .before .before .before .before .enum-told5 .given .1))
+    (c .before .before .read-cancel .ensures))
     -- same-length-6
-    (λ c. c .before .before .read-raise .ensures .kept .long)
+    (λ c. search needs)
     -- returns-6
-    (λ c. turn-by _ _ _ _ (c .before .before .before .before .before .before .before .before .before .before .pre .1) _ (head-is _ _ (c .before .before .before .before .before .before .before .next-token .ensures .0) (c .before .before .before .before .before .before .term-head .ensures) (c .before .before .before .before .enum-told6 .given .1)) (c .before .before .read-raise .ensures))
+    (λ c. turn-by _ _ _ _ (c .before .before .before .before .before .before .before .before .before .before .pre .1) _
+    (head-is _ _ (c .before .before .before .before .before .before .before .next-token .ensures .0)
+    (c .before .before .before .before .before .before .term-head .ensures) (c .before .before .before .before .enum-told6 .given .1))
+    (c .before .before .read-raise .ensures))
     -- same-length-7
-    (λ c. c .before .before .read-try .ensures .kept .long)
+    (λ c. search needs)
     -- returns-7
-    (λ c. turn-read _ _ _ _ (c .before .before .before .before .before .before .before .before .before .before .pre .1) _ (head-is _ _ (c .before .before .before .before .before .before .before .next-token .ensures .0) (c .before .before .before .before .before .before .term-head .ensures) (c .before .before .before .before .enum-told7 .given .1)) (c .before .before .read-try .ensures))
+    (λ c. turn-read _ _ _ _ (c .before .before .before .before .before .before .before .before .before .before .pre .1) _
+    (head-is _ _ (c .before .before .before .before .before .before .before .next-token .ensures .0)
+    (c .before .before .before .before .before .before .term-head .ensures) (c .before .before .before .before .enum-told7 .given .1))
+    (c .before .before .read-try .ensures))
     -- same-length-8
-    (λ c. c .before .before .read-spawn .ensures .kept .long)
+    (λ c. search needs)
     -- returns-8
-    (λ c. turn-by _ _ _ _ (c .before .before .before .before .before .before .before .before .before .before .pre .1) _ (head-is _ _ (c .before .before .before .before .before .before .before .next-token .ensures .0) (c .before .before .before .before .before .before .term-head .ensures) (c .before .before .before .before .enum-told8 .given .1)) (c .before .before .read-spawn .ensures))
+    (λ c. turn-by _ _ _ _ (c .before .before .before .before .before .before .before .before .before .before .pre .1) _
+    (head-is _ _ (c .before .before .before .before .before .before .before .next-token .ensures .0)
+    (c .before .before .before .before .before .before .term-head .ensures) (c .before .before .before .before .enum-told8 .given .1))
+    (c .before .before .read-spawn .ensures))
     -- returns-9
-    (λ c. turn-empty _ _ _ _ (c .before .before .before .before .before .before .pre .1) (head-is _ _ (c .before .before .before .next-token .ensures .0) (c .before .before .term-head .ensures) (c .enum-told9 .given .1)) (start-is _ _ (c .before .before .before .next-token .ensures .0) (omega (arith, c .before .before .before .before .before .before .pre .1, c .before .before .before .next-token .ensures .1 .starts))))
+    (λ c.
+    let next-token = c .before .before .before .next-token in
+    let entry = c .before .before .before .before .before .before in
+    turn-empty _ _ _ _ (entry .pre .1) (head-is _ _ (next-token .ensures .0) (c .before .before .term-head .ensures) (c .enum-told9 .given .1))
+    (start-is _ _ (next-token .ensures .0) (omega (arith, entry .pre .1, next-token .ensures .1 .starts))))
