@@ -7,7 +7,7 @@ use lib.ListN.{set}
 use lib.Seq.{set-comm}
 use Rattle.notation.specs.Limits.{typeTermLimit, processTermLimit}
 use Rattle.notation.specs.Tree.{Located, Ty, unit, named, tensor, par, lolli, plus, with, Alternatives, alternative, Proc, empty, sendUnit, sendChannel, sendLabel, cancel, spawn, recvUnit, recvChannel, recvLabel, fwd, call, raise, try, Branches, branch}
-use Rattle.notation.specs.Tables.{termsAt, nodesAt, alternativesAt, branchesAt, typeWord, pairWord, putNode, putAlternative, putTerm, putBranch, moreTerms, termWord, termWord′, termNode, typeNode, pointerTo, afterType, afterAlternatives, writeType, writeAlternatives, afterProcess, afterBranches, writeProcess, writeBranches}
+use Rattle.notation.specs.Tables.{termsAt, nodesAt, alternativesAt, branchesAt, typeWord, pairWord, putNode, putAlternative, putTerm, putBranch, moreNodes, moreTerms, termWord, termWord′, termNode, typeNode, putInfix, putChoice, pointerTo, afterType, afterAlternatives, writeType, writeAlternatives, afterProcess, afterBranches, writeProcess, writeBranches}
 use Rattle.notation.specs.declared.reading.Tally.{Tally}
 use Rattle.notation.specs.declared.reading.TypeNode.{TypeNode}
 use Rattle.notation.specs.declared.reading.TermNode.{TermNode}
@@ -95,11 +95,28 @@ module _ (w : List ℕ) (i : ℕ) (n : TermNode) (j : ℕ) (m : TermNode) (l : i
 abbrev Small : Tally → Type 0
 Small l = (l .nodes ≤ typeTermLimit) × (l .alternatives ≤ typeTermLimit)
 
--- the words of an infix, by those of its parts
-infix-put : (f g : List ℕ → List ℕ) (j : ℕ) (m : TypeNode) (w : List ℕ) (i : ℕ) (n : TermNode) → j < typeTermLimit
-    → ((v : List ℕ) → f (putTerm v i n) ≡ putTerm (f v) i n)
-    → ((v : List ℕ) → g (putTerm v i n) ≡ putTerm (g v) i n) → putNode (g (f (putTerm w i n))) j m ≡ putTerm (putNode (g (f w)) j m) i n
-infix-put f g j m w i n l p q = ap (λ v. putNode (g v) j m) (p w) ∙ ap (λ v. putNode v j m) (q (f w)) ∙ node-put (g (f w)) i n j m l
+-- the words of an infix and of a choice, by those of their parts
+infix-put : (kind : ℕ) (A B : Ty Located) (k : Tally) (w : List ℕ) (i : ℕ) (n : TermNode)
+    → let d = afterType A k in
+    let e = afterType B d in
+    Small (moreNodes e) → ((v : List ℕ) → Small d → writeType A k (putTerm v i n) ≡ putTerm (writeType A k v) i n)
+    → ((v : List ℕ) → Small e → writeType B d (putTerm v i n) ≡ putTerm (writeType B d v) i n)
+    → putInfix kind d e (writeType B d (writeType A k (putTerm w i n))) ≡ putTerm (putInfix kind d e (writeType B d (writeType A k w))) i n
+infix-put kind A B k w i n h p q =
+    let d = afterType A k in
+    let e = afterType B d in
+    let g = type-grown B d in
+    ap (λ v. putInfix kind d e (writeType B d v)) (p w (omega arith))
+    ∙ ap (putInfix kind d e) (q (writeType A k w) (omega arith))
+    ∙ node-put (writeType B d (writeType A k w)) i n (e .nodes) (typeNode kind (d .last) (e .last)) (omega arith)
+
+choice-put : (kind : ℕ) (r : Alternatives Located) (k : Tally) (w : List ℕ) (i : ℕ) (n : TermNode)
+    → let e = afterAlternatives r k in
+    Small (moreNodes e) → ((v : List ℕ) → Small e → writeAlternatives r k (putTerm v i n) ≡ putTerm (writeAlternatives r k v) i n)
+    → putChoice kind e (writeAlternatives r k (putTerm w i n)) ≡ putTerm (putChoice kind e (writeAlternatives r k w)) i n
+choice-put kind r k w i n h p =
+    let e = afterAlternatives r k in
+    ap (putChoice kind e) (p w (omega arith)) ∙ node-put (writeAlternatives r k w) i n (e .nodes) (typeNode kind (e .alternatives) (e .last)) (omega arith)
 
 mutual
   unfolding afterType writeType
@@ -108,32 +125,11 @@ mutual
       → writeType A k (putTerm w i n) ≡ putTerm (writeType A k w) i n
   type-put unit k w i n h = node-put w i n (k .nodes) (typeNode 0 0 0) (omega arith)
   type-put (named x) k w i n h = node-put w i n (k .nodes) (typeNode 1 0 (x .at)) (omega arith)
-  type-put (tensor A B) k w i n h =
-      let d = afterType A k in
-      let g = type-grown B d in
-      infix-put (writeType A k) (writeType B d) (afterType B d .nodes) (typeNode 2 (d .last) (afterType B d .last)) w i n (omega arith)
-      (λ v. type-put A k v i n (omega arith))
-      (λ v. type-put B d v i n (omega arith))
-  type-put (par A B) k w i n h =
-      let d = afterType A k in
-      let g = type-grown B d in
-      infix-put (writeType A k) (writeType B d) (afterType B d .nodes) (typeNode 3 (d .last) (afterType B d .last)) w i n (omega arith)
-      (λ v. type-put A k v i n (omega arith))
-      (λ v. type-put B d v i n (omega arith))
-  type-put (lolli A B) k w i n h =
-      let d = afterType A k in
-      let g = type-grown B d in
-      infix-put (writeType A k) (writeType B d) (afterType B d .nodes) (typeNode 4 (d .last) (afterType B d .last)) w i n (omega arith)
-      (λ v. type-put A k v i n (omega arith))
-      (λ v. type-put B d v i n (omega arith))
-  type-put (plus r) k w i n h =
-      let d = afterAlternatives r k in
-      ap (λ v. putNode v (d .nodes) (typeNode 5 (d .alternatives) (d .last))) (alternatives-put r k w i n (omega arith))
-      ∙ node-put (writeAlternatives r k w) i n (d .nodes) (typeNode 5 (d .alternatives) (d .last)) (omega arith)
-  type-put (with r) k w i n h =
-      let d = afterAlternatives r k in
-      ap (λ v. putNode v (d .nodes) (typeNode 6 (d .alternatives) (d .last))) (alternatives-put r k w i n (omega arith))
-      ∙ node-put (writeAlternatives r k w) i n (d .nodes) (typeNode 6 (d .alternatives) (d .last)) (omega arith)
+  type-put (tensor A B) k w i n h = infix-put 2 A B k w i n h (λ v s. type-put A k v i n s) (λ v s. type-put B (afterType A k) v i n s)
+  type-put (par A B) k w i n h = infix-put 3 A B k w i n h (λ v s. type-put A k v i n s) (λ v s. type-put B (afterType A k) v i n s)
+  type-put (lolli A B) k w i n h = infix-put 4 A B k w i n h (λ v s. type-put A k v i n s) (λ v s. type-put B (afterType A k) v i n s)
+  type-put (plus r) k w i n h = choice-put 5 r k w i n h (λ v s. alternatives-put r k v i n s)
+  type-put (with r) k w i n h = choice-put 6 r k w i n h (λ v s. alternatives-put r k v i n s)
 
   alternatives-put : (r : Alternatives Located) (k : Tally) (w : List ℕ) (i : ℕ) (n : TermNode) → Small (afterAlternatives r k)
       → writeAlternatives r k (putTerm w i n) ≡ putTerm (writeAlternatives r k w) i n
