@@ -1,4 +1,9 @@
+pub mod Turning
+pub mod Order
+pub mod Pointers
+pub mod TermPaths
 pub mod NamePaths
+pub mod BranchPaths
 pub mod ProcessPaths
 pub mod SignaturePaths
 pub mod ScriptPaths

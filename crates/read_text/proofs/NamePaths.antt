@@ -19,10 +19,12 @@ use Rattle.notation.specs.declared.reading.Taken.the-variants.{At, Refused}
 use Rattle.notation.specs.declared.token.TermHead.the-variants.{Call}
 use Rattle.read_types.specs.declared.steps.Out.{Out}
 use Rattle.read_types.specs.declared.steps.Out.the-variants.{Got}
-use Rattle.read_types.specs.Filling.{Stepped, asOut, Put, Room, unread}
-use Rattle.read_text.specs.Processes.{AheadNames, NamesTaken, forgetNames, listEnd, namesOrNone, TermRead}
+use Rattle.read_types.specs.Filling.{Stepped, asOut, Room, unread}
+use Rattle.read_text.specs.Turns.{Laid}
+use Rattle.read_text.specs.Names.{AheadNames, NamesTaken, forgetNames, listEnd, namesOrNone}
+use Rattle.read_text.specs.Processes.{TermRead}
 use Rattle.read_types.proofs.Taking.{never}
-use Rattle.read_types.proofs.Filled.{at-more, same, put-kept, took, refused-out, made-got, meets-no, meets-got}
+use Rattle.read_types.proofs.Filled.{at-more, same, took, refused-out, made-got, meets-no, meets-got}
 
 -- a list that was read, and one that was refused
 module _ {P : Type 0} {r : Taken} (i : ℕ) (x : Result (List Located)) (is : r ≡ forgetNames i x) where
@@ -76,7 +78,8 @@ module _ (s : List ℕ) (c : Cursor) (close n : ℕ) (wide : 1 ≤ n) {q : Taken
 -- ── names
 module _ (s : List ℕ) (c : Cursor) (close : ℕ) {q : Taken} (u : Stepped s c 1 0 0 (expect s kName c) q) where
   names-suc : (m : ℕ) → readNames (suc m) s close c
-      ≡ take (expect s kName c) (λ i d. choose (eqb (kindAt s (d .at)) kComma) (λ d. take (expect s kComma d) λ _ e. lastly (_∷_ (nameIn s i)) (readNames m s close e))
+      ≡ take (expect s kName c) (λ i d. choose (eqb (kindAt s (d .at)) kComma) (λ d. take (expect s kComma d) λ _ e. lastly (_∷_ (nameIn s i))
+      (readNames m s close e))
       (λ d. take (expect s close d) λ _ e. got (nameIn s i ∷ []) e) d)
   unfolding readNames
   names-suc m = refl
@@ -89,18 +92,21 @@ module _ (s : List ℕ) (c : Cursor) (close : ℕ) {q : Taken} (u : Stepped s c 
       pub names-comma-no : {n j : ℕ} → x ≡ Refused n j → NamesTaken s c 0 (λ m. readNames m s close c) x
       names-comma-no {n} {j} g = taken-no g (at-more (λ m. readNames m s close c ≡ refused n j) (λ m _. names-suc m ∙ rw (took u e, f, took y g)))
 
-      pub names-more : {j : ℕ} {b : Cursor} → x ≡ At j b → {r : Taken} → NamesTaken s b 0 (λ m. readNames m s close b) r → NamesTaken s c 0 (λ m. readNames m s close c) r
+      pub names-more : {j : ℕ} {b : Cursor} → x ≡ At j b → {r : Taken} → NamesTaken s b 0 (λ m. readNames m s close b) r
+          → NamesTaken s c 0 (λ m. readNames m s close c) r
       names-more {j} {b} g {r} v =
           let o = u .on i d e in
           let o₂ = y .on j b g in
           record {
             is = at-more (λ m. r ≡ forgetNames 0 (readNames m s close c))
-                (λ m lo. let same : readNames (suc m) s close c ≡ lastly (_∷_ (nameIn s i)) (readNames m s close b) = names-suc m ∙ rw (took u e, f, took y g) in
+                (λ m lo. let same : readNames (suc m) s close c ≡ lastly (_∷_ (nameIn s i)) (readNames m s close b) = names-suc m ∙ rw
+                (took u e, f, took y g) in
                 v .is m (omega arith) ∙ sym (forget-last 0 (nameIn s i) (readNames m s close b)) ∙ ap (forgetNames 0) (sym same));
             on = λ h a z. let o₃ = v .on h a z in omega arith;
           }
 
-    pub names-end : eqb (kindAt s (d .at)) kComma ≡ false → {r : Taken} → NamesTaken s d 0 (λ _. listEnd s close d) r → NamesTaken s c 0 (λ m. readNames m s close c) r
+    pub names-end : eqb (kindAt s (d .at)) kComma ≡ false → {r : Taken} → NamesTaken s d 0 (λ _. listEnd s close d) r
+        → NamesTaken s c 0 (λ m. readNames m s close c) r
     names-end f {r} v =
         let o = u .on i d e in
         record {
@@ -109,6 +115,24 @@ module _ (s : List ℕ) (c : Cursor) (close : ℕ) {q : Taken} (u : Stepped s c 
               v .is (suc (unread s d)) (omega arith) ∙ forget-end 0 [] (nameIn s i ∷ []) (expect s close d) ∙ ap (forgetNames 0) (sym same));
           on = λ h a z. let o₂ = v .on h a z in omega arith;
         }
+
+-- ── the loop over the names: the list that is read from c on is the rest of the whole
+pub record NamesThrough (s : List ℕ) (close : ℕ) (c₀ c : Cursor) : Type 0 where
+  pub later : c₀ .at ≤ c .at
+  pub whole : (r : Taken) → NamesTaken s c 0 (λ m. readNames m s close c) r → NamesTaken s c₀ 0 (λ m. readNames m s close c₀) r
+
+pub names-start : {s : List ℕ} {close : ℕ} {c : Cursor} → NamesThrough s close c c
+names-start = record { later = omega arith; whole = λ r v. v }
+
+module _ {s : List ℕ} {close : ℕ} {c₀ c : Cursor} (h : NamesThrough s close c₀ c) {q : Taken} (u : Stepped s c 1 0 0 (expect s kName c) q) {i : ℕ}
+    {d : Cursor} (e : q ≡ At i d) (f : eqb (kindAt s (d .at)) kComma ≡ true) {x : Taken}
+    (y : Stepped s d 1 0 0 (expect s kComma d) x) where
+  pub names-on : {j : ℕ} {b : Cursor} → x ≡ At j b → NamesThrough s close c₀ b
+  names-on {j} {b} g =
+      let o = u .on i d e in
+      let o₂ = y .on j b g in
+      let l = h .later in
+      record { later = omega arith; whole = λ r v. h .whole r (names-more s c close u e f y g v) }
 
 -- ── names, or none
 module _ (s : List ℕ) (c : Cursor) (close : ℕ) {r : Taken} where
@@ -171,15 +195,22 @@ module _ (s w : List ℕ) (c : Cursor) (k : Tally) (room : Room s w c k) {q : Ta
     unfolding processBy
     call-name-no g h = meets-no s w c k (refused-out g h) same (λ m _. rw (took u e, took y g))
 
-    module _ {i : ℕ} {f : Cursor} (g : x ≡ At i f) {z : Taken} (a : NamesTaken s f (tokenAt s (f .at) .start) (λ m. nameList m s kRoundOpen kRoundClose f) z) where
+    module _ {i : ℕ} {f : Cursor} (g : x ≡ At i f) {z : Taken} (a : NamesTaken s f (tokenAt s (f .at) .start)
+        (λ m. nameList m s kRoundOpen kRoundClose f) z) where
       pub call-provided-no : {r : Out} {n j : ℕ} → z ≡ Refused n j → r ≡ asOut z → TermRead Call s w c k r w
       unfolding processBy
       call-provided-no h l =
           let o = u .on at d e in
           let o₂ = y .on i f g in
-          meets-no s w c k (refused-out h l) same (λ m lo. rw (took u e, took y g, names-refused _ (nameList m s kRoundOpen kRoundClose f) (a .is m (omega arith)) h))
+          meets-no s w c k (refused-out h l) same (λ m lo. rw (
+            took u e,
+            took y g,
+            names-refused _ (nameList m s kRoundOpen kRoundClose f)
+                (a .is m (omega arith)) h,
+          ))
 
-      module _ {bracket : ℕ} {b : Cursor} (h : z ≡ At bracket b) {z₂ : Taken} (a₂ : NamesTaken s b (tokenAt s (b .at) .start) (λ m. nameList m s kSquareOpen kSquareClose b) z₂) where
+      module _ {bracket : ℕ} {b : Cursor} (h : z ≡ At bracket b) {z₂ : Taken} (a₂ : NamesTaken s b (tokenAt s (b .at) .start)
+          (λ m. nameList m s kSquareOpen kSquareClose b) z₂) where
         pub call-used-no : {r : Out} {n j : ℕ} → z₂ ≡ Refused n j → r ≡ asOut z₂ → TermRead Call s w c k r w
         unfolding processBy
         call-used-no h₂ l =
@@ -190,16 +221,16 @@ module _ (s w : List ℕ) (c : Cursor) (k : Tally) (room : Room s w c k) {q : Ta
             (λ m lo. names-read _ (nameList m s kRoundOpen kRoundClose f) (a .is m (omega arith)) h λ xs p _.
             rw (took u e, took y g, p, names-refused _ (nameList m s kSquareOpen kSquareClose b) (a₂ .is m (omega arith)) h₂))
 
-        pub call-got : {j : ℕ} {b₂ : Cursor} {l : Tally} {v : List ℕ} → z₂ ≡ At j b₂ → Put w (putTerm w (k .terms) (termNode 10 at i bracket 0)) (moreTerms k) l v → TermRead Call s w c k (Got b₂ l) v
+        pub call-got : {j : ℕ} {b₂ : Cursor} {v : List ℕ} → z₂ ≡ At j b₂ → Laid w (putTerm w (k .terms) (termNode 10 at i bracket 0)) v
+            → TermRead Call s w c k (Got b₂ (moreTerms k)) v
         unfolding processBy afterProcess writeProcess FineProcess
         call-got {j} {b₂} h₂ pt =
             let o = u .on at d e in
             let o₂ = y .on i f g in
             let o₃ = a .on bracket b h in
             let o₄ = a₂ .on j b₂ h₂ in
-            rw (pt .is, pt .words)
-            (meets-got s w c k (omega arith) (put-kept pt)
+            meets-got s w c k (omega arith) (pt .kept)
             (λ m lo. names-read _ (nameList m s kRoundOpen kRoundClose f) (a .is m (omega arith)) h λ xs p opened.
             names-read _ (nameList m s kSquareOpen kSquareClose b) (a₂ .is m (omega arith)) h₂ λ ys p₂ _.
             made-got (call at (nameIn s i) (tokenAt s (f .at) .start) xs ys) (rw (took u e, took y g, p, p₂)) refl
-            (ap (λ x. putTerm w (k .terms) (termNode 10 at i x 0)) (sym opened)) (omega arith)))
+            (pt .words ∙ ap (λ x. putTerm w (k .terms) (termNode 10 at i x 0)) (sym opened)) (omega arith))

@@ -15,7 +15,7 @@ use Rattle.notation.specs.Reader.{Result, part, lastly, expect, limited, misfit
 use Rattle.notation.specs.Types.{readType}
 use Rattle.notation.specs.Processes.{readProcess}
 use Rattle.notation.specs.Scripts.{Count, keyword, entryList, declarationHead, typeDeclaration, procDeclaration, execDeclaration, scriptBy, readScript}
-use Rattle.notation.specs.Tables.{moreEntries, moreTypes, moreProcesses, moreExecs, putType, putProcess, processEntry, putExec, afterType, afterAlternatives, afterEntries, writeEntries, afterProcess, writeProcess, afterDeclaration, writeDeclaration, afterScript, writeScript}
+use Rattle.notation.specs.Tables.{moreNodes, moreEntries, moreTypes, moreProcesses, moreExecs, putType, putProcess, processEntry, pointerTo, putExec, afterType, afterAlternatives, afterEntries, writeEntries, afterProcess, writeProcess, afterDeclaration, writeDeclaration, afterScript, writeScript}
 use Rattle.notation.specs.declared.reading.Cursor.{Cursor}
 use Rattle.notation.specs.declared.reading.Tally.{Tally}
 use Rattle.notation.specs.declared.reading.Taken.{Taken}
@@ -25,10 +25,12 @@ use Rattle.notation.specs.declared.token.DeclarationHead.the-variants.{TypeWord
 use Rattle.read_types.specs.declared.steps.Out.{Out}
 use Rattle.read_types.specs.declared.steps.Out.the-variants.{Got, Not}
 use Rattle.read_types.specs.Filling.{TypeRead, Stepped, asOut, misfitOut, Put, Room}
-use Rattle.read_text.specs.Processes.{ProcessRead}
+use Rattle.read_text.specs.Turns.{peek, ProcessRead}
 use Rattle.read_text.specs.Scripts.{afterToken, declaredName, EntriesRead, declarationBy, countBy, DeclarationRead, countOf, Counted, scriptForm, ScriptRead}
 use Rattle.read_types.proofs.Taking.{never, stepped-no}
-use Rattle.read_types.proofs.Filled.{same, _upon_, put-kept, took, refused-out, made-got, gone-on, stopped, meets-no, meets-got, more-no, more-got}
+use Rattle.read_types.proofs.Filled.{same, _upon_, put-kept, took, refused-out, made-got, gone-on, stopped, meets-no, meets-got, more-no, more-got, more-made}
+use Rattle.read_text.proofs.Turning.{made-as, Through, through-on}
+use Rattle.read_text.proofs.Pointers.{pointer-at}
 
 -- ── a keyword and the name after it
 name-taken : {A : Type 0} (t : Taken) (f : Cursor → Taken) (g : ℕ → Cursor → Result A) → take t (λ _ d. take (f d) g) ≡ take (afterToken t f) g
@@ -40,7 +42,8 @@ module _ {s : List ℕ} {c : Cursor} {n : ℕ} (kind before limit : ℕ) {q : Ta
   unfolding declaredName
   name-no {m} {j} e = rw e (stepped-no m j (rw (took u e)))
 
-  pub name-at : 1 ≤ n → {i : ℕ} {d : Cursor} → q ≡ At i d → {r : Taken} → Stepped s d 1 0 0 (expect s kName d) r → Stepped s c 2 0 0 (declaredName s kind before limit c) r
+  pub name-at : 1 ≤ n → {i : ℕ} {d : Cursor} → q ≡ At i d → {r : Taken} → Stepped s d 1 0 0 (expect s kName d) r
+      → Stepped s c 2 0 0 (declaredName s kind before limit c) r
   unfolding declaredName
   name-at l {i} {d} e v = record {
     is = v .is ∙ rw (took u e);
@@ -51,7 +54,8 @@ module _ {s : List ℕ} {c : Cursor} {n : ℕ} (kind before limit : ℕ) {q : Ta
   }
 
 -- one that was taken is within its limit
-pub name-held : {s : List ℕ} {c : Cursor} {n i : ℕ} {d : Cursor} {q : Taken} (kind before limit : ℕ) → Stepped s c n 0 0 (declaredName s kind before limit c) q → q ≡ At i d → before < limit
+pub name-held : {s : List ℕ} {c : Cursor} {n i : ℕ} {d : Cursor} {q : Taken} (kind before limit : ℕ)
+    → Stepped s c n 0 0 (declaredName s kind before limit c) q → q ≡ At i d → before < limit
 unfolding declaredName
 name-held {s} {c} {i = i} {d} kind before limit u e = ltb-true before limit (go (expect s kind c) (ltb before limit) (took u e))
   where
@@ -67,11 +71,11 @@ mutual
   type-entries : (A : Ty Located) (k : Tally) → afterType A k .entries ≡ k .entries
   type-entries unit k = refl
   type-entries (named n) k = refl
-  type-entries (tensor A B) k = type-entries B (afterType A k) ∙ type-entries A k
-  type-entries (par A B) k = type-entries B (afterType A k) ∙ type-entries A k
-  type-entries (lolli A B) k = type-entries B (afterType A k) ∙ type-entries A k
-  type-entries (plus r) k = alternatives-entries r k
-  type-entries (with r) k = alternatives-entries r k
+  type-entries (tensor A B) k = type-entries B (moreNodes (afterType A k)) ∙ type-entries A k
+  type-entries (par A B) k = type-entries B (moreNodes (afterType A k)) ∙ type-entries A k
+  type-entries (lolli A B) k = type-entries B (moreNodes (afterType A k)) ∙ type-entries A k
+  type-entries (plus r) k = alternatives-entries r (moreNodes k)
+  type-entries (with r) k = alternatives-entries r (moreNodes k)
 
   alternatives-entries : (r : Alternatives Located) (k : Tally) → afterAlternatives r k .entries ≡ k .entries
   alternatives-entries Alternatives.none k = refl
@@ -93,7 +97,8 @@ entries-read es k l e =
     omega arith
 
 -- how many of each kind a tally has
-count-is : (l : Tally) (types processes execs : ℕ) → l .types ≡ types → l .processes ≡ processes → l .execs ≡ execs → countOf l ≡ record { types = types; processes = processes; execs = execs }
+count-is : (l : Tally) (types processes execs : ℕ) → l .types ≡ types → l .processes ≡ processes → l .execs ≡ execs
+    → countOf l ≡ record { types = types; processes = processes; execs = execs }
 count-is l types processes execs a b d = λ j. record { types = a j; processes = b j; execs = d j }
 
 -- ── type t = A
@@ -119,7 +124,8 @@ module _ (s w : List ℕ) (c : Cursor) (k : Tally) (room : Room s w c k) {q : Ta
           let o₃ = a .on j b h in
           meets-no s w c k l (t .kept) (λ m lo. type-is m ∙ rw (took u e, took a h, stopped (readType m s b) (t .is m (omega arith)) l))
 
-      pub type-got : {b₂ : Cursor} {l l₂ : Tally} {v₂ : List ℕ} → p ≡ Got b₂ l → Put v (putType v (l .types) i (l .last)) (moreTypes l) l₂ v₂ → Types (Got b₂ l₂) v₂
+      pub type-got : {b₂ : Cursor} {l l₂ : Tally} {v₂ : List ℕ} → p ≡ Got b₂ l → Put v (putType v (l .types) i (l .last)) (moreTypes l) l₂ v₂
+          → Types (Got b₂ l₂) v₂
       unfolding afterDeclaration writeDeclaration FineDeclaration
       type-got {b₂} {l} n pt =
           let o₂ = u .on i f e in
@@ -127,7 +133,11 @@ module _ (s w : List ℕ) (c : Cursor) (k : Tally) (room : Room s w c k) {q : Ta
           let o₄ = t .on b₂ l n in
           let few = name-held kType (k .types) typeLimit u e in
           rw (pt .is, pt .words)
-          (meets-got s w c k (omega arith, count-is (moreTypes l) (k .types + 1) (k .processes) (k .execs) (omega arith) (omega arith) (omega arith), λ n. omega arith) (put-kept pt upon t .kept)
+          (meets-got s w c k (
+            omega arith,
+            count-is (moreTypes l) (k .types + 1) (k .processes) (k .execs) (omega arith) (omega arith) (omega arith),
+            λ n. omega arith,
+          ) (put-kept pt upon t .kept)
           (λ m lo. gone-on (readType m s b) (t .is m (omega arith)) n λ A x₂ al av fi.
           let number : l .types ≡ k .types = o₄ .0 .6 .4 .0 in
           made-got (declareType (nameIn s i) A) (type-is m ∙ rw (took u e, took a h, x₂)) (λ j. Got b₂ (moreTypes (al j)))
@@ -155,7 +165,8 @@ module _ (s w : List ℕ) (c : Cursor) (k : Tally) (room : Room s w c k) {q : Ta
       (λ m lo. made-got (declareExec (nameIn s i)) (exec-is m ∙ rw (took u e)) refl refl (omega arith)))
 
 -- ── proc p (x : A, ..) [y : B, ..] = P
-module _ (s w : List ℕ) (c : Cursor) (k : Tally) (room : Room s w c k) {q : Taken} (u : Stepped s c 2 0 0 (declaredName s kProc (k .processes) processLimit c) q) where
+module _ (s w : List ℕ) (c : Cursor) (k : Tally) (room : Room s w c k) {q : Taken} (u : Stepped s c 2 0 0
+    (declaredName s kProc (k .processes) processLimit c) q) where
   abbrev Procs : Out → List ℕ → Type 0
   Procs = DeclarationRead ProcWord s w c k
 
@@ -173,7 +184,8 @@ module _ (s w : List ℕ) (c : Cursor) (k : Tally) (room : Room s w c k) {q : Ta
         let o₂ = u .on i f e in
         meets-no s w c k h (t .kept) (λ m lo. proc-is m ∙ rw (took u e, stopped (entryList m s kRoundOpen kRoundClose f) (t .is m (omega arith)) h))
 
-    module _ {b : Cursor} {l : Tally} (h : p ≡ Got b l) {p₂ : Out} {v₂ : List ℕ} (t₂ : EntriesRead (λ m. entryList m s kSquareOpen kSquareClose b) s v b l p₂ v₂) where
+    module _ {b : Cursor} {l : Tally} (h : p ≡ Got b l) {p₂ : Out} {v₂ : List ℕ} (t₂ : EntriesRead
+        (λ m. entryList m s kSquareOpen kSquareClose b) s v b l p₂ v₂) where
       pub proc-uses-no : {n j : ℕ} → p₂ ≡ Not n j → Procs p₂ v₂
       proc-uses-no h₂ =
           let o₂ = u .on i f e in
@@ -204,10 +216,10 @@ module _ (s w : List ℕ) (c : Cursor) (k : Tally) (room : Room s w c k) {q : Ta
               gone-on (entryList m s kSquareOpen kSquareClose b) (t₂ .is m (omega arith)) h₂ λ ys x₂ _ _ _.
               proc-is m ∙ rw (took u e, x₁, x₂, took a n, stopped (readProcess m s b₃) (t₃ .is m (omega arith)) r))
 
-          pub proc-got : {b₄ : Cursor} {l₃ l₄ : Tally} {v₄ : List ℕ} → p₃ ≡ Got b₄ l₃
-              → Put v₃ (putProcess v₃ (l₃ .processes) (processEntry i (k .entries) (l .entries - k .entries) (l₂ .entries - l .entries) (l₃ .last))) (moreProcesses l₃) l₄ v₄ → Procs (Got b₄ l₄) v₄
+          pub proc-got : {body : ℕ} → body ≡ peek s (b₃ .at) (l₂ .terms) → {b₄ : Cursor} {l₃ l₄ : Tally} {v₄ : List ℕ} → p₃ ≡ Got b₄ l₃
+              → Put v₃ (putProcess v₃ (l₃ .processes) (processEntry i (k .entries) (l .entries - k .entries) (l₂ .entries - l .entries) body)) (moreProcesses l₃) l₄ v₄ → Procs (Got b₄ l₄) v₄
           unfolding afterDeclaration writeDeclaration FineDeclaration
-          proc-got {b₄} {l₃} r pt =
+          proc-got {body} at {b₄} {l₃} r pt =
               let o₂ = u .on i f e in
               let o₃ = t .on b l h in
               let o₄ = t₂ .on b₂ l₂ h₂ in
@@ -215,7 +227,12 @@ module _ (s w : List ℕ) (c : Cursor) (k : Tally) (room : Room s w c k) {q : Ta
               let o₆ = t₃ .on b₄ l₃ r in
               let few = name-held kProc (k .processes) processLimit u e in
               rw (pt .is, pt .words)
-              (meets-got s w c k (omega arith, count-is (moreProcesses l₃) (k .types) (k .processes + 1) (k .execs) (omega arith) (omega arith) (omega arith), λ n. omega arith)
+              (meets-got s w c k (
+                omega arith,
+                count-is (moreProcesses l₃) (k .types) (k .processes + 1) (k .execs) (omega arith) (omega arith)
+                    (omega arith),
+                λ n. omega arith,
+              )
               (put-kept pt upon t₃ .kept upon t₂ .kept upon t .kept)
               (λ m lo. gone-on (entryList m s kRoundOpen kRoundClose f) (t .is m (omega arith)) h λ xs x₁ al av fi.
               gone-on (entryList m s kSquareOpen kSquareClose b) (t₂ .is m (omega arith)) h₂ λ ys x₂ bl bv fi₂.
@@ -223,15 +240,19 @@ module _ (s w : List ℕ) (c : Cursor) (k : Tally) (room : Room s w c k) {q : Ta
               let tally : l₂ ≡ afterEntries ys (afterEntries xs k) = bl ∙ ap (afterEntries ys) al in
               let words : v₂ ≡ writeEntries ys (afterEntries xs k) (writeEntries xs k w) = bv ∙ (λ j. writeEntries ys (al j) (av j)) in
               let last : l₃ ≡ afterProcess P (afterEntries ys (afterEntries xs k)) = cl ∙ ap (afterProcess P) tally in
-              let all : v₃ ≡ writeProcess P (afterEntries ys (afterEntries xs k)) (writeEntries ys (afterEntries xs k) (writeEntries xs k w)) = cv ∙ (λ j. writeProcess P (tally j) (words j)) in
+              let all : v₃ ≡ writeProcess P (afterEntries ys (afterEntries xs k)) (writeEntries ys (afterEntries xs k) (writeEntries xs k w)) = cv ∙
+              (λ j. writeProcess P (tally j) (words j)) in
               let number : l₃ .processes ≡ k .processes = omega arith in
               let first : l .entries - k .entries ≡ length xs = entries-read xs k l al in
               let second : l₂ .entries - l .entries ≡ length ys = entries-read ys l l₂ bl in
+              let to : body ≡ pointerTo P (afterEntries ys (afterEntries xs k) .terms) = at ∙ sym (pointer-at m s b₃ b₄ P (l₂ .terms) x₃) ∙ ap
+              (λ (x : Tally). pointerTo P (x .terms)) tally in
               made-got (declareProc (nameIn s i) xs ys P) (proc-is m ∙ rw (took u e, x₁, x₂, took a n, x₃)) (λ j. Got b₄ (moreProcesses (last j)))
-              (λ j. putProcess (all j) (number j) (processEntry i (k .entries) (first j) (second j) (last j .last))) (omega arith, fi, fi₂, fi₃)))
+              (λ j. putProcess (all j) (number j) (processEntry i (k .entries) (first j) (second j) (to j))) (omega arith, fi, fi₂, fi₃)))
 
 -- ── a declaration that no token begins
-pub declare-no : (h : DeclarationHead) (s w : List ℕ) (c : Cursor) (k : Tally) {r : Out} → ((m : ℕ) → declarationBy h m s (countOf k) c ≡ misfit s c) → r ≡ misfitOut s c → DeclarationRead h s w c k r
+pub declare-no : (h : DeclarationHead) (s w : List ℕ) (c : Cursor) (k : Tally) {r : Out} → ((m : ℕ) → declarationBy h m s (countOf k) c ≡ misfit s c)
+    → r ≡ misfitOut s c → DeclarationRead h s w c k r
     w
 unfolding misfit
 declare-no h s w c k e g = meets-no s w c k g same (λ m _. e m)
@@ -269,26 +290,25 @@ module _ (s w : List ℕ) (c : Cursor) (k : Tally) (room : Room s w c k) (counte
 
     pub script-no : {n i : ℕ} → p ≡ Not n i → ScriptRead s w c k p v
     script-no g =
-        more-no scriptForm s w c k (λ m. readScript m s (countOf k) c) g (t .kept) (λ m lo. script-is m ∙ rw (stopped (declarationBy h m s (countOf k) c) (t .is m (omega arith)) g))
+        more-no scriptForm s w c k (λ m. readScript m s (countOf k) c) g (t .kept) (λ m lo. script-is m ∙ rw
+        (stopped (declarationBy h m s (countOf k) c) (t .is m (omega arith)) g))
 
-    pub script-more : {d : Cursor} {l : Tally} → p ≡ Got d l → {x : Out} {v₂ : List ℕ} → ScriptRead s v d l x v₂ → ScriptRead s w c k x v₂
+    script-more : {d : Cursor} {l : Tally} → p ≡ Got d l → (x : Out) (v₂ : List ℕ) → ScriptRead s v d l x v₂ → ScriptRead s w c k x v₂
     unfolding afterScript writeScript
-    script-more {d} {l} g {x} {v₂} y = go x refl
-      where
-        after : (m : ℕ) → readScript m s (countBy h (countOf k)) d ≡ readScript m s (countOf l) d
-        after m = sym (ap (λ j. readScript m s j d) (t .on d l g .1))
+    script-more {d} {l} g x v₂ y =
+        let o = t .on d l g .0 in
+        record {
+          is = more-made scriptForm w k (λ m. readScript m s (countOf k) c)
+              (λ m lo. gone-on (declarationBy h m s (countOf k) c) (t .is m (omega arith)) g λ a x₁ al av _.
+              made-as y (_∷_ a) w k m (omega arith) (script-is m ∙ rw (x₁, sym (ap (λ j. readScript m s j d) (t .on d l g .1))))
+              (λ ds _ _ _ _. (ap (afterScript ds) al, (λ j. writeScript ds (al j) (av j)), omega arith)));
+          kept = y .kept upon t .kept;
+          on = λ b l₂ z. let o₂ = y .on b l₂ z in omega arith;
+        }
 
-        go : (x′ : Out) → x ≡ x′ → ScriptRead s w c k x v₂
-        go (Not n i) z =
-            let o = t .on d l g .0 in
-            more-no scriptForm s w c k (λ m. readScript m s (countOf k) c) z (y .kept upon t .kept)
-            (λ m lo. gone-on (declarationBy h m s (countOf k) c) (t .is m (omega arith)) g λ a x₁ _ _ _.
-            script-is m ∙ rw (x₁, after m, stopped (readScript m s (countOf l) d) (y .is m (omega arith)) z))
-        go (Got b l₂) z =
-            let o = t .on d l g .0 in
-            let o₂ = y .on b l₂ z in
-            rw z
-            (more-got scriptForm s w c k (λ m. readScript m s (countOf k) c) (omega arith) (y .kept upon t .kept)
-            (λ m lo. gone-on (declarationBy h m s (countOf k) c) (t .is m (omega arith)) g λ a x₁ al av _.
-            gone-on (readScript m s (countOf l) d) (y .is m (omega arith)) z λ ds x₂ bl bv _.
-            made-got (a ∷ ds) (script-is m ∙ rw (x₁, after m, x₂)) (ap (Got b) (bl ∙ ap (afterScript ds) al)) (bv ∙ (λ j. writeScript ds (al j) (av j))) (omega arith)))
+    -- the loop over declarations
+    pub script-on : {w₀ : List ℕ} {c₀ : Cursor} {k₀ : Tally} → Through (ScriptRead s) s w₀ c₀ k₀ w c k → {d : Cursor} {l : Tally} → p ≡ Got d l
+        → Through (ScriptRead s) s w₀ c₀ k₀ v d l × Counted l
+    script-on y {d} {l} g =
+        let o = t .on d l g in
+        (through-on y (omega (arith, t .kept .long)) (omega arith) (t .kept) (script-more g), o .2 counted)

@@ -21,7 +21,8 @@ use Rattle.read_types.specs.declared.steps.Out.the-variants.{Got, Not}
 use Rattle.read_types.specs.Filling.{SameDeclared, TypeRead, Stepped, asOut, Put, Room}
 use Rattle.read_text.specs.Scripts.{entryName, entriesForm, closeBy, moreEntriesBy, entriesOrNone, EntriesRead}
 use Rattle.read_types.proofs.TypePaths.{then-take}
-use Rattle.read_types.proofs.Filled.{same, _upon_, took, refused-out, made-got, gone-on, stopped, meets-no, meets-got, more-no, more-got}
+use Rattle.read_types.proofs.Filled.{same, _upon_, took, refused-out, made-got, gone-on, stopped, meets-no, meets-got, more-no, more-made}
+use Rattle.read_text.proofs.Turning.{made-as, Through, through-on}
 
 abbrev entry : List ℕ → ℕ → Ty Located → Entry
 entry s i A = record { channel = nameIn s i; type = A }
@@ -50,10 +51,16 @@ entries-suc m s close c =
     ∙ sym (then-take (expect s kName c) (expect s kColon) _)
 
 -- an entry more changes nothing else
-entry-added : (k l : Tally) → l ≡ moreEntries k
+pub entry-added : (k l : Tally) → l ≡ moreEntries k
     → (l .entries ≡ k .entries + 1) × (l .nodes ≡ k .nodes) × (l .alternatives ≡ k .alternatives) × (l .terms ≡ k .terms) × (l .branches ≡ k .branches) × SameDeclared k l
-entry-added k l e =
-    (ap (λ x. x .entries) e, ap (λ x. x .nodes) e, ap (λ x. x .alternatives) e, ap (λ x. x .terms) e, ap (λ x. x .branches) e, (ap (λ x. x .types) e, ap (λ x. x .processes) e, ap (λ x. x .execs) e))
+entry-added k l e = (
+  ap (λ x. x .entries) e,
+  ap (λ x. x .nodes) e,
+  ap (λ x. x .alternatives) e,
+  ap (λ x. x .terms) e,
+  ap (λ x. x .branches) e,
+  (ap (λ x. x .types) e, ap (λ x. x .processes) e, ap (λ x. x .execs) e),
+)
 
 -- ── the bracket that closes
 module _ (s w : List ℕ) (c : Cursor) (k : Tally) (room : Room s w c k) (close n : ℕ) {q : Taken} (u : Stepped s c n 0 0 (expect s close c) q) where
@@ -66,70 +73,75 @@ module _ (s w : List ℕ) (c : Cursor) (k : Tally) (room : Room s w c k) (close 
       let o = u .on i d e in
       meets-got s w c k (omega arith) same (λ m _. made-got [] (rw (took u e)) refl refl (omega arith))
 
--- ── after an entry, and a list that may be empty
+-- ── a list that may be empty
 module _ (s w : List ℕ) (c : Cursor) (k : Tally) (room : Room s w c k) (close : ℕ) where
-  pub more-close : eqb (kindAt s (c .at)) kComma ≡ false → {r : Out} {v : List ℕ} → EntriesRead (λ _. closeBy s close c) s w c k r v → EntriesRead (λ m. moreEntriesBy m s close c) s w c k r v
-  more-close f t = record { is = λ m lo. rw f (t .is m lo); kept = t .kept; on = t .on }
-
-  module _ (f : eqb (kindAt s (c .at)) kComma ≡ true) {q : Taken} (u : Stepped s c 1 0 0 (expect s kComma c) q) where
-    pub more-comma-no : {r : Out} {n i : ℕ} → q ≡ Refused n i → r ≡ asOut q → EntriesRead (λ m. moreEntriesBy m s close c) s w c k r w
-    more-comma-no g h = meets-no s w c k (refused-out g h) same (λ m _. rw (f, took u g))
-
-    pub more-list : {i : ℕ} {d : Cursor} → q ≡ At i d → {r : Out} {v : List ℕ} → EntriesRead (λ m. readEntries m s close d) s w d k r v → EntriesRead (λ m. moreEntriesBy m s close c) s w c k r v
-    more-list {i} {d} e t =
-        let o = u .on i d e in
-        record { is = λ m lo. rw (f, took u e) (t .is m (omega arith)); kept = t .kept; on = λ b l x. let o₂ = t .on b l x in omega arith }
-
-  pub some-entries : eqb (kindAt s (c .at)) kName ≡ true → {r : Out} {v : List ℕ} → EntriesRead (λ m. readEntries m s close c) s w c k r v → EntriesRead (λ m. entriesOrNone m s close c) s w c k r v
+  pub some-entries : eqb (kindAt s (c .at)) kName ≡ true → {r : Out} {v : List ℕ} → EntriesRead (λ m. readEntries m s close c) s w c k r v
+      → EntriesRead (λ m. entriesOrNone m s close c) s w c k r v
   some-entries f t = record { is = λ m lo. rw f (t .is m lo); kept = t .kept; on = t .on }
 
-  pub no-entries : eqb (kindAt s (c .at)) kName ≡ false → {r : Out} {v : List ℕ} → EntriesRead (λ _. closeBy s close c) s w c k r v → EntriesRead (λ m. entriesOrNone m s close c) s w c k r v
+  pub no-entries : eqb (kindAt s (c .at)) kName ≡ false → {r : Out} {v : List ℕ} → EntriesRead (λ _. closeBy s close c) s w c k r v
+      → EntriesRead (λ m. entriesOrNone m s close c) s w c k r v
   no-entries f t = record { is = λ m lo. rw f (t .is m lo); kept = t .kept; on = t .on }
 
 -- ── entries
+abbrev pub Entries : List ℕ → ℕ → List ℕ → Cursor → Tally → Out → List ℕ → Type 0
+Entries s close w c k = EntriesRead (λ m. readEntries m s close c) s w c k
+
 module _ (s w : List ℕ) (c : Cursor) (k : Tally) (room : Room s w c k) (close : ℕ) {q : Taken} (u : Stepped s c 2 0 0 (entryName s c) q) where
-  pub entries-no : {r : Out} {n i : ℕ} → q ≡ Refused n i → r ≡ asOut q → EntriesRead (λ m. readEntries m s close c) s w c k r w
+  pub entries-no : {r : Out} {n i : ℕ} → q ≡ Refused n i → r ≡ asOut q → Entries s close w c k r w
   entries-no g h = more-no entriesForm s w c k (λ m. readEntries m s close c) (refused-out g h) same (λ m _. entries-suc m s close c ∙ rw (took u g))
 
   module _ {i : ℕ} {d : Cursor} (e : q ≡ At i d) {p : Out} {v : List ℕ} (t : TypeRead s w d k p v) where
-    pub entries-type-no : {n j : ℕ} → p ≡ Not n j → EntriesRead (λ m. readEntries m s close c) s w c k p v
+    pub entries-type-no : {n j : ℕ} → p ≡ Not n j → Entries s close w c k p v
     entries-type-no g =
         let o = u .on i d e in
         more-no entriesForm s w c k (λ m. readEntries m s close c) g (t .kept)
         (λ m lo. entries-suc m s close c ∙ rw (took u e, stopped (readType m s d) (t .is m (omega arith)) g))
 
-    module _ {f : Cursor} {l : Tally} (g : p ≡ Got f l) {l₂ : Tally} {v₂ : List ℕ} (pt : Put v (putEntry v (l .entries) i (l .last)) (moreEntries l) l₂ v₂) where
-      pub entries-more : {x : Out} {v₃ : List ℕ} → EntriesRead (λ m. moreEntriesBy m s close f) s v₂ f l₂ x v₃ → EntriesRead (λ m. readEntries m s close c) s w c k x v₃
+    module _ {f : Cursor} {l : Tally} (g : p ≡ Got f l) {l₂ : Tally} {v₂ : List ℕ} (pt : Put v (putEntry v (l .entries) i (l .last))
+        (moreEntries l) l₂ v₂) where
+      entries-more : {x : Out} {v₃ : List ℕ} → EntriesRead (λ m. moreEntriesBy m s close f) s v₂ f l₂ x v₃ → Entries s close w c k x v₃
       unfolding afterEntries writeEntries FineEntries
-      entries-more {x} {v₃} y = go x refl
-        where
-          go : (x′ : Out) → x ≡ x′ → EntriesRead (λ m. readEntries m s close c) s w c k x v₃
-          go (Not n j) z =
-              let o = u .on i d e in
-              let o₂ = t .on f l g in
-              more-no entriesForm s w c k (λ m. readEntries m s close c) z (y .kept upon pt .kept upon t .kept)
-              (λ m lo. gone-on (readType m s d) (t .is m (omega arith)) g λ A a _ _ _.
-              let ended : moreEntriesBy m s close f ≡ refused n j = stopped (moreEntriesBy m s close f) (y .is m (omega arith)) z in
-              entries-suc m s close c ∙ rw (took u e, a) (ap (lastly (_∷_ (entry s i A))) ended))
-          go (Got b l₃) z =
-              let o = u .on i d e in
-              let o₂ = t .on f l g in
-              let o₃ = y .on b l₃ z in
-              let added = entry-added l l₂ (pt .is) in
-              rw z
-              (more-got entriesForm s w c k (λ m. readEntries m s close c) (omega arith) (y .kept upon pt .kept upon t .kept)
-              (λ m lo. gone-on (readType m s d) (t .is m (omega arith)) g λ A a al av fi.
-              gone-on (moreEntriesBy m s close f) (y .is m (omega arith)) z λ es a₂ bl bv fi₂.
-              let number : l .entries ≡ k .entries = o₂ .0 .6 .1 in
-              let tally : l₂ ≡ moreEntries (afterType A k) = pt .is ∙ ap moreEntries al in
-              let words : v₂ ≡ putEntry (writeType A k w) (k .entries) i (afterType A k .last) = pt .words ∙ (λ j. putEntry (av j) (number j) i (al j .last)) in
-              made-got (entry s i A ∷ es) (entries-suc m s close c ∙ rw (took u e, a) (ap (lastly (_∷_ (entry s i A))) a₂))
-              (ap (Got b) (bl ∙ (λ j. afterEntries es (tally j))))
-              (bv ∙ (λ j. writeEntries es (tally j) (words j)))
-              (omega arith, fi, fi₂)))
+      entries-more y =
+          let o = u .on i d e in
+          let o₂ = t .on f l g in
+          let added = entry-added l l₂ (pt .is) in
+          record {
+            is = more-made entriesForm w k (λ m. readEntries m s close c)
+                (λ m lo. gone-on (readType m s d) (t .is m (omega arith)) g λ A a al av fi.
+                made-as y (_∷_ (entry s i A)) w k m (omega arith) (entries-suc m s close c ∙ rw (took u e, a))
+                (λ es _ _ fi₂ _.
+                let number : l .entries ≡ k .entries = o₂ .0 .6 .1 in
+                let tally : l₂ ≡ moreEntries (afterType A k) = pt .is ∙ ap moreEntries al in
+                let words : v₂ ≡ putEntry (writeType A k w) (k .entries) i (afterType A k .last) = pt .words ∙
+                (λ j. putEntry (av j) (number j) i (al j .last)) in
+                (ap (afterEntries es) tally, (λ j. writeEntries es (tally j) (words j)), (omega arith, fi, fi₂))));
+            kept = y .kept upon pt .kept upon t .kept;
+            on = λ b l₃ z. let o₃ = y .on b l₃ z in omega arith;
+          }
+
+      module _ (comma : eqb (kindAt s (f .at)) kComma ≡ true) {x : Taken} (y : Stepped s f 1 0 0 (expect s kComma f) x) where
+        pub entries-comma-no : {r : Out} {n j : ℕ} → x ≡ Refused n j → r ≡ asOut x → Entries s close w c k r v₂
+        entries-comma-no h z = entries-more (meets-no s v₂ f l₂ (refused-out h z) same (λ m _. rw (comma, took y h)))
+
+        pub entries-on : {w₀ : List ℕ} {c₀ : Cursor} {k₀ : Tally} → Through (Entries s close) s w₀ c₀ k₀ w c k → {j : ℕ} {b : Cursor} → x ≡ At j b
+            → Through (Entries s close) s w₀ c₀ k₀ v₂ b l₂
+        entries-on h {j} {b} z =
+            let o = u .on i d e in
+            let o₂ = t .on f l g in
+            let o₃ = y .on j b z in
+            let added = entry-added l l₂ (pt .is) in
+            through-on h (omega (arith, pt .kept .long, t .kept .long)) (omega arith) (pt .kept upon t .kept)
+            (λ r a x. entries-more
+            (record { is = λ m lo. rw (comma, took y z) (x .is m (omega arith)); kept = x .kept; on = λ b l q. let o₄ = x .on b l q in omega arith }))
+
+      pub entries-end : eqb (kindAt s (f .at)) kComma ≡ false → {x : Out} {v₃ : List ℕ} → EntriesRead (λ _. closeBy s close f) s v₂ f l₂ x v₃
+          → Entries s close w c k x v₃
+      entries-end comma y = entries-more (record { is = λ m lo. rw comma (y .is m lo); kept = y .kept; on = y .on })
 
 -- ── a list in its brackets
-module _ (s w : List ℕ) (c : Cursor) (k : Tally) (room : Room s w c k) (opens closes n : ℕ) (wide : 1 ≤ n) {q : Taken} (u : Stepped s c n 0 0 (opening s opens c) q) where
+module _ (s w : List ℕ) (c : Cursor) (k : Tally) (room : Room s w c k) (opens closes n : ℕ) (wide : 1 ≤ n) {q : Taken}
+    (u : Stepped s c n 0 0 (opening s opens c) q) where
   list-is : (m : ℕ) → entryList m s opens closes c ≡ take (opening s opens c) (λ _ d. part (entriesOrNone m s closes d) λ entries e. got entries (closed c e))
   unfolding entryList
   list-is m = refl

@@ -23,7 +23,8 @@ use Rattle.read_text.specs.Reading.{Filled, TextRead}
 use Rattle.read_types.proofs.Filled.{gone-on, stopped}
 
 pub all-zero : (p : List ℕ) → length p ≡ scratchWords → ((j : ℕ) → j < scratchWords → getD p j 0 ≡ 0) → p ≡ zeros
-all-zero p l h = ext-getD 0 p (replicate scratchWords 0) (l ∙ sym (length-replicate {A = ℕ} scratchWords 0)) (λ i m. h i (omega arith) ∙ sym (getD-replicate {A = ℕ} scratchWords i 0 0 (omega arith)))
+all-zero p l h = ext-getD 0 p (replicate scratchWords 0) (l ∙ sym (length-replicate {A = ℕ} scratchWords 0))
+    (λ i m. h i (omega arith) ∙ sym (getD-replicate {A = ℕ} scratchWords i 0 0 (omega arith)))
 
 pub zeros-long : (v : List ℕ) → v ≡ zeros → length v ≡ scratchWords
 zeros-long v e = ap length e ∙ length-replicate {A = ℕ} scratchWords 0

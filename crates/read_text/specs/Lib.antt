@@ -1,3 +1,5 @@
+pub mod Turns
+pub mod Names
 pub mod Processes
 pub mod Scripts
 pub mod Reading

@@ -1,4 +1,9 @@
-pub mod processes;
+mod names;
+mod payloads;
+mod processes;
 pub mod reading;
-pub mod scripts;
-pub mod signatures;
+mod scripts;
+mod signatures;
+mod store;
+mod terms;
+pub mod turns;

@@ -1,6 +1,10 @@
 // The reading of declarations and of the script.
 use crate::processes::read_process;
 use crate::signatures::entry_list;
+use crate::store::put_exec;
+use crate::store::put_process;
+use crate::store::put_type;
+use crate::turns::pointer;
 use notation::reading::Cursor;
 use notation::reading::ProcessEntry;
 use notation::reading::Taken;
@@ -13,9 +17,6 @@ use read_types::steps::expect;
 use read_types::steps::kind_at;
 use read_types::steps::misfit;
 use read_types::steps::refusal;
-use read_types::store::put_exec;
-use read_types::store::put_process;
-use read_types::store::put_type;
 use read_types::types::read_type;
 ghost use mathlib.Core.Path.{_≡_};
 ghost use Prim.Native.Nat.{_<_, _≤_};
@@ -94,16 +95,17 @@ fn declare_proc(text: &[u8], scratch: &mut [u32], c: Cursor, k: Tally) -> Out
     let Taken::At(_, h) = equals else {
         return refusal(equals);
     };
-    let body = read_process(text, scratch, h, m);
-    let Out::Got(z, n) = body else {
-        return body;
+    let body = pointer(text, h.at, m.terms);
+    let inner = read_process(text, scratch, h, m);
+    let Out::Got(z, n) = inner else {
+        return inner;
     };
     let p = ProcessEntry {
         at: i,
         first: k.entries,
         provided: l.entries - k.entries,
         used: m.entries - l.entries,
-        body: n.last,
+        body,
     };
     let q = put_process(scratch, n, p);
     Out::Got(z, q)
@@ -160,14 +162,19 @@ pub(crate) fn read_script(text: &[u8], scratch: &mut [u32], c: Cursor, k: Tally)
     requires { ⌜ Room (now text) (now scratch) c k × Counted k ⌝ }
     ensures { λ r. ⌜ ScriptRead (now (text .entry)) (now (scratch .entry)) c k r (now (scratch .exit)) ⌝ }
 {
-    let at = c.at;
-    let kind = kind_at(text, at);
-    if kind == Token::END {
-        return Out::Got(c, k);
+    let mut d = c;
+    let mut l = k;
+    loop {
+        let at = d.at;
+        let kind = kind_at(text, at);
+        if kind == Token::END {
+            return Out::Got(d, l);
+        }
+        let one = declare(text, scratch, d, l, declaration_head(kind));
+        let Out::Got(e, m) = one else {
+            return one;
+        };
+        d = e;
+        l = m;
     }
-    let one = declare(text, scratch, c, k, declaration_head(kind));
-    let Out::Got(d, l) = one else {
-        return one;
-    };
-    read_script(text, scratch, d, l)
 }

@@ -1,4 +1,5 @@
 // The reading of signatures: lists of channels with their types.
+use crate::store::put_entry;
 use notation::reading::Cursor;
 use notation::reading::Taken;
 use notation::reading::Tally;
@@ -9,12 +10,11 @@ use read_types::steps::kind_at;
 use read_types::steps::opening;
 use read_types::steps::refusal;
 use read_types::steps::then_expect;
-use read_types::store::put_entry;
 use read_types::types::read_type;
 ghost use Prim.Native.Nat.{_≤_};
 ghost use Rattle.notation.specs.Scripts.{readEntries, entryList};
 ghost use Rattle.read_types.specs.Filling.{Stepped, Room};
-ghost use Rattle.read_text.specs.Scripts.{entryName, closeBy, moreEntriesBy, entriesOrNone, EntriesRead};
+ghost use Rattle.read_text.specs.Scripts.{entryName, closeBy, entriesOrNone, EntriesRead};
 
 // The name of an entry, and its colon.
 fn entry_name(text: &[u8], c: Cursor) -> Taken
@@ -40,32 +40,30 @@ fn read_entries(text: &[u8], scratch: &mut [u32], c: Cursor, k: Tally, close: us
     requires { ⌜ Room (now text) (now scratch) c k × (close ≤ 31) ⌝ }
     ensures { λ r. ⌜ EntriesRead (λ m. readEntries m (now (text .entry)) close c) (now (text .entry)) (now (scratch .entry)) c k r (now (scratch .exit)) ⌝ }
 {
-    let named = entry_name(text, c);
-    let Taken::At(i, d) = named else {
-        return refusal(named);
-    };
-    let typed = read_type(text, scratch, d, k);
-    let Out::Got(e, l) = typed else {
-        return typed;
-    };
-    let m = put_entry(scratch, l, i, l.last);
-    more_entries(text, scratch, e, m, close)
-}
-
-// After an entry: a comma and more, or the bracket.
-fn more_entries(text: &[u8], scratch: &mut [u32], c: Cursor, k: Tally, close: usize) -> Out
-    requires { ⌜ Room (now text) (now scratch) c k × (close ≤ 31) ⌝ }
-    ensures { λ r. ⌜ EntriesRead (λ m. moreEntriesBy m (now (text .entry)) close c) (now (text .entry)) (now (scratch .entry)) c k r (now (scratch .exit)) ⌝ }
-{
-    let at = c.at;
-    if kind_at(text, at) == Token::COMMA {
-        let comma = expect(text, c, Token::COMMA);
-        let Taken::At(_, d) = comma else {
-            return refusal(comma);
+    let mut b = c;
+    let mut j = k;
+    loop {
+        let named = entry_name(text, b);
+        let Taken::At(i, d) = named else {
+            return refusal(named);
         };
-        return read_entries(text, scratch, d, k, close);
+        let typed = read_type(text, scratch, d, j);
+        let Out::Got(e, l) = typed else {
+            return typed;
+        };
+        let m = put_entry(scratch, l, i, l.last);
+        let next = e.at;
+        if kind_at(text, next) == Token::COMMA {
+            let comma = expect(text, e, Token::COMMA);
+            let Taken::At(_, f) = comma else {
+                return refusal(comma);
+            };
+            b = f;
+            j = m;
+        } else {
+            return close_list(text, scratch, e, m, close);
+        }
     }
-    close_list(text, scratch, c, k, close)
 }
 
 // What stands in a list's brackets, and the one that closes it.

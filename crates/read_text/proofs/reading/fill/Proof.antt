@@ -47,7 +47,8 @@ returns-2 : tie.Need-returns-2
 returns-2 c =
     let after-out = c .before .before .before .before .before in
     let after-if1 = after-out .before .before .before .before .before .before in
-    fill-got _ _ _ (after-if1 .if1 .left) (after-out .before .before .before .before .read-script .ensures) (after-if1 .before .before .before .zero .ensures) (after-out .out .given .1)
+    fill-got _ _ _ (after-if1 .if1 .left) (after-out .before .before .before .before .read-script .ensures)
+    (after-if1 .before .before .before .zero .ensures) (after-out .out .given .1)
     (c .before .before .write-counts .ensures)
 
 same-length-3 : tie.Need-same-length-3
@@ -56,7 +57,8 @@ same-length-3 c = search needs
 returns-3 : tie.Need-returns-3
 returns-3 c =
     let after-out2 = c .before .before .before .before .before in
-    fill-no _ _ _ (after-out2 .before .before .before .before .before .before .if1 .left) (after-out2 .before .before .before .before .read-script .ensures) (after-out2 .out2 .given .1)
+    fill-no _ _ _ (after-out2 .before .before .before .before .before .before .if1 .left) (after-out2 .before .before .before .before .read-script .ensures)
+    (after-out2 .out2 .given .1)
     (c .before .before .zero2 .ensures)
 
 pub fill-spec : {M : Type 1} → statement M

@@ -19,11 +19,21 @@ returns-3 c = rw (ne-eqb _ _ (c .before .before .if1 .left), ne-eqb _ _ (c .befo
 
 returns-4 : tie.Need-returns-4
 unfolding declarationHead
-returns-4 c = rw (ne-eqb _ _ (c .before .before .before .if1 .left), ne-eqb _ _ (c .before .before .if2 .left), ne-eqb _ _ (c .before .if3 .left), eq-eqb _ _ (c .if4 .taken))
+returns-4 c = rw (
+  ne-eqb _ _ (c .before .before .before .if1 .left),
+  ne-eqb _ _ (c .before .before .if2 .left),
+  ne-eqb _ _ (c .before .if3 .left),
+  eq-eqb _ _ (c .if4 .taken),
+)
 
 returns-5 : tie.Need-returns-5
 unfolding declarationHead
-returns-5 c = rw (ne-eqb _ _ (c .before .before .before .if1 .left), ne-eqb _ _ (c .before .before .if2 .left), ne-eqb _ _ (c .before .if3 .left), ne-eqb _ _ (c .if4 .left))
+returns-5 c = rw (
+  ne-eqb _ _ (c .before .before .before .if1 .left),
+  ne-eqb _ _ (c .before .before .if2 .left),
+  ne-eqb _ _ (c .before .if3 .left),
+  ne-eqb _ _ (c .if4 .left),
+)
 
 pub declaration-head-spec : {M : Type 1} → statement M
 declaration-head-spec = tie.close (tie.spec returns returns-2 returns-3 returns-4 returns-5)

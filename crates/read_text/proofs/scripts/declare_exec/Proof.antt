@@ -9,7 +9,7 @@ use Rattle.read_text.proofs.scripts.declare_exec.Reads as reads
 use Rattle.read_text.proofs.scripts.declare_exec.Lts as lts
 use Rattle.read_text.proofs.scripts.declared_name.Reads as declared-name-reads
 use Rattle.read_types.proofs.steps.refusal.Reads as refusal-reads
-use Rattle.read_types.proofs.store.put_exec.Reads as put-exec-reads
+use Rattle.read_text.proofs.store.put_exec.Reads as put-exec-reads
 
 declared-name-requires : tie.Need-declared-name-requires
 declared-name-requires c κs = search needs
@@ -24,7 +24,8 @@ refusal-requires : tie.Need-refusal-requires
 refusal-requires c κs = search needs
 
 returns : tie.Need-returns
-returns c = exec-no _ _ _ _ (c .before .before .before .before .before .before .pre) (c .before .before .before .declared-name .ensures) (c .before .enum-told .given .1) (c .refusal .ensures)
+returns c = exec-no _ _ _ _ (c .before .before .before .before .before .before .pre) (c .before .before .before .declared-name .ensures)
+    (c .before .enum-told .given .1) (c .refusal .ensures)
 
 put-exec-requires : tie.Need-put-exec-requires
 put-exec-requires c κs =
@@ -42,7 +43,8 @@ same-length c = search needs
 
 returns-2 : tie.Need-returns-2
 returns-2 c = exec-got _ _ _ _ (c .before .before .before .before .before .before .before .before .before .before .pre)
-    (c .before .before .before .before .before .before .before .declared-name .ensures) (c .before .before .before .before .before .named .given .1) (c .before .before .put-exec .ensures)
+    (c .before .before .before .before .before .before .before .declared-name .ensures) (c .before .before .before .before .before .named .given .1)
+    (c .before .before .put-exec .ensures)
 
 pub declare-exec-spec : {M : Type 1} → statement M
 declare-exec-spec =

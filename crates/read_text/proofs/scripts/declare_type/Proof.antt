@@ -10,7 +10,7 @@ use Rattle.read_text.proofs.scripts.declare_type.Lts as lts
 use Rattle.read_text.proofs.scripts.declared_name.Reads as declared-name-reads
 use Rattle.read_types.proofs.steps.expect.Reads as expect-reads
 use Rattle.read_types.proofs.steps.refusal.Reads as refusal-reads
-use Rattle.read_types.proofs.store.put_type.Reads as put-type-reads
+use Rattle.read_text.proofs.store.put_type.Reads as put-type-reads
 use Rattle.read_types.proofs.types.read_type.Reads as read-type-reads
 
 declared-name-requires : tie.Need-declared-name-requires
@@ -26,7 +26,8 @@ refusal-requires : tie.Need-refusal-requires
 refusal-requires c κs = search needs
 
 returns : tie.Need-returns
-returns c = type-no _ _ _ _ (c .before .before .before .before .before .before .pre) (c .before .before .before .declared-name .ensures) (c .before .enum-told .given .1) (c .refusal .ensures)
+returns c = type-no _ _ _ _ (c .before .before .before .before .before .before .pre) (c .before .before .before .declared-name .ensures)
+    (c .before .enum-told .given .1) (c .refusal .ensures)
 
 expect-requires : tie.Need-expect-requires
 expect-requires c κs = search needs
@@ -42,7 +43,8 @@ refusal-requires-2 c κs = search needs
 
 returns-2 : tie.Need-returns-2
 returns-2 c = type-equals-no _ _ _ _ (c .before .before .before .before .before .before .before .before .before .before .pre)
-    (c .before .before .before .before .before .before .before .declared-name .ensures) (c .before .before .before .before .before .named .given .1) (c .before .before .before .expect .ensures)
+    (c .before .before .before .before .before .before .before .declared-name .ensures) (c .before .before .before .before .before .named .given .1)
+    (c .before .before .before .expect .ensures)
     (c .before .enum-told2 .given .1) (c .refusal2 .ensures)
 
 read-type-requires : tie.Need-read-type-requires
@@ -71,7 +73,8 @@ returns-3 c =
     let after-equals = c .before .before .before .before .before .before .before in
     let after-named = after-equals .before .before .before .before in
     let entry = after-named .before .before .before .before .before in
-    type-type-no _ _ _ _ (entry .pre) (after-named .before .before .declared-name .ensures) (after-named .named .given .1) (after-equals .before .before .expect .ensures)
+    type-type-no _ _ _ _ (entry .pre) (after-named .before .before .declared-name .ensures) (after-named .named .given .1)
+    (after-equals .before .before .expect .ensures)
     (after-equals .equals .given .1) (c .before .before .before .before .read-type .ensures) (c .enum-told3 .given .1)
 
 put-type-requires : tie.Need-put-type-requires
@@ -102,7 +105,8 @@ returns-4 c =
     let after-equals = after-typed .before .before .before .before .before .before .before in
     let after-named = after-equals .before .before .before .before in
     let entry = after-named .before .before .before .before .before in
-    type-got _ _ _ _ (entry .pre) (after-named .before .before .declared-name .ensures) (after-named .named .given .1) (after-equals .before .before .expect .ensures) (after-equals .equals .given .1)
+    type-got _ _ _ _ (entry .pre) (after-named .before .before .declared-name .ensures) (after-named .named .given .1)
+    (after-equals .before .before .expect .ensures) (after-equals .equals .given .1)
     (after-typed .before .before .before .before .read-type .ensures) (after-typed .typed .given .1) (c .before .before .put-type .ensures)
 
 pub declare-type-spec : {M : Type 1} → statement M

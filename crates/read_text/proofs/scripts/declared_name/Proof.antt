@@ -24,7 +24,8 @@ expect-requires : tie.Need-expect-requires
 expect-requires c κs = search needs
 
 returns-2 : tie.Need-returns-2
-returns-2 c = name-at _ _ _ (c .before .before .before .before .keyword .ensures) (width-pos (c .before .before .before .before .before .before .args .kind)) (c .before .before .word .given .1)
+returns-2 c = name-at _ _ _ (c .before .before .before .before .keyword .ensures) (width-pos
+    (c .before .before .before .before .before .before .args .kind)) (c .before .before .word .given .1)
     (c .expect .ensures)
 
 pub declared-name-spec : {M : Type 1} → statement M

@@ -20,10 +20,12 @@ refusal-requires : tie.Need-refusal-requires
 refusal-requires c κs = search needs
 
 returns : tie.Need-returns
-returns c = close-no _ _ _ _ (c .before .before .before .before .before .before .pre .0) _ _ (c .before .before .before .expect .ensures) (c .before .enum-told .given .1) (c .refusal .ensures)
+returns c = close-no _ _ _ _ (c .before .before .before .before .before .before .pre .0) _ _ (c .before .before .before .expect .ensures)
+    (c .before .enum-told .given .1) (c .refusal .ensures)
 
 returns-2 : tie.Need-returns-2
-returns-2 c = close-got _ _ _ _ (c .before .before .before .before .before .before .pre .0) _ _ (c .before .before .before .expect .ensures) (c .before .closed .given .1)
+returns-2 c = close-got _ _ _ _ (c .before .before .before .before .before .before .pre .0) _ _ (c .before .before .before .expect .ensures)
+    (c .before .closed .given .1)
 
 pub close-list-spec : {M : Type 1} → statement M
 close-list-spec =

@@ -21,7 +21,8 @@ same-length c = search needs
 
 returns : tie.Need-returns
 returns c = some-entries _ _ _ _ (c .before .before .before .before .before .before .before .before .pre .0) _
-    (eq-eqb _ _ (sym (c .before .before .before .before .before .kind-at .ensures) ∙ c .before .before .before .before .if1 .taken)) (c .before .before .read-entries .ensures)
+    (eq-eqb _ _ (sym (c .before .before .before .before .before .kind-at .ensures) ∙ c .before .before .before .before .if1 .taken))
+    (c .before .before .read-entries .ensures)
 
 close-list-requires : tie.Need-close-list-requires
 close-list-requires c κs = c .before .before .before .before .before .pre
@@ -31,7 +32,8 @@ same-length-2 c = search needs
 
 returns-2 : tie.Need-returns-2
 returns-2 c = no-entries _ _ _ _ (c .before .before .before .before .before .before .before .before .pre .0) _
-    (ne-eqb _ _ (λ e. c .before .before .before .before .if1 .left (c .before .before .before .before .before .kind-at .ensures ∙ e))) (c .before .before .close-list .ensures)
+    (ne-eqb _ _ (λ e. c .before .before .before .before .if1 .left (c .before .before .before .before .before .kind-at .ensures ∙ e)))
+    (c .before .before .close-list .ensures)
 
 pub entries-or-none-spec : {M : Type 1} → statement M
 entries-or-none-spec =

@@ -25,12 +25,21 @@ refusal-requires c κs = search needs
 returns : tie.Need-returns
 returns c =
     let entry = c .before .before .before .before .before .before in
-    list-no _ _ _ _ (entry .pre .0) _ _ _ (width-pos (entry .args .opens)) (c .before .before .before .opening .ensures) (c .before .enum-told .given .1) (c .refusal .ensures)
+    list-no _ _ _ _ (entry .pre .0) _ _ _ (width-pos (entry .args .opens)) (c .before .before .before .opening .ensures) (c .before .enum-told .given .1)
+    (c .refusal .ensures)
 
 entries-or-none-requires : tie.Need-entries-or-none-requires
 entries-or-none-requires c κs =
-    let entry = c .before .before .before .before .before .before .before in
-    (omega (arith, entry .pre, c .before .before .before .before .opening .ensures .on _ _ (c .before .before .opened .given .1), width-pos (entry .args .opens)), entry .pre .2)
+    let entry = c .before .before .before .before .before .before .before in (
+      omega (
+        arith,
+        entry .pre,
+        c .before .before .before .before .opening .ensures .on _ _ (c .before .before .opened .given .1),
+        width-pos
+            (entry .args .opens),
+      ),
+      entry .pre .2,
+    )
 
 enum-known-inner : tie.Need-enum-known-inner
 enum-known-inner c = search needs
@@ -45,7 +54,8 @@ returns-2 : tie.Need-returns-2
 returns-2 c =
     let after-opened = c .before .before .before .before .before .before .before in
     let entry = after-opened .before .before .before .before .before in
-    list-inner-no _ _ _ _ (entry .pre .0) _ _ _ (width-pos (entry .args .opens)) (after-opened .before .before .opening .ensures) (after-opened .opened .given .1)
+    list-inner-no _ _ _ _ (entry .pre .0) _ _ _ (width-pos (entry .args .opens)) (after-opened .before .before .opening .ensures)
+    (after-opened .opened .given .1)
     (c .before .before .before .before .entries-or-none .ensures) (c .enum-told2 .given .1)
 
 same-length-2 : tie.Need-same-length-2

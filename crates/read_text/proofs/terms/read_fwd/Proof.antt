@@ -1,0 +1,113 @@
+use native.Mathlib.Omega.{arith}
+use Rattle.read_text.proofs.TermPaths.{fwd-no, fwd-provided-no, fwd-used-no, fwd-got}
+use borrow.Author.Needs.{needs}
+use Rattle.read_text.proofs.terms.read_fwd.Statement.{statement}
+use Rattle.read_text.proofs.terms.read_fwd.Tie as tie
+
+process-term-requires : tie.Need-process-term-requires
+process-term-requires c κs = search needs
+
+enum-known-term : tie.Need-enum-known-term
+enum-known-term c = search needs
+
+enum-told : tie.Need-enum-told
+enum-told c = search needs
+
+refusal-requires : tie.Need-refusal-requires
+refusal-requires c κs = search needs
+
+returns : tie.Need-returns
+returns c = fwd-no _ _ _ _ (c .before .before .before .before .before .before .pre) (c .before .before .before .process-term .ensures)
+    (c .before .enum-told .given .1) (c .refusal .ensures)
+
+expect-requires : tie.Need-expect-requires
+expect-requires c κs = search needs
+
+enum-known-provided : tie.Need-enum-known-provided
+enum-known-provided c = search needs
+
+enum-told-2 : tie.Need-enum-told-2
+enum-told-2 c = search needs
+
+refusal-requires-2 : tie.Need-refusal-requires-2
+refusal-requires-2 c κs = search needs
+
+returns-2 : tie.Need-returns-2
+returns-2 c = fwd-provided-no _ _ _ _ (c .before .before .before .before .before .before .before .before .before .before .pre)
+    (c .before .before .before .before .before .before .before .process-term .ensures) (c .before .before .before .before .before .term .given .1)
+    (c .before .before .before .expect .ensures) (c .before .enum-told2 .given .1) (c .refusal2 .ensures)
+
+expect-requires-2 : tie.Need-expect-requires-2
+expect-requires-2 c κs = search needs
+
+enum-known-used : tie.Need-enum-known-used
+enum-known-used c = search needs
+
+enum-told-3 : tie.Need-enum-told-3
+enum-told-3 c = search needs
+
+refusal-requires-3 : tie.Need-refusal-requires-3
+refusal-requires-3 c κs = search needs
+
+returns-3 : tie.Need-returns-3
+returns-3 c =
+    let after-expect = c .before .before .before .before .before .before .before in
+    let entry = after-expect .before .before .before .before .before .before .before in
+    fwd-used-no _ _ _ _ (entry .pre) (after-expect .before .before .before .before .process-term .ensures) (after-expect .before .before .term .given .1)
+    (after-expect .expect .ensures) (c .before .before .before .before .before .provided .given .1) (c .before .before .before .expect2 .ensures)
+    (c .before .enum-told3 .given .1) (c .refusal3 .ensures)
+
+put-term-requires : tie.Need-put-term-requires
+put-term-requires c κs =
+    let after-provided = c .before .before .before .before .before .before in
+    let after-term = after-provided .before .before .before .before in
+    let entry = after-term .before .before .before .before .before in
+    omega (
+      arith,
+      entry .pre,
+      after-term .before .before .process-term .ensures .on _ _ (after-term .term .given .1),
+      after-provided .before .before .expect .ensures .on _ _ (after-provided .provided .given .1),
+      c .before .before .before .before .expect2 .ensures .on _ _ (c .before .before .used .given .1),
+    )
+
+add-l : tie.Need-add-l
+add-l c =
+    let after-term = c .before .before .before .before .before .before .before .before .before .before .before .before .before .before in
+    let entry = after-term .before .before .before .before .before in
+    omega (arith, entry .pre, after-term .before .before .process-term .ensures .on _ _ (after-term .term .given .1))
+
+same-length : tie.Need-same-length
+same-length c = search needs
+
+returns-4 : tie.Need-returns-4
+returns-4 c =
+    let after-used = c .before .before .before .before .before .before in
+    let after-expect = after-used .before .before .before .before .before .before in
+    let entry = after-expect .before .before .before .before .before .before .before in
+    fwd-got _ _ _ _ (entry .pre) (after-expect .before .before .before .before .process-term .ensures) (after-expect .before .before .term .given .1)
+    (after-expect .expect .ensures) (after-used .before .before .before .before .provided .given .1) (after-used .before .before .expect2 .ensures)
+    (after-used .used .given .1) (c .before .before .before .put-term .ensures)
+
+pub read-fwd-spec : {M : Type 1} → statement M
+read-fwd-spec =
+    tie.close
+    (tie.spec
+    process-term-requires
+    enum-known-term
+    enum-told
+    refusal-requires
+    returns
+    expect-requires
+    enum-known-provided
+    enum-told-2
+    refusal-requires-2
+    returns-2
+    expect-requires-2
+    enum-known-used
+    enum-told-3
+    refusal-requires-3
+    returns-3
+    put-term-requires
+    add-l
+    same-length
+    returns-4)
