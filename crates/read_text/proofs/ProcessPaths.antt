@@ -10,7 +10,7 @@ use Rattle.notation.specs.Tree.{Located, Ty, Proc, spawn, recvLabel, try}
 use Rattle.notation.specs.Reader.{Result, got, refused, take, part, lastly, expect, misfit, opening, processTerm, closed, nameIn}
 use Rattle.notation.specs.Types.{readType}
 use Rattle.notation.specs.Processes.{termHead, payload, unitTaken, bracketedBy, recvBy, processBy, readProcess, readRest, readBranches}
-use Rattle.notation.specs.Tables.{moreTerms, termNode, putTerm, pointerTo, afterType, writeType, afterProcess, afterBranches, writeProcess, writeBranches}
+use Rattle.notation.specs.Tables.{moreTerms, termNode, putTerm, pointerTo, afterType, writeType, afterProcess, afterBranches, writeProcess}
 use Rattle.notation.specs.declared.reading.Cursor.{Cursor}
 use Rattle.notation.specs.declared.reading.Tally.{Tally}
 use Rattle.notation.specs.declared.reading.TermNode.{TermNode}
@@ -26,9 +26,9 @@ use Rattle.read_types.specs.Filling.{TypeRead, Further, Stepped, Closes, not-re
 use Rattle.read_types.proofs.TypePaths.{then-take}
 use Rattle.read_types.proofs.Filled.{same, _upon_, took, refused-out, made-got, gone-on, stopped, meets-no, meets-got, more-made}
 use Rattle.read_text.specs.declared.turns.Turn.{Turn}
-use Rattle.read_text.specs.declared.turns.Turn.the-variants.{On, Done}
+use Rattle.read_text.specs.declared.turns.Turn.the-variants.{Done}
 use Rattle.read_text.specs.Turns.{Laid, peek, pointing, processForm, termForm, nodeForm, ProcessRead, TurnRead, RestTurned}
-use Rattle.read_text.specs.Processes.{payloadTaken, payloadThen, nameColon, recvdOf, recvdNode, termBy, handlerBy, partsForm, partsBy, TermRead, TermTurned, HandlerRead, OneRead, LabelsRead, BracketedRead, PartsTurned, BranchesRead}
+use Rattle.read_text.specs.Processes.{payloadTaken, payloadThen, nameColon, recvdOf, recvdNode, termBy, partsForm, partsBy, TermRead, TermTurned, HandlerRead, OneRead, LabelsRead, BracketedRead, PartsTurned, BranchesRead}
 use Rattle.read_text.proofs.Turning.{made-as, meets-as, turn-done, turn-under}
 use Rattle.read_text.proofs.Pointers.{pointer-at, pointer-in}
 use Rattle.read_text.proofs.Order.{Inside, process-grown, type-put, process-put, branches-put}

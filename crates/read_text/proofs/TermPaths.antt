@@ -1,8 +1,8 @@
 -- What the definition says on each way through the code that reads terms without processes in brackets, and what follows a term.
 use mathlib.Core.Path.{_≡_, refl, ap, sym, _∙_}
 use mathlib.Core.List.{List}
-use mathlib.Core.Bool.{true, false}
-use Prim.Native.Nat.{ℕ, suc, _+_, _*_, _<_, _≤_}
+use mathlib.Core.Bool.{true}
+use Prim.Native.Nat.{ℕ, suc, _+_, _*_, _<_}
 use native.Mathlib.Omega.{arith}
 use lib.Dec.{eqb}
 use borrow.Author.Tests.{eq-eqb, ne-eqb}
@@ -12,7 +12,7 @@ use Rattle.notation.specs.Token.{kindAt, tokenAt, kFwd, kName, kCancel, kRaise,
 use Rattle.notation.specs.Tree.{Located, Proc, empty, cancel, fwd, raise}
 use Rattle.notation.specs.Reader.{Result, got, take, lastly, expect, misfit, processTerm, nameIn}
 use Rattle.notation.specs.Processes.{payload, sendBy, processBy, restBy, readProcess, readRest}
-use Rattle.notation.specs.Tables.{moreTerms, termNode, putTerm, emptyPointer, pointerTo, afterProcess, writeProcess}
+use Rattle.notation.specs.Tables.{moreTerms, termNode, putTerm, emptyPointer, afterProcess, writeProcess}
 use Rattle.notation.specs.declared.token.Token.{Token}
 use Rattle.notation.specs.declared.reading.Cursor.{Cursor}
 use Rattle.notation.specs.declared.reading.Tally.{Tally}
@@ -28,8 +28,8 @@ use Rattle.read_types.specs.Filling.{Stepped, asOut, Room, Meets, unread}
 use Rattle.read_types.proofs.Filled.{same, took, refused-out, made-got, meets-no, meets-got, more-no, more-got, more-made}
 use Rattle.read_text.specs.declared.turns.Turn.{Turn}
 use Rattle.read_text.specs.declared.turns.Turn.the-variants.{On, Done}
-use Rattle.read_text.specs.Turns.{Laid, peek, pointing, processForm, termForm, nodeForm, ProcessRead, RestTurned}
-use Rattle.read_text.specs.Processes.{payloadTaken, sentOf, sentNode, termBy, TermRead, TermTurned, SentTurned}
+use Rattle.read_text.specs.Turns.{Laid, peek, pointing, nodeForm, ProcessRead, RestTurned}
+use Rattle.read_text.specs.Processes.{payloadTaken, sentOf, sentNode, TermRead, TermTurned, SentTurned}
 use Rattle.read_text.proofs.Turning.{made-as, meets-as, lastly-same, turn-done, turn-on, turn-under}
 use Rattle.read_text.proofs.Pointers.{pointer-at}
 

@@ -1,10 +1,11 @@
 -- How answers and words follow the definition over what was read before, one turn, and what a loop keeps.
 use mathlib.Core.Path.{_≡_, refl, ap, sym, subst, _∙_}
 use mathlib.Core.List.{List}
-use Prim.Native.Nat.{ℕ, suc, _+_, _*_, _<_, _≤_}
+use mathlib.Core.Bool.{Bool, true, false}
+use Prim.Native.Nat.{ℕ, _+_, _*_, _<_, _≤_}
 use native.Mathlib.Omega.{arith}
 use lib.ListN.{length, set}
-use Rattle.notation.specs.Reader.{Result, got, refused, lastly}
+use Rattle.notation.specs.Reader.{Result, got, refused, lastly, limited}
 use Rattle.notation.specs.Limits.{textLimit}
 use Rattle.notation.specs.Token.{tokenAt, kindAt}
 use Rattle.notation.specs.Processes.{termHead, readProcess}
@@ -12,12 +13,15 @@ use Rattle.notation.specs.declared.token.Token.{Token}
 use Rattle.notation.specs.declared.token.TermHead.{TermHead}
 use Rattle.notation.specs.declared.reading.Cursor.{Cursor}
 use Rattle.notation.specs.declared.reading.Tally.{Tally}
+use Rattle.notation.specs.declared.reading.Taken.{Taken}
+use Rattle.notation.specs.declared.reading.Taken.the-variants.{At, Refused}
 use Rattle.read_types.specs.declared.steps.Out.{Out}
 use Rattle.read_types.specs.declared.steps.Out.the-variants.{Got}
 use Rattle.read_types.specs.Filling.{Kept, WordPut, Room, Form, Made, Meets, unread}
 use Rattle.read_text.specs.declared.turns.Turn.{Turn}
 use Rattle.read_text.specs.declared.turns.Turn.the-variants.{On, Done}
 use Rattle.read_text.specs.Turns.{Laid, ProcessRead, Onward, Turned, TurnRead, finishedOut, processForm}
+use Rattle.read_types.proofs.Taking.{never}
 use Rattle.read_types.proofs.Filled.{same, _upon_, _set-more_}
 
 -- ── words that were put
@@ -35,6 +39,13 @@ module _ (s : List ℕ) (at : ℕ) {t : Token} (e : t ≡ tokenAt s at) where
 
   pub start-is : t .start ≤ textLimit → tokenAt s at .start ≤ textLimit
   start-is l = subst (λ (y : Token). y .start ≤ textLimit) e l
+
+-- a step that was taken within a limit, whatever followed it
+pub limit-held : (after : Taken → Taken) → ((n i : ℕ) → after (Refused n i) ≡ Refused n i) → (t : Taken) (b : Bool) {i : ℕ} {d : Cursor}
+    → after (limited t (λ _. b) (λ d. d)) ≡ At i d → b ≡ true
+limit-held after h t true e = refl
+limit-held after h (At j f) false e = never (sym (h 5 j) ∙ e)
+limit-held after h (Refused n j) false e = never (sym (h n j) ∙ e)
 
 -- ── an answer for a, as one for the tree over it
 -- the tree b, from k′ and w′ on, is counted and written as a is

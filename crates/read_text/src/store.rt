@@ -13,7 +13,6 @@ use notation::tables::TERMS_AT;
 use notation::tables::TYPES_AT;
 use read_types::store::put_pair;
 use read_types::store::put_word;
-ghost use mathlib.Core.Path.{_≡_};
 ghost use Prim.Native.Nat.{_<_};
 ghost use Rattle.notation.specs.Tables.{Area, putTerm, putEntry, putType, putProcess, putExec, moreEntries, moreTypes, moreProcesses, moreExecs, offsetRadix};
 ghost use Rattle.notation.specs.Limits.{execLimit, processLimit, processTermLimit, typeLimit, typeTermLimit};

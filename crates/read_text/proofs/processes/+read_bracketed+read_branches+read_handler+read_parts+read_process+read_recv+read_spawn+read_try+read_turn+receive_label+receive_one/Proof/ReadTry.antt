@@ -2,7 +2,6 @@
 use borrow.Author.Needs.{needs}
 use Prim.Native.Nat.{ℕ}
 use native.Mathlib.Omega.{arith}
-use Rattle.read_types.proofs.Filled.{_upon_}
 use Rattle.read_text.proofs.ProcessPaths.{try-no, try-main-no, try-catch-no, try-read}
 use Rattle.read_types.proofs.steps.expect.Reads as expect-reads
 use Rattle.read_text.proofs.turns.pointer_within.Reads as pointer-within-reads

@@ -2,7 +2,6 @@
 use borrow.Author.Needs.{needs}
 use Prim.Native.Nat.{ℕ}
 use native.Mathlib.Omega.{arith}
-use Rattle.read_types.proofs.Filled.{_upon_}
 use Rattle.read_text.proofs.ProcessPaths.{labels-no, labels-got}
 use Rattle.read_text.proofs.store.put_term.Reads as put-term-reads
 use Rattle.read_text.proofs.processes.read_branches.Reads as read-branches

@@ -2,7 +2,6 @@
 use borrow.Author.Needs.{needs}
 use Prim.Native.Nat.{ℕ}
 use native.Mathlib.Omega.{arith}
-use Rattle.read_types.proofs.Filled.{_upon_}
 use Rattle.read_text.proofs.ProcessPaths.{one-no, one-read}
 use Rattle.read_text.proofs.payloads.payload_then.Reads as payload-then-reads
 use Rattle.read_text.proofs.turns.put_before.Reads as put-before-reads
