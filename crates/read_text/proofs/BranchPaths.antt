@@ -11,10 +11,10 @@ use Rattle.notation.specs.Fine.{FineBranches, SomeBranch}
 use Rattle.notation.specs.Limits.{labelLimit}
 use Rattle.notation.specs.Token.{kindAt, kBar, kThen, kLabel}
 use Rattle.notation.specs.Tree.{Proc, Branches, branch}
-use Rattle.notation.specs.Reader.{Result, got, take, part, lastly, expect, labelIn}
+use Rattle.notation.specs.Reader.{got, take, part, lastly, expect, thenToken, labelIn}
 use Rattle.notation.specs.Types.{labelTerm}
 use Rattle.notation.specs.Processes.{branchesBy, moreBranchesBy, readProcess, readBranches}
-use Rattle.notation.specs.Tables.{branchesAt, pairWord, putBranch, lasting, pointerTo, afterProcess, writeProcess, afterBranches, writeBranches}
+use Rattle.notation.specs.Tables.{branchesAt, pairWord, putBranch, pointerTo, afterProcess, writeProcess, afterBranches, writeBranches}
 use Rattle.notation.specs.declared.reading.Cursor.{Cursor}
 use Rattle.notation.specs.declared.reading.Tally.{Tally}
 use Rattle.notation.specs.declared.reading.Taken.{Taken}
@@ -23,12 +23,11 @@ use Rattle.read_types.specs.declared.steps.Out.{Out}
 use Rattle.read_types.specs.declared.steps.Out.the-variants.{Got, Not}
 use Rattle.read_types.specs.Filling.{Kept, Stepped, ListPut, listPut, asOut, Room, Form, Meets, unread}
 use Rattle.read_types.proofs.Listing.{list-none, list-more}
-use Rattle.read_types.proofs.Gathering.{within-limit}
 use Rattle.read_types.proofs.TypePaths.{then-take}
 use Rattle.read_types.proofs.Filled.{same, _upon_, took, refused-out, made-got, gone-on, stopped, more-no, more-got, more-made}
 use Rattle.read_text.specs.Turns.{peek, AheadProcess, ProcessRead}
 use Rattle.read_text.specs.Processes.{labelThen, BranchesRead}
-use Rattle.read_text.proofs.Turning.{made-as, meets-as, lastly-same}
+use Rattle.read_text.proofs.Turning.{limit-held, made-as, meets-as, lastly-same}
 use Rattle.read_text.proofs.Pointers.{pointer-at}
 
 -- so many branches, and the length of their list
@@ -91,7 +90,7 @@ keeping-start {s} {w} {c} {k} kept e h = record {
 -- a branch that is read comes within its list's limit
 pub branch-few : (s : List ℕ) (n : ℕ) (c : Cursor) {q : Taken} {i : ℕ} {d : Cursor} → Stepped s c 4 0 0 (labelThen s n c) q → q ≡ At i d → n < labelLimit
 unfolding labelThen labelTerm
-branch-few s n c {i = i} {d} u e = ltb-true n labelLimit (within-limit (ltb n labelLimit) (expect s kLabel c) (expect s kThen) i d (took u e))
+branch-few s n c u e = ltb-true n labelLimit (limit-held (λ x. thenToken x (expect s kThen)) (λ m i. refl) (expect s kLabel c) (ltb n labelLimit) (took u e))
 
 module _ {s w₀ : List ℕ} {c₀ : Cursor} {k₀ : Tally} (kept w : List ℕ) (c : Cursor) (k : Tally) (n : ℕ) (h : Keeping s w₀ c₀ k₀ kept w c k n) {q : Taken}
     (u : Stepped s c 4 0 0 (labelThen s n c) q) where

@@ -20,7 +20,7 @@ use Rattle.notation.specs.declared.token.TermHead.the-variants.{Call}
 use Rattle.read_types.specs.declared.steps.Out.{Out}
 use Rattle.read_types.specs.declared.steps.Out.the-variants.{Got}
 use Rattle.read_types.specs.Filling.{Stepped, asOut, Room, unread}
-use Rattle.read_text.specs.Turns.{Laid}
+use Rattle.read_text.proofs.Turning.{term-kept}
 use Rattle.read_text.specs.Names.{AheadNames, NamesTaken, forgetNames, listEnd, namesOrNone}
 use Rattle.read_text.specs.Processes.{TermRead}
 use Rattle.read_types.proofs.Taking.{never}
@@ -221,7 +221,7 @@ module _ (s w : List ℕ) (c : Cursor) (k : Tally) (room : Room s w c k) {q : Ta
             (λ m lo. names-read _ (nameList m s kRoundOpen kRoundClose f) (a .is m (omega arith)) h λ xs p _.
             rw (took u e, took y g, p, names-refused _ (nameList m s kSquareOpen kSquareClose b) (a₂ .is m (omega arith)) h₂))
 
-        pub call-got : {j : ℕ} {b₂ : Cursor} {v : List ℕ} → z₂ ≡ At j b₂ → Laid w (putTerm w (k .terms) (termNode 10 at i bracket 0)) v
+        pub call-got : {j : ℕ} {b₂ : Cursor} {v : List ℕ} → z₂ ≡ At j b₂ → v ≡ putTerm w (k .terms) (termNode 10 at i bracket 0)
             → TermRead Call s w c k (Got b₂ (moreTerms k)) v
         unfolding processBy afterProcess writeProcess FineProcess
         call-got {j} {b₂} h₂ pt =
@@ -229,8 +229,8 @@ module _ (s w : List ℕ) (c : Cursor) (k : Tally) (room : Room s w c k) {q : Ta
             let o₂ = y .on i f g in
             let o₃ = a .on bracket b h in
             let o₄ = a₂ .on j b₂ h₂ in
-            meets-got s w c k (omega arith) (pt .kept)
+            meets-got s w c k (omega arith) (term-kept w (k .terms) (termNode 10 at i bracket 0) (omega arith) pt)
             (λ m lo. names-read _ (nameList m s kRoundOpen kRoundClose f) (a .is m (omega arith)) h λ xs p opened.
             names-read _ (nameList m s kSquareOpen kSquareClose b) (a₂ .is m (omega arith)) h₂ λ ys p₂ _.
             made-got (call at (nameIn s i) (tokenAt s (f .at) .start) xs ys) (rw (took u e, took y g, p, p₂)) refl
-            (pt .words ∙ ap (λ x. putTerm w (k .terms) (termNode 10 at i x 0)) (sym opened)) (omega arith))
+            (pt ∙ ap (λ x. putTerm w (k .terms) (termNode 10 at i x 0)) (sym opened)) (omega arith))

@@ -7,7 +7,7 @@ use native.Mathlib.Omega.{arith}
 use lib.Dec.{eqb}
 use Rattle.notation.specs.Token.{tokenAt, kindAt, kName, kSend, kRecv, kFwd, kCall, kCancel, kRaise, kTry, kCatch, kColon, kFrom, kRoundOpen, kRoundClose, kSquareOpen, kSquareClose}
 use Rattle.notation.specs.Tree.{Located, Ty, Proc, empty, fwd, call, try, Branches}
-use Rattle.notation.specs.Reader.{Result, got, refused, take, part, lastly, expect, limited, mayOpen, deeper, past, fault, opening, processTerm, misfit, closed, nameIn}
+use Rattle.notation.specs.Reader.{Result, got, refused, take, part, lastly, expect, limited, mayOpen, deeper, past, fault, opening, processTerm, misfit, nameIn}
 use Rattle.notation.specs.Processes.{termHead, payload, unitTaken, bracketedBy, sendBy, recvBy, nameList, processBy, readProcess, readRest, readBranches}
 use Rattle.notation.specs.Types.{readType}
 use Rattle.notation.specs.Tables.{pointerTo, emptyPointer}

@@ -10,7 +10,7 @@ use Rattle.notation.specs.Tree.{Located, Ty, Proc, spawn, recvLabel, try}
 use Rattle.notation.specs.Reader.{Result, got, refused, take, part, lastly, expect, misfit, opening, processTerm, closed, nameIn}
 use Rattle.notation.specs.Types.{readType}
 use Rattle.notation.specs.Processes.{termHead, payload, unitTaken, bracketedBy, recvBy, processBy, readProcess, readRest, readBranches}
-use Rattle.notation.specs.Tables.{moreTerms, termNode, putTerm, pointerTo, afterType, writeType, afterProcess, afterBranches, writeProcess, writeBranches}
+use Rattle.notation.specs.Tables.{moreTerms, termNode, putTerm, pointerTo, afterType, writeType, afterProcess, afterBranches, writeProcess}
 use Rattle.notation.specs.declared.reading.Cursor.{Cursor}
 use Rattle.notation.specs.declared.reading.Tally.{Tally}
 use Rattle.notation.specs.declared.reading.TermNode.{TermNode}
@@ -26,10 +26,10 @@ use Rattle.read_types.specs.Filling.{TypeRead, Further, Stepped, Closes, not-re
 use Rattle.read_types.proofs.TypePaths.{then-take}
 use Rattle.read_types.proofs.Filled.{same, _upon_, took, refused-out, made-got, gone-on, stopped, meets-no, meets-got, more-made}
 use Rattle.read_text.specs.declared.turns.Turn.{Turn}
-use Rattle.read_text.specs.declared.turns.Turn.the-variants.{On, Done}
-use Rattle.read_text.specs.Turns.{Laid, peek, pointing, processForm, termForm, nodeForm, ProcessRead, TurnRead, RestTurned}
-use Rattle.read_text.specs.Processes.{payloadTaken, payloadThen, nameColon, recvdOf, recvdNode, termBy, handlerBy, partsForm, partsBy, TermRead, TermTurned, HandlerRead, OneRead, LabelsRead, BracketedRead, PartsTurned, BranchesRead}
-use Rattle.read_text.proofs.Turning.{made-as, meets-as, turn-done, turn-under}
+use Rattle.read_text.specs.declared.turns.Turn.the-variants.{Done}
+use Rattle.read_text.specs.Turns.{peek, pointing, processForm, termForm, nodeForm, ProcessRead, TurnRead, RestTurned}
+use Rattle.read_text.specs.Processes.{payloadTaken, payloadThen, nameColon, recvdOf, recvdNode, termBy, partsForm, partsBy, TermRead, TermTurned, HandlerRead, OneRead, LabelsRead, BracketedRead, PartsTurned, BranchesRead}
+use Rattle.read_text.proofs.Turning.{term-kept, made-as, meets-as, turn-done, turn-under}
 use Rattle.read_text.proofs.Pointers.{pointer-at, pointer-in}
 use Rattle.read_text.proofs.Order.{Inside, process-grown, type-put, process-put, branches-put}
 
@@ -141,14 +141,15 @@ module _ (s w : List ℕ) (c : Cursor) (k : Tally) (room : Room s w c (moreTerms
     one-no g y = meets-no s w c (moreTerms k) (refused-out g y) same (λ m _. rw (took u g))
 
     pub one-read : {j : ℕ} {d : Cursor} → q ≡ At j d → {node : TermNode} → node ≡ recvdNode h at i j → {v : List ℕ}
-        → Laid w (putTerm w (k .terms) (pointing node (peek s (d .at) (k .terms + 1)))) v
+        → v ≡ putTerm w (k .terms) (pointing node (peek s (d .at) (k .terms + 1)))
         → {p : Out} {v₂ : List ℕ} → ProcessRead s v d (moreTerms k) p v₂ → OneRead at i h s w c k p v₂
     one-read {j} {d} e {node} ne x t =
         let o = u .on j d e in
-        meets-as t (recvdOf s h at (nameIn s i) j) w (moreTerms k) (λ m lo. (rw (took u e), omega arith)) (x .kept)
+        meets-as t (recvdOf s h at (nameIn s i) j) w (moreTerms k) (λ m lo. (rw (took u e), omega arith))
+        (term-kept w (k .terms) (pointing node (peek s (d .at) (k .terms + 1))) (omega arith) x)
         (λ m P f p fi _. (
           received-after s h at (nameIn s i) j P k,
-          ap (writeProcess P (moreTerms k)) (x .words ∙ ap (λ y. putTerm w (k .terms) (pointing node y)) (sym (pointer-at m s d f P (k .terms + 1) p)))
+          ap (writeProcess P (moreTerms k)) (x ∙ ap (λ y. putTerm w (k .terms) (pointing node y)) (sym (pointer-at m s d f P (k .terms + 1) p)))
               ∙ ap (λ n. nodeForm (k .terms) n .write P (moreTerms k) w) ne
               ∙ received-write s h at i j P k w,
           received-fine s h at i j P a b (omega arith) fi,
@@ -160,17 +161,17 @@ module _ (s w : List ℕ) (c : Cursor) (k : Tally) (room : Room s w c (moreTerms
     pub labels-no : {n x : ℕ} → p ≡ Not n x → LabelsRead at i s w c k p v
     labels-no g = meets-no s w c (moreTerms k) g (t .kept) (λ m lo. ap (lastly (recvLabel at (nameIn s i))) (stopped (readBranches m s 0 c) (t .is m lo) g))
 
-    pub labels-got : {d : Cursor} {l : Tally} → p ≡ Got d l → {v₂ : List ℕ} → Laid v (putTerm v (k .terms) (termNode 8 at i (l .branches) (l .last))) v₂
+    pub labels-got : {d : Cursor} {l : Tally} → p ≡ Got d l → {v₂ : List ℕ} → v₂ ≡ putTerm v (k .terms) (termNode 8 at i (l .branches) (l .last))
         → LabelsRead at i s w c k (Got d l) v₂
     unfolding afterProcess writeProcess FineProcess
     labels-got {d} {l} g x =
         let o = t .on d l g in
         let inside : Inside l = omega arith in
-        meets-got s w c (moreTerms k) (omega arith) (x .kept upon t .kept)
+        meets-got s w c (moreTerms k) (omega arith) (term-kept v (k .terms) (termNode 8 at i (l .branches) (l .last)) (omega arith) x upon t .kept)
         (λ m lo. gone-on (readBranches m s 0 c) (t .is m lo) g λ B e al av fi.
         let e₂ = afterBranches B (moreTerms k) in
         made-got (recvLabel at (nameIn s i) B) (ap (lastly (recvLabel at (nameIn s i))) e) (ap (Got d) al)
-        (x .words
+        (x
         ∙ (λ j. putTerm (av j) (k .terms) (termNode 8 at i (al j .branches) (al j .last)))
         ∙ sym (branches-put B (moreTerms k) w (k .terms) (termNode 8 at i (e₂ .branches) (e₂ .last)) (omega arith) (subst Inside al inside)))
         (a, b, fi .0, fi .1))
@@ -202,7 +203,7 @@ module _ (s w : List ℕ) (c : Cursor) (k : Tally) (room : Room s w c k) {q : Ta
 
       module _ {i : ℕ} {b : Cursor} (z : x ≡ At i b) {second third : ℕ} (sp : second ≡ peek s (tokenAt s (d .at) .end) (k .terms + 1))
           (tp : third ≡ peek s (tokenAt s (b .at) .end) (l .terms)) {v₂ : List ℕ}
-          (laid : Laid v (putTerm v (k .terms) (termNode 12 at 0 second third)) v₂) where
+          (put : v₂ ≡ putTerm v (k .terms) (termNode 12 at 0 second third)) where
         -- the node between the halves is the one before them
         try-words : (m : ℕ) (P Q : Proc) (b₂ : Cursor) → bracketedBy (λ d. readProcess m s d) s d ≡ got P f
             → bracketedBy (λ d. readProcess m s d) s b ≡ got Q b₂
@@ -216,7 +217,7 @@ module _ (s w : List ℕ) (c : Cursor) (k : Tally) (room : Room s w c k) {q : Ta
             let first : second ≡ pointerTo P (k .terms + 1) = sp ∙ sym (pointer-in m s d f P (k .terms + 1) a) in
             let after : third ≡ pointerTo Q (e₂ .terms) = tp ∙ sym (pointer-in m s b b₂ Q (l .terms) a₂) ∙ ap (λ (x : Tally). pointerTo Q (x .terms)) al in
             let words : v₂ ≡ writeProcess P (moreTerms k) (putTerm w (k .terms) (termNode 12 at 0 (pointerTo P (k .terms + 1)) (pointerTo Q (e₂ .terms)))) =
-            laid .words
+            put
             ∙ (λ j. putTerm (av j) (k .terms) (termNode 12 at 0 (first j) (after j)))
             ∙ sym (process-put P (moreTerms k) w (k .terms) (termNode 12 at 0 (pointerTo P (k .terms + 1)) (pointerTo Q (e₂ .terms))) (omega arith)
             (subst Inside al inside)) in
@@ -232,7 +233,7 @@ module _ (s w : List ℕ) (c : Cursor) (k : Tally) (room : Room s w c k) {q : Ta
               is = λ m lo. gone-on (bracketedBy (λ d. readProcess m s d) s d) (t .is m (omega arith)) g λ P a al av fi.
                   made-as t₂ (try at P) w k m (omega arith) (rw (took u e, a, took y z) (part-last (try at P) (bracketedBy (λ d. readProcess m s d) s b)))
                   (λ Q b₂ a₂ fi₂ _. (ap (afterProcess Q) al, try-words m P Q b₂ a a₂ al av, (omega arith, fi, fi₂)));
-              kept = t₂ .kept upon laid .kept upon t .kept;
+              kept = t₂ .kept upon term-kept v (k .terms) (termNode 12 at 0 second third) (omega arith) put upon t .kept;
               on = λ b₂ l₂ h. let o₄ = t₂ .on b₂ l₂ h in omega arith;
             }
 

@@ -11,7 +11,7 @@ use Rattle.notation.specs.Fine.{FineDeclaration}
 use Rattle.notation.specs.Limits.{typeLimit, processLimit, execLimit}
 use Rattle.notation.specs.Token.{kindAt, kName, kEquals, kType, kProc, kExec, kEnd, kRoundOpen, kRoundClose, kSquareOpen, kSquareClose}
 use Rattle.notation.specs.Tree.{Located, Ty, unit, named, tensor, par, lolli, plus, with, Alternatives, alternative, Entry, Declaration, declareType, declareProc, declareExec}
-use Rattle.notation.specs.Reader.{Result, part, lastly, expect, limited, misfit, nameIn, got, take}
+use Rattle.notation.specs.Reader.{Result, part, lastly, expect, misfit, nameIn, got, take}
 use Rattle.notation.specs.Types.{readType}
 use Rattle.notation.specs.Processes.{readProcess}
 use Rattle.notation.specs.Scripts.{Count, keyword, entryList, declarationHead, typeDeclaration, procDeclaration, execDeclaration, scriptBy, readScript}
@@ -27,9 +27,9 @@ use Rattle.read_types.specs.declared.steps.Out.the-variants.{Got, Not}
 use Rattle.read_types.specs.Filling.{TypeRead, Stepped, asOut, misfitOut, Put, Room}
 use Rattle.read_text.specs.Turns.{peek, ProcessRead}
 use Rattle.read_text.specs.Scripts.{afterToken, declaredName, EntriesRead, declarationBy, countBy, DeclarationRead, countOf, Counted, scriptForm, ScriptRead}
-use Rattle.read_types.proofs.Taking.{never, stepped-no}
+use Rattle.read_types.proofs.Taking.{stepped-no}
 use Rattle.read_types.proofs.Filled.{same, _upon_, put-kept, took, refused-out, made-got, gone-on, stopped, meets-no, meets-got, more-no, more-got, more-made}
-use Rattle.read_text.proofs.Turning.{made-as, Through, through-on}
+use Rattle.read_text.proofs.Turning.{limit-held, made-as, Through, through-on}
 use Rattle.read_text.proofs.Pointers.{pointer-at}
 
 -- ── a keyword and the name after it
@@ -57,12 +57,8 @@ module _ {s : List ℕ} {c : Cursor} {n : ℕ} (kind before limit : ℕ) {q : Ta
 pub name-held : {s : List ℕ} {c : Cursor} {n i : ℕ} {d : Cursor} {q : Taken} (kind before limit : ℕ)
     → Stepped s c n 0 0 (declaredName s kind before limit c) q → q ≡ At i d → before < limit
 unfolding declaredName
-name-held {s} {c} {i = i} {d} kind before limit u e = ltb-true before limit (go (expect s kind c) (ltb before limit) (took u e))
-  where
-    go : (t : Taken) (b : Bool) → afterToken (limited t (λ _. b) (λ d. d)) (expect s kName) ≡ At i d → b ≡ true
-    go (At j f) true e = refl
-    go (At j f) false e = never e
-    go (Refused m j) b e = never e
+name-held {s} {c} kind before limit u e =
+    ltb-true before limit (limit-held (λ x. afterToken x (expect s kName)) (λ m i. refl) (expect s kind c) (ltb before limit) (took u e))
 
 -- ── how many entries a list appends
 mutual

@@ -8,7 +8,7 @@ use lib.Dec.{eqb}
 use Rattle.notation.specs.Fine.{FineEntries}
 use Rattle.notation.specs.Token.{kindAt, kName, kColon, kComma}
 use Rattle.notation.specs.Tree.{Located, Ty, Entry}
-use Rattle.notation.specs.Reader.{Result, got, refused, take, part, lastly, choose, expect, opening, closed, nameIn}
+use Rattle.notation.specs.Reader.{Result, got, take, part, lastly, choose, expect, opening, closed, nameIn}
 use Rattle.notation.specs.Types.{readType}
 use Rattle.notation.specs.Scripts.{readEntries, entryList}
 use Rattle.notation.specs.Tables.{moreEntries, putEntry, afterType, writeType, afterEntries, writeEntries}

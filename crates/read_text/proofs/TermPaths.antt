@@ -1,18 +1,18 @@
 -- What the definition says on each way through the code that reads terms without processes in brackets, and what follows a term.
 use mathlib.Core.Path.{_≡_, refl, ap, sym, _∙_}
 use mathlib.Core.List.{List}
-use mathlib.Core.Bool.{true, false}
-use Prim.Native.Nat.{ℕ, suc, _+_, _*_, _<_, _≤_}
+use mathlib.Core.Bool.{true}
+use Prim.Native.Nat.{ℕ, suc, _+_, _*_, _<_}
 use native.Mathlib.Omega.{arith}
 use lib.Dec.{eqb}
 use borrow.Author.Tests.{eq-eqb, ne-eqb}
 use Rattle.notation.specs.Fine.{FineProcess}
-use Rattle.notation.specs.Limits.{textLimit}
+use Rattle.notation.specs.Limits.{textLimit, processTermLimit}
 use Rattle.notation.specs.Token.{kindAt, tokenAt, kFwd, kName, kCancel, kRaise, kSend, kSemicolon, Onward}
 use Rattle.notation.specs.Tree.{Located, Proc, empty, cancel, fwd, raise}
 use Rattle.notation.specs.Reader.{Result, got, take, lastly, expect, misfit, processTerm, nameIn}
 use Rattle.notation.specs.Processes.{payload, sendBy, processBy, restBy, readProcess, readRest}
-use Rattle.notation.specs.Tables.{moreTerms, termNode, putTerm, emptyPointer, pointerTo, afterProcess, writeProcess}
+use Rattle.notation.specs.Tables.{moreTerms, termNode, putTerm, emptyPointer, afterProcess, writeProcess}
 use Rattle.notation.specs.declared.token.Token.{Token}
 use Rattle.notation.specs.declared.reading.Cursor.{Cursor}
 use Rattle.notation.specs.declared.reading.Tally.{Tally}
@@ -24,13 +24,13 @@ use Rattle.notation.specs.declared.token.Payload.{Payload}
 use Rattle.notation.specs.declared.token.Payload.the-variants.{Unit as UnitPayload, Channel, Label, Other}
 use Rattle.read_types.specs.declared.steps.Out.{Out}
 use Rattle.read_types.specs.declared.steps.Out.the-variants.{Got}
-use Rattle.read_types.specs.Filling.{Stepped, asOut, Room, Meets, unread}
-use Rattle.read_types.proofs.Filled.{same, took, refused-out, made-got, meets-no, meets-got, more-no, more-got, more-made}
+use Rattle.read_types.specs.Filling.{Kept, Stepped, asOut, Room, Meets, unread}
+use Rattle.read_types.proofs.Filled.{same, _upon_, took, refused-out, made-got, meets-no, meets-got, more-no, more-got, more-made}
 use Rattle.read_text.specs.declared.turns.Turn.{Turn}
 use Rattle.read_text.specs.declared.turns.Turn.the-variants.{On, Done}
-use Rattle.read_text.specs.Turns.{Laid, peek, pointing, processForm, termForm, nodeForm, ProcessRead, RestTurned}
-use Rattle.read_text.specs.Processes.{payloadTaken, sentOf, sentNode, termBy, TermRead, TermTurned, SentTurned}
-use Rattle.read_text.proofs.Turning.{made-as, meets-as, lastly-same, turn-done, turn-on, turn-under}
+use Rattle.read_text.specs.Turns.{peek, pointing, nodeForm, ProcessRead, RestTurned}
+use Rattle.read_text.specs.Processes.{payloadTaken, sentOf, sentNode, TermRead, TermTurned, SentTurned}
+use Rattle.read_text.proofs.Turning.{term-kept, made-as, meets-as, lastly-same, turn-done, turn-on, turn-under}
 use Rattle.read_text.proofs.Pointers.{pointer-at}
 
 -- ── after a term
@@ -38,19 +38,20 @@ rest-suc : (m : ℕ) (s : List ℕ) (c : Cursor) → readRest (suc m) s c ≡ re
 unfolding readProcess
 rest-suc m s c = refl
 
-module _ (i : ℕ) (n : TermNode) (s w : List ℕ) (c : Cursor) (k : Tally) (room : Room s w c k) (t : Token) (is : t ≡ tokenAt s (c .at))
+module _ (i : ℕ) (n : TermNode) (s w : List ℕ) (c : Cursor) (k : Tally) (room : Room s w c k) (few : i < processTermLimit) (t : Token)
+    (is : t ≡ tokenAt s (c .at))
     (o : Onward s (c .at) t) where
   kind-is : kindAt s (c .at) ≡ t .kind
   kind-is = ap (λ x. x .kind) (sym is)
 
   -- nothing follows
-  pub rest-none : ((t .kind ≡ kSemicolon) → ⊥) → {v : List ℕ} → Laid w (putTerm w i (pointing n (emptyPointer (t .start)))) v
+  pub rest-none : ((t .kind ≡ kSemicolon) → ⊥) → {v : List ℕ} → v ≡ putTerm w i (pointing n (emptyPointer (t .start)))
       → RestTurned i n s w c k (Done (Got c k)) v
   unfolding restBy afterProcess writeProcess FineProcess
   rest-none d x =
-      turn-done (more-got (nodeForm i n) s w c k (λ m. readRest m s c) (omega (arith, o .starts)) (x .kept)
+      turn-done (more-got (nodeForm i n) s w c k (λ m. readRest m s c) (omega (arith, o .starts)) (term-kept w i (pointing n (emptyPointer (t .start))) few x)
       (λ m _. made-got (empty (t .start)) (rest-suc m s c ∙ rw (ne-eqb _ _ (λ e. d (sym kind-is ∙ e))) (ap (λ x. got (empty (x .start)) c) (sym is))) refl
-      (x .words) (omega (arith, o .starts))))
+      x (omega (arith, o .starts))))
 
   module _ (e : t .kind ≡ kSemicolon) {q : Taken} (u : Stepped s c 1 0 0 (expect s kSemicolon c) q) where
     semicolon : eqb (kindAt s (c .at)) kSemicolon ≡ true
@@ -60,7 +61,10 @@ module _ (i : ℕ) (n : TermNode) (s w : List ℕ) (c : Cursor) (k : Tally) (roo
     unfolding restBy
     rest-no g h = turn-done (more-no (nodeForm i n) s w c k (λ m. readRest m s c) (refused-out g h) same (λ m _. rest-suc m s c ∙ rw (semicolon, took u g)))
 
-    module _ {j : ℕ} {d : Cursor} (g : q ≡ At j d) {v : List ℕ} (x : Laid w (putTerm w i (pointing n (peek s (d .at) (k .terms)))) v) where
+    module _ {j : ℕ} {d : Cursor} (g : q ≡ At j d) {v : List ℕ} (x : v ≡ putTerm w i (pointing n (peek s (d .at) (k .terms)))) where
+      rest-kept : Kept w v
+      rest-kept = term-kept w i (pointing n (peek s (d .at) (k .terms))) few x
+
       rest-is : (m : ℕ) → readRest (suc m) s c ≡ lastly (λ P. P) (readProcess m s d)
       unfolding restBy
       rest-is m = rest-suc m s c ∙ rw (semicolon, took u g) (lastly-same (readProcess m s d))
@@ -71,8 +75,8 @@ module _ (i : ℕ) (n : TermNode) (s w : List ℕ) (c : Cursor) (k : Tally) (roo
           record {
             is = more-made (nodeForm i n) w k (λ m. readRest m s c)
                 (λ m lo. made-as a (λ P. P) w k m (omega arith) (rest-is m)
-                (λ P f p fi _. (refl, ap (writeProcess P k) (x .words ∙ ap (λ y. putTerm w i (pointing n y)) (sym (pointer-at m s d f P (k .terms) p))), fi)));
-            kept = record { long = a .kept .long ∙ x .kept .long; past = a .kept .past ∙ x .kept .past };
+                (λ P f p fi _. (refl, ap (writeProcess P k) (x ∙ ap (λ y. putTerm w i (pointing n y)) (sym (pointer-at m s d f P (k .terms) p))), fi)));
+            kept = a .kept upon rest-kept;
             on = λ b l p. let o₂ = a .on b l p in omega arith;
           }
 
@@ -80,7 +84,7 @@ module _ (i : ℕ) (n : TermNode) (s w : List ℕ) (c : Cursor) (k : Tally) (roo
       pub rest-on : RestTurned i n s w c k (On d k) v
       rest-on =
           let z = u .on j d g in
-          turn-on (x .kept) (record { room = omega (arith, x .kept .long); later = omega arith; whole = rest-whole })
+          turn-on rest-kept (record { room = omega (arith, rest-kept .long); later = omega arith; whole = rest-whole })
 
 -- ── the definition's own words for what the code does in one step
 sent-is : (rest : Cursor → Result Proc) (s : List ℕ) (at : ℕ) (c : Located) (d : Cursor) (h : Payload)
@@ -188,18 +192,19 @@ module _ (s w : List ℕ) (c : Cursor) (k : Tally) (room : Room s w c k) where
     raise-no g h = turn-done (meets-no s w c k (refused-out g h) same (λ m _. rw (took u g)))
 
     pub raise-on : {at : ℕ} {d : Cursor} → q ≡ At at d → {v : List ℕ}
-        → Laid w (putTerm w (k .terms) (pointing (termNode 11 at 0 0 0) (peek s (d .at) (k .terms + 1)))) v
+        → v ≡ putTerm w (k .terms) (pointing (termNode 11 at 0 0 0) (peek s (d .at) (k .terms + 1)))
         → TermTurned Raise s w c k (On d (moreTerms k)) v
     unfolding processBy afterProcess writeProcess FineProcess
     raise-on {at} {d} e x =
         let o = u .on at d e in
-        turn-on (x .kept) (record {
-          room = omega (arith, x .kept .long);
+        let kept = term-kept w (k .terms) (pointing (termNode 11 at 0 0 0) (peek s (d .at) (k .terms + 1))) (omega arith) x in
+        turn-on kept (record {
+          room = omega (arith, kept .long);
           later = omega arith;
-          whole = λ r y a. meets-as a (raise at) w k (λ m lo. (rw (took u e), omega arith)) (x .kept)
+          whole = λ r y a. meets-as a (raise at) w k (λ m lo. (rw (took u e), omega arith)) kept
               (λ m P f p fi _. (
                 refl,
-                ap (writeProcess P (moreTerms k)) (x .words ∙ ap (λ y. putTerm w (k .terms) (termNode 11 at 0 0 y))
+                ap (writeProcess P (moreTerms k)) (x ∙ ap (λ y. putTerm w (k .terms) (termNode 11 at 0 0 y))
                     (sym (pointer-at m s d f P (k .terms + 1) p))),
                 (omega arith, fi),
               ))
@@ -222,12 +227,12 @@ module _ (s w : List ℕ) (c : Cursor) (k : Tally) (room : Room s w c k) where
         unfolding processBy
         fwd-used-no h l = meets-no s w c k (refused-out h l) same (λ m _. rw (took u e, took y g, took o h))
 
-        pub fwd-got : {j : ℕ} {b : Cursor} {v : List ℕ} → z ≡ At j b → Laid w (putTerm w (k .terms) (termNode 9 at i j 0)) v
+        pub fwd-got : {j : ℕ} {b : Cursor} {v : List ℕ} → z ≡ At j b → v ≡ putTerm w (k .terms) (termNode 9 at i j 0)
             → TermRead Fwd s w c k (Got b (moreTerms k)) v
         unfolding processBy afterProcess writeProcess FineProcess
         fwd-got {j} {b} h x =
             let o₁ = u .on at d e in
             let o₂ = y .on i f g in
             let o₃ = o .on j b h in
-            meets-got s w c k (omega arith) (x .kept)
-            (λ m _. made-got (fwd at (nameIn s i) (nameIn s j)) (rw (took u e, took y g, took o h)) refl (x .words) (omega arith))
+            meets-got s w c k (omega arith) (term-kept w (k .terms) (termNode 9 at i j 0) (omega arith) x)
+            (λ m _. made-got (fwd at (nameIn s i) (nameIn s j)) (rw (took u e, took y g, took o h)) refl x (omega arith))

@@ -1,32 +1,42 @@
 -- How answers and words follow the definition over what was read before, one turn, and what a loop keeps.
 use mathlib.Core.Path.{_≡_, refl, ap, sym, subst, _∙_}
 use mathlib.Core.List.{List}
-use Prim.Native.Nat.{ℕ, suc, _+_, _*_, _<_, _≤_}
+use mathlib.Core.Bool.{Bool, true, false}
+use Prim.Native.Nat.{ℕ, _+_, _*_, _<_, _≤_}
 use native.Mathlib.Omega.{arith}
-use lib.ListN.{length, set}
-use Rattle.notation.specs.Reader.{Result, got, refused, lastly}
-use Rattle.notation.specs.Limits.{textLimit}
+use lib.ListN.{length, set, length-set}
+use Rattle.notation.specs.Reader.{Result, got, refused, lastly, limited}
+use Rattle.notation.specs.Limits.{textLimit, processTermLimit}
 use Rattle.notation.specs.Token.{tokenAt, kindAt}
 use Rattle.notation.specs.Processes.{termHead, readProcess}
 use Rattle.notation.specs.declared.token.Token.{Token}
 use Rattle.notation.specs.declared.token.TermHead.{TermHead}
 use Rattle.notation.specs.declared.reading.Cursor.{Cursor}
+use Rattle.notation.specs.Tables.{termsAt, termWord, termWord′, putTerm}
 use Rattle.notation.specs.declared.reading.Tally.{Tally}
+use Rattle.notation.specs.declared.reading.TermNode.{TermNode}
+use Rattle.notation.specs.declared.reading.Taken.{Taken}
+use Rattle.notation.specs.declared.reading.Taken.the-variants.{At, Refused}
 use Rattle.read_types.specs.declared.steps.Out.{Out}
 use Rattle.read_types.specs.declared.steps.Out.the-variants.{Got}
-use Rattle.read_types.specs.Filling.{Kept, WordPut, Room, Form, Made, Meets, unread}
+use Rattle.read_types.specs.Filling.{Kept, Room, Form, Made, Meets, unread}
 use Rattle.read_text.specs.declared.turns.Turn.{Turn}
 use Rattle.read_text.specs.declared.turns.Turn.the-variants.{On, Done}
-use Rattle.read_text.specs.Turns.{Laid, ProcessRead, Onward, Turned, TurnRead, finishedOut, processForm}
-use Rattle.read_types.proofs.Filled.{same, _upon_, _set-more_}
+use Rattle.read_text.specs.Turns.{ProcessRead, Onward, Turned, TurnRead, finishedOut, processForm}
+use Rattle.read_types.proofs.Taking.{never}
+use Rattle.read_types.proofs.Filled.{same, _upon_, kept-set}
 
--- ── words that were put
-pub laid-one : {w v : List ℕ} {i n : ℕ} → WordPut w i n v → Laid w (set w i n) v
-laid-one p = record { words = p .words; kept = p .kept }
+-- ── the node of a term is two words of the tables
+module _ (w : List ℕ) (i : ℕ) (n : TermNode) {v : List ℕ} where
+  pub term-kept : i < processTermLimit → v ≡ putTerm w i n → Kept w v
+  unfolding putTerm
+  term-kept l e = rw e (kept-set (set w (termsAt + 2 * i) (termWord n)) (termsAt + 2 * i + 1) (termWord′ n) (omega arith) upon kept-set w (termsAt + 2 * i)
+      (termWord n) (omega arith))
 
-infixl 30 _laid-more_
-pub _laid-more_ : {w x v u : List ℕ} {i n : ℕ} → Laid w x v → WordPut v i n u → Laid w (set x i n) u
-_laid-more_ q p = record { words = q .words set-more p; kept = p .kept upon q .kept }
+  pub term-long : v ≡ putTerm w i n → length v ≡ length w
+  unfolding putTerm
+  term-long e = ap length e ∙ length-set (set w (termsAt + 2 * i) (termWord n)) (termsAt + 2 * i + 1) (termWord′ n) ∙ length-set w (termsAt + 2 * i)
+      (termWord n)
 
 -- ── the token that a term begins with, as the code has it
 module _ (s : List ℕ) (at : ℕ) {t : Token} (e : t ≡ tokenAt s at) where
@@ -35,6 +45,13 @@ module _ (s : List ℕ) (at : ℕ) {t : Token} (e : t ≡ tokenAt s at) where
 
   pub start-is : t .start ≤ textLimit → tokenAt s at .start ≤ textLimit
   start-is l = subst (λ (y : Token). y .start ≤ textLimit) e l
+
+-- a step that was taken within a limit, whatever followed it
+pub limit-held : (after : Taken → Taken) → ((n i : ℕ) → after (Refused n i) ≡ Refused n i) → (t : Taken) (b : Bool) {i : ℕ} {d : Cursor}
+    → after (limited t (λ _. b) (λ d. d)) ≡ At i d → b ≡ true
+limit-held after h t true e = refl
+limit-held after h (At j f) false e = never (sym (h 5 j) ∙ e)
+limit-held after h (Refused n j) false e = never (sym (h n j) ∙ e)
 
 -- ── an answer for a, as one for the tree over it
 -- the tree b, from k′ and w′ on, is counted and written as a is

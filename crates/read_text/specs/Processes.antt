@@ -1,6 +1,5 @@
 -- What the code that reads processes promises.
-use mathlib.Core.Path.{_≡_}
-use Prim.Native.Nat.{ℕ, _+_, _*_, _<_, _≤_}
+use Prim.Native.Nat.{ℕ, _+_, _*_, _≤_}
 use mathlib.Core.List.{List}
 use Rattle.notation.specs.Fine.{SomeBranch, FineProcess, FineBranches}
 use Rattle.notation.specs.Limits.{labelLimit}
@@ -20,7 +19,7 @@ use Rattle.notation.specs.declared.token.Payload.the-variants.{Unit as UnitPayl
 use Rattle.read_types.specs.declared.steps.Out.{Out}
 use Rattle.read_types.specs.Filling.{misfitTaken, Form, Meets, unread}
 use Rattle.read_text.specs.declared.turns.Turn.{Turn}
-use Rattle.read_text.specs.Turns.{AheadProcess, processForm, termForm, nodeForm, ProcessRead, Turned}
+use Rattle.read_text.specs.Turns.{AheadProcess, processForm, termForm, nodeForm, Turned}
 
 -- ── tokens
 -- what a send sends or a recv takes, as one step

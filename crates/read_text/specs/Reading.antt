@@ -3,13 +3,11 @@ use mathlib.Core.Path.{_≡_}
 use Prim.Native.Nat.{ℕ, _<_, _≤_}
 use mathlib.Core.List.{List, _++_}
 use lib.ListN.{length, drop}
-use Rattle.notation.specs.Limits.{scratchWords, processLimit, typeLimit}
+use Rattle.notation.specs.Limits.{scratchWords}
 use Rattle.notation.specs.Tree.{Declaration}
 use Rattle.notation.specs.Reader.{Result, got, refused}
 use Rattle.notation.specs.Scripts.{readText}
-use Rattle.notation.specs.Tables.{afterScript, nothing, tables, branchRoom, FitsTables}
-use Rattle.notation.specs.declared.reading.Cursor.{Cursor}
-use Rattle.notation.specs.declared.reading.Tally.{Tally}
+use Rattle.notation.specs.Tables.{afterScript, nothing, tables, FitsTables}
 use Rattle.notation.specs.declared.script.Script.{Script}
 use Rattle.read_text.specs.declared.reading.Reading.{Reading}
 use Rattle.read_text.specs.declared.reading.Reading.the-variants.{Read, Refused}

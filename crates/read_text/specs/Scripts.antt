@@ -1,13 +1,13 @@
 -- What the code that reads signatures, declarations and the script promises.
 use mathlib.Core.Path.{_≡_}
 use Prim.Native.Nat.{ℕ, _+_, _*_, _<_, _≤_}
-use mathlib.Core.List.{List, [], _∷_}
+use mathlib.Core.List.{List, []}
 use lib.ListN.{length}
 use lib.Dec.{eqb}
-use Rattle.notation.specs.Fine.{FineProcess, FineType, FineEntries, FineDeclaration}
-use Rattle.notation.specs.Limits.{textLimit, typeTermLimit, processTermLimit, typeLimit, processLimit, execLimit}
+use Rattle.notation.specs.Fine.{FineEntries, FineDeclaration}
+use Rattle.notation.specs.Limits.{typeTermLimit, processTermLimit, typeLimit, processLimit, execLimit}
 use Rattle.notation.specs.Token.{kindAt, kName, kColon, kComma}
-use Rattle.notation.specs.Tree.{Entry, Declaration, declareType, declareProc, declareExec}
+use Rattle.notation.specs.Tree.{Entry, Declaration}
 use Rattle.notation.specs.Reader.{Result, got, take, choose, expect, misfit, thenToken}
 use Rattle.notation.specs.Scripts.{Count, keyword, moreTypes, moreProcesses, moreExecs, readEntries, typeDeclaration, procDeclaration, execDeclaration, readScript}
 use Rattle.notation.specs.Tables.{afterEntries, writeEntries, afterDeclaration, writeDeclaration, afterScript, writeScript}

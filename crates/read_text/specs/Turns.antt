@@ -21,11 +21,6 @@ use Rattle.read_types.specs.Filling.{Kept, SameDeclared, Room, Form, Meets, unr
 use Rattle.read_text.specs.declared.turns.Turn.{Turn}
 use Rattle.read_text.specs.declared.turns.Turn.the-variants.{On, Done}
 
--- the words v are x, with nothing changed past the tables' area of w
-pub record Laid (w x v : List ℕ) : Type 0 where
-  pub words : v ≡ x
-  pub kept : Kept w v
-
 -- ── pointers
 -- the pointer to a process that begins with a token of this head at `at`, where n is the next node's number
 abbrev pub peekBy : TermHead → ℕ → ℕ → ℕ

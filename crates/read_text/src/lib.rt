@@ -1,9 +1,9 @@
-mod names;
-mod payloads;
-mod processes;
+pub mod names;
+pub mod payloads;
+pub mod processes;
 pub mod reading;
-mod scripts;
-mod signatures;
-mod store;
-mod terms;
+pub mod scripts;
+pub mod signatures;
+pub mod store;
+pub mod terms;
 pub mod turns;

@@ -18,13 +18,12 @@ ghost use Prim.Native.Nat.{_<_};
 ghost use Rattle.notation.specs.Tables.{Area, putTerm, putEntry, putType, putProcess, putExec, moreEntries, moreTypes, moreProcesses, moreExecs, offsetRadix};
 ghost use Rattle.notation.specs.Limits.{execLimit, processLimit, processTermLimit, typeLimit, typeTermLimit};
 ghost use Rattle.read_types.specs.Filling.{Put, FitsTerm, FitsEntry};
-ghost use Rattle.read_text.specs.Turns.{Laid};
 
 // The node of the process term i is n.
 pub(crate) fn put_term(scratch: &mut [u32], i: usize, n: TermNode)
     requires { ⌜ Area (now scratch) × (i < processTermLimit) ⌝ }
     requires { ⌜ FitsTerm n ⌝ }
-    ensures { λ r. ⌜ Laid (now (scratch .entry)) (putTerm (now (scratch .entry)) i n) (now (scratch .exit)) ⌝ }
+    ensures { λ r. ⌜ now (scratch .exit) ≡ putTerm (now (scratch .entry)) i n ⌝ }
 {
     let at = TERMS_AT + 2 * i;
     put_word(

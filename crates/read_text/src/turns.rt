@@ -19,7 +19,7 @@ ghost use Rattle.notation.specs.Limits.{processTermLimit, textLimit};
 ghost use Rattle.notation.specs.Token.{tokenAt};
 ghost use Rattle.notation.specs.Tables.{Area, putTerm};
 ghost use Rattle.read_types.specs.Filling.{Room, FitsTerm};
-ghost use Rattle.read_text.specs.Turns.{Laid, peek, pointing, finishedOut, RestTurned};
+ghost use Rattle.read_text.specs.Turns.{peek, pointing, finishedOut, RestTurned};
 
 // After one term: a process follows here, or the answer is there.
 pub enum Turn {
@@ -65,7 +65,7 @@ pub(crate) fn pointer_within(text: &[u8], at: usize, n: usize) -> usize
 fn put_pointing(scratch: &mut [u32], i: usize, n: TermNode, third: usize)
     requires { ⌜ Area (now scratch) × (i < processTermLimit) × (third ≤ processTermLimit + textLimit) ⌝ }
     requires { ⌜ FitsTerm n ⌝ }
-    ensures { λ r. ⌜ Laid (now (scratch .entry)) (putTerm (now (scratch .entry)) i (pointing n third)) (now (scratch .exit)) ⌝ }
+    ensures { λ r. ⌜ now (scratch .exit) ≡ putTerm (now (scratch .entry)) i (pointing n third) ⌝ }
 {
     let mut m = n;
     m.third = third;
@@ -83,7 +83,7 @@ pub(crate) fn put_before(
 )
     requires { ⌜ (length (now text) ≤ textLimit) × Area (now scratch) × (next ≤ processTermLimit) × (i < processTermLimit) ⌝ }
     requires { ⌜ FitsTerm n ⌝ }
-    ensures { λ r. ⌜ Laid (now (scratch .entry)) (putTerm (now (scratch .entry)) i (pointing n (peek (now (text .entry)) at next))) (now (scratch .exit)) ⌝ }
+    ensures { λ r. ⌜ now (scratch .exit) ≡ putTerm (now (scratch .entry)) i (pointing n (peek (now (text .entry)) at next)) ⌝ }
 {
     let third = pointer(text, at, next);
     put_pointing(scratch, i, n, third);

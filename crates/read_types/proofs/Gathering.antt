@@ -27,7 +27,7 @@ use Rattle.read_types.proofs.Listing.{list-none, list-more}
 use Rattle.read_types.proofs.TypePaths.{then-take}
 
 -- a label that was taken is within its list's limit
-pub within-limit : (b : Bool) (x : Taken) (g : Cursor → Taken) (i : ℕ) (d : Cursor) → thenToken (limited x (λ _. b) (λ e. e)) g ≡ At i d → b ≡ true
+within-limit : (b : Bool) (x : Taken) (g : Cursor → Taken) (i : ℕ) (d : Cursor) → thenToken (limited x (λ _. b) (λ e. e)) g ≡ At i d → b ≡ true
 within-limit true x g i d z = refl
 within-limit false (At j c) g i d z = never z
 within-limit false (Refused m j) g i d z = never z

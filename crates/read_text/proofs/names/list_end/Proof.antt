@@ -3,9 +3,6 @@ use Rattle.read_types.proofs.Taking.{width-pos}
 use borrow.Author.Needs.{needs}
 use Rattle.read_text.proofs.names.list_end.Statement.{statement}
 use Rattle.read_text.proofs.names.list_end.Tie as tie
-use Rattle.read_text.proofs.names.list_end.Reads as reads
-use Rattle.read_text.proofs.names.list_end.Lts as lts
-use Rattle.read_types.proofs.steps.expect.Reads as expect-reads
 
 expect-requires : tie.Need-expect-requires
 expect-requires c κs = search needs

@@ -3,10 +3,6 @@ use Rattle.read_types.proofs.Taking.{width-pos}
 use borrow.Author.Needs.{needs}
 use Rattle.read_text.proofs.names.name_list.Statement.{statement}
 use Rattle.read_text.proofs.names.name_list.Tie as tie
-use Rattle.read_text.proofs.names.name_list.Reads as reads
-use Rattle.read_text.proofs.names.name_list.Lts as lts
-use Rattle.read_text.proofs.names.names_or_none.Reads as names-or-none-reads
-use Rattle.read_types.proofs.steps.opening.Reads as opening-reads
 
 opening-requires : tie.Need-opening-requires
 opening-requires c κs = c .before .pre .0

@@ -4,11 +4,6 @@ use Rattle.read_text.proofs.NamePaths.{some-names, no-names}
 use borrow.Author.Needs.{needs}
 use Rattle.read_text.proofs.names.names_or_none.Statement.{statement}
 use Rattle.read_text.proofs.names.names_or_none.Tie as tie
-use Rattle.read_text.proofs.names.names_or_none.Reads as reads
-use Rattle.read_text.proofs.names.names_or_none.Lts as lts
-use Rattle.read_text.proofs.names.list_end.Reads as list-end-reads
-use Rattle.read_text.proofs.names.read_names.Reads as read-names-reads
-use Rattle.read_types.proofs.steps.kind_at.Reads as kind-at-reads
 
 kind-at-requires : tie.Need-kind-at-requires
 kind-at-requires c κs = search needs

@@ -4,10 +4,6 @@ use Rattle.read_types.proofs.Taking.{followed}
 use borrow.Author.Needs.{needs}
 use Rattle.read_text.proofs.payloads.label_then.Statement.{statement}
 use Rattle.read_text.proofs.payloads.label_then.Tie as tie
-use Rattle.read_text.proofs.payloads.label_then.Reads as reads
-use Rattle.read_text.proofs.payloads.label_then.Lts as lts
-use Rattle.read_types.proofs.steps.label_term.Reads as label-term-reads
-use Rattle.read_types.proofs.steps.then_expect.Reads as then-expect-reads
 
 label-term-requires : tie.Need-label-term-requires
 label-term-requires c κs = search needs

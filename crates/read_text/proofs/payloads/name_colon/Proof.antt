@@ -4,10 +4,6 @@ use Rattle.read_types.proofs.Taking.{followed}
 use borrow.Author.Needs.{needs}
 use Rattle.read_text.proofs.payloads.name_colon.Statement.{statement}
 use Rattle.read_text.proofs.payloads.name_colon.Tie as tie
-use Rattle.read_text.proofs.payloads.name_colon.Reads as reads
-use Rattle.read_text.proofs.payloads.name_colon.Lts as lts
-use Rattle.read_types.proofs.steps.process_term.Reads as process-term-reads
-use Rattle.read_types.proofs.steps.then_expect.Reads as then-expect-reads
 
 process-term-requires : tie.Need-process-term-requires
 process-term-requires c κs = search needs

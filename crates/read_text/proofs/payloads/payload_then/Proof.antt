@@ -4,10 +4,6 @@ use Rattle.read_types.proofs.Taking.{followed}
 use borrow.Author.Needs.{needs}
 use Rattle.read_text.proofs.payloads.payload_then.Statement.{statement}
 use Rattle.read_text.proofs.payloads.payload_then.Tie as tie
-use Rattle.read_text.proofs.payloads.payload_then.Reads as reads
-use Rattle.read_text.proofs.payloads.payload_then.Lts as lts
-use Rattle.read_text.proofs.payloads.payload_token.Reads as payload-token-reads
-use Rattle.read_types.proofs.steps.then_expect.Reads as then-expect-reads
 
 payload-token-requires : tie.Need-payload-token-requires
 payload-token-requires c κs = search needs

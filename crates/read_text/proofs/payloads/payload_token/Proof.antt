@@ -4,11 +4,6 @@ use Rattle.read_types.proofs.Taking.{narrower, refused-step}
 use borrow.Author.Needs.{needs}
 use Rattle.read_text.proofs.payloads.payload_token.Statement.{statement}
 use Rattle.read_text.proofs.payloads.payload_token.Tie as tie
-use Rattle.read_text.proofs.payloads.payload_token.Reads as reads
-use Rattle.read_text.proofs.payloads.payload_token.Lts as lts
-use Rattle.read_types.proofs.steps.misfit_token.Reads as misfit-token-reads
-use Rattle.read_text.proofs.payloads.unit_mark.Reads as unit-mark-reads
-use Rattle.read_types.proofs.steps.expect.Reads as expect-reads
 
 enum-told : tie.Need-enum-told
 enum-told c = search needs

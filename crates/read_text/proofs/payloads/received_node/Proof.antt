@@ -3,8 +3,6 @@ use Rattle.read_text.specs.Processes.{recvdNode}
 use borrow.Author.Needs.{needs}
 use Rattle.read_text.proofs.payloads.received_node.Statement.{statement}
 use Rattle.read_text.proofs.payloads.received_node.Tie as tie
-use Rattle.read_text.proofs.payloads.received_node.Reads as reads
-use Rattle.read_text.proofs.payloads.received_node.Lts as lts
 
 enum-told : tie.Need-enum-told
 enum-told c = search needs

@@ -3,8 +3,6 @@ use Rattle.read_text.specs.Processes.{sentNode}
 use borrow.Author.Needs.{needs}
 use Rattle.read_text.proofs.payloads.sent_node.Statement.{statement}
 use Rattle.read_text.proofs.payloads.sent_node.Tie as tie
-use Rattle.read_text.proofs.payloads.sent_node.Reads as reads
-use Rattle.read_text.proofs.payloads.sent_node.Lts as lts
 
 enum-told : tie.Need-enum-told
 enum-told c = search needs

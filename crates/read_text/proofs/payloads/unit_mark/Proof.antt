@@ -4,10 +4,6 @@ use Rattle.read_types.proofs.Taking.{followed, closing-no, closing-at}
 use borrow.Author.Needs.{needs}
 use Rattle.read_text.proofs.payloads.unit_mark.Statement.{statement}
 use Rattle.read_text.proofs.payloads.unit_mark.Tie as tie
-use Rattle.read_text.proofs.payloads.unit_mark.Reads as reads
-use Rattle.read_text.proofs.payloads.unit_mark.Lts as lts
-use Rattle.read_types.proofs.steps.opening.Reads as opening-reads
-use Rattle.read_types.proofs.steps.then_expect.Reads as then-expect-reads
 
 opening-requires : tie.Need-opening-requires
 opening-requires c κs = search needs

@@ -4,11 +4,6 @@ use Rattle.read_text.proofs.Whole.{zeros-long, fill-long, fill-no, fill
 use borrow.Author.Needs.{needs}
 use Rattle.read_text.proofs.reading.fill.Statement.{statement}
 use Rattle.read_text.proofs.reading.fill.Tie as tie
-use Rattle.read_text.proofs.reading.fill.Reads as reads
-use Rattle.read_text.proofs.reading.fill.Lts as lts
-use Rattle.read_text.proofs.reading.write_counts.Reads as write-counts-reads
-use Rattle.read_text.proofs.reading.zero.Reads as zero-reads
-use Rattle.read_text.proofs.scripts.read_script.Reads as read-script-reads
 
 zero-requires : tie.Need-zero-requires
 zero-requires c κs = c .before .before .before .pre

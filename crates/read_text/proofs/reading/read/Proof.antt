@@ -2,9 +2,6 @@ use Rattle.read_text.proofs.Whole.{text-short, text-full}
 use borrow.Author.Needs.{needs}
 use Rattle.read_text.proofs.reading.read.Statement.{statement}
 use Rattle.read_text.proofs.reading.read.Tie as tie
-use Rattle.read_text.proofs.reading.read.Reads as reads
-use Rattle.read_text.proofs.reading.read.Lts as lts
-use Rattle.read_text.proofs.reading.fill.Reads as fill-reads
 
 returns : tie.Need-returns
 returns c = text-short _ _ (c .if1 .taken)

@@ -4,9 +4,6 @@ use native.Mathlib.Omega.{arith}
 use borrow.Author.Needs.{needs}
 use Rattle.read_text.proofs.reading.write_counts.Statement.{statement}
 use Rattle.read_text.proofs.reading.write_counts.Tie as tie
-use Rattle.read_text.proofs.reading.write_counts.Reads as reads
-use Rattle.read_text.proofs.reading.write_counts.Lts as lts
-use Rattle.read_types.proofs.store.put_word.Reads as put-word-reads
 
 put-word-requires : tie.Need-put-word-requires
 put-word-requires c κs = search needs

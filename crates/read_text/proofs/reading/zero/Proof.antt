@@ -7,8 +7,6 @@ use borrow.Author.Needs.{needs}
 use Rattle.notation.specs.Limits.{scratchWords}
 use Rattle.read_text.proofs.reading.zero.Statement.{statement}
 use Rattle.read_text.proofs.reading.zero.Tie as tie
-use Rattle.read_text.proofs.reading.zero.Reads as reads
-use Rattle.read_text.proofs.reading.zero.Lts as lts
 
 abbrev Inv-loop : tie.InvT-loop
 Inv-loop part₀ k₀ part k = (k ≤ scratchWords) × (length part ≡ scratchWords) × ((j : ℕ) → j < k → getD part j 0 ≡ 0)

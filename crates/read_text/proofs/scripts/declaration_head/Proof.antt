@@ -2,8 +2,6 @@ use Rattle.notation.specs.Scripts.{declarationHead}
 use borrow.Author.Tests.{eq-eqb, ne-eqb}
 use Rattle.read_text.proofs.scripts.declaration_head.Statement.{statement}
 use Rattle.read_text.proofs.scripts.declaration_head.Tie as tie
-use Rattle.read_text.proofs.scripts.declaration_head.Reads as reads
-use Rattle.read_text.proofs.scripts.declaration_head.Lts as lts
 
 returns : tie.Need-returns
 unfolding declarationHead

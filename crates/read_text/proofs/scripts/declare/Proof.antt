@@ -4,12 +4,6 @@ use Rattle.read_text.proofs.ScriptPaths.{declare-no}
 use borrow.Author.Needs.{needs}
 use Rattle.read_text.proofs.scripts.declare.Statement.{statement}
 use Rattle.read_text.proofs.scripts.declare.Tie as tie
-use Rattle.read_text.proofs.scripts.declare.Reads as reads
-use Rattle.read_text.proofs.scripts.declare.Lts as lts
-use Rattle.read_text.proofs.scripts.declare_exec.Reads as declare-exec-reads
-use Rattle.read_text.proofs.scripts.declare_proc.Reads as declare-proc-reads
-use Rattle.read_text.proofs.scripts.declare_type.Reads as declare-type-reads
-use Rattle.read_types.proofs.steps.misfit.Reads as misfit-reads
 
 enum-told : tie.Need-enum-told
 enum-told c = search needs

@@ -5,11 +5,6 @@ use Rattle.read_text.proofs.ScriptPaths.{name-held, exec-no, exec-got}
 use borrow.Author.Needs.{needs}
 use Rattle.read_text.proofs.scripts.declare_exec.Statement.{statement}
 use Rattle.read_text.proofs.scripts.declare_exec.Tie as tie
-use Rattle.read_text.proofs.scripts.declare_exec.Reads as reads
-use Rattle.read_text.proofs.scripts.declare_exec.Lts as lts
-use Rattle.read_text.proofs.scripts.declared_name.Reads as declared-name-reads
-use Rattle.read_types.proofs.steps.refusal.Reads as refusal-reads
-use Rattle.read_text.proofs.store.put_exec.Reads as put-exec-reads
 
 declared-name-requires : tie.Need-declared-name-requires
 declared-name-requires c κs = search needs

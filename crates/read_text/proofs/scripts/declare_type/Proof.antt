@@ -5,13 +5,6 @@ use Rattle.read_text.proofs.ScriptPaths.{name-held, type-no, type-equal
 use borrow.Author.Needs.{needs}
 use Rattle.read_text.proofs.scripts.declare_type.Statement.{statement}
 use Rattle.read_text.proofs.scripts.declare_type.Tie as tie
-use Rattle.read_text.proofs.scripts.declare_type.Reads as reads
-use Rattle.read_text.proofs.scripts.declare_type.Lts as lts
-use Rattle.read_text.proofs.scripts.declared_name.Reads as declared-name-reads
-use Rattle.read_types.proofs.steps.expect.Reads as expect-reads
-use Rattle.read_types.proofs.steps.refusal.Reads as refusal-reads
-use Rattle.read_text.proofs.store.put_type.Reads as put-type-reads
-use Rattle.read_types.proofs.types.read_type.Reads as read-type-reads
 
 declared-name-requires : tie.Need-declared-name-requires
 declared-name-requires c κs = search needs

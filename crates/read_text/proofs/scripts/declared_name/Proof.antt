@@ -3,10 +3,6 @@ use Rattle.read_text.proofs.ScriptPaths.{name-no, name-at}
 use borrow.Author.Needs.{needs}
 use Rattle.read_text.proofs.scripts.declared_name.Statement.{statement}
 use Rattle.read_text.proofs.scripts.declared_name.Tie as tie
-use Rattle.read_text.proofs.scripts.declared_name.Reads as reads
-use Rattle.read_text.proofs.scripts.declared_name.Lts as lts
-use Rattle.read_text.proofs.scripts.keyword.Reads as keyword-reads
-use Rattle.read_types.proofs.steps.expect.Reads as expect-reads
 
 keyword-requires : tie.Need-keyword-requires
 keyword-requires c κs = search needs

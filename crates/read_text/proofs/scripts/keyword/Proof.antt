@@ -4,9 +4,6 @@ use borrow.Author.Tests.{lt-ltb, le-ltb}
 use borrow.Author.Needs.{needs}
 use Rattle.read_text.proofs.scripts.keyword.Statement.{statement}
 use Rattle.read_text.proofs.scripts.keyword.Tie as tie
-use Rattle.read_text.proofs.scripts.keyword.Reads as reads
-use Rattle.read_text.proofs.scripts.keyword.Lts as lts
-use Rattle.read_types.proofs.steps.expect.Reads as expect-reads
 
 expect-requires : tie.Need-expect-requires
 expect-requires c κs = search needs

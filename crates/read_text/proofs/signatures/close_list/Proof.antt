@@ -2,10 +2,6 @@ use Rattle.read_text.proofs.SignaturePaths.{close-no, close-got}
 use borrow.Author.Needs.{needs}
 use Rattle.read_text.proofs.signatures.close_list.Statement.{statement}
 use Rattle.read_text.proofs.signatures.close_list.Tie as tie
-use Rattle.read_text.proofs.signatures.close_list.Reads as reads
-use Rattle.read_text.proofs.signatures.close_list.Lts as lts
-use Rattle.read_types.proofs.steps.expect.Reads as expect-reads
-use Rattle.read_types.proofs.steps.refusal.Reads as refusal-reads
 
 expect-requires : tie.Need-expect-requires
 expect-requires c κs = c .before .before .pre .1

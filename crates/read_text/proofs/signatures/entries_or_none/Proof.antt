@@ -4,11 +4,6 @@ use Rattle.read_text.proofs.SignaturePaths.{some-entries, no-entries}
 use borrow.Author.Needs.{needs}
 use Rattle.read_text.proofs.signatures.entries_or_none.Statement.{statement}
 use Rattle.read_text.proofs.signatures.entries_or_none.Tie as tie
-use Rattle.read_text.proofs.signatures.entries_or_none.Reads as reads
-use Rattle.read_text.proofs.signatures.entries_or_none.Lts as lts
-use Rattle.read_text.proofs.signatures.close_list.Reads as close-list-reads
-use Rattle.read_text.proofs.signatures.read_entries.Reads as read-entries-reads
-use Rattle.read_types.proofs.steps.kind_at.Reads as kind-at-reads
 
 kind-at-requires : tie.Need-kind-at-requires
 kind-at-requires c κs = search needs

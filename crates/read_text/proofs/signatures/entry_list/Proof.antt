@@ -4,11 +4,6 @@ use Rattle.read_types.proofs.Taking.{width-pos}
 use borrow.Author.Needs.{needs}
 use Rattle.read_text.proofs.signatures.entry_list.Statement.{statement}
 use Rattle.read_text.proofs.signatures.entry_list.Tie as tie
-use Rattle.read_text.proofs.signatures.entry_list.Reads as reads
-use Rattle.read_text.proofs.signatures.entry_list.Lts as lts
-use Rattle.read_text.proofs.signatures.entries_or_none.Reads as entries-or-none-reads
-use Rattle.read_types.proofs.steps.opening.Reads as opening-reads
-use Rattle.read_types.proofs.steps.refusal.Reads as refusal-reads
 
 opening-requires : tie.Need-opening-requires
 opening-requires c κs = c .before .before .pre .1

@@ -4,10 +4,6 @@ use Rattle.read_types.proofs.Taking.{followed}
 use borrow.Author.Needs.{needs}
 use Rattle.read_text.proofs.signatures.entry_name.Statement.{statement}
 use Rattle.read_text.proofs.signatures.entry_name.Tie as tie
-use Rattle.read_text.proofs.signatures.entry_name.Reads as reads
-use Rattle.read_text.proofs.signatures.entry_name.Lts as lts
-use Rattle.read_types.proofs.steps.expect.Reads as expect-reads
-use Rattle.read_types.proofs.steps.then_expect.Reads as then-expect-reads
 
 expect-requires : tie.Need-expect-requires
 expect-requires c κs = search needs

@@ -3,9 +3,6 @@ use Rattle.read_types.proofs.Filled.{put-one}
 use borrow.Author.Needs.{needs}
 use Rattle.read_text.proofs.store.put_entry.Statement.{statement}
 use Rattle.read_text.proofs.store.put_entry.Tie as tie
-use Rattle.read_text.proofs.store.put_entry.Reads as reads
-use Rattle.read_text.proofs.store.put_entry.Lts as lts
-use Rattle.read_types.proofs.store.put_pair.Reads as put-pair-reads
 
 add-put-pair : tie.Need-add-put-pair
 add-put-pair c = search needs

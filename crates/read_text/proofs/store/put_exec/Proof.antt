@@ -3,9 +3,6 @@ use Rattle.read_types.proofs.Filled.{put-one}
 use borrow.Author.Needs.{needs}
 use Rattle.read_text.proofs.store.put_exec.Statement.{statement}
 use Rattle.read_text.proofs.store.put_exec.Tie as tie
-use Rattle.read_text.proofs.store.put_exec.Reads as reads
-use Rattle.read_text.proofs.store.put_exec.Lts as lts
-use Rattle.read_types.proofs.store.put_word.Reads as put-word-reads
 
 add-put-word : tie.Need-add-put-word
 add-put-word c = search needs

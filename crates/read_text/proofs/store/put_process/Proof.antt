@@ -4,9 +4,6 @@ use native.Mathlib.Omega.{arith}
 use borrow.Author.Needs.{needs}
 use Rattle.read_text.proofs.store.put_process.Statement.{statement}
 use Rattle.read_text.proofs.store.put_process.Tie as tie
-use Rattle.read_text.proofs.store.put_process.Reads as reads
-use Rattle.read_text.proofs.store.put_process.Lts as lts
-use Rattle.read_types.proofs.store.put_word.Reads as put-word-reads
 
 mul-i : tie.Need-mul-i
 mul-i c = search needs

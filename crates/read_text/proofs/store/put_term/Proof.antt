@@ -1,5 +1,5 @@
 use Rattle.notation.specs.Tables.{putTerm, termWord, termWord′}
-use Rattle.read_text.proofs.Turning.{laid-one, _laid-more_}
+use Rattle.read_types.proofs.Filled.{_set-more_}
 use borrow.Author.Needs.{needs}
 use Rattle.read_text.proofs.store.put_term.Statement.{statement}
 use Rattle.read_text.proofs.store.put_term.Tie as tie
@@ -42,7 +42,7 @@ same-length c = search needs
 
 returns : tie.Need-returns
 unfolding putTerm termWord termWord′
-returns c = laid-one (c .before .before .before .before .before .before .before .before .put-word .ensures) laid-more c .before .before .put-word2 .ensures
+returns c = c .before .before .before .before .before .before .before .before .put-word .ensures .words set-more c .before .before .put-word2 .ensures
 
 pub put-term-spec : {M : Type 1} → statement M
 put-term-spec =

@@ -3,9 +3,6 @@ use Rattle.read_types.proofs.Filled.{put-one, _put-more_}
 use borrow.Author.Needs.{needs}
 use Rattle.read_text.proofs.store.put_type.Statement.{statement}
 use Rattle.read_text.proofs.store.put_type.Tie as tie
-use Rattle.read_text.proofs.store.put_type.Reads as reads
-use Rattle.read_text.proofs.store.put_type.Lts as lts
-use Rattle.read_types.proofs.store.put_word.Reads as put-word-reads
 
 mul-i : tie.Need-mul-i
 mul-i c = search needs

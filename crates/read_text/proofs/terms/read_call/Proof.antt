@@ -1,4 +1,5 @@
 use native.Mathlib.Omega.{arith}
+use Rattle.read_text.proofs.Turning.{term-long}
 use Rattle.read_text.proofs.NamePaths.{call-no, call-name-no, call-provided-no, call-used-no, call-got}
 use borrow.Author.Needs.{needs}
 use Rattle.read_text.proofs.terms.read_call.Statement.{statement}
@@ -103,7 +104,7 @@ add-l c =
     omega (arith, entry .pre, after-term .before .before .process-term .ensures .on _ _ (after-term .term .given .1))
 
 same-length : tie.Need-same-length
-same-length c = search needs
+same-length c = term-long _ _ _ (c .before .before .before .put-term .ensures)
 
 returns-5 : tie.Need-returns-5
 returns-5 c =

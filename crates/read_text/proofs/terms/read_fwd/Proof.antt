@@ -1,4 +1,5 @@
 use native.Mathlib.Omega.{arith}
+use Rattle.read_text.proofs.Turning.{term-long}
 use Rattle.read_text.proofs.TermPaths.{fwd-no, fwd-provided-no, fwd-used-no, fwd-got}
 use borrow.Author.Needs.{needs}
 use Rattle.read_text.proofs.terms.read_fwd.Statement.{statement}
@@ -77,7 +78,7 @@ add-l c =
     omega (arith, entry .pre, after-term .before .before .process-term .ensures .on _ _ (after-term .term .given .1))
 
 same-length : tie.Need-same-length
-same-length c = search needs
+same-length c = term-long _ _ _ (c .before .before .before .put-term .ensures)
 
 returns-4 : tie.Need-returns-4
 returns-4 c =

@@ -1,4 +1,5 @@
 use native.Mathlib.Omega.{arith}
+use Rattle.read_text.proofs.Turning.{term-long}
 use Rattle.read_text.proofs.TermPaths.{raise-no, raise-on}
 use borrow.Author.Needs.{needs}
 use Rattle.read_text.proofs.terms.read_raise.Statement.{statement}
@@ -36,7 +37,7 @@ put-before-requires c κs = omega (
 )
 
 same-length : tie.Need-same-length
-same-length c = search needs
+same-length c = term-long _ _ _ (c .before .before .put-before .ensures)
 
 returns-2 : tie.Need-returns-2
 returns-2 c =

@@ -1,4 +1,5 @@
 use native.Mathlib.Omega.{arith}
+use Rattle.read_text.proofs.Turning.{term-long}
 use Rattle.read_text.proofs.TermPaths.{rest-none, rest-no, rest-on}
 use borrow.Author.Needs.{needs}
 use Rattle.read_text.proofs.turns.follow.Statement.{statement}
@@ -24,8 +25,8 @@ returns c =
     let after-if1 = c .before .before .before .before in
     let next-token = after-if1 .before .before .next-token in
     let entry = after-if1 .before .before .before .before .before in
-    rest-no _ (entry .args .n) _ _ _ _ (entry .pre .0 .0) (next-token .result) (next-token .ensures .0) (next-token .ensures .1) (after-if1 .if1 .taken)
-    (c .before .before .before .expect .ensures) (c .before .enum-told .given .1) (c .refusal .ensures)
+    rest-no _ (entry .args .n) _ _ _ _ (entry .pre .0 .0) (entry .pre .0 .1) (next-token .result) (next-token .ensures .0) (next-token .ensures .1)
+    (after-if1 .if1 .taken) (c .before .before .before .expect .ensures) (c .before .enum-told .given .1) (c .refusal .ensures)
 
 put-before-requires : tie.Need-put-before-requires
 put-before-requires c κs =
@@ -33,7 +34,7 @@ put-before-requires c κs =
     (omega (arith, entry .pre, c .before .before .before .before .expect .ensures .on _ _ (c .before .before .mark .given .1)), entry .pre .1)
 
 same-length : tie.Need-same-length
-same-length c = search needs
+same-length c = term-long _ _ _ (c .before .before .put-before .ensures)
 
 returns-2 : tie.Need-returns-2
 returns-2 c =
@@ -41,8 +42,8 @@ returns-2 c =
     let after-if1 = after-mark .before .before .before in
     let next-token = after-if1 .before .before .next-token in
     let entry = after-if1 .before .before .before .before .before in
-    rest-on _ (entry .args .n) _ _ _ _ (entry .pre .0 .0) (next-token .result) (next-token .ensures .0) (next-token .ensures .1) (after-if1 .if1 .taken)
-    (after-mark .before .before .expect .ensures) (after-mark .mark .given .1) (c .before .before .put-before .ensures)
+    rest-on _ (entry .args .n) _ _ _ _ (entry .pre .0 .0) (entry .pre .0 .1) (next-token .result) (next-token .ensures .0) (next-token .ensures .1)
+    (after-if1 .if1 .taken) (after-mark .before .before .expect .ensures) (after-mark .mark .given .1) (c .before .before .put-before .ensures)
 
 add-put-pointing : tie.Need-add-put-pointing
 add-put-pointing c = omega (
@@ -57,15 +58,15 @@ put-pointing-requires c κs =
     (omega (arith, entry .pre, c .before .before .before .before .next-token .ensures .1 .starts), entry .pre .1)
 
 same-length-2 : tie.Need-same-length-2
-same-length-2 c = search needs
+same-length-2 c = term-long _ _ _ (c .before .before .put-pointing .ensures)
 
 returns-3 : tie.Need-returns-3
 returns-3 c =
     let after-if1 = c .before .before .before .before .before in
     let next-token = after-if1 .before .before .next-token in
     let entry = after-if1 .before .before .before .before .before in
-    rest-none _ (entry .args .n) _ _ _ _ (entry .pre .0 .0) (next-token .result) (next-token .ensures .0) (next-token .ensures .1) (after-if1 .if1 .left)
-    (c .before .before .put-pointing .ensures)
+    rest-none _ (entry .args .n) _ _ _ _ (entry .pre .0 .0) (entry .pre .0 .1) (next-token .result) (next-token .ensures .0) (next-token .ensures .1)
+    (after-if1 .if1 .left) (c .before .before .put-pointing .ensures)
 
 pub follow-spec : {M : Type 1} → statement M
 follow-spec =

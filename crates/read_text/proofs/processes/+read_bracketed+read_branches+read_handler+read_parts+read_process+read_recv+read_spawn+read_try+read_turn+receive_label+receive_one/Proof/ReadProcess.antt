@@ -2,7 +2,6 @@
 use borrow.Author.Needs.{needs}
 use Prim.Native.Nat.{ℕ}
 use native.Mathlib.Omega.{arith}
-use Rattle.read_types.proofs.Filled.{_upon_}
 use Prim.Native.Nat.{_-_}
 use lib.ListN.{length}
 use Rattle.read_text.specs.Turns.{ProcessRead}

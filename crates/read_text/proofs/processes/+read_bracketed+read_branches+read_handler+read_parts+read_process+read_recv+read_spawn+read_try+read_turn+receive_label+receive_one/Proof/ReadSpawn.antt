@@ -2,7 +2,6 @@
 use borrow.Author.Needs.{needs}
 use Prim.Native.Nat.{ℕ}
 use native.Mathlib.Omega.{arith}
-use Rattle.read_types.proofs.Filled.{_upon_}
 use Rattle.read_text.proofs.ProcessPaths.{spawn-no, spawn-type-no, spawn-arrow-no, spawn-on}
 use Rattle.read_types.proofs.steps.expect.Reads as expect-reads
 use Rattle.read_text.proofs.payloads.name_colon.Reads as name-colon-reads

@@ -2,7 +2,8 @@
 use borrow.Author.Needs.{needs}
 use Prim.Native.Nat.{ℕ}
 use native.Mathlib.Omega.{arith}
-use Rattle.read_types.proofs.Filled.{_upon_}
+use mathlib.Core.Path.{_∙_}
+use Rattle.read_text.proofs.Turning.{term-long}
 use Rattle.read_text.proofs.ProcessPaths.{try-no, try-main-no, try-catch-no, try-read}
 use Rattle.read_types.proofs.steps.expect.Reads as expect-reads
 use Rattle.read_text.proofs.turns.pointer_within.Reads as pointer-within-reads
@@ -134,10 +135,11 @@ read-try-met t =
       read-bracketed .ensures .on _ _ (after-main .main .given .1),
       after-word .before .before .expect .ensures .on _ _ (after-word .word .given .1),
       read-bracketed .ensures .kept .long,
-      c .before .before .before .put-term .ensures .kept .long,
+      term-long _ _ _ (c .before .before .before .put-term .ensures),
     ))
     -- same-length-3
-    (λ c. search needs)
+    (λ c. c .before .before .read-bracketed2 .ensures .kept .long ∙ term-long _ _ _ (c .before .before .before .before .before .before .put-term .ensures)
+    ∙ c .before .before .before .before .before .before .before .before .before .before .before .before .before .before .before .before .before .before .read-bracketed .ensures .kept .long)
     -- returns-4
     (λ c.
     let after-put-term = c .before .before .before .before .before .before in

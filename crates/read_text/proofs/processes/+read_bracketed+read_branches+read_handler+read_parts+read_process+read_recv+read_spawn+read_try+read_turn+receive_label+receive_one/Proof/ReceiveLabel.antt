@@ -2,7 +2,8 @@
 use borrow.Author.Needs.{needs}
 use Prim.Native.Nat.{ℕ}
 use native.Mathlib.Omega.{arith}
-use Rattle.read_types.proofs.Filled.{_upon_}
+use mathlib.Core.Path.{_∙_}
+use Rattle.read_text.proofs.Turning.{term-long}
 use Rattle.read_text.proofs.ProcessPaths.{labels-no, labels-got}
 use Rattle.read_text.proofs.store.put_term.Reads as put-term-reads
 use Rattle.read_text.proofs.processes.read_branches.Reads as read-branches
@@ -42,7 +43,8 @@ receive-label-met t =
     let entry = c .before .before .before .before .before .before .before .before .before .before .before in
     omega (arith, entry .pre .1 .0, entry .pre .1 .1, read-branches .ensures .on _ _ (c .before .before .inner .given .1), read-branches .ensures .kept .long))
     -- same-length-2
-    (λ c. search needs)
+    (λ c. term-long _ _ _ (c .before .before .put-term .ensures)
+    ∙ c .before .before .before .before .before .before .before .before .before .read-branches .ensures .kept .long)
     -- returns-2
     (λ c.
     let after-inner = c .before .before .before .before .before in

@@ -2,7 +2,8 @@
 use borrow.Author.Needs.{needs}
 use Prim.Native.Nat.{ℕ}
 use native.Mathlib.Omega.{arith}
-use Rattle.read_types.proofs.Filled.{_upon_}
+use mathlib.Core.Path.{_∙_}
+use Rattle.read_text.proofs.Turning.{term-long}
 use Rattle.read_text.proofs.ProcessPaths.{one-no, one-read}
 use Rattle.read_text.proofs.payloads.payload_then.Reads as payload-then-reads
 use Rattle.read_text.proofs.turns.put_before.Reads as put-before-reads
@@ -67,10 +68,10 @@ receive-one-met t =
       entry .pre .0,
       entry .pre .1 .0,
       after-taken .before .before .payload-then .ensures .on _ _ (after-taken .taken .given .1),
-      c .before .before .before .put-before .ensures .kept .long,
+      term-long _ _ _ (c .before .before .before .put-before .ensures),
     ))
     -- same-length
-    (λ c. search needs)
+    (λ c. c .before .before .read-process .ensures .kept .long ∙ term-long _ _ _ (c .before .before .before .before .before .before .put-before .ensures))
     -- returns-2
     (λ c.
     let after-put-before = c .before .before .before .before .before .before in
