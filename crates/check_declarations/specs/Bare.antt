@@ -24,8 +24,8 @@ module _ (s w : List ℕ) (i : ℕ) (n : TypeNode) where
   bare-none (suc (suc zero)) (b, d, f, g, c) h = rw c refl
   bare-none (suc (suc (suc zero))) (b, d, f, g, c) h = rw c refl
   bare-none (suc (suc (suc (suc zero)))) (b, d, f, g, c) h = rw c refl
-  bare-none (suc (suc (suc (suc (suc zero))))) (b, c) h = rw c refl
-  bare-none (suc (suc (suc (suc (suc (suc zero)))))) (b, c) h = rw c refl
+  bare-none (suc (suc (suc (suc (suc zero))))) (b, d, c) h = rw c refl
+  bare-none (suc (suc (suc (suc (suc (suc zero)))))) (b, d, c) h = rw c refl
   bare-none (suc (suc (suc (suc (suc (suc (suc k))))))) c h = absurd c
 
 module _ (s w : List ℕ) (t : Tables s w) (i : ℕ) (b : i < tallyIn w .types) {r : Labelled} (o : TypeOf w i r) where

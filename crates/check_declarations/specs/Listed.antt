@@ -7,10 +7,11 @@ use native.Mathlib.Numerals.{add-one}
 use Rattle.calculus.specs.Declarations.{choiceLabels, branchLabels, channels}
 use Rattle.read_tables.specs.declared.access.Labelled.{Labelled}
 use Rattle.read_tables.specs.Access.{AlternativeOf, BranchOf, EntryOf}
-use Rattle.read_tables.specs.Decode.{tallyIn, numbered, alternativeAt, branchAt, entryAt, entriesIn}
-use Rattle.read_tables.specs.Roots.{AlternativesIn, alternativesIn, FirstAlternative, first-alternative, BranchesIn, branchesIn, FirstBranch, first-branch}
+use Rattle.read_tables.specs.Decode.{tallyIn, numbered, typeIn, processIn, alternativeAt, branchAt, entryAt, entriesIn}
+use Rattle.read_tables.specs.Roots.{AlternativesIn, alternativesIn, FirstAlternative, first-alternative, alternative-terms, BranchesIn, branchesIn, FirstBranch, first-branch, branch-terms}
 use Rattle.read_tables.specs.Whole.{EntriesIn, FirstEntry, first-entry, Tables}
 use Rattle.notation.specs.Reader.{nameIn, labelIn}
+use Rattle.notation.specs.Sizes.{typeTerms, alternativesTerms, processTerms, branchesTerms}
 use Rattle.notation.specs.Tables.{branchRoom}
 use Rattle.notation.specs.Limits.{typeTermLimit}
 
@@ -65,11 +66,11 @@ numbered-fold f (suc n) i = ap (_∷_ (f i)) (numbered-fold f n (i + 1))
 
 module _ (s w : List ℕ) where
   -- ── the element k of a list stands
-  pub alternative-on : (i k e n : ℕ) → k < n → AlternativesIn s w i e n → AlternativesIn s w i (e - k) (suc (n - (k + 1)))
-  alternative-on i = stands-on down (AlternativesIn s w i) (λ x n a. first-alternative s w i x n a .rest)
+  pub alternative-on : (k e n : ℕ) → k < n → AlternativesIn s w e n → AlternativesIn s w (e - k) (suc (n - (k + 1)))
+  alternative-on = stands-on down (AlternativesIn s w) (λ x n a. first-alternative s w x n a .rest)
 
-  pub branch-on : (p k e n : ℕ) → k < n → BranchesIn s w p e n → BranchesIn s w p (e - k) (suc (n - (k + 1)))
-  branch-on p = stands-on down (BranchesIn s w p) (λ x n a. first-branch s w p x n a .rest)
+  pub branch-on : (k e n : ℕ) → k < n → BranchesIn s w e n → BranchesIn s w (e - k) (suc (n - (k + 1)))
+  branch-on = stands-on down (BranchesIn s w) (λ x n a. first-branch s w x n a .rest)
 
   pub entry-on : (k i n : ℕ) → k < n → EntriesIn s w i n → EntriesIn s w (i + k) (suc (n - (k + 1)))
   entry-on = stands-on up (EntriesIn s w) (λ x n a. first-entry s w x n a .rest)
@@ -89,13 +90,13 @@ module _ (s w : List ℕ) where
       sym (by-steps up _∷_ [] (λ x. nameIn s (entryAt w x .0)) (λ x m. channels (entriesIn s w x m)) (λ x. refl) (λ x m. refl) n i ∙ numbered-fold _ n 0)
 
   -- ── the places of a list are in the tables
-  alternatives-past : (i n e : ℕ) → AlternativesIn s w i e n → n ≤ e
-  alternatives-past i zero e a = omega arith
-  alternatives-past i (suc n) e a = let f = first-alternative s w i e n a in omega (arith, f .past, alternatives-past i n (e - 1) (f .rest))
+  alternatives-past : (n e : ℕ) → AlternativesIn s w e n → n ≤ e
+  alternatives-past zero e a = omega arith
+  alternatives-past (suc n) e a = let f = first-alternative s w e n a in omega (arith, f .past, alternatives-past n (e - 1) (f .rest))
 
-  branches-past : (p n e : ℕ) → BranchesIn s w p e n → n ≤ e
-  branches-past p zero e a = omega arith
-  branches-past p (suc n) e a = let f = first-branch s w p e n a in omega (arith, f .past, branches-past p n (e - 1) (f .rest))
+  branches-past : (n e : ℕ) → BranchesIn s w e n → n ≤ e
+  branches-past zero e a = omega arith
+  branches-past (suc n) e a = let f = first-branch s w e n a in omega (arith, f .past, branches-past n (e - 1) (f .rest))
 
   entries-past : (n i : ℕ) → 0 < n → EntriesIn s w i n → i + n ≤ tallyIn w .entries
   entries-past zero i h a = absurd (omega arith)
@@ -103,19 +104,26 @@ module _ (s w : List ℕ) where
   entries-past (suc (suc n)) i h a = omega (arith, entries-past (suc n) (i + 1) (omega arith) (first-entry s w i (suc n) a .rest))
 
   module _ (t : Tables s w) where
-    module _ (i e n : ℕ) (a : AlternativesIn s w i e n) where
+    module _ (e n : ℕ) (a : AlternativesIn s w e n) where
       pub alternatives-fit : (n ≤ e) × (e ≤ typeTermLimit)
-      alternatives-fit = let b = t .within in let c = a .within in (alternatives-past i n e a, omega arith)
+      alternatives-fit = let b = t .within in let c = a .within in (alternatives-past n e a, omega arith)
 
-      pub alternative-first : (k : ℕ) → k < n → {r : Labelled} → AlternativeOf w (e - k) r → FirstAlternative s w i (e - k) (n - (k + 1)) (r .at) (r .number)
-      alternative-first k h o = o .says s i (n - (k + 1)) (alternative-on i k e n h a)
+      pub alternative-first : (k : ℕ) → k < n → {r : Labelled} → AlternativeOf w (e - k) r → FirstAlternative s w (e - k) (n - (k + 1)) (r .at) (r .number)
+      alternative-first k h o = o .says s (n - (k + 1)) (alternative-on k e n h a)
 
-    module _ (p e n : ℕ) (a : BranchesIn s w p e n) where
+      -- it has no more terms than the list
+      pub alternative-few : (k : ℕ) → k < n → {r : Labelled} → AlternativeOf w (e - k) r → typeTerms (typeIn s w (r .number)) ≤ alternativesTerms (alternativesIn s w e n)
+      alternative-few k h o = omega (arith, ap (λ x. typeTerms (typeIn s w x)) (o .holds .number), alternative-terms s w e n k h)
+
+    module _ (e n : ℕ) (a : BranchesIn s w e n) where
       pub branches-fit : (n ≤ e) × (e ≤ branchRoom)
-      branches-fit = let b = t .within in let c = a .within in (branches-past p n e a, omega arith)
+      branches-fit = let b = t .within in let c = a .within in (branches-past n e a, omega arith)
 
-      pub branch-first : (k : ℕ) → k < n → {r : Labelled} → BranchOf w (e - k) r → FirstBranch s w p (e - k) (n - (k + 1)) (r .at) (r .number)
-      branch-first k h o = o .says s p (n - (k + 1)) (branch-on p k e n h a)
+      pub branch-first : (k : ℕ) → k < n → {r : Labelled} → BranchOf w (e - k) r → FirstBranch s w (e - k) (n - (k + 1)) (r .at) (r .number)
+      branch-first k h o = o .says s (n - (k + 1)) (branch-on k e n h a)
+
+      pub branch-few : (k : ℕ) → k < n → {r : Labelled} → BranchOf w (e - k) r → processTerms (processIn s w (r .number)) ≤ branchesTerms (branchesIn s w e n)
+      branch-few k h o = omega (arith, ap (λ x. processTerms (processIn s w x)) (o .holds .number), branch-terms s w e n k h)
 
     module _ (i n : ℕ) (a : EntriesIn s w i n) where
       pub entries-fit : 0 < n → i + n ≤ 512

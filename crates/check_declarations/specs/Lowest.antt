@@ -71,6 +71,23 @@ lowered-then {l} {k} {r} {xs} {ys} a b = record { is = b .is ∙ ap (λ m. lowes
 pub lowered-as : {l r : Lowest} {xs ys : List ℕ} → xs ≡ ys → Lowered l xs r → Lowered l ys r
 lowered-as {l} e a = record { is = a .is ∙ ap (lowestWith l) e }
 
+-- what is left to take, ys under l, is as the whole, xs under low
+pub record Left (low : Lowest) (xs : List ℕ) (l : Lowest) (ys : List ℕ) : Type 0 where
+  pub rest : lowestWith low xs ≡ lowestWith l ys
+
+pub left-all : {l : Lowest} {xs : List ℕ} → Left l xs l xs
+left-all = record { rest = refl }
+
+module _ {low l : Lowest} {xs : List ℕ} where
+  pub left-as : {ys zs : List ℕ} → ys ≡ zs → Left low xs l ys → Left low xs l zs
+  left-as e t = record { rest = t .rest ∙ ap (lowestWith l) e }
+
+  pub left-after : {k : Lowest} {ys zs : List ℕ} → Left low xs l (ys ++ zs) → Lowered l ys k → Left low xs k zs
+  left-after {k} {ys} {zs} t a = record { rest = t .rest ∙ lowest-append l ys zs ∙ ap (λ m. lowestWith m zs) (sym (a .is)) }
+
+  pub left-done : {k : Lowest} {ys : List ℕ} → Left low xs l ys → Lowered l ys k → Lowered low xs k
+  left-done t a = record { is = a .is ∙ sym (t .rest) }
+
 -- ── the offsets that g gives for n numbers from i on
 abbrev pub over : (ℕ → List ℕ) → ℕ → ℕ → List ℕ
 over = fold _++_ []
@@ -78,23 +95,17 @@ over = fold _++_ []
 -- a walk over n numbers that has come to the number i
 pub record Walking (g : ℕ → List ℕ) (low : Lowest) (n i : ℕ) (l : Lowest) : Type 0 where
   pub upto : i ≤ n
-  pub rest : lowestWith low (over g 0 n) ≡ lowestWith l (over g i (n - i))
+  pub left : Left low (over g 0 n) l (over g i (n - i))
 
 pub walk-start : {g : ℕ → List ℕ} {low : Lowest} {n : ℕ} → Walking g low n 0 low
-walk-start {g} {low} {n} = let z : n ≡ n - 0 = omega arith in record { upto = omega arith; rest = ap (λ m. lowestWith low (over g 0 m)) z }
+walk-start {g} {n = n} = let z : n ≡ n - 0 = omega arith in record { upto = omega arith; left = left-as (ap (over g 0) z) left-all }
 
 pub walk-on : {g : ℕ → List ℕ} {low l k : Lowest} {n i j : ℕ} → j ≡ i + 1 → Walking g low n i l → i < n → Lowered l (g i) k → Walking g low n j k
-walk-on {g} {low} {l} {k} {n} {i} p t h a =
+walk-on {g} {n = n} {i = i} p t h a =
     let e : n - i ≡ suc (n - (i + 1)) = omega arith in
-    let r = over g (i + 1) (n - (i + 1)) in
-    rw p
-    (record {
-      upto = omega arith;
-      rest = t .rest ∙ ap (λ m. lowestWith l (over g i m)) e ∙ lowest-append l (g i) r ∙ ap (λ m. lowestWith m r) (sym (a .is));
-    })
+    rw p (record { upto = omega arith; left = left-after (left-as (ap (over g i) e) (t .left)) a })
 
 pub walk-end : {g : ℕ → List ℕ} {low l : Lowest} {n i : ℕ} → Walking g low n i l → n ≤ i → Lowered low (over g 0 n) l
-unfolding lowestWith
-walk-end {g} {l = l} {n = n} {i = i} t h =
+walk-end {g} {n = n} {i = i} t h =
     let z : n - i ≡ 0 = omega arith in
-    record { is = sym (t .rest ∙ ap (λ m. lowestWith l (over g i m)) z) }
+    left-done (left-as (ap (over g i) z) (t .left)) lowered-none

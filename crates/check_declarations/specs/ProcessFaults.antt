@@ -1,12 +1,15 @@
 -- Refusals 6 and 7: what each pass finds in a process.
-use Prim.Native.Nat.{ℕ, zero, suc, _+_, _-_, _*_, _/_, _<_, _≤_}
+use Prim.Native.Nat.{ℕ, suc, _+_, _-_, _<_, _≤_}
 use mathlib.Core.Path.{_≡_, refl, sym, _∙_, ap, subst}
-use mathlib.Core.List.{List, [], _++_}
-use mathlib.Core.Bool.{Bool, true, false, cond}
+use mathlib.Core.List.{List, [], _++_, append-nil}
+use mathlib.Core.Bool.{cond}
 use native.Mathlib.Omega.{arith}
-use lib.Dec.{ltb, eqb}
-use borrow.Author.Tests.{ltb-true, ltb-false, ne-eqb}
+use lib.Dec.{eqb}
+use borrow.Author.Tests.{ne-eqb}
 use Rattle.notation.specs.Tree.{Located, Proc, empty, call, Branches}
+use Rattle.notation.specs.From.{ProcessFrom}
+use Rattle.notation.specs.Sizes.{processTerms, branchesTerms}
+use Rattle.notation.specs.Tables.{termNode}
 use Rattle.notation.specs.Reader.{nameIn}
 use Rattle.notation.specs.declared.reading.TermNode.{TermNode}
 use Rattle.notation.specs.Limits.{processTermLimit}
@@ -16,10 +19,11 @@ use Rattle.read_tables.specs.declared.access.Labelled.{Labelled}
 use Rattle.read_tables.specs.Access.{BranchOf, TermOf}
 use Rattle.read_tables.specs.Decode.{numbered, branchAt, processIn}
 use Rattle.read_tables.specs.Program.{programIn}
-use Rattle.read_tables.specs.Roots.{TypeIn, ProcessIn, BranchesIn, branchesIn, process-root, processCases, atKind}
-use Rattle.read_tables.specs.Stands.{Smaller}
+use Rattle.read_tables.specs.Roots.{Cases, Handlers, each-kind, TypeIn, ProcessIn, BranchesIn, branchesIn, process-root, processCases, atKind}
+use Rattle.read_tables.specs.Stands.{ProcessAt}
 use Rattle.read_tables.specs.Whole.{Tables}
 use Rattle.check_declarations.specs.Faults.{labelFaults, faultsIn, by-pass}
+use Rattle.check_declarations.specs.Kinds.{_next_}
 use Rattle.check_declarations.specs.Listed.{down, by-steps, branch-labels}
 use Rattle.check_declarations.specs.declared.processes.Parts.{Parts}
 use Rattle.check_declarations.specs.declared.processes.Parts.the-variants.{Leaf, Third, Both, Branches as BranchList}
@@ -27,7 +31,7 @@ use Rattle.check_declarations.specs.declared.faults.Pass.{Pass}
 use Rattle.check_declarations.specs.declared.faults.Pass.the-variants.{Repeated, Undefined}
 use Rattle.check_declarations.specs.declared.lowest.Lowest.{Lowest}
 use Rattle.check_declarations.specs.declared.names.Names.the-variants.{Branches as BranchesFrom}
-use Rattle.check_declarations.specs.Lowest.{Lowered, lowered-as, lowered-none, over}
+use Rattle.check_declarations.specs.Lowest.{Lowered, lowered-as, lowered-none, Left, left-all, left-as, left-after, left-done, over}
 use Rattle.check_declarations.specs.Names.{nameOf}
 
 abbrev pub callFaults : Pass → Program → Located → List ℕ
@@ -51,6 +55,27 @@ partsOf k =
     (cond (eqb k 10) Leaf
     (cond (eqb k 12) Both Third))))
 
+-- the pointer of what follows a node with these parts: of an empty process, where nothing does
+abbrev pub followedAt : Parts → TermNode → ℕ
+followedAt Leaf n = processTermLimit
+followedAt Third n = n .third
+followedAt Both n = n .third
+followedAt BranchList n = processTermLimit
+
+-- what stands in its brackets, and how many terms that has
+module _ (s w : List ℕ) where
+  abbrev pub InnerIn : Parts → TermNode → Type 0
+  InnerIn Leaf n = Unit {0}
+  InnerIn Third n = Unit {0}
+  InnerIn Both n = ProcessIn s w (n .second)
+  InnerIn BranchList n = BranchesIn s w (n .second) (n .third)
+
+  abbrev pub innerTerms : Parts → TermNode → ℕ
+  innerTerms Leaf n = 0
+  innerTerms Third n = 0
+  innerTerms Both n = processTerms (processIn s w (n .second))
+  innerTerms BranchList n = branchesTerms (branchesIn s w (n .second) (n .third))
+
 module _ (s w : List ℕ) (pass : Pass) where
   abbrev pub processFaultsIn : ℕ → List ℕ
   processFaultsIn p = processFaults pass (programIn s w) (processIn s w p)
@@ -59,7 +84,7 @@ module _ (s w : List ℕ) (pass : Pass) where
   abbrev pub branchFaults : ℕ → ℕ → List ℕ
   branchFaults e k = processFaultsIn (branchAt w (e - k - 1) .1)
 
-  branches-over : (e n : ℕ) → over (branchFaults e) 0 n ≡ branchesFaults pass (programIn s w) (branchesIn s w e n)
+  pub branches-over : (e n : ℕ) → over (branchFaults e) 0 n ≡ branchesFaults pass (programIn s w) (branchesIn s w e n)
   unfolding processRepeats processUndefined
   branches-over e n =
       let made : Pass → ℕ → ℕ → List ℕ = λ q x m. branchesFaults q (programIn s w) (branchesIn s w x m) in
@@ -82,67 +107,20 @@ module _ (s w : List ℕ) (pass : Pass) where
   nodeFaults n = ownFaults (n .kind) n
 
   -- what both passes find in a process A
-  adds : (p : ℕ) (f : Pass → List ℕ) (A : Proc) → processIn s w p ≡ A → f Repeated ≡ processRepeats A → f Undefined ≡ processUndefined (programIn s w) A → f pass ≡ processFaultsIn p
-  adds p f A e r u = by-pass f (λ q. processFaults q (programIn s w) A) r u pass ∙ ap (processFaults pass (programIn s w)) (sym e)
+  adds : (A : Proc) (f : Pass → List ℕ) (B : Proc) → A ≡ B → f Repeated ≡ processRepeats B → f Undefined ≡ processUndefined (programIn s w) B → f pass ≡ processFaults pass (programIn s w) A
+  adds A f B e r u = by-pass f (λ q. processFaults q (programIn s w) B) r u pass ∙ ap (processFaults pass (programIn s w)) (sym e)
 
-  pub no-process : Tables s w → (p : ℕ) → processTermLimit ≤ p → ProcessIn s w p → {l : Lowest} → Lowered l (processFaultsIn p) l
+  -- what a node with these parts has in brackets
+  abbrev pub innerFaults : Parts → TermNode → List ℕ
+  innerFaults Leaf n = []
+  innerFaults Third n = []
+  innerFaults Both n = processFaultsIn (n .second)
+  innerFaults BranchList n = branchesFaults pass (programIn s w) (branchesIn s w (n .second) (n .third))
+
+  -- what stands at a pointer past the table is nothing
+  pub no-process : Tables s w → (p : ℕ) → processTermLimit ≤ p → ProcessIn s w p → [] ≡ processFaultsIn p
   unfolding processRepeats processUndefined
-  no-process t p b a = lowered-as (adds p (λ q. []) _ (process-root s w (t .within) p a .none b) refl refl) lowered-none
-
-  module _ (p : ℕ) (n : TermNode) where
-    abbrev Says : ℕ → Type 0
-    Says k = atKind (processCases s w p n (processIn s w p)) k
-
-    abbrev Part : ℕ → Type 0
-    Part x = Smaller p x × ProcessIn s w x
-
-    -- what a node of the kind k means by its parts
-    abbrev Meant : ℕ → Parts → Type 0
-    Meant k Leaf = ownFaults k n ≡ processFaultsIn p
-    Meant k Third = Part (n .third) × (ownFaults k n ++ processFaultsIn (n .third) ≡ processFaultsIn p)
-    Meant k Both = Part (n .second) × Part (n .third) × (ownFaults k n ++ (processFaultsIn (n .second) ++ processFaultsIn (n .third)) ≡ processFaultsIn p)
-    Meant k BranchList = BranchesIn s w p (n .second) (n .third) × (ownFaults k n ++ over (branchFaults (n .second)) 0 (n .third) ≡ processFaultsIn p)
-
-    abbrev secondly : Pass → List ℕ
-    secondly q = processFaults q (programIn s w) (processIn s w (n .second))
-
-    abbrev thirdly : Pass → List ℕ
-    thirdly q = processFaults q (programIn s w) (processIn s w (n .third))
-
-    abbrev branchly : Pass → List ℕ
-    branchly q = labelFaults q (branchLabels (branchesIn s w (n .second) (n .third))) ++ branchesFaults q (programIn s w) (branchesIn s w (n .second) (n .third))
-
-    meaning : (k : ℕ) → Says k → Meant k (partsOf k)
-    unfolding partsOf ownFaults processRepeats processUndefined
-    meaning zero c = absurd c
-    meaning (suc zero) (a, e) = (a, adds p thirdly _ e refl refl)
-    meaning (suc (suc zero)) (a, e) = (a, adds p thirdly _ e refl refl)
-    meaning (suc (suc (suc zero))) (a, e) = (a, adds p thirdly _ e refl refl)
-    meaning (suc (suc (suc (suc zero)))) (a, e) = (a, adds p thirdly _ e refl refl)
-    meaning (suc (suc (suc (suc (suc zero))))) (t, a, (b, e)) = (a, b, adds p (λ q. faultsIn s w q (n .first) ++ (secondly q ++ thirdly q)) _ e refl refl)
-    meaning (suc (suc (suc (suc (suc (suc zero)))))) (a, e) = (a, adds p thirdly _ e refl refl)
-    meaning (suc (suc (suc (suc (suc (suc (suc zero))))))) (t, (a, e)) = (a, adds p thirdly _ e refl refl)
-    meaning (suc (suc (suc (suc (suc (suc (suc (suc zero)))))))) (a, e) =
-        (a, (λ j. labelFaults pass (branch-labels s w (n .second) (n .third) j) ++ branches-over (n .second) (n .third) j) ∙ adds p branchly _ e refl refl)
-    meaning (suc (suc (suc (suc (suc (suc (suc (suc (suc zero))))))))) e = adds p (λ q. []) _ e refl refl
-    meaning (suc (suc (suc (suc (suc (suc (suc (suc (suc (suc zero)))))))))) (a, e) = adds p (λ q. callFaults q (programIn s w) (nameIn s (n .first))) _ e refl refl
-    meaning (suc (suc (suc (suc (suc (suc (suc (suc (suc (suc (suc zero))))))))))) (a, e) = (a, adds p thirdly _ e refl refl)
-    meaning (suc (suc (suc (suc (suc (suc (suc (suc (suc (suc (suc (suc zero)))))))))))) (a, (b, e)) = (a, b, adds p (λ q. secondly q ++ thirdly q) _ e refl refl)
-    meaning (suc (suc (suc (suc (suc (suc (suc (suc (suc (suc (suc (suc (suc k))))))))))))) c = absurd c
-
-    -- ── each way through the walk
-    module _ (t : Tables s w) (b : p < processTermLimit) (a : ProcessIn s w p) (o : TermOf w p n) where
-      here : Says (n .kind)
-      here = o .says s t a .node b .1
-
-      pub spawn-type : n .kind ≡ 5 → TypeIn s w (n .first)
-      spawn-type e = subst Says e here .0
-
-      pub recv-branches : n .kind ≡ 8 → BranchesIn s w p (n .second) (n .third)
-      recv-branches e = subst Says e here .0
-
-      pub means : {r : Parts} → r ≡ partsOf (n .kind) → (m : Parts) → r ≡ m → Meant (n .kind) m
-      means e m q = subst (Meant (n .kind)) (sym e ∙ q) (meaning (n .kind) here)
+  no-process t p b a = adds (processIn s w p) (λ q. []) _ (process-root s w (t .within) p a .none b) refl refl
 
   -- what a node has itself, by its kind
   module _ (n : TermNode) where
@@ -165,6 +143,125 @@ module _ (s w : List ℕ) (pass : Pass) where
   unfolding ownFaults
   own-none n a b c = lowered-as (rw (ne-eqb _ _ a, ne-eqb _ _ b, ne-eqb _ _ c) refl) lowered-none
 
+-- ── what a node with these parts says of its process A
+pub record Faulty (s w : List ℕ) (pass : Pass) (n : TermNode) (parts : Parts) (A : Proc) : Type 0 where
+  pub is : nodeFaults s w pass n ++ (innerFaults s w pass parts n ++ processFaultsIn s w pass (followedAt parts n)) ≡ processFaults pass (programIn s w) A
+  pub inner : InnerIn s w parts n
+  pub last : ProcessIn s w (followedAt parts n)
+  pub terms : processTerms A ≡ suc (innerTerms s w parts n + processTerms (processIn s w (followedAt parts n)))
+
+-- nothing follows at the pointer of no term
+nothing-there : (s w : List ℕ) → ProcessIn s w processTermLimit
+unfolding ProcessAt ProcessFrom processTerms
+nothing-there s w = record { tree = empty 0; few = omega arith; from = omega arith; is = refl }
+
+module _ (s w : List ℕ) (pass : Pass) (A : Proc) (at first second third : ℕ) (none : processIn s w processTermLimit ≡ empty 0) where
+  abbrev node : ℕ → TermNode
+  node k = termNode k at first second third
+
+  -- a node that a process follows, and one that nothing does
+  abbrev whole : ℕ → Parts → Pass → List ℕ
+  whole k m q = nodeFaults s w q (node k) ++ (innerFaults s w q m (node k) ++ processFaultsIn s w q (followedAt m (node k)))
+
+  goes-on : (k : ℕ) (m : Parts) (B : Proc) → A ≡ B → whole k m Repeated ≡ processRepeats B → whole k m Undefined ≡ processUndefined (programIn s w) B → InnerIn s w m (node k) → ProcessIn s w (followedAt m (node k))
+      → processTerms B ≡ suc (innerTerms s w m (node k) + processTerms (processIn s w (followedAt m (node k)))) → Faulty s w pass (node k) m A
+  goes-on k m B e r u f g t = record { is = adds s w pass A (whole k m) B e r u; inner = f; last = g; terms = ap processTerms e ∙ t }
+
+  nothing-found : processFaultsIn s w pass processTermLimit ≡ []
+  unfolding processRepeats processUndefined
+  nothing-found = sym (adds s w pass (processIn s w processTermLimit) (λ q. []) _ none refl refl)
+
+  no-terms : processTerms (processIn s w processTermLimit) ≡ 0
+  unfolding processTerms
+  no-terms = ap processTerms none
+
+  ends : (k : ℕ) (m : Parts) → followedAt m (node k) ≡ processTermLimit → nodeFaults s w pass (node k) ++ innerFaults s w pass m (node k) ≡ processFaults pass (programIn s w) A → InnerIn s w m (node k)
+      → processTerms A ≡ suc (innerTerms s w m (node k)) → Faulty s w pass (node k) m A
+  ends k m z e f t = record {
+    is = ap (λ l. nodeFaults s w pass (node k) ++ (innerFaults s w pass m (node k) ++ l)) (ap (processFaultsIn s w pass) z ∙ nothing-found)
+        ∙ ap (_++_ (nodeFaults s w pass (node k))) (append-nil (innerFaults s w pass m (node k)))
+        ∙ e;
+    inner = f;
+    last = subst (ProcessIn s w) (sym z) (nothing-there s w);
+    terms = omega (arith, t, ap (λ p. processTerms (processIn s w p)) z, no-terms);
+  }
+
+  abbrev branchly : Pass → List ℕ
+  branchly q = labelFaults q (branchLabels (branchesIn s w second third)) ++ branchesFaults q (programIn s w) (branchesIn s w second third)
+
+  abbrev called : Pass → List ℕ
+  called q = callFaults q (programIn s w) (nameIn s first)
+
+  abbrev At : ℕ → Type 0
+  At k = Faulty s w pass (node k) (partsOf k) A
+
+  cases : Handlers (processCases s w (node 0) A) At
+  unfolding partsOf ownFaults processRepeats processUndefined processTerms
+  cases =
+      (λ e. absurd e)
+      next (λ (f, e). goes-on 1 Third _ e refl refl tt (f .1) (omega arith))
+      next (λ (f, e). goes-on 2 Third _ e refl refl tt (f .1) (omega arith))
+      next (λ (f, e). goes-on 3 Third _ e refl refl tt (f .1) (omega arith))
+      next (λ (f, e). goes-on 4 Third _ e refl refl tt (f .1) (omega arith))
+      next (λ (t, f, (g, e)). goes-on 5 Both _ e refl refl (f .1) (g .1) refl)
+      next (λ (f, e). goes-on 6 Third _ e refl refl tt (f .1) (omega arith))
+      next (λ (l, (f, e)). goes-on 7 Third _ e refl refl tt (f .1) (omega arith))
+      next (λ (l, f, e). ends 8 BranchList refl ((λ j. labelFaults pass (branch-labels s w second third j) ++ branchesFaults pass (programIn s w) (branchesIn s w second third)) ∙ adds s w pass A branchly _ e refl refl) f (ap processTerms e))
+      next (λ e. ends 9 Leaf refl (adds s w pass A (λ q. []) _ e refl refl) tt (ap processTerms e))
+      next (λ (c, e). ends 10 Leaf refl (append-nil (called pass) ∙ adds s w pass A called _ e refl refl) tt (ap processTerms e))
+      next (λ (f, e). goes-on 11 Third _ e refl refl tt (f .1) (omega arith))
+      next (λ (f, (g, e)). goes-on 12 Both _ e refl refl (f .1) (g .1) refl)
+      next tt
+
+module _ {s w : List ℕ} {p : ℕ} {n : TermNode} (t : Tables s w) (b : p < processTermLimit) (a : ProcessIn s w p) (o : TermOf w p n) where
+  abbrev Here : Cases
+  Here = processCases s w n (processIn s w p)
+
+  here : atKind Here (n .kind)
+  here = o .says s t a .node b .1
+
+  pub spawn-type : n .kind ≡ 5 → TypeIn s w (n .first)
+  spawn-type e = subst (atKind Here) e here .0
+
+  pub recv-branches : n .kind ≡ 8 → BranchesIn s w (n .second) (n .third)
+  recv-branches e = subst (atKind Here) e here .1
+
+  pub faulty : (pass : Pass) (m : Parts) → m ≡ partsOf (n .kind) → Faulty s w pass n m (processIn s w p)
+  faulty pass m z =
+      let none = process-root s w (t .within) processTermLimit (nothing-there s w) .none (omega arith) in
+      let A = processIn s w p in
+      subst (λ m. Faulty s w pass n m A) (sym z)
+      (each-kind Here (At s w pass A (n .at) (n .first) (n .second) (n .third) none) (cases s w pass A (n .at) (n .first) (n .second) (n .third) none) (n .kind) here)
+
+-- ── as far as the walk over a process has come: what is found from here on is what is left of the whole
+pub record Following (s w : List ℕ) (pass : Pass) (whole : ℕ) (low : Lowest) (p : ℕ) (l : Lowest) : Type 0 where
+  pub stands : ProcessIn s w p
+  pub fewer : processTerms (processIn s w p) ≤ processTerms (processIn s w whole)
+  pub left : Left low (processFaultsIn s w pass whole) l (processFaultsIn s w pass p)
+
+module _ {s w : List ℕ} {pass : Pass} {whole : ℕ} {low : Lowest} where
+  pub follow-start : ProcessIn s w whole → Following s w pass whole low whole low
+  follow-start a = record { stands = a; fewer = omega arith; left = left-all }
+
+  module _ {p : ℕ} {l : Lowest} (t : Following s w pass whole low p l) where
+    pub follow-on : {n : TermNode} {m : Parts} {k r : Lowest} (q : ℕ) → Faulty s w pass n m (processIn s w p) → Lowered l (nodeFaults s w pass n) k → Lowered k (innerFaults s w pass m n) r → q ≡ followedAt m n
+        → Following s w pass whole low q r
+    follow-on q o f g z = rw z (record { stands = o .last; fewer = omega (arith, o .terms, t .fewer); left = left-after (left-after (left-as (sym (o .is)) (t .left)) f) g })
+
+    pub follow-end : Tables s w → processTermLimit ≤ p → Lowered low (processFaultsIn s w pass whole) l
+    follow-end u b = left-done (t .left) (lowered-as (no-process s w pass u p b (t .stands)) lowered-none)
+
+-- ── what stands in brackets, where a node's parts m are x
+pub record InnerAt (n : TermNode) (s w : List ℕ) (m x : Parts) : Type 0 where
+  pub terms : innerTerms s w m n ≡ innerTerms s w x n
+  pub stands : InnerIn s w m n → InnerIn s w x n
+
+pub inner-at : (n : TermNode) (s w : List ℕ) {m : Parts} (x : Parts) → m ≡ x → InnerAt n s w m x
+inner-at n s w x e = record { terms = ap (λ q. innerTerms s w q n) e; stands = subst (λ q. InnerIn s w q n) e }
+
+pub inner-found : (s w : List ℕ) (pass : Pass) (n : TermNode) {m : Parts} (x : Parts) {l k : Lowest} → m ≡ x → Lowered l (innerFaults s w pass x n) k → Lowered l (innerFaults s w pass m n) k
+inner-found s w pass n x e = lowered-as (ap (λ q. innerFaults s w pass q n) (sym e))
+
 -- ── a call, by the pass
 module _ (p : Program) (n : Located) {pass : Pass} {low : Lowest} where
   pub call-passed : pass ≡ Repeated → Lowered low (callFaults pass p n) low
@@ -172,14 +269,3 @@ module _ (p : Program) (n : Located) {pass : Pass} {low : Lowest} where
 
   pub call-sought : {k : Lowest} → pass ≡ Undefined → Lowered low (unless (p .processes) n) k → Lowered low (callFaults pass p n) k
   call-sought e = lowered-as (ap (λ (q : Pass). callFaults q p n) (sym e))
-
--- ── the order in which pointers fall: a node's parts are smaller nodes or empty processes
-abbrev pub rank : ℕ → ℕ
-rank p = p + 1 - p / 1024 * 2048
-
-pub rank-falls : (p x : ℕ) → p < processTermLimit → Smaller p x → rank x < rank p
-rank-falls p x b h = go (ltb x processTermLimit) refl
-  where
-    go : (t : Bool) → ltb x processTermLimit ≡ t → rank x < rank p
-    go true e = let c = h (ltb-true x processTermLimit e) in omega arith
-    go false e = let c = ltb-false x processTermLimit e in omega arith

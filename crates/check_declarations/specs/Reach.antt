@@ -2,7 +2,7 @@
 use Prim.Native.Nat.{ℕ, zero, suc, _+_, _-_, _<_, _≤_}
 use mathlib.Core.Path.{_≡_, refl, sym, _∙_, ap}
 use mathlib.Core.List.{List, [], _∷_}
-use mathlib.Core.Bool.{Bool, true, false, cond, _||_}
+use mathlib.Core.Bool.{Bool, true, false, true≢false, false≢true, cond, not, _||_}
 use native.Mathlib.Omega.{arith}
 use native.Mathlib.Numerals.{add-one}
 use lib.ListN.{length, getD, set, length-set, replicate}
@@ -50,6 +50,19 @@ module _ {g : ℕ → Bool} {n : ℕ} where
     pub test-on : {j : ℕ} → j ≡ i + 1 → r ≡ false → Testing g n j
     test-on p q = rw p (record { upto = omega arith; rest = tested q })
 
+-- no number below n has what none has
+none-below : (g : ℕ → Bool) (n i : ℕ) → false ≡ fold _||_ false g i n → (k : ℕ) → i ≤ k → k < i + n → g k ≡ false
+none-below g zero i e k a b = absurd (omega arith)
+none-below g (suc n) i e k a b = go (g i) refl e (λ q c. none-below g n (i + 1) q k c (omega arith))
+  where
+    go : (x : Bool) → g i ≡ x → false ≡ (x || fold _||_ false g (i + 1) n) → (false ≡ fold _||_ false g (i + 1) n → i + 1 ≤ k → g k ≡ false) → g k ≡ false
+    go true p q later = absurd (false≢true q)
+    go false p q later = at (eq-or-lt-of-le a)
+      where
+        at : (i ≡ k) ⊎ (i < k) → g k ≡ false
+        at (inl z) = ap g (sym z) ∙ p
+        at (inr c) = later q (omega arith)
+
 -- the names of the marked types among n from the number i on
 abbrev markedFrom : (ℕ → Name × Ty Name) → List Bool → ℕ → ℕ → List Name
 markedFrom f m i zero = []
@@ -61,6 +74,10 @@ marked s w m = markedFrom (namedType s w) m 0 (tallyIn w .types)
 -- the type i is marked and has the name x
 unfoldable pub isMarked : List ℕ → List ℕ → List Bool → Name → ℕ → Bool
 isMarked s w m x i = cond (getD m i false) (same x (namedType s w i .0)) false
+
+-- two lists of marks differ at the number i
+unfoldable pub differsAt : List Bool → List Bool → ℕ → Bool
+differsAt a b i = cond (getD a i false) (not (getD b i false)) (getD b i false)
 
 -- the marks that follow m
 pub record Next (s w : List ℕ) (m r : List Bool) : Type 0 where
@@ -122,11 +139,38 @@ numbered-length : {A : Type 0} (f : ℕ → A) (n i : ℕ) → length (numbered 
 numbered-length f zero i = refl
 numbered-length f (suc n) i = ap suc (numbered-length f n (i + 1))
 
+-- once a round changes nothing, no later one does
+settled : (types : List (Name × Ty Name)) (k n : ℕ) → namesWithOther (reachOther k types) types ≡ reachOther k types → k ≤ n → reachOther n types ≡ reachOther k types
+unfolding reachOther
+settled types k zero e b = ap (λ i. reachOther i types) {x = 0} {y = k} (omega arith)
+settled types k (suc n) e b = at (eq-or-lt-of-le b) (λ c. settled types k n e c)
+  where
+    at : (k ≡ suc n) ⊎ (k < suc n) → (k ≤ n → reachOther n types ≡ reachOther k types) → reachOther (suc n) types ≡ reachOther k types
+    at (inl z) before = ap (λ i. reachOther i types) (sym z)
+    at (inr c) before = ap (λ l. namesWithOther l types) (before (omega arith)) ∙ e
+
+-- marks that do not differ mark the same names
+same-marks : (s w : List ℕ) (m r : List Bool) → false ≡ anyBelow (differsAt m r) (tallyIn w .types) → marked s w r ≡ marked s w m
+unfolding anyBelow differsAt marked
+same-marks s w m r e = go (tallyIn w .types) 0 (λ k b. alike (getD m k false) (getD r k false) (none-below (differsAt m r) (tallyIn w .types) 0 e k (omega arith) (omega arith)))
+  where
+    alike : (x y : Bool) → cond x (not y) y ≡ false → y ≡ x
+    alike true true e = refl
+    alike true false e = absurd (true≢false e)
+    alike false y e = e
+
+    go : (n i : ℕ) → ((k : ℕ) → k < i + n → getD r k false ≡ getD m k false) → markedFrom (namedType s w) r i n ≡ markedFrom (namedType s w) m i n
+    go zero i h = refl
+    go (suc n) i h = rw (h i (omega arith), go n (i + 1) (λ k b. h k (omega arith))) refl
+
+types-long : (s w : List ℕ) → length (programIn s w .types) ≡ tallyIn w .types
+types-long s w = ap length (types-in s w) ∙ numbered-length (namedType s w) (tallyIn w .types) 0
+
 module _ {s w : List ℕ} where
   pub mark-start : {bad : List Name} {r : List Bool} → length r ≡ typeLimit → Marking s w bad r 0
   mark-start l = record { upto = omega arith; long = l; are = λ k b. absurd (omega arith) }
 
-  pub mark-on : {bad : List Name} {r : List Bool} {x : Bool} {t : Labelled} (i : ℕ) {j : ℕ} → j ≡ i + 1 → Marking s w bad r i → i < tallyIn w .types → i < 64 → TypeOf w i t → x ≡ hasOther bad (plainIn s w (t .number)) → Marking s w bad (set r i x) j
+  pub mark-on : {bad : List Name} {r : List Bool} {x : Bool} {t : Labelled} (i : ℕ) {j : ℕ} → j ≡ i + 1 → Marking s w bad r i → i < tallyIn w .types → i < typeLimit → TypeOf w i t → x ≡ hasOther bad (plainIn s w (t .number)) → Marking s w bad (set r i x) j
   mark-on {bad} {r} {x} {t} i p m h b o e =
       rw p
       (record {
@@ -165,8 +209,16 @@ module _ {s w : List ℕ} where
         is = n .is ∙ ap (λ l. namesWithOther l (programIn s w .types)) (t .is) ∙ ap (λ i. reachOther i (programIn s w .types)) (sym (add-one k));
       })
 
+  pub rounds-settled : {m r : List Bool} {k n : ℕ} {differ : Bool} → Rounds s w m k → Next s w m r → n ≡ tallyIn w .types → differ ≡ anyBelow (differsAt m r) n → differ ≡ false → Reaches s w m
+  rounds-settled {m} {r} {k} t n z d e =
+      let types = programIn s w .types in
+      let b = t .upto in
+      let alike = same-marks s w m r (sym e ∙ d ∙ ap (anyBelow (differsAt m r)) z) in
+      let again : namesWithOther (reachOther k types) types ≡ reachOther k types = ap (λ l. namesWithOther l types) (sym (t .is)) ∙ sym (n .is) ∙ alike ∙ t .is in
+      record { is = t .is ∙ sym (settled types k (length types) again (omega (arith, types-long s w))) }
+
   pub rounds-end : {m : List Bool} {k : ℕ} → Rounds s w m k → tallyIn w .types ≤ k → Reaches s w m
   rounds-end {m} {k} t h =
       let b = t .upto in
       let e : k ≡ tallyIn w .types = omega arith in
-      record { is = t .is ∙ ap (λ i. reachOther i (programIn s w .types)) (e ∙ sym (ap length (types-in s w) ∙ numbered-length (namedType s w) (tallyIn w .types) 0)) }
+      record { is = t .is ∙ ap (λ i. reachOther i (programIn s w .types)) (e ∙ sym (types-long s w)) }

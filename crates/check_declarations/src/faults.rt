@@ -9,15 +9,16 @@ use read_tables::access::alternative;
 use read_tables::access::type_node;
 use read_tables::search::find_process;
 use read_tables::search::find_type;
-ghost use Prim.Native.Nat.{_<_};
+ghost use mathlib.Core.Path.{_≡_};
 ghost use Rattle.notation.specs.Tree.{named};
 ghost use Rattle.notation.specs.Reader.{nameIn};
 ghost use Rattle.calculus.specs.Declarations.{unless};
 ghost use Rattle.read_tables.specs.Decode.{numbered};
 ghost use Rattle.read_tables.specs.Program.{programIn};
-ghost use Rattle.read_tables.specs.Roots.{TypeIn};
+ghost use Rattle.read_tables.specs.Roots.{TypeIn, AlternativesIn, alternativesIn};
 ghost use Rattle.read_tables.specs.Whole.{Tables};
-ghost use Rattle.check_declarations.specs.Faults.{labelFaults, typeFaults, faultsIn};
+ghost use Rattle.check_declarations.specs.Faults.{labelFaults, choiceFaults, typeFaults, faultsIn};
+ghost use Rattle.check_declarations.specs.Kinds.{isInfix};
 ghost use Rattle.check_declarations.specs.Lowest.{Lowered};
 ghost use Rattle.check_declarations.specs.Names.{nameOf, Fits};
 
@@ -80,24 +81,28 @@ pub(crate) fn list_faults(
     }
 }
 
-// The type i and its parts.
-pub(crate) fn type_faults(text: &[u8], scratch: &[u32], pass: Pass, i: usize, low: Lowest) -> Lowest
-    requires { ⌜ Tables (now text) (now scratch) × TypeIn (now text) (now scratch) i ⌝ }
-    ensures { λ r. ⌜ Lowered low (faultsIn (now (text .entry)) (now (scratch .entry)) pass i) r ⌝ }
+// A node of this kind is an infix type: it has a left and a right part.
+fn is_infix(kind: usize) -> bool
+    ensures { λ r. ⌜ r ≡ isInfix kind ⌝ }
 {
-    let n = type_node(scratch, i);
-    if n.kind == kinds::UNIT {
-        return low;
+    if kind < kinds::TENSOR {
+        return false;
     }
-    if n.kind == kinds::NAMED {
-        return name_faults(text, scratch, pass, n.second, low);
-    }
-    if n.kind < kinds::PLUS {
-        let l = type_faults(text, scratch, pass, n.first, low);
-        return type_faults(text, scratch, pass, n.second, l);
-    }
-    let e = n.first;
-    let count = n.second;
+    kind < kinds::PLUS
+}
+
+// A choice of `count` alternatives before the place e: its labels and its types.
+fn choice_faults(
+    text: &[u8],
+    scratch: &[u32],
+    pass: Pass,
+    e: usize,
+    count: usize,
+    low: Lowest,
+) -> Lowest
+    requires { ⌜ Tables (now text) (now scratch) × AlternativesIn (now text) (now scratch) e count ⌝ }
+    ensures { λ r. ⌜ Lowered low (choiceFaults pass (programIn (now (text .entry)) (now (scratch .entry))) (alternativesIn (now (text .entry)) (now (scratch .entry)) e count)) r ⌝ }
+{
     let mut l = list_faults(text, scratch, pass, Names::Alternatives(e), count, low);
     let mut k: usize = 0;
     while k < count {
@@ -106,4 +111,26 @@ pub(crate) fn type_faults(text: &[u8], scratch: &[u32], pass: Pass, i: usize, lo
         k += 1;
     }
     l
+}
+
+// The type i: the right part of an infix type is the next turn.
+pub(crate) fn type_faults(text: &[u8], scratch: &[u32], pass: Pass, i: usize, low: Lowest) -> Lowest
+    requires { ⌜ Tables (now text) (now scratch) × TypeIn (now text) (now scratch) i ⌝ }
+    ensures { λ r. ⌜ Lowered low (faultsIn (now (text .entry)) (now (scratch .entry)) pass i) r ⌝ }
+{
+    let mut at = i;
+    let mut n = type_node(scratch, at);
+    let mut l = low;
+    while is_infix(n.kind) {
+        l = type_faults(text, scratch, pass, n.first, l);
+        at = n.second;
+        n = type_node(scratch, at);
+    }
+    if n.kind == kinds::UNIT {
+        return l;
+    }
+    if n.kind == kinds::NAMED {
+        return name_faults(text, scratch, pass, n.second, l);
+    }
+    choice_faults(text, scratch, pass, n.first, n.second, l)
 }

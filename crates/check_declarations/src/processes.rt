@@ -16,9 +16,9 @@ ghost use Rattle.notation.specs.Reader.{nameIn};
 ghost use Rattle.notation.specs.Limits.{processTermLimit};
 ghost use Rattle.read_tables.specs.Access.{TermOf};
 ghost use Rattle.read_tables.specs.Program.{programIn};
-ghost use Rattle.read_tables.specs.Roots.{ProcessIn};
+ghost use Rattle.read_tables.specs.Roots.{ProcessIn, BranchesIn, branchesIn};
 ghost use Rattle.read_tables.specs.Whole.{Tables};
-ghost use Rattle.check_declarations.specs.ProcessFaults.{callFaults, partsOf, nodeFaults, processFaultsIn};
+ghost use Rattle.check_declarations.specs.ProcessFaults.{callFaults, partsOf, followedAt, nodeFaults, InnerIn, innerFaults, branchesFaults, processFaultsIn};
 ghost use Rattle.check_declarations.specs.Lowest.{Lowered};
 
 // Which parts of a node are processes: none, the third, the second and the third, or those of its branches.
@@ -50,6 +50,18 @@ fn parts_of(kind: usize) -> Parts
     Parts::Third
 }
 
+// The pointer of what follows a node with these parts; nothing follows one that ends or has branches.
+fn what_follows(parts: Parts, n: TermNode) -> usize
+    ensures { λ r. ⌜ r ≡ followedAt parts n ⌝ }
+{
+    match parts {
+        Parts::Leaf => Script::PROCESS_TERMS,
+        Parts::Third => n.third,
+        Parts::Both => n.third,
+        Parts::Branches => Script::PROCESS_TERMS,
+    }
+}
+
 // A call of the process whose name is at `at`.
 fn call_faults(text: &[u8], scratch: &[u32], pass: Pass, at: usize, low: Lowest) -> Lowest
     requires { ⌜ Tables (now text) (now scratch) ⌝ }
@@ -79,7 +91,49 @@ fn node_faults(text: &[u8], scratch: &[u32], pass: Pass, n: TermNode, low: Lowes
     low
 }
 
-// The process at the pointer p and its parts.
+// What a node with these parts has in brackets: a first half, or branches.
+fn inner_faults(
+    text: &[u8],
+    scratch: &[u32],
+    pass: Pass,
+    parts: Parts,
+    n: TermNode,
+    low: Lowest,
+) -> Lowest
+    requires { ⌜ Tables (now text) (now scratch) × InnerIn (now text) (now scratch) parts n ⌝ }
+    ensures { λ r. ⌜ Lowered low (innerFaults (now (text .entry)) (now (scratch .entry)) pass parts n) r ⌝ }
+{
+    match parts {
+        Parts::Leaf => low,
+        Parts::Third => low,
+        Parts::Both => process_faults(text, scratch, pass, n.second, low),
+        Parts::Branches => branches_faults(text, scratch, pass, n.second, n.third, low),
+    }
+}
+
+// The processes of `count` branches before the place e.
+fn branches_faults(
+    text: &[u8],
+    scratch: &[u32],
+    pass: Pass,
+    e: usize,
+    count: usize,
+    low: Lowest,
+) -> Lowest
+    requires { ⌜ Tables (now text) (now scratch) × BranchesIn (now text) (now scratch) e count ⌝ }
+    ensures { λ r. ⌜ Lowered low (branchesFaults pass (programIn (now (text .entry)) (now (scratch .entry))) (branchesIn (now (text .entry)) (now (scratch .entry)) e count)) r ⌝ }
+{
+    let mut l = low;
+    let mut k: usize = 0;
+    while k < count {
+        let b = branch(scratch, e - k);
+        l = process_faults(text, scratch, pass, b.number, l);
+        k += 1;
+    }
+    l
+}
+
+// The process at the pointer p: what follows a node is the next turn.
 pub(crate) fn process_faults(
     text: &[u8],
     scratch: &[u32],
@@ -90,29 +144,14 @@ pub(crate) fn process_faults(
     requires { ⌜ Tables (now text) (now scratch) × ProcessIn (now text) (now scratch) p ⌝ }
     ensures { λ r. ⌜ Lowered low (processFaultsIn (now (text .entry)) (now (scratch .entry)) pass p) r ⌝ }
 {
-    if Script::PROCESS_TERMS <= p {
-        return low;
+    let mut at = p;
+    let mut l = low;
+    while at < Script::PROCESS_TERMS {
+        let n = term_node(scratch, at);
+        let parts = parts_of(n.kind);
+        l = node_faults(text, scratch, pass, n, l);
+        l = inner_faults(text, scratch, pass, parts, n, l);
+        at = what_follows(parts, n);
     }
-    let n = term_node(scratch, p);
-    let mut l = node_faults(text, scratch, pass, n, low);
-    let parts = parts_of(n.kind);
-    match parts {
-        Parts::Leaf => l,
-        Parts::Third => process_faults(text, scratch, pass, n.third, l),
-        Parts::Both => {
-            let m = process_faults(text, scratch, pass, n.second, l);
-            process_faults(text, scratch, pass, n.third, m)
-        }
-        Parts::Branches => {
-            let e = n.second;
-            let count = n.third;
-            let mut k: usize = 0;
-            while k < count {
-                let b = branch(scratch, e - k);
-                l = process_faults(text, scratch, pass, b.number, l);
-                k += 1;
-            }
-            l
-        }
-    }
+    l
 }

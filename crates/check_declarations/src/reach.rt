@@ -8,15 +8,17 @@ use read_tables::access::type_count;
 use read_tables::access::type_node;
 ghost use mathlib.Core.Path.{_≡_};
 ghost use mathlib.Core.Bool.{false};
-ghost use Prim.Native.Nat.{_<_};
+ghost use Prim.Native.Nat.{_<_, _≤_};
 ghost use Rattle.notation.specs.Bytes.{same};
 ghost use Rattle.notation.specs.Token.{nameAt};
-ghost use Rattle.calculus.specs.Declarations.{hasOther};
+ghost use Rattle.notation.specs.Limits.{typeLimit};
+ghost use Rattle.notation.specs.Tree.{plains};
+ghost use Rattle.calculus.specs.Declarations.{hasOther, haveOther};
 ghost use Rattle.calculus.specs.Named.{any};
 ghost use Rattle.read_tables.specs.Program.{plainIn};
-ghost use Rattle.read_tables.specs.Roots.{TypeIn};
+ghost use Rattle.read_tables.specs.Roots.{TypeIn, AlternativesIn, alternativesIn};
 ghost use Rattle.read_tables.specs.Whole.{Tables};
-ghost use Rattle.check_declarations.specs.Reach.{isMarked, marked, Next, Reaches};
+ghost use Rattle.check_declarations.specs.Reach.{anyBelow, differsAt, isMarked, marked, Next, Reaches};
 
 // The type i is marked, and its name is the one at `at`.
 fn marked_so(
@@ -26,7 +28,7 @@ fn marked_so(
     i: usize,
     at: usize,
 ) -> bool
-    requires { ⌜ Tables (now text) (now scratch) × (i < 64) ⌝ }
+    requires { ⌜ Tables (now text) (now scratch) × (i < typeLimit) ⌝ }
     ensures { λ r. ⌜ r ≡ isMarked (now (text .entry)) (now (scratch .entry)) marks (nameAt (now (text .entry)) at) i ⌝ }
 {
     if marks[i] {
@@ -53,29 +55,17 @@ fn is_marked(text: &[u8], scratch: &[u32], marks: [bool; Script::TYPES], at: usi
     false
 }
 
-// The type i has @, -o or &, or a marked name.
-pub fn has_other(text: &[u8], scratch: &[u32], marks: [bool; Script::TYPES], i: usize) -> bool
-    requires { ⌜ Tables (now text) (now scratch) × TypeIn (now text) (now scratch) i ⌝ }
-    ensures { λ r. ⌜ r ≡ hasOther (marked (now (text .entry)) (now (scratch .entry)) marks) (plainIn (now (text .entry)) (now (scratch .entry)) i) ⌝ }
+// One of `count` alternatives before the place e has @, -o or &, or a marked name.
+fn alternatives_other(
+    text: &[u8],
+    scratch: &[u32],
+    marks: [bool; Script::TYPES],
+    e: usize,
+    count: usize,
+) -> bool
+    requires { ⌜ Tables (now text) (now scratch) × AlternativesIn (now text) (now scratch) e count ⌝ }
+    ensures { λ r. ⌜ r ≡ haveOther (marked (now (text .entry)) (now (scratch .entry)) marks) (plains (alternativesIn (now (text .entry)) (now (scratch .entry)) e count)) ⌝ }
 {
-    let n = type_node(scratch, i);
-    if n.kind == kinds::UNIT {
-        return false;
-    }
-    if n.kind == kinds::NAMED {
-        return is_marked(text, scratch, marks, n.second);
-    }
-    if n.kind == kinds::TENSOR {
-        if has_other(text, scratch, marks, n.first) {
-            return true;
-        }
-        return has_other(text, scratch, marks, n.second);
-    }
-    if n.kind != kinds::PLUS {
-        return true;
-    }
-    let e = n.first;
-    let count = n.second;
     let mut k: usize = 0;
     while k < count {
         let a = alternative(scratch, e - k);
@@ -85,6 +75,32 @@ pub fn has_other(text: &[u8], scratch: &[u32], marks: [bool; Script::TYPES], i: 
         k += 1;
     }
     false
+}
+
+// The type i has @, -o or &, or a marked name: the right part of a * is the next turn.
+pub fn has_other(text: &[u8], scratch: &[u32], marks: [bool; Script::TYPES], i: usize) -> bool
+    requires { ⌜ Tables (now text) (now scratch) × TypeIn (now text) (now scratch) i ⌝ }
+    ensures { λ r. ⌜ r ≡ hasOther (marked (now (text .entry)) (now (scratch .entry)) marks) (plainIn (now (text .entry)) (now (scratch .entry)) i) ⌝ }
+{
+    let mut at = i;
+    let mut n = type_node(scratch, at);
+    while n.kind == kinds::TENSOR {
+        if has_other(text, scratch, marks, n.first) {
+            return true;
+        }
+        at = n.second;
+        n = type_node(scratch, at);
+    }
+    if n.kind == kinds::UNIT {
+        return false;
+    }
+    if n.kind == kinds::NAMED {
+        return is_marked(text, scratch, marks, n.second);
+    }
+    if n.kind == kinds::PLUS {
+        return alternatives_other(text, scratch, marks, n.first, n.second);
+    }
+    true
 }
 
 // The marks after one round: of each type whose definition has @, -o or &, or a marked name.
@@ -103,7 +119,33 @@ fn next_marks(text: &[u8], scratch: &[u32], marks: [bool; Script::TYPES]) -> [bo
     next
 }
 
-// The marks after as many rounds as there are types.
+// The marks of the type i differ.
+fn differ_at(a: [bool; Script::TYPES], b: [bool; Script::TYPES], i: usize) -> bool
+    requires { ⌜ i < typeLimit ⌝ }
+    ensures { λ r. ⌜ r ≡ differsAt a b i ⌝ }
+{
+    if a[i] {
+        return !b[i];
+    }
+    b[i]
+}
+
+// The marks of one of the first n types differ.
+fn marks_differ(a: [bool; Script::TYPES], b: [bool; Script::TYPES], n: usize) -> bool
+    requires { ⌜ n ≤ typeLimit ⌝ }
+    ensures { λ r. ⌜ r ≡ anyBelow (differsAt a b) n ⌝ }
+{
+    let mut i: usize = 0;
+    while i < n {
+        if differ_at(a, b, i) {
+            return true;
+        }
+        i += 1;
+    }
+    false
+}
+
+// The marks after as many rounds as there are types: a round that changes none is the last, as each later one would change none.
 pub fn reach(text: &[u8], scratch: &[u32]) -> [bool; Script::TYPES]
     requires { ⌜ Tables (now text) (now scratch) ⌝ }
     ensures { λ r. ⌜ Reaches (now (text .entry)) (now (scratch .entry)) r ⌝ }
@@ -113,8 +155,12 @@ pub fn reach(text: &[u8], scratch: &[u32]) -> [bool; Script::TYPES]
     let mut k: usize = 0;
     while k < n {
         let next = next_marks(text, scratch, marks);
-        marks = next;
-        k += 1;
+        if marks_differ(marks, next, n) {
+            marks = next;
+            k += 1;
+        } else {
+            return marks;
+        }
     }
     marks
 }

@@ -8,7 +8,7 @@ type-faults-requires : tie.Need-type-faults-requires
 type-faults-requires c κs =
     let entry = c .before .before .before .before in
     let h = entry .pre .1 in
-    (entry .pre .0, spawn-type _ _ (entry .args .pass) _ _ (entry .pre .0) (h .1) (h .2) (h .3) (c .if1 .taken))
+    (entry .pre .0, spawn-type (entry .pre .0) (h .1) (h .2) (h .3) (c .if1 .taken))
 
 returns : tie.Need-returns
 returns c = own-type _ _ (c .before .before .before .before .before .args .pass) _ (c .before .if1 .taken) (c .type-faults .ensures)
@@ -17,7 +17,7 @@ list-faults-requires : tie.Need-list-faults-requires
 list-faults-requires c κs =
     let entry = c .before .before .before .before .before .before in
     let h = entry .pre .1 in
-    (entry .pre .0, branches-fit _ _ (entry .pre .0) _ _ _ (recv-branches _ _ (entry .args .pass) _ _ (entry .pre .0) (h .1) (h .2) (h .3) (c .if2 .taken)))
+    (entry .pre .0, branches-fit _ _ (entry .pre .0) _ _ (recv-branches (entry .pre .0) (h .1) (h .2) (h .3) (c .if2 .taken)))
 
 returns-2 : tie.Need-returns-2
 returns-2 c = own-labels _ _ (c .before .before .before .before .before .before .before .args .pass) _ (c .before .if2 .taken) (c .list-faults .ensures)

@@ -2,7 +2,7 @@ use borrow.Author.Needs.{needs}
 use native.Mathlib.Omega.{arith}
 use Prim.Native.Nat.{_-_}
 use mathlib.Core.Path.{refl}
-use Rattle.check_declarations.specs.Reach.{Rounds, rounds-start, rounds-on, rounds-end}
+use Rattle.check_declarations.specs.Reach.{Rounds, rounds-start, rounds-on, rounds-settled, rounds-end}
 use Rattle.check_declarations.proofs.reach.reach.Statement.{statement}
 use Rattle.check_declarations.proofs.reach.reach.Tie as tie
 
@@ -21,6 +21,9 @@ loop-holds c = rounds-start
 next-marks-requires : tie.Need-next-marks-requires Inv-loop μ-loop
 next-marks-requires c κs = search needs
 
+marks-differ-requires : tie.Need-marks-differ-requires Inv-loop μ-loop
+marks-differ-requires c κs = search needs
+
 add-k : tie.Need-add-k Inv-loop μ-loop
 add-k c = search needs
 
@@ -28,10 +31,17 @@ loop-less : tie.Need-loop-less Inv-loop μ-loop
 loop-less c = search needs
 
 loop-again : tie.Need-loop-again Inv-loop μ-loop
-loop-again c = rounds-on refl (c .before .before .loop .inv) (omega (arith, c .before .loop-test .taken, c .before .before .before .type-count .ensures)) (c .next-marks .ensures)
+loop-again c =
+    let loop = c .before .before .before .before in
+    rounds-on refl (loop .loop .inv) (omega (arith, c .before .before .before .loop-test .taken, loop .before .type-count .ensures)) (c .before .before .next-marks .ensures)
 
 returns : tie.Need-returns Inv-loop μ-loop
-returns c = rounds-end (c .before .loop .inv) (omega (arith, c .loop-test .left, c .before .before .type-count .ensures))
+returns c =
+    let loop = c .before .before .before .before in
+    rounds-settled (loop .loop .inv) (c .before .before .next-marks .ensures) (loop .before .type-count .ensures) (c .before .marks-differ .ensures) (c .if1 .left)
+
+returns-2 : tie.Need-returns-2 Inv-loop μ-loop
+returns-2 c = rounds-end (c .before .loop .inv) (omega (arith, c .loop-test .left, c .before .before .type-count .ensures))
 
 pub reach-spec : {M : Type 1} → statement M
 reach-spec =
@@ -42,7 +52,9 @@ reach-spec =
     type-count-requires
     loop-holds
     next-marks-requires
+    marks-differ-requires
     add-k
     loop-less
     loop-again
-    returns)
+    returns
+    returns-2)
