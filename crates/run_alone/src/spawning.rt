@@ -48,8 +48,9 @@ fn spawn_on(
     ensures { λ r. ⌜ Carries (now (text .entry)) (now (scratch .entry)) (now (run .entry)) (now (run .exit)) r (spawnedBy (now (text .entry)) (now (scratch .entry)) (now (run .entry)) place p m (some channel)) ⌝ }
 {
     let h = p.held;
-    let half = Half::OfSpawn(m.name as usize, m.first as usize);
-    let taken = half_takes(text, scratch, h, half, ALL);
+    let name = m.name as usize;
+    let first = m.first as usize;
+    let taken = half_takes(text, scratch, h, Half::OfSpawn(name, first), ALL);
     let ours = spawn_half(h, taken, m.name, m.node, true, channel);
     let mut made = NEW;
     made.kind = RUNNING;

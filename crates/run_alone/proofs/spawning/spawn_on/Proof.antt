@@ -6,11 +6,11 @@ use borrow.Author.Needs.{needs}
 use Rattle.run_alone.proofs.spawning.spawn_on.Statement.{statement}
 use Rattle.run_alone.proofs.spawning.spawn_on.Tie as tie
 
-cast-t15 : tie.Need-cast-t15
-cast-t15 c = search needs
+cast-name : tie.Need-cast-name
+cast-name c = search needs
 
-cast-t16 : tie.Need-cast-t16
-cast-t16 c = search needs
+cast-first : tie.Need-cast-first
+cast-first c = search needs
 
 half-takes-requires : tie.Need-half-takes-requires
 half-takes-requires c κs =
@@ -91,8 +91,8 @@ pub spawn-on-spec : {M : Type 1} → statement M
 spawn-on-spec =
     tie.close
     (tie.spec
-    cast-t15
-    cast-t16
+    cast-name
+    cast-first
     half-takes-requires
     spawn-half-requires
     spawn-half-requires-2
