@@ -41,7 +41,7 @@ use Rattle.check_contexts.specs.declared.held.Lookup.{Lookup}
 use Rattle.check_contexts.specs.declared.held.Lookup.the-variants as lookups
 use Rattle.run_alone.specs.declared.outcome.Outcome.the-variants.{Carried, NotOpen}
 use Rattle.run_alone.specs.Run.{configIn, processAs, Becomes, Carries}
-use Rattle.run_alone.specs.Making.{channels-many}
+use Rattle.run_alone.specs.Changes.{channels-many}
 
 pub append-assoc : {A : Type 0} (a b c : List A) → (a ++ b) ++ c ≡ a ++ (b ++ c)
 append-assoc [] b c = refl

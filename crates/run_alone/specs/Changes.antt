@@ -16,20 +16,21 @@ use Rattle.calculus.specs.Configuration as calculus
 use Rattle.read_tables.specs.Decode.{processIn}
 use Rattle.read_tables.specs.Program.{plainIn}
 use Rattle.read_tables.specs.Roots.{TypeIn, ProcessIn, process-tree, process-root}
-use Rattle.read_tables.specs.Stands.{ProcessFrom}
+use Rattle.notation.specs.From.{ProcessFrom}
 use Rattle.read_tables.specs.Whole.{Tables}
 use Rattle.run_words.specs.Lists.{All}
 use Rattle.run_words.specs.ListLaws.{all-at, all-set, all-append, all-weaken, below-length, all-map, all-insert, all-remove}
-use Rattle.run_words.specs.Raw.{RawProcess, RawOutside, RawConfig, BoundedEnd, BoundedProcess, linkOf, linksBelow, rawIn, Bounded, pointerLimit, runningKind}
+use Rattle.run_words.specs.Raw.{RawEnd, RawProcess, RawOutside, RawConfig, BoundedEnd, BoundedProcess, linkOf, linksBelow, rawIn, Bounded, pointerLimit, runningKind}
 use Rattle.run_words.specs.Values as values
 use Rattle.run_words.specs.Values.{Changed, heldIn, held-length}
 use Rattle.run_words.specs.Operations as raw
 use Rattle.run_words.specs.Bounds.{letGo-all}
 use Rattle.run_words.specs.DecodeLaws.{decoded-at, decoded-set, decoded-inserted, decoded-removed, decoded-letGo, decoded-retyped, decoded-rerouted, decoded-append}
 use Rattle.run_words.specs.Decode.{decodedOutside, decodedProcess, decoded}
+use Rattle.run_words.specs.declared.records.Held.{Held}
 use Rattle.run_words.specs.declared.records.Process.{Process as ProcessWords}
 use Rattle.run_words.specs.declared.records.Outside.{Outside as OutsideWords}
-use Rattle.check_contexts.specs.Held.{channelsOf, EndIn, HeldIn}
+use Rattle.check_contexts.specs.Held.{endIs, channelsOf, EndIn, HeldIn}
 use Rattle.run_alone.specs.Run.{configIn, processAs, Fits, RunOf, ProcessOf, StandsAt, Becomes}
 
 -- one change after another
@@ -44,6 +45,23 @@ all-changed P f k h (o ∷ l) (a, b) = go (eqb k (o .channel)) (all-changed P f 
     go : (t : Bool) → All P (raw.changedOutside k f l) → All P (cond t (f o ∷ l) (o ∷ raw.changedOutside k f l))
     go true r = (h o a, b)
     go false r = (a, r)
+
+-- ── what is held
+module _ (s w : List ℕ) (h : Held) where
+  pub channels-many : length (channelsOf s w h) ≡ h .count
+  unfolding channelsOf
+  channels-many = length-map (heldIn h) (endIs s w) ∙ held-length h
+
+  pub none-held : h .count ≡ 0 → channelsOf s w h ≡ []
+  unfolding channelsOf
+  none-held z = ap (map (endIs s w)) (go (heldIn h) (held-length h ∙ z))
+    where
+      go : (l : List RawEnd) → length l ≡ 0 → l ≡ []
+      go [] e = refl
+      go (x ∷ l) e = absurd (omega arith)
+
+pub held-bounded : {s w : List ℕ} (h : Held) → HeldIn s w h → All BoundedEnd (heldIn h)
+held-bounded {s} {w} h t = all-weaken (EndIn s w) BoundedEnd (λ e b. b .bounds) (heldIn h) (t .each)
 
 -- a pointer fits into its bits
 pub pointer-small : (s w : List ℕ) (p : ℕ) → Tables s w → ProcessIn s w p → p < pointerLimit
@@ -74,7 +92,7 @@ module _ (s w : List ℕ) where
     kind = t .kind;
     pointer = t .pointer;
     many = omega (arith, held-length (p .held), t .held .many);
-    each = all-weaken (EndIn s w) BoundedEnd (λ e b. b .bounds) (heldIn (p .held)) (t .held .each);
+    each = held-bounded (p .held) (t .held);
     link = t .link;
   }
 

@@ -8,10 +8,7 @@ use native.Mathlib.Omega.{arith}
 use lib.Dec.{eqb}
 use lib.ListN.{length, set, getElem?, length-set}
 use Rattle.calculus.specs.Configuration.{Process, Config, withProcesses, replaced, doingNow}
-use Rattle.calculus.specs.Configuration as calculus
-use Rattle.calculus.specs.Steps.{startedDoing, startedHandler, foldedHandler, putAt, changedAt, leaving, raising}
-use Rattle.calculus.specs.declared.answers.Seen.the-variants.{Nothing}
-use Rattle.read_tables.specs.Roots.{ProcessIn}
+use Rattle.calculus.specs.Steps.{startedDoing, startedHandler, foldedHandler, putAt, changedAt}
 use Rattle.read_tables.specs.Decode.{processIn}
 use Rattle.run_words.specs.Lists.{All}
 use Rattle.run_words.specs.ListLaws.{all-set, all-at, all-map, all-of, map-at}
@@ -21,9 +18,8 @@ use Rattle.run_words.specs.Values as values
 use Rattle.run_words.specs.Operations as raw
 use Rattle.run_words.specs.Bounds.{Unlinked}
 use Rattle.run_words.specs.declared.records.Process.{Process as ProcessWords}
-use Rattle.run_alone.specs.declared.outcome.Outcome.the-variants.{Carried}
-use Rattle.run_alone.specs.Run.{configIn, doingAs, processAs, RunOf, ProcessOf, StandsAt, Becomes, Carries}
-use Rattle.run_alone.specs.Changes.{then, stored, left, runs-on, places-after, places-in}
+use Rattle.run_alone.specs.Run.{configIn, doingAs, processAs, RunOf, ProcessOf, StandsAt, Becomes}
+use Rattle.run_alone.specs.Changes.{stored, places-after, places-in}
 
 -- ── what becomes of a handler
 abbrev pub handlerKind : Bool → ℕ → ℕ
@@ -114,16 +110,3 @@ module _ (s w : List ℕ) where
 
     pub as-many : length (rawIn mid .processes) ≡ length (rawIn old .processes)
     as-many = places-after b ∙ changed-many raised (linkOf link) (configIn s w old .processes) ∙ places-in s w old
-
-  -- ── the rules
-  module _ (old mid new : List ℕ) (i : ℕ) (p : ProcessWords) where
-    pub leaves : Becomes s w old mid (withHandler false (linkOf (p .link)) (configIn s w old)) → Changed mid new (raw.onProcesses (raw.removed i) (rawIn mid)) → Bounded (rawIn new)
-        → Carries s w old new (Carried Nothing) (leaving (configIn s w old) i (processAs s w p))
-    unfolding leaving
-    leaves b c k = record { is = (refl, then (λ (C : Config). withProcesses (calculus.removed i (C .processes)) C) b (left s w mid new (b .run) i c k)) }
-
-    pub raises : (pointer : ℕ) → ProcessOf s w (length (rawIn old .processes)) p → ProcessIn s w pointer → Becomes s w old mid (withHandler true (linkOf (p .link)) (configIn s w old))
-        → Changed mid new (raw.onProcesses (λ l. set l i (values.processIn (values.ofLink 0 (values.runningOn pointer (p .held) p)))) (rawIn mid)) → Bounded (rawIn new)
-        → Carries s w old new (Carried Nothing) (raising (configIn s w old) i (processAs s w p) (processIn s w pointer))
-    unfolding raising
-    raises pointer t a b c k = record { is = (refl, then (replaced i (processAs s w (values.ofLink 0 (values.runningOn pointer (p .held) p)))) b (stored s w mid new (b .run) i _ (runs-on (b .run .tables) (values.ofLink 0 (values.runningOn pointer (p .held) p)) refl tt a (t .held)) c k)) }

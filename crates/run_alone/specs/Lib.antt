@@ -1,7 +1,13 @@
 pub mod Run
 pub mod Changes
 pub mod Handlers
+pub mod Raising
+pub mod Leaving
 pub mod Parting
+pub mod Cancelling
+pub mod Folding
 pub mod Forwarding
-pub mod Making
+pub mod Places
+pub mod Trying
+pub mod Spawning
 pub mod Calling

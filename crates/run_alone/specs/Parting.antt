@@ -1,25 +1,22 @@
 -- An end is given up; a process folds up.
-use Prim.Native.Nat.{ℕ, _+_, _<_}
+use Prim.Native.Nat.{ℕ, _<_}
 use mathlib.Core.Path.{_≡_, refl, sym, _∙_, ap, subst}
-use mathlib.Core.List.{List, [], _∷_, map}
+use mathlib.Core.List.{List}
 use mathlib.Core.Bool.{Bool, true, false, false≢true}
-use mathlib.Core.Option.{Option, some, Option·some-injective, Option·none-ne-some}
+use mathlib.Core.Option.{Option, some}
 use native.Mathlib.Omega.{arith}
 use lib.ListN.{length, set, getElem?}
 use Rattle.notation.specs.Token.{nameAt}
-use Rattle.notation.specs.Reader.{nameIn}
 use Rattle.calculus.specs.Named.{lookup}
-use Rattle.calculus.specs.Configuration.{End, Outside, Config, withOutside, replaced, goesOn, farEnd}
+use Rattle.calculus.specs.Configuration.{End, Outside, Config, withOutside, replaced, farEnd}
 use Rattle.calculus.specs.Configuration as calculus
-use Rattle.calculus.specs.Steps.{Outcome, onHeld, seenAt, outsideAfter, parting, cancelling, leaving, foldingUp}
+use Rattle.calculus.specs.Steps.{Outcome, onHeld, seenAt, outsideAfter, parting, foldingUp}
 use Rattle.calculus.specs.declared.answers.Seen.{Seen}
 use Rattle.calculus.specs.declared.answers.Seen.the-variants.{Nothing, Cancelled}
 use Rattle.read_tables.specs.Decode.{processIn}
 use Rattle.read_tables.specs.Program.{plainIn}
-use Rattle.run_words.specs.Lists.{All, removeAt}
-use Rattle.run_words.specs.ListLaws.{all-remove}
-use Rattle.run_words.specs.Raw.{RawEnd, rawIn, sideOf, Bounded}
-use Rattle.run_words.specs.Values.{Changed, endIn, heldIn, held-length, outsideIn}
+use Rattle.run_words.specs.Raw.{rawIn, sideOf, Bounded}
+use Rattle.run_words.specs.Values.{Changed, endIn, outsideIn}
 use Rattle.run_words.specs.Values as values
 use Rattle.run_words.specs.Operations as raw
 use Rattle.run_words.specs.SearchLaws.{far-outside, outside-below}
@@ -30,7 +27,7 @@ use Rattle.run_words.specs.declared.records.Outside.{Outside as OutsideWords}
 use Rattle.run_words.specs.declared.records.Process.{Process as ProcessWords}
 use Rattle.run_words.specs.declared.records.Far.{Far}
 use Rattle.run_words.specs.declared.records.Far.the-variants as far
-use Rattle.check_contexts.specs.Held.{endIs, channelsOf, EndIn, HeldIn, endFound, FoundIn, Sees, Drops}
+use Rattle.check_contexts.specs.Held.{endIs, channelsOf, EndIn, HeldIn, endFound, FoundIn, Sees}
 use Rattle.check_contexts.specs.declared.held.Lookup.{Lookup}
 use Rattle.check_contexts.specs.declared.held.Lookup.the-variants as lookups
 use Rattle.run_alone.specs.declared.outcome.Outcome.the-variants.{Carried, NotOpen}
@@ -95,41 +92,9 @@ module _ (s w old mid new : List ℕ) (i : ℕ) (p : ProcessWords) (e : EndWords
   unfolding parting
   parts r g o c b = record { is = (ap Carried (g .shows), then (replaced i (processAs s w p)) (g .becomes) (stored s w mid new (g .becomes .run) i p o c b)) }
 
--- what is left of the oldest end
-module _ (s w : List ℕ) (h : Held) where
-  pub none-held : h .count ≡ 0 → channelsOf s w h ≡ []
-  unfolding channelsOf
-  none-held z = ap (map (endIs s w)) (go (heldIn h) (held-length h ∙ z))
-    where
-      go : (l : List RawEnd) → length l ≡ 0 → l ≡ []
-      go [] e = refl
-      go (x ∷ l) e = absurd (omega arith)
-
-  module _ (e : EndWords) (g : getElem? (heldIn h) 0 ≡ some (endIn e)) (r : Held) (q : heldIn r ≡ removeAt 0 (heldIn h)) where
-    pub oldest : channelsOf s w h ≡ endIs s w (endIn e) ∷ channelsOf s w r
-    unfolding channelsOf
-    oldest = go (heldIn h) g ∙ ap (λ l. endIs s w (endIn e) ∷ map (endIs s w) l) (sym q)
-      where
-        go : (l : List RawEnd) → getElem? l 0 ≡ some (endIn e) → map (endIs s w) l ≡ endIs s w (endIn e) ∷ map (endIs s w) (removeAt 0 l)
-        go [] z = absurd (Option·none-ne-some _ z)
-        go (x ∷ l) z = ap (λ y. endIs s w y ∷ map (endIs s w) l) (Option·some-injective _ _ z)
-
-    pub oldest-held : r .count + 1 ≡ h .count → HeldIn s w h → HeldIn s w r
-    oldest-held n t = record { many = omega (arith, t .many); each = subst (All (EndIn s w)) (sym q) (all-remove (EndIn s w) 0 (heldIn h) (t .each)) }
-
 -- a process that folds up
 pub folds : (s w : List ℕ) (p : ProcessWords) (h : Held) {n : ℕ} → ProcessOf s w n p → HeldIn s w h → ProcessOf s w n (values.foldingUp h p)
 folds s w p h t u = record { kind = omega arith; pointer = t .pointer; link = t .link; term = λ z. absurd (z refl); held = u }
-
-module _ (s w old new : List ℕ) (i : ℕ) (p : ProcessWords) (r : OutcomeWords) where
-  pub folds-empty : p .held .count ≡ 0 → Carries s w old new r (leaving (configIn s w old) i (processAs s w p)) → Carries s w old new r (foldingUp (configIn s w old) i (processAs s w p) (channelsOf s w (p .held)))
-  unfolding foldingUp
-  folds-empty z c = subst (λ l. Carries s w old new r (foldingUp (configIn s w old) i (processAs s w p) l)) (sym (none-held s w (p .held) z)) c
-
-  pub folds-oldest : (e : EndWords) (h : Held) → getElem? (heldIn (p .held)) 0 ≡ some (endIn e) → heldIn h ≡ removeAt 0 (heldIn (p .held)) → Carries s w old new r (parting (configIn s w old) i (processAs s w (values.foldingUp h p)) (endAs s w e))
-      → Carries s w old new r (foldingUp (configIn s w old) i (processAs s w p) (channelsOf s w (p .held)))
-  unfolding foldingUp
-  folds-oldest e h g q c = subst (λ l. Carries s w old new r (foldingUp (configIn s w old) i (processAs s w p) l)) (sym (oldest s w (p .held) e g h q)) c
 
 -- ── a rule that acts on a channel by its name
 module _ {s w old : List ℕ} {h : Held} {at : ℕ} {f : Lookup} (t : Sees s h at f) (k : End → Outcome) where
@@ -142,14 +107,3 @@ module _ {s w old : List ℕ} {h : Held} {at : ℕ} {f : Lookup} (t : Sees s h a
 -- what was found is an end of the text
 pub end-found : {s w : List ℕ} {h : Held} {at : ℕ} {f : Lookup} {e : EndWords} → Sees s h at f → f ≡ lookups.Found e → HeldIn s w h → EndIn s w (endIn e) × (e .side < 2)
 end-found {s} {w} t e u = subst (FoundIn s w) e (t .fits w u)
-
-module _ (s w old new : List ℕ) (i : ℕ) (p : ProcessWords) (c pointer : ℕ) where
-  pub cancels : {f : Lookup} {e : EndWords} {h : Held} {r : OutcomeWords} → Sees s (p .held) c f → f ≡ lookups.Found e → Drops s (p .held) c h
-      → Carries s w old new r (parting (configIn s w old) i (processAs s w (values.runningOn pointer h p)) (endAs s w e))
-      → Carries s w old new r (cancelling (configIn s w old) i (processAs s w p) (nameIn s c) (processIn s w pointer))
-  unfolding cancelling
-  cancels {e = e} {r = r} t q d k = held-some t _ q (subst (λ l. Carries s w old new r (parting (configIn s w old) i (goesOn (processAs s w p) (processIn s w pointer) l) (endAs s w e))) (d .is w) k)
-
-pub cancels-nothing : (s w old : List ℕ) (i : ℕ) (p : ProcessWords) (c pointer : ℕ) {f : Lookup} → Sees s (p .held) c f → f ≡ lookups.Nothing → Carries s w old old NotOpen (cancelling (configIn s w old) i (processAs s w p) (nameIn s c) (processIn s w pointer))
-unfolding cancelling
-cancels-nothing s w old i p c pointer t q = held-none t _ q

@@ -1,6 +1,11 @@
 pub mod calling;
+pub mod cancelling;
+pub mod folding;
 pub mod forwarding;
 pub mod handlers;
-pub mod making;
+pub mod leaving;
 pub mod outcome;
 pub mod parting;
+pub mod raising;
+pub mod spawning;
+pub mod trying;

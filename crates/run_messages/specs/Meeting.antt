@@ -119,26 +119,25 @@ module _ (s w : List ℕ) (at e₀ n₀ : ℕ) where
   reached e n = branchOf (nameAt s (at + 1)) (branchesIn s w e n)
 
   pub record Searching (e n : ℕ) : Type 0 where
-    pub owner : ℕ
-    pub there : BranchesIn s w owner e n
+    pub there : BranchesIn s w e n
     pub rest : reached e₀ n₀ ≡ reached e n
 
-  pub search-start : (p : ℕ) → BranchesIn s w p e₀ n₀ → Searching e₀ n₀
-  search-start p b = record { owner = p; there = b; rest = refl }
+  pub search-start : BranchesIn s w e₀ n₀ → Searching e₀ n₀
+  search-start b = record { there = b; rest = refl }
 
   module _ (e n : ℕ) (l : Searching e n) (h : n ≡ 0 → ⊥) where
     more : n ≡ suc (n - 1)
     more = omega (arith, h)
 
-    still : BranchesIn s w (l .owner) e (suc (n - 1))
-    still = subst (BranchesIn s w (l .owner) e) more (l .there)
+    still : BranchesIn s w e (suc (n - 1))
+    still = subst (BranchesIn s w e) more (l .there)
 
     pub search-there : Tables s w → Area w × (1 ≤ e) × (e ≤ 1640)
-    search-there t = let (a, b) = branch-there s w t (l .owner) e (n - 1) still in (t .area, a, b)
+    search-there t = let (a, b) = branch-there s w t e (n - 1) still in (t .area, a, b)
 
     module _ (a : Labelled) (o : BranchOf w e a) {b : Bool} (t : b ≡ same (nameAt s (at + 1)) (nameAt s (a .at + 1))) where
-      begins : FirstBranch s w (l .owner) e (n - 1) (a .at) (a .number)
-      begins = o .says s (l .owner) (n - 1) still
+      begins : FirstBranch s w e (n - 1) (a .at) (a .number)
+      begins = o .says s (n - 1) still
 
       tested : (q : Bool) → b ≡ q → reached e₀ n₀ ≡ cond q (some (processIn s w (a .number))) (reached (e - 1) (n - 1))
       tested q y =
@@ -148,7 +147,7 @@ module _ (s w : List ℕ) (at e₀ n₀ : ℕ) where
       search-found y = record { is = tested true y; process = λ x q. subst (processThere s w) q (begins .process) }
 
       pub search-on : b ≡ false → Searching (e - 1) (n - 1)
-      search-on y = record { owner = l .owner; there = begins .rest; rest = tested false y }
+      search-on y = record { there = begins .rest; rest = tested false y }
 
   pub search-end : (e n : ℕ) → Searching e n → n ≡ 0 → BranchIs s w at e₀ n₀ found.Nothing
   search-end e n l z = record { is = l .rest ∙ ap (reached e) z; process = λ x q. subst (processThere s w) q tt }

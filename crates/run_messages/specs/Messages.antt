@@ -45,7 +45,7 @@ use Rattle.check_contexts.specs.declared.held.Lookup.the-variants as lookups
 use Rattle.run_words.specs.Raw.{pointerLimit, runningKind}
 use Rattle.run_messages.specs.Kinds.{sendChannelKind, sendLabelKind, sendUnitKind}
 use Rattle.run_alone.specs.Run.{doingAs, ProcessOf}
-use Rattle.run_alone.specs.Making.{channels-many}
+use Rattle.run_alone.specs.Changes.{channels-many}
 
 -- the message of a send: kinds 1, 2 and 3
 abbrev pub messageBy : List ℕ → ℕ → ℕ → Message
@@ -107,8 +107,8 @@ module _ (s w : List ℕ) (t : Tables s w) (i j : ℕ) (a : TypeIn s w i) (f : S
     choosing-nothing e = record { is = sym (ap (afterChoosing (plainIn s w i) (nameAt s (at + 1))) (choosing-is ∙ ap (choosingOf s w) e)); type = a }
 
     module _ (u e n : ℕ) (m : q ≡ Chooses u e n) where
-      pub choosing-labels : AlternativesIn s w j e n
-      choosing-labels = subst (chosenIn s w j) m (o .says s t (f .type) .parts) .1
+      pub choosing-labels : AlternativesIn s w e n
+      choosing-labels = subst (chosenIn s w) m (o .says s t (f .type) .parts) .1
 
       chosen-is : (r : Found) → LeadsTo s w at e n r → chosenBy ≡ Option·getD (Option·map (plainIn s w) (placeOf r)) (plainIn s w i)
       chosen-is r l = ap (afterChoosing (plainIn s w i) (nameAt s (at + 1))) (choosing-is ∙ ap (choosingOf s w) m) ∙ ap (λ (d : Option (Ty Name)). Option·getD d (plainIn s w i)) (l .is)
@@ -224,7 +224,7 @@ partsBy s w n (suc (suc (suc (suc zero)))) = Unit {0}
 partsBy s w n (suc (suc (suc (suc (suc zero))))) = Unit {0}
 partsBy s w n (suc (suc (suc (suc (suc (suc zero)))))) = ProcessIn s w (n .third)
 partsBy s w n (suc (suc (suc (suc (suc (suc (suc zero))))))) = (n .second < textLimit) × ProcessIn s w (n .third)
-partsBy s w n (suc (suc (suc (suc (suc (suc (suc (suc zero)))))))) = (p : ℕ) × BranchesIn s w p (n .second) (n .third)
+partsBy s w n (suc (suc (suc (suc (suc (suc (suc (suc zero)))))))) = BranchesIn s w (n .second) (n .third)
 partsBy s w n (suc (suc (suc (suc (suc (suc (suc (suc (suc k))))))))) = Unit {0}
 
 -- the turn of a term on the channel of a name; of another it has none
@@ -245,14 +245,14 @@ label-small s w p t a o c k P e =
     let z : termAt w p .second ≡ k = ap (λ (n : TermNode). n .second) (there .1 .1) in
     omega (arith, z)
 
-module _ (s w : List ℕ) (p : ℕ) (A : Proc) (small : (o : ℕ) (c : Located) (k : ℕ) (P : Proc) → A ≡ sendLabel o c (labelIn s k) P → k < pointerLimit) (at first second third : ℕ) where
+module _ (s w : List ℕ) (A : Proc) (small : (o : ℕ) (c : Located) (k : ℕ) (P : Proc) → A ≡ sendLabel o c (labelIn s k) P → k < pointerLimit) (at first second third : ℕ) where
   abbrev node : ℕ → TermNode
   node k = termNode k at first second third
 
   abbrev Turns : ℕ → Type 0
   Turns k = (turn A ≡ turnBy s w (node k) k) × partsBy s w (node k) k
 
-  turns : Handlers (processCases s w p (node 0) A) Turns
+  turns : Handlers (processCases s w (node 0) A) Turns
   turns = (
     λ e. absurd e,
     (
@@ -270,7 +270,7 @@ module _ (s w : List ℕ) (p : ℕ) (A : Proc) (small : (o : ℕ) (c : Located) 
                 (
                   λ (l, ((m, f), e)). (ap turn e, (l, f)),
                   (
-                    λ (f, e). (ap turn e, (p, f)),
+                    λ (l, f, e). (ap turn e, f),
                     (
                       λ e. (ap turn e, tt),
                       (λ (c, e). (ap turn e, tt), (λ (f, e). (ap turn e, tt), (λ (f, (g, e)). (ap turn e, tt), tt))),
@@ -310,8 +310,8 @@ module _ (s w : List ℕ) (x : ℕ) where
 
       module _ (b : r .pointer < processTermLimit) (n : TermNode) (f : TermOf w (r .pointer) n) where
         turn-so : (turn (processIn s w (r .pointer)) ≡ turnBy s w n (n .kind)) × partsBy s w n (n .kind)
-        turn-so = each-kind (processCases s w (r .pointer) n (processIn s w (r .pointer))) (Turns s w (r .pointer) (processIn s w (r .pointer)) (label-small s w (r .pointer) t runs-term) (n .at) (n .first) (n .second) (n .third))
-            (turns s w (r .pointer) (processIn s w (r .pointer)) (label-small s w (r .pointer) t runs-term) (n .at) (n .first) (n .second) (n .third)) (n .kind) (f .says s t runs-term .node b .1)
+        turn-so = each-kind (processCases s w n (processIn s w (r .pointer))) (Turns s w (processIn s w (r .pointer)) (label-small s w (r .pointer) t runs-term) (n .at) (n .first) (n .second) (n .third))
+            (turns s w (processIn s w (r .pointer)) (label-small s w (r .pointer) t runs-term) (n .at) (n .first) (n .second) (n .third)) (n .kind) (f .says s t runs-term .node b .1)
 
         none-either : (c : Bool) → alone ≡ cond c alone alone
         none-either true = refl

@@ -25,7 +25,7 @@ use Rattle.run_words.specs.declared.records.Process.{Process as ProcessWords}
 use Rattle.check_contexts.specs.Held.{channelsOf}
 use Rattle.run_messages.specs.Kinds.{recvChannelKind}
 use Rattle.run_alone.specs.Run.{configIn, doingAs, processAs, StandsAt}
-use Rattle.run_alone.specs.Making.{channels-many}
+use Rattle.run_alone.specs.Changes.{channels-many}
 use Rattle.run_messages.specs.Messages.{turnBy, heard, Heard}
 
 -- ── a recv of a channel has room for it

@@ -149,7 +149,7 @@ fn hear_channel(
 
 // The process of the label whose apostrophe stands at `at`, among the n branches before the place e.
 fn branch_of(text: &[u8], scratch: &[u32], at: usize, e: usize, n: usize) -> Found
-    requires { ⌜ Tables (now text) (now scratch) × ((p : ℕ) × BranchesIn (now text) (now scratch) p e n) ⌝ }
+    requires { ⌜ Tables (now text) (now scratch) × BranchesIn (now text) (now scratch) e n ⌝ }
     ensures { λ r. ⌜ BranchIs (now (text .entry)) (now (scratch .entry)) at e n r ⌝ }
 {
     let mut place = e;

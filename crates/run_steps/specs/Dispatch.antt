@@ -33,7 +33,7 @@ use Rattle.run_alone.specs.declared.outcome.Outcome.{Outcome as OutcomeWords}
 use Rattle.run_alone.specs.declared.outcome.Outcome.the-variants.{NotOpen}
 use Rattle.run_alone.specs.Run.{configIn, doingAs, processAs, RunOf, StandsAt, Carries}
 use Rattle.run_alone.specs.Changes.{places-in}
-use Rattle.run_alone.specs.Making.{SpawnIn}
+use Rattle.run_alone.specs.Spawning.{SpawnIn}
 use Rattle.run_messages.specs.Messages.{messageBy, SendNode, label-small}
 use Rattle.run_messages.specs.Sending.{sendBy}
 use Rattle.run_alone.specs.Calling.{CallIn, names-many}
@@ -78,7 +78,7 @@ module _ (s w : List ℕ) (G : Context) (link : Bool) (n : TermNode) where
   factsBy (suc (suc (suc (suc (suc (suc (suc (suc (suc (suc (suc zero))))))))))) = ProcessIn s w (n .third)
   factsBy (suc (suc (suc (suc (suc (suc (suc (suc (suc (suc (suc (suc k)))))))))))) = ProcessIn s w (n .second) × ProcessIn s w (n .third)
 
-module _ (s w old : List ℕ) (i : ℕ) (q : Process) (p : ℕ) (A : Proc) (G : Context) (link : Bool) (d : Typed (programIn s w) G link A)
+module _ (s w old : List ℕ) (i : ℕ) (q : Process) (A : Proc) (G : Context) (link : Bool) (d : Typed (programIn s w) G link A)
     (small : (o : ℕ) (c : Located) (k : ℕ) (P : Proc) → A ≡ sendLabel o c (labelIn s k) P → k < pointerLimit) (at first second third : ℕ) where
   abbrev node : ℕ → TermNode
   node k = termNode k at first second third
@@ -89,7 +89,7 @@ module _ (s w old : List ℕ) (i : ℕ) (q : Process) (p : ℕ) (A : Proc) (G : 
   abbrev ruled : {B : Proc} → A ≡ B → stepTerm (programIn s w) (configIn s w old) i q A ≡ stepTerm (programIn s w) (configIn s w old) i q B
   ruled e = ap (stepTerm (programIn s w) (configIn s w old) i q) e
 
-  rules : Handlers (processCases s w p (node 0) A) Ruled
+  rules : Handlers (processCases s w (node 0) A) Ruled
   unfolding stepTerm
   rules = (
     λ e. absurd e,
@@ -108,7 +108,7 @@ module _ (s w old : List ℕ) (i : ℕ) (q : Process) (p : ℕ) (A : Proc) (G : 
                 (
                   λ (l, (f, e)). (ruled e, tt),
                   (
-                    λ (f, e). (ruled e, tt),
+                    λ (l, f, e). (ruled e, tt),
                     (
                       λ e. (ruled e, tt),
                       (
@@ -143,9 +143,9 @@ module _ (s w old : List ℕ) (t : RunOf s w old) (F : WellFormed (programIn s w
   pub node-ruled : (n : TermNode) → p .pointer < processTermLimit → TermOf w (p .pointer) n
       → (stepTerm (programIn s w) (configIn s w old) i (processAs s w p) (processIn s w (p .pointer)) ≡ ruleBy s w old i (processAs s w p) n (n .kind)) × factsBy s w context linked n (n .kind)
   node-ruled n b o =
-      each-kind (processCases s w (p .pointer) n (processIn s w (p .pointer)))
-      (Ruled s w old i (processAs s w p) (p .pointer) (processIn s w (p .pointer)) context linked typed-term (label-small s w (p .pointer) (t .tables) stands-term) (n .at) (n .first) (n .second) (n .third))
-      (rules s w old i (processAs s w p) (p .pointer) (processIn s w (p .pointer)) context linked typed-term (label-small s w (p .pointer) (t .tables) stands-term) (n .at) (n .first) (n .second) (n .third))
+      each-kind (processCases s w n (processIn s w (p .pointer)))
+      (Ruled s w old i (processAs s w p) (processIn s w (p .pointer)) context linked typed-term (label-small s w (p .pointer) (t .tables) stands-term) (n .at) (n .first) (n .second) (n .third))
+      (rules s w old i (processAs s w p) (processIn s w (p .pointer)) context linked typed-term (label-small s w (p .pointer) (t .tables) stands-term) (n .at) (n .first) (n .second) (n .third))
       (n .kind) (o .says s (t .tables) stands-term .node b .1)
 
   pub empty-ruled : processTermLimit ≤ p .pointer → {new : List ℕ} {r : OutcomeWords} → Carries s w old new r (leaving (configIn s w old) i (processAs s w p)) → Carries s w old new r (stepTerm (programIn s w) (configIn s w old) i (processAs s w p) (processIn s w (p .pointer)))

@@ -4,12 +4,14 @@ use mathlib.Core.Path.{_≡_}
 use mathlib.Core.List.{List, [], _∷_}
 use mathlib.Core.Logic.{_⊎_, inl, inr}
 use native.Mathlib.Omega.{arith}
+use Rattle.notation.specs.From.{ProcessFrom}
 use Rattle.notation.specs.Limits.{processTermLimit, textLimit}
+use Rattle.notation.specs.Sizes.{processTerms}
 use Rattle.notation.specs.Tree.{Proc, empty, sendUnit, sendChannel, sendLabel, cancel, spawn, recvUnit, recvChannel, recvLabel, fwd, call, raise, try}
 use Rattle.read_tables.specs.Decode.{tallyIn}
 use Rattle.read_tables.specs.Everywhere.{Everywhere}
 use Rattle.read_tables.specs.Roots.{TypeIn, ProcessIn}
-use Rattle.read_tables.specs.Stands.{ProcessAt, ProcessFrom}
+use Rattle.read_tables.specs.Stands.{ProcessAt}
 use Rattle.run_words.specs.Lists.{All}
 use Rattle.run_words.specs.ListLaws.{all-weaken}
 use Rattle.run_words.specs.Raw.{RawEnd, RawProcess, RawOutside, RawConfig, BoundedEnd, BoundedProcess}
@@ -46,9 +48,9 @@ module _ (w : List ℕ) where
 -- ── so that all of it stands in the tables
 module _ (s w : List ℕ) (t : Everywhere s w) where
   pub pointer-in : {p : ℕ} → Pointer w p → ProcessIn s w p
-  unfolding ProcessAt ProcessFrom
+  unfolding ProcessAt ProcessFrom processTerms
   pointer-in (inl h) = t .terms _ h
-  pointer-in {p} (inr (l, h)) = record { tree = empty (p - processTermLimit); from = omega arith; is = omega arith }
+  pointer-in {p} (inr (l, h)) = record { tree = empty (p - processTermLimit); few = omega arith; from = omega arith; is = omega arith }
 
   pub ends-in : (l : List RawEnd) → All BoundedEnd l → All (EndOf w) l → All (EndIn s w) l
   ends-in [] b a = tt
@@ -68,18 +70,18 @@ module _ (s w : List ℕ) where
     where
       go : (P : Proc) → ProcessFrom s P → ProcessAt w (tallyIn w) p P → Pointer w p
       go (empty at) f e = inr (omega arith, omega arith)
-      go (sendUnit at c P) f (x, (b, e), l, q) = inl b
-      go (sendChannel at c a P) f (x, (b, e), l, q) = inl b
-      go (sendLabel at c l P) f (x, (b, e), m, q) = inl b
-      go (cancel at c P) f (x, (b, e), l, q) = inl b
-      go (spawn n A P Q) f (i, x, d, m, l, q, (y, (b, e), k, r)) = inl b
-      go (recvUnit at c P) f (x, (b, e), l, q) = inl b
-      go (recvChannel at c a P) f (x, (b, e), l, q) = inl b
+      go (sendUnit at c P) f (x, (b, e), q) = inl b
+      go (sendChannel at c a P) f (x, (b, e), q) = inl b
+      go (sendLabel at c l P) f (x, (b, e), q) = inl b
+      go (cancel at c P) f (x, (b, e), q) = inl b
+      go (spawn n A P Q) f (i, x, d, q, (y, (b, e), r)) = inl b
+      go (recvUnit at c P) f (x, (b, e), q) = inl b
+      go (recvChannel at c a P) f (x, (b, e), q) = inl b
       go (recvLabel at c B) f (x, (b, e), l, q) = inl b
       go (fwd at x c) f (b, e) = inl b
       go (call at n bracket xs ys) f (b, e) = inl b
-      go (raise at P) f (x, (b, e), l, q) = inl b
-      go (try at P Q) f (x, l, q, (y, (b, e), k, r)) = inl b
+      go (raise at P) f (x, (b, e), q) = inl b
+      go (try at P Q) f (x, q, (y, (b, e), r)) = inl b
 
   ends-of : (l : List RawEnd) → All (EndIn s w) l → All (EndOf w) l
   ends-of [] a = tt

@@ -1,7 +1,7 @@
 use mathlib.Core.Path.{sym, subst}
 use native.Mathlib.Omega.{arith}
 use Rattle.run_alone.specs.Calling.{EntersList, entries-below, held-nothing, enters-call}
-use Rattle.run_alone.specs.Parting.{none-held}
+use Rattle.run_alone.specs.Changes.{none-held}
 use Rattle.read_tables.specs.Whole.{EntriesIn}
 use borrow.Author.Needs.{needs}
 use Rattle.run_alone.proofs.calling.enter_call.Statement.{statement}

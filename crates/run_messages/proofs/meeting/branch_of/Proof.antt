@@ -11,7 +11,7 @@ abbrev μ-loop : tie.MeasureT-loop
 μ-loop text scratch at e n place₀ left₀ place left = left
 
 loop-holds : tie.Need-loop-holds Inv-loop μ-loop
-loop-holds c = search-start _ _ _ _ _ _ (c .before .before .pre .1 .1)
+loop-holds c = search-start _ _ _ _ _ (c .before .before .pre .1)
 
 branch-requires : tie.Need-branch-requires Inv-loop μ-loop
 branch-requires c κs = search-there _ _ _ _ _ _ _ (c .before .loop .inv) (c .loop-test .taken) (c .before .before .before .before .pre .0)

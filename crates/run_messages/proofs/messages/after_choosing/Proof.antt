@@ -28,11 +28,8 @@ labelled-requires : tie.Need-labelled-requires
 labelled-requires c κs =
     let s = c .before .before .before .before .before .before .before in (
       s .pre .0,
-      (
-        c .before .before .before .before .standing .result,
-        choosing-labels (s .args .text .now) (s .args .scratch .now) (s .pre .0) (s .args .i) _ (s .pre .1)
-            (c .before .before .before .before .standing .ensures) (s .args .at) _ (c .before .before .before .choosing .ensures) _ _ _ (c .before .q .given .1),
-      ),
+      choosing-labels (s .args .text .now) (s .args .scratch .now) (s .pre .0) (s .args .i) _ (s .pre .1)
+          (c .before .before .before .before .standing .ensures) (s .args .at) _ (c .before .before .before .choosing .ensures) _ _ _ (c .before .q .given .1),
     )
 
 enum-known-f : tie.Need-enum-known-f

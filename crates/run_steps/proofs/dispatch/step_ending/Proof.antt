@@ -6,8 +6,8 @@ use Rattle.run_steps.proofs.dispatch.step_ending.Statement.{statement}
 use Rattle.run_steps.proofs.dispatch.step_ending.Tie as tie
 use Rattle.run_alone.proofs.calling.call.Reads as call-reads
 use Rattle.run_alone.proofs.forwarding.forward.Reads as forward-reads
-use Rattle.run_alone.proofs.handlers.raise.Reads as raise-reads
-use Rattle.run_alone.proofs.making.try_both.Reads as try-both-reads
+use Rattle.run_alone.proofs.raising.raise.Reads as raise-reads
+use Rattle.run_alone.proofs.trying.try_both.Reads as try-both-reads
 
 forward-requires : tie.Need-forward-requires
 forward-requires c κs = let s = c .before .before .before .before .before in (s .pre .0, s .pre .1 .0)

@@ -7,9 +7,9 @@ use Rattle.run_steps.proofs.dispatch.step_term.Statement.{statement}
 use Rattle.run_steps.proofs.dispatch.step_term.Tie as tie
 use Rattle.run_messages.proofs.receiving.receive.Reads as receive-reads
 use Rattle.run_steps.proofs.dispatch.step_ending.Reads as step-ending-reads
-use Rattle.run_alone.proofs.making.spawn.Reads as spawn-reads
+use Rattle.run_alone.proofs.spawning.spawn.Reads as spawn-reads
 use Rattle.run_messages.proofs.sending.send.Reads as send-reads
-use Rattle.run_alone.proofs.parting.cancel.Reads as cancel-reads
+use Rattle.run_alone.proofs.cancelling.cancel.Reads as cancel-reads
 
 returns : tie.Need-returns
 returns c = let s = c .before .before .before .before in absurd (facts-at (s .args .text .now) (s .args .scratch .now) (s .args .run .now) (s .args .place) (s .args .p) (s .args .n)

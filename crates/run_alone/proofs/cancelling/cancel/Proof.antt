@@ -1,10 +1,11 @@
-use Rattle.run_alone.specs.Parting.{end-found, cancels, cancels-nothing}
+use Rattle.run_alone.specs.Cancelling.{cancels, cancels-nothing}
+use Rattle.run_alone.specs.Parting.{end-found}
 use Rattle.run_alone.specs.Changes.{runs-on}
 use Rattle.run_words.specs.Values.{runningOn}
 use mathlib.Core.Path.{refl}
 use borrow.Author.Needs.{needs}
-use Rattle.run_alone.proofs.parting.cancel.Statement.{statement}
-use Rattle.run_alone.proofs.parting.cancel.Tie as tie
+use Rattle.run_alone.proofs.cancelling.cancel.Statement.{statement}
+use Rattle.run_alone.proofs.cancelling.cancel.Tie as tie
 
 find-end-requires : tie.Need-find-end-requires
 find-end-requires c κs = c .before .before .before .before .pre .1 .0 .is .held .many

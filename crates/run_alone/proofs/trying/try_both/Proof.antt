@@ -1,11 +1,11 @@
 use mathlib.Core.Path.{refl}
 use native.Mathlib.Omega.{arith}
-use Rattle.run_alone.specs.Making.{tries-nowhere, handler-of, one-more, tried-of, tries, handler-came}
+use Rattle.run_alone.specs.Trying.{tries-nowhere, handler-of, one-more, tried-of, tries, handler-came}
 use Rattle.run_alone.specs.Changes.{bounded-of}
 use Rattle.run_words.specs.Bounds.{link-word}
 use borrow.Author.Needs.{needs}
-use Rattle.run_alone.proofs.making.try_both.Statement.{statement}
-use Rattle.run_alone.proofs.making.try_both.Tie as tie
+use Rattle.run_alone.proofs.trying.try_both.Statement.{statement}
+use Rattle.run_alone.proofs.trying.try_both.Tie as tie
 
 count-requires : tie.Need-count-requires
 count-requires c κs = c .before .before .before .before .pre .0 .wide

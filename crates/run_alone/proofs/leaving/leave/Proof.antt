@@ -1,9 +1,10 @@
 use native.Mathlib.Omega.{arith}
 use mathlib.Core.Bool.{false}
-use Rattle.run_alone.specs.Handlers.{unlinked-still, as-many, leaves}
+use Rattle.run_alone.specs.Handlers.{unlinked-still, as-many}
+use Rattle.run_alone.specs.Leaving.{leaves}
 use borrow.Author.Needs.{needs}
-use Rattle.run_alone.proofs.handlers.leave.Statement.{statement}
-use Rattle.run_alone.proofs.handlers.leave.Tie as tie
+use Rattle.run_alone.proofs.leaving.leave.Statement.{statement}
+use Rattle.run_alone.proofs.leaving.leave.Tie as tie
 
 change-handler-requires : tie.Need-change-handler-requires
 change-handler-requires c κs =

@@ -1,8 +1,9 @@
 use native.Mathlib.Omega.{arith}
-use Rattle.run_alone.specs.Parting.{oldest-held, folds, folds-empty, folds-oldest}
+use Rattle.run_alone.specs.Folding.{oldest-held, folds-empty, folds-oldest}
+use Rattle.run_alone.specs.Parting.{folds}
 use borrow.Author.Needs.{needs}
-use Rattle.run_alone.proofs.parting.fold_up.Statement.{statement}
-use Rattle.run_alone.proofs.parting.fold_up.Tie as tie
+use Rattle.run_alone.proofs.folding.fold_up.Statement.{statement}
+use Rattle.run_alone.proofs.folding.fold_up.Tie as tie
 
 leave-requires : tie.Need-leave-requires
 leave-requires c κs = c .before .before .before .before .before .before .before .pre

@@ -1,8 +1,8 @@
 use native.Mathlib.Omega.{arith}
-use Rattle.run_alone.specs.Making.{no-room, fresh-small, no-channel, a-channel}
+use Rattle.run_alone.specs.Spawning.{no-room, fresh-small, no-channel, a-channel}
 use borrow.Author.Needs.{needs}
-use Rattle.run_alone.proofs.making.spawn.Statement.{statement}
-use Rattle.run_alone.proofs.making.spawn.Tie as tie
+use Rattle.run_alone.proofs.spawning.spawn.Statement.{statement}
+use Rattle.run_alone.proofs.spawning.spawn.Tie as tie
 
 count-requires : tie.Need-count-requires
 count-requires c κs = c .before .before .before .before .pre .0 .wide

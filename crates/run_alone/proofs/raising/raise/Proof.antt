@@ -2,11 +2,12 @@ use native.Mathlib.Omega.{arith}
 use mathlib.Core.Bool.{true}
 use mathlib.Core.Path.{refl}
 use Rattle.run_words.specs.Values.{ofLink, runningOn}
-use Rattle.run_alone.specs.Handlers.{as-many, raises}
+use Rattle.run_alone.specs.Handlers.{as-many}
+use Rattle.run_alone.specs.Raising.{raises}
 use Rattle.run_alone.specs.Changes.{runs-on, bounded-of}
 use borrow.Author.Needs.{needs}
-use Rattle.run_alone.proofs.handlers.raise.Statement.{statement}
-use Rattle.run_alone.proofs.handlers.raise.Tie as tie
+use Rattle.run_alone.proofs.raising.raise.Statement.{statement}
+use Rattle.run_alone.proofs.raising.raise.Tie as tie
 
 change-handler-requires : tie.Need-change-handler-requires
 change-handler-requires c κs =
