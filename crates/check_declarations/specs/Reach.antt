@@ -55,7 +55,8 @@ none-below : (g : ℕ → Bool) (n i : ℕ) → false ≡ fold _||_ false g i n 
 none-below g zero i e k a b = absurd (omega arith)
 none-below g (suc n) i e k a b = go (g i) refl e (λ q c. none-below g n (i + 1) q k c (omega arith))
   where
-    go : (x : Bool) → g i ≡ x → false ≡ (x || fold _||_ false g (i + 1) n) → (false ≡ fold _||_ false g (i + 1) n → i + 1 ≤ k → g k ≡ false) → g k ≡ false
+    go : (x : Bool) → g i ≡ x → false ≡ (x || fold _||_ false g (i + 1) n)
+        → (false ≡ fold _||_ false g (i + 1) n → i + 1 ≤ k → g k ≡ false) → g k ≡ false
     go true p q later = absurd (false≢true q)
     go false p q later = at (eq-or-lt-of-le a)
       where
@@ -152,14 +153,18 @@ settled types k (suc n) e b = at (eq-or-lt-of-le b) (λ c. settled types k n e c
 -- marks that do not differ mark the same names
 same-marks : (s w : List ℕ) (m r : List Bool) → false ≡ anyBelow (differsAt m r) (tallyIn w .types) → marked s w r ≡ marked s w m
 unfolding anyBelow differsAt marked
-same-marks s w m r e = go (tallyIn w .types) 0 (λ k b. alike (getD m k false) (getD r k false) (none-below (differsAt m r) (tallyIn w .types) 0 e k (omega arith) (omega arith)))
+same-marks s w m r e =
+    let alike-at : (k : ℕ) → k < tallyIn w .types → getD r k false ≡ getD m k false =
+    λ k b. alike (getD m k false) (getD r k false) (none-below (differsAt m r) (tallyIn w .types) 0 e k (omega arith) (omega arith)) in
+    go (tallyIn w .types) 0 (λ k b. alike-at k (omega arith))
   where
     alike : (x y : Bool) → cond x (not y) y ≡ false → y ≡ x
     alike true true e = refl
     alike true false e = absurd (true≢false e)
     alike false y e = e
 
-    go : (n i : ℕ) → ((k : ℕ) → k < i + n → getD r k false ≡ getD m k false) → markedFrom (namedType s w) r i n ≡ markedFrom (namedType s w) m i n
+    go : (n i : ℕ) → ((k : ℕ) → k < i + n → getD r k false ≡ getD m k false)
+        → markedFrom (namedType s w) r i n ≡ markedFrom (namedType s w) m i n
     go zero i h = refl
     go (suc n) i h = rw (h i (omega arith), go n (i + 1) (λ k b. h k (omega arith))) refl
 
@@ -209,12 +214,14 @@ module _ {s w : List ℕ} where
         is = n .is ∙ ap (λ l. namesWithOther l (programIn s w .types)) (t .is) ∙ ap (λ i. reachOther i (programIn s w .types)) (sym (add-one k));
       })
 
-  pub rounds-settled : {m r : List Bool} {k n : ℕ} {differ : Bool} → Rounds s w m k → Next s w m r → n ≡ tallyIn w .types → differ ≡ anyBelow (differsAt m r) n → differ ≡ false → Reaches s w m
+  pub rounds-settled : {m r : List Bool} {k n : ℕ} {differ : Bool} → Rounds s w m k → Next s w m r → n ≡ tallyIn w .types
+      → differ ≡ anyBelow (differsAt m r) n → differ ≡ false → Reaches s w m
   rounds-settled {m} {r} {k} t n z d e =
       let types = programIn s w .types in
       let b = t .upto in
       let alike = same-marks s w m r (sym e ∙ d ∙ ap (anyBelow (differsAt m r)) z) in
-      let again : namesWithOther (reachOther k types) types ≡ reachOther k types = ap (λ l. namesWithOther l types) (sym (t .is)) ∙ sym (n .is) ∙ alike ∙ t .is in
+      let again : namesWithOther (reachOther k types) types ≡ reachOther k types =
+      ap (λ l. namesWithOther l types) (sym (t .is)) ∙ sym (n .is) ∙ alike ∙ t .is in
       record { is = t .is ∙ sym (settled types k (length types) again (omega (arith, types-long s w))) }
 
   pub rounds-end : {m : List Bool} {k : ℕ} → Rounds s w m k → tallyIn w .types ≤ k → Reaches s w m
