@@ -236,7 +236,7 @@ module _ {s w : List ℕ} {p : ℕ} {n : TermNode} (t : Tables s w) (b : p < pro
   pub recv-branches : n .kind ≡ 8 → BranchesIn s w (n .second) (n .third)
   recv-branches e = subst (atKind Here) e here .1
 
-  pub faulty : (pass : Pass) (m : Parts) → m ≡ partsOf (n .kind) → Faulty s w pass n m (processIn s w p)
+  faulty : (pass : Pass) (m : Parts) → m ≡ partsOf (n .kind) → Faulty s w pass n m (processIn s w p)
   faulty pass m z =
       let none = process-root s w (t .within) processTermLimit (nothing-there s w) .none (omega arith) in
       let A = processIn s w p in
@@ -255,6 +255,9 @@ module _ {s w : List ℕ} {pass : Pass} {whole : ℕ} {low : Lowest} where
   follow-start a = record { stands = a; fewer = omega arith; left = left-all }
 
   module _ {p : ℕ} {l : Lowest} (t : Following s w pass whole low p l) where
+    pub follow-node : {n : TermNode} {m : Parts} → Tables s w → p < processTermLimit → TermOf w p n → m ≡ partsOf (n .kind) → Faulty s w pass n m (processIn s w p)
+    follow-node u b o z = faulty u b (t .stands) o pass _ z
+
     pub follow-on : {n : TermNode} {m : Parts} {k r : Lowest} (q : ℕ) → Faulty s w pass n m (processIn s w p)
         → Lowered l (nodeFaults s w pass n) k → Lowered k (innerFaults s w pass m n) r → q ≡ followedAt m n → Following s w pass whole low q r
     follow-on q o f g z =
