@@ -127,7 +127,7 @@ module _ (s w : List ℕ) where
           (omega (arith, same, branch-terms s w e n k h), o .says s (n - (k + 1)) (branch-on k e n h a) .process)
 
     module _ (i n : ℕ) (a : EntriesIn s w i n) where
-      pub entries-fit : 0 < n → i + n ≤ 512
+      pub entries-fit : 0 < n → i + n ≤ typeTermLimit
       entries-fit h = let b = t .within in omega (arith, entries-past n i h a)
 
       pub entry-first : (k : ℕ) → k < n → {r : Labelled} → EntryOf w (i + k) r → FirstEntry s w (i + k) (n - (k + 1)) (r .at) (r .number)

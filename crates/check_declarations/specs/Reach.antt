@@ -77,8 +77,11 @@ unfoldable pub isMarked : List ℕ → List ℕ → List Bool → Name → ℕ �
 isMarked s w m x i = cond (getD m i false) (same x (namedType s w i .0)) false
 
 -- two lists of marks differ at the number i
-unfoldable pub differsAt : List Bool → List Bool → ℕ → Bool
-differsAt a b i = cond (getD a i false) (not (getD b i false)) (getD b i false)
+abbrev pub differs : Bool → Bool → Bool
+differs a b = cond a (not b) b
+
+abbrev pub differsAt : List Bool → List Bool → ℕ → Bool
+differsAt a b i = differs (getD a i false) (getD b i false)
 
 -- the marks that follow m
 pub record Next (s w : List ℕ) (m r : List Bool) : Type 0 where
@@ -152,13 +155,13 @@ settled types k (suc n) e b = at (eq-or-lt-of-le b) (λ c. settled types k n e c
 
 -- marks that do not differ mark the same names
 same-marks : (s w : List ℕ) (m r : List Bool) → false ≡ anyBelow (differsAt m r) (tallyIn w .types) → marked s w r ≡ marked s w m
-unfolding anyBelow differsAt marked
+unfolding anyBelow marked
 same-marks s w m r e =
     let alike-at : (k : ℕ) → k < tallyIn w .types → getD r k false ≡ getD m k false =
     λ k b. alike (getD m k false) (getD r k false) (none-below (differsAt m r) (tallyIn w .types) 0 e k (omega arith) (omega arith)) in
     go (tallyIn w .types) 0 (λ k b. alike-at k (omega arith))
   where
-    alike : (x y : Bool) → cond x (not y) y ≡ false → y ≡ x
+    alike : (x y : Bool) → differs x y ≡ false → y ≡ x
     alike true true e = refl
     alike true false e = absurd (true≢false e)
     alike false y e = e

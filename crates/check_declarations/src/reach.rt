@@ -18,7 +18,7 @@ ghost use Rattle.calculus.specs.Named.{any};
 ghost use Rattle.read_tables.specs.Program.{plainIn};
 ghost use Rattle.read_tables.specs.Roots.{TypeIn, AlternativesIn, alternativesIn};
 ghost use Rattle.read_tables.specs.Whole.{Tables};
-ghost use Rattle.check_declarations.specs.Reach.{anyBelow, differsAt, isMarked, marked, Next, Reaches};
+ghost use Rattle.check_declarations.specs.Reach.{anyBelow, differs, differsAt, isMarked, marked, Next, Reaches};
 
 // The type i is marked, and its name is the one at `at`.
 fn marked_so(
@@ -119,15 +119,14 @@ fn next_marks(text: &[u8], scratch: &[u32], marks: [bool; Script::TYPES]) -> [bo
     next
 }
 
-// The marks of the type i differ.
-fn differ_at(a: [bool; Script::TYPES], b: [bool; Script::TYPES], i: usize) -> bool
-    requires { ⌜ i < typeLimit ⌝ }
-    ensures { λ r. ⌜ r ≡ differsAt a b i ⌝ }
+// One of two marks is set, the other is not.
+fn mark_differs(a: bool, b: bool) -> bool
+    ensures { λ r. ⌜ r ≡ differs a b ⌝ }
 {
-    if a[i] {
-        return !b[i];
+    if a {
+        return !b;
     }
-    b[i]
+    b
 }
 
 // The marks of one of the first n types differ.
@@ -137,7 +136,7 @@ fn marks_differ(a: [bool; Script::TYPES], b: [bool; Script::TYPES], n: usize) ->
 {
     let mut i: usize = 0;
     while i < n {
-        if differ_at(a, b, i) {
+        if mark_differs(a[i], b[i]) {
             return true;
         }
         i += 1;
