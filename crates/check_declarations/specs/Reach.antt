@@ -72,9 +72,12 @@ markedFrom f m i (suc n) = cond (getD m i false) (f i .0 ∷ markedFrom f m (i +
 unfoldable pub marked : List ℕ → List ℕ → List Bool → List Name
 marked s w m = markedFrom (namedType s w) m 0 (tallyIn w .types)
 
--- the type i is marked and has the name x
-unfoldable pub isMarked : List ℕ → List ℕ → List Bool → Name → ℕ → Bool
-isMarked s w m x i = cond (getD m i false) (same x (namedType s w i .0)) false
+-- the type i, whose mark is b, is marked and has the name x
+unfoldable pub markedSo : List ℕ → List ℕ → Bool → Name → ℕ → Bool
+markedSo s w b x i = cond b (same x (namedType s w i .0)) false
+
+abbrev pub isMarked : List ℕ → List ℕ → List Bool → Name → ℕ → Bool
+isMarked s w m x i = markedSo s w (getD m i false) x i
 
 -- two lists of marks differ at the number i
 abbrev pub differs : Bool → Bool → Bool
@@ -106,16 +109,16 @@ any-marked f m x (suc n) i = go (getD m i false) (any-marked f m x n (i + 1))
     go false e = e
 
 pub marked-any : (s w : List ℕ) (m : List Bool) (x : Name) → anyBelow (isMarked s w m x) (tallyIn w .types) ≡ any (same x) (marked s w m)
-unfolding anyBelow isMarked marked
+unfolding anyBelow markedSo marked
 marked-any s w m x = any-marked (namedType s w) m x (tallyIn w .types) 0
 
-pub marked-not : (s w : List ℕ) (m : List Bool) (x : Name) (i : ℕ) → getD m i false ≡ false → false ≡ isMarked s w m x i
-unfolding isMarked
-marked-not s w m x i e = rw e refl
+pub marked-not : (s w : List ℕ) (b : Bool) (x : Name) (i : ℕ) → b ≡ false → false ≡ markedSo s w b x i
+unfolding markedSo
+marked-not s w b x i e = rw e refl
 
-pub marked-named : (s w : List ℕ) (m : List Bool) (x : Name) (i : ℕ) {t : Labelled} {r : Bool} → getD m i false ≡ true → TypeOf w i t → r ≡ same x (nameAt s (t .at)) → r ≡ isMarked s w m x i
-unfolding isMarked
-marked-named s w m x i e o q = rw e (q ∙ ap (λ (d : Name × Ty Name). same x (d .0)) (sym (o .is s)))
+pub marked-named : (s w : List ℕ) (b : Bool) (x : Name) (i : ℕ) {t : Labelled} {r : Bool} → b ≡ true → TypeOf w i t → r ≡ same x (nameAt s (t .at)) → r ≡ markedSo s w b x i
+unfolding markedSo
+marked-named s w b x i e o q = rw e (q ∙ ap (λ (d : Name × Ty Name). same x (d .0)) (sym (o .is s)))
 
 -- ── rounds
 -- the marks r are those of the types with @, -o or &, or a name of bad, up to the number i
