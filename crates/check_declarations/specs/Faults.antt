@@ -1,5 +1,5 @@
 -- Refusals 6 and 7 as one walk: what each pass finds in a type.
-use Prim.Native.Nat.{ℕ, suc, _-_, _<_}
+use Prim.Native.Nat.{ℕ, suc, _-_, _<_, _≤_}
 use mathlib.Core.Path.{_≡_, refl, sym, _∙_, ap}
 use mathlib.Core.List.{List, [], _∷_, _++_}
 use mathlib.Core.Bool.{true, false, true≢false, false≢true, cond}
@@ -26,7 +26,7 @@ use Rattle.check_declarations.specs.declared.faults.Pass.{Pass}
 use Rattle.check_declarations.specs.declared.faults.Pass.the-variants.{Repeated, Undefined}
 use Rattle.check_declarations.specs.declared.lowest.Lowest.{Lowest}
 use Rattle.check_declarations.specs.declared.names.Names.the-variants.{Alternatives as AlternativesFrom}
-use Rattle.check_declarations.specs.Lowest.{Lowered, lowered-as, lowered-none, Left, left-all, left-as, left-after, left-done, over}
+use Rattle.check_declarations.specs.Lowest.{Lowered, lowered-as, lowered-none, lowered-then, Walking, walk-end, Left, left-all, left-as, left-after, left-done, over}
 use Rattle.check_declarations.specs.Names.{nameOf}
 
 -- the labels of one list
@@ -80,12 +80,14 @@ module _ (s w : List ℕ) (pass : Pass) where
   alternative-walked e k o = lowered-as (ap faultsIn (o .holds .number))
 
   -- a choice: its labels, then its alternatives one after the other
-  pub choice-walked : (e n : ℕ) → labelFaults pass (numbered (nameOf s w (AlternativesFrom e)) 0 n) ++ over (alternativeFaults e) 0 n ≡ choiceFaults pass (programIn s w) (alternativesIn s w e n)
-  choice-walked e n = λ j. labelFaults pass (choice-labels s w e n j) ++ alternatives-over e n j
+  pub choice-done : (e n : ℕ) {low l k : Lowest} {i : ℕ} → Lowered low (labelFaults pass (numbered (nameOf s w (AlternativesFrom e)) 0 n)) l
+      → Walking (alternativeFaults e) l n i k → n ≤ i → Lowered low (choiceFaults pass (programIn s w) (alternativesIn s w e n)) k
+  choice-done e n a t h = lowered-as (λ j. labelFaults pass (choice-labels s w e n j) ++ alternatives-over e n j) (lowered-then a (walk-end t h))
 
   module _ (i : ℕ) (n : TypeNode) where
     -- what both passes find in a type A
-    adds : (f : Pass → List ℕ) (A : Ty Located) → typeIn s w i ≡ A → f Repeated ≡ typeRepeats A → f Undefined ≡ typeUndefined (programIn s w) A → f pass ≡ faultsIn i
+    adds : (f : Pass → List ℕ) (A : Ty Located) → typeIn s w i ≡ A
+        → f Repeated ≡ typeRepeats A → f Undefined ≡ typeUndefined (programIn s w) A → f pass ≡ faultsIn i
     adds f A e r u = by-pass f (λ q. typeFaults q (programIn s w) A) r u pass ∙ ap (typeFaults pass (programIn s w)) (sym e)
 
     abbrev Here : Cases
@@ -103,7 +105,10 @@ module _ (s w : List ℕ) (pass : Pass) where
     abbrev pairly : Pass → List ℕ
     pairly q = typeFaults q (programIn s w) (typeIn s w (n .first)) ++ typeFaults q (programIn s w) (typeIn s w (n .second))
 
-    pairs : Handlers Here (λ k. isInfix k ≡ true → Pair)
+    abbrev PairAt : ℕ → Type 0
+    PairAt k = isInfix k ≡ true → Pair
+
+    pairs : Handlers Here PairAt
     unfolding typeRepeats typeUndefined
     pairs =
         (λ e o. absurd (false≢true o))
@@ -125,7 +130,10 @@ module _ (s w : List ℕ) (pass : Pass) where
     abbrev choicely : Pass → List ℕ
     choicely q = choiceFaults q (programIn s w) (alternativesIn s w (n .first) (n .second))
 
-    choices : Handlers Here (λ k. isInfix k ≡ false → (k ≡ 0 → ⊥) → (k ≡ 1 → ⊥) → Choice)
+    abbrev ChoiceAt : ℕ → Type 0
+    ChoiceAt k = isInfix k ≡ false → (k ≡ 0 → ⊥) → (k ≡ 1 → ⊥) → Choice
+
+    choices : Handlers Here ChoiceAt
     unfolding typeRepeats typeUndefined
     choices =
         (λ e o z u. absurd (z refl))
@@ -146,11 +154,11 @@ module _ (s w : List ℕ) (pass : Pass) where
       pub at-name : {l k : Lowest} → n .kind ≡ 1 → Lowered l (typeFaults pass (programIn s w) (named (nameIn s (n .second)))) k → Lowered l (faultsIn i) k
       at-name e = lowered-as (ap (typeFaults pass (programIn s w)) (sym (says-at s w i n h o 1 e)))
 
-      pub pair-there : isInfix (n .kind) ≡ true → Pair
-      pair-there = each-kind Here (λ k. isInfix k ≡ true → Pair) pairs (n .kind) (says s w i n h o)
+      pub pair-there : PairAt (n .kind)
+      pair-there = each-kind Here PairAt pairs (n .kind) (says s w i n h o)
 
-      pub choice-there : isInfix (n .kind) ≡ false → (n .kind ≡ 0 → ⊥) → (n .kind ≡ 1 → ⊥) → Choice
-      choice-there = each-kind Here (λ k. isInfix k ≡ false → (k ≡ 0 → ⊥) → (k ≡ 1 → ⊥) → Choice) choices (n .kind) (says s w i n h o)
+      pub choice-there : ChoiceAt (n .kind)
+      choice-there = each-kind Here ChoiceAt choices (n .kind) (says s w i n h o)
 
 -- ── as far as the walk along right parts has come: what is found from here on is what is left of the whole
 pub record Typewise (s w : List ℕ) (pass : Pass) (whole : ℕ) (low : Lowest) (at : ℕ) (n : TypeNode) (l : Lowest) : Type 0 where

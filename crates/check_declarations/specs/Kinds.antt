@@ -1,5 +1,5 @@
 -- What the node of a type says of it, by its kind.
-use Prim.Native.Nat.{ℕ, _≤_, _<_}
+use Prim.Native.Nat.{ℕ, _≤_}
 use mathlib.Core.Path.{_≡_, subst}
 use mathlib.Core.List.{List}
 use mathlib.Core.Bool.{Bool, false, cond}
@@ -42,5 +42,6 @@ module _ {s w : List ℕ} {whole : ℕ} {n : TypeNode} where
   pub right-start : TypeIn s w whole → NodeOf w whole n → Rightward s w whole whole n
   right-start a o = record { stands = a; node = o; fewer = omega arith }
 
-  pub right-on : {at : ℕ} {m : TypeNode} → Rightward s w whole at n → TypeIn s w (n .second) → FewerType s w (typeIn s w at) (n .second) → NodeOf w (n .second) m → Rightward s w whole (n .second) m
+  pub right-on : {at : ℕ} {m : TypeNode} → Rightward s w whole at n → TypeIn s w (n .second) → FewerType s w (typeIn s w at) (n .second)
+      → NodeOf w (n .second) m → Rightward s w whole (n .second) m
   right-on t a f o = record { stands = a; node = o; fewer = omega (arith, f, t .fewer) }

@@ -8,7 +8,8 @@ use Rattle.calculus.specs.Declarations.{choiceLabels, branchLabels, channels}
 use Rattle.read_tables.specs.declared.access.Labelled.{Labelled}
 use Rattle.read_tables.specs.Access.{AlternativeOf, BranchOf, EntryOf}
 use Rattle.read_tables.specs.Decode.{tallyIn, numbered, typeIn, processIn, alternativeAt, branchAt, entryAt, entriesIn}
-use Rattle.read_tables.specs.Roots.{AlternativesIn, alternativesIn, FirstAlternative, first-alternative, alternative-terms, BranchesIn, branchesIn, FirstBranch, first-branch, branch-terms}
+use Rattle.read_tables.specs.Roots.{TypeIn, AlternativesIn, alternativesIn, first-alternative, alternative-terms}
+use Rattle.read_tables.specs.Roots.{ProcessIn, BranchesIn, branchesIn, first-branch, branch-terms}
 use Rattle.read_tables.specs.Whole.{EntriesIn, FirstEntry, first-entry, Tables}
 use Rattle.notation.specs.Reader.{nameIn, labelIn}
 use Rattle.notation.specs.Sizes.{typeTerms, alternativesTerms, processTerms, branchesTerms}
@@ -108,25 +109,25 @@ module _ (s w : List ℕ) where
       pub alternatives-fit : (n ≤ e) × (e ≤ typeTermLimit)
       alternatives-fit = let b = t .within in let c = a .within in (alternatives-past n e a, omega arith)
 
-      pub alternative-first : (k : ℕ) → k < n → {r : Labelled} → AlternativeOf w (e - k) r → FirstAlternative s w (e - k) (n - (k + 1)) (r .at) (r .number)
-      alternative-first k h o = o .says s (n - (k + 1)) (alternative-on k e n h a)
-
-      -- it has no more terms than the list
-      pub alternative-few : (k : ℕ) → k < n → {r : Labelled} → AlternativeOf w (e - k) r → typeTerms (typeIn s w (r .number)) ≤ alternativesTerms (alternativesIn s w e n)
-      alternative-few k h o = omega (arith, ap (λ x. typeTerms (typeIn s w x)) (o .holds .number), alternative-terms s w e n k h)
+      -- the type of the element k stands, and has no more terms than the list
+      pub alternative-part : (k : ℕ) → k < n → {r : Labelled} → AlternativeOf w (e - k) r
+          → (typeTerms (typeIn s w (r .number)) ≤ alternativesTerms (alternativesIn s w e n)) × TypeIn s w (r .number)
+      alternative-part k h o =
+          let same = ap (λ x. typeTerms (typeIn s w x)) (o .holds .number) in
+          (omega (arith, same, alternative-terms s w e n k h), o .says s (n - (k + 1)) (alternative-on k e n h a) .type)
 
     module _ (e n : ℕ) (a : BranchesIn s w e n) where
       pub branches-fit : (n ≤ e) × (e ≤ branchRoom)
       branches-fit = let b = t .within in let c = a .within in (branches-past n e a, omega arith)
 
-      pub branch-first : (k : ℕ) → k < n → {r : Labelled} → BranchOf w (e - k) r → FirstBranch s w (e - k) (n - (k + 1)) (r .at) (r .number)
-      branch-first k h o = o .says s (n - (k + 1)) (branch-on k e n h a)
-
-      pub branch-few : (k : ℕ) → k < n → {r : Labelled} → BranchOf w (e - k) r → processTerms (processIn s w (r .number)) ≤ branchesTerms (branchesIn s w e n)
-      branch-few k h o = omega (arith, ap (λ x. processTerms (processIn s w x)) (o .holds .number), branch-terms s w e n k h)
+      pub branch-part : (k : ℕ) → k < n → {r : Labelled} → BranchOf w (e - k) r
+          → (processTerms (processIn s w (r .number)) ≤ branchesTerms (branchesIn s w e n)) × ProcessIn s w (r .number)
+      branch-part k h o =
+          let same = ap (λ x. processTerms (processIn s w x)) (o .holds .number) in
+          (omega (arith, same, branch-terms s w e n k h), o .says s (n - (k + 1)) (branch-on k e n h a) .process)
 
     module _ (i n : ℕ) (a : EntriesIn s w i n) where
-      pub entries-fit : 0 < n → i + n ≤ 512
+      pub entries-fit : 0 < n → i + n ≤ typeTermLimit
       entries-fit h = let b = t .within in omega (arith, entries-past n i h a)
 
       pub entry-first : (k : ℕ) → k < n → {r : Labelled} → EntryOf w (i + k) r → FirstEntry s w (i + k) (n - (k + 1)) (r .at) (r .number)

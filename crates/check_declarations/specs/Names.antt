@@ -37,7 +37,7 @@ nameOf s w (Branches e) k = labelIn s (branchAt w (e - k - 1) .0)
 abbrev pub Fits : Names → ℕ → Type 0
 Fits Types n = n ≤ typeLimit
 Fits Processes n = n ≤ processLimit
-Fits (Entries i) n = 0 < n → i + n ≤ 512
+Fits (Entries i) n = 0 < n → i + n ≤ typeTermLimit
 Fits (Alternatives e) n = (n ≤ e) × (e ≤ typeTermLimit)
 Fits (Branches e) n = (n ≤ e) × (e ≤ branchRoom)
 
@@ -143,7 +143,7 @@ module _ (k : ℕ) {names : Names} (f : Fits names (k + 1)) where
   pub fits-processes : names ≡ Processes → k < processLimit
   fits-processes e = let g = fits-as Processes e in omega arith
 
-  pub fits-entries : {i : ℕ} → names ≡ Entries i → i + k < 512
+  pub fits-entries : {i : ℕ} → names ≡ Entries i → i + k < typeTermLimit
   fits-entries {i} e = let g = fits-as (Entries i) e (omega arith) in omega arith
 
   pub fits-alternatives : {e : ℕ} → names ≡ Alternatives e → (k ≤ e) × (1 ≤ e - k) × (e - k ≤ typeTermLimit)

@@ -1,5 +1,5 @@
 -- Refusal 9: whether a type has @, -o or &, or a name among those given, by its node.
-use Prim.Native.Nat.{ℕ, suc, _-_, _<_}
+use Prim.Native.Nat.{ℕ, _-_, _<_}
 use mathlib.Core.Path.{_≡_, refl, sym, _∙_, ap}
 use mathlib.Core.List.{List}
 use mathlib.Core.Bool.{Bool, true, false, _||_}
@@ -39,7 +39,11 @@ module _ (s w : List ℕ) (bad : List Name) where
     abbrev Here : Cases
     Here = typeCases s w n (typeIn s w i)
 
-    others : Handlers Here (λ k. (k ≡ 0 → ⊥) → (k ≡ 1 → ⊥) → (k ≡ 2 → ⊥) → (k ≡ 5 → ⊥) → true ≡ otherIn i)
+    -- of no kind but 1, a name, * and +: it has one of @, -o and &
+    abbrev HasOther : ℕ → Type 0
+    HasOther k = (k ≡ 0 → ⊥) → (k ≡ 1 → ⊥) → (k ≡ 2 → ⊥) → (k ≡ 5 → ⊥) → true ≡ otherIn i
+
+    others : Handlers Here HasOther
     unfolding hasOther plain
     others =
         (λ e a b c d. absurd (a refl))
@@ -101,6 +105,6 @@ module _ {s w : List ℕ} {bad : List Name} {whole : ℕ} where
 
     pub other-mark : (n .kind ≡ 0 → ⊥) → (n .kind ≡ 1 → ⊥) → (n .kind ≡ 2 → ⊥) → (n .kind ≡ 5 → ⊥) → true ≡ otherIn s w bad whole
     other-mark a b c d =
-        each-kind (Here s w bad at n) (λ k. (k ≡ 0 → ⊥) → (k ≡ 1 → ⊥) → (k ≡ 2 → ⊥) → (k ≡ 5 → ⊥) → true ≡ otherIn s w bad at) (others s w bad at n) (n .kind)
+        each-kind (Here s w bad at n) (HasOther s w bad at n) (others s w bad at n) (n .kind)
         (says s w at n (u, t .right .stands) (t .right .node)) a b c d
         ∙ t .is

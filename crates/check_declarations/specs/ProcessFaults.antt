@@ -31,7 +31,7 @@ use Rattle.check_declarations.specs.declared.faults.Pass.{Pass}
 use Rattle.check_declarations.specs.declared.faults.Pass.the-variants.{Repeated, Undefined}
 use Rattle.check_declarations.specs.declared.lowest.Lowest.{Lowest}
 use Rattle.check_declarations.specs.declared.names.Names.the-variants.{Branches as BranchesFrom}
-use Rattle.check_declarations.specs.Lowest.{Lowered, lowered-as, lowered-none, Left, left-all, left-as, left-after, left-done, over}
+use Rattle.check_declarations.specs.Lowest.{Lowered, lowered-as, lowered-none, Walking, walk-end, Left, left-all, left-as, left-after, left-done, over}
 use Rattle.check_declarations.specs.Names.{nameOf}
 
 abbrev pub callFaults : Pass → Program → Located → List ℕ
@@ -84,7 +84,7 @@ module _ (s w : List ℕ) (pass : Pass) where
   abbrev pub branchFaults : ℕ → ℕ → List ℕ
   branchFaults e k = processFaultsIn (branchAt w (e - k - 1) .1)
 
-  pub branches-over : (e n : ℕ) → over (branchFaults e) 0 n ≡ branchesFaults pass (programIn s w) (branchesIn s w e n)
+  branches-over : (e n : ℕ) → over (branchFaults e) 0 n ≡ branchesFaults pass (programIn s w) (branchesIn s w e n)
   unfolding processRepeats processUndefined
   branches-over e n =
       let made : Pass → ℕ → ℕ → List ℕ = λ q x m. branchesFaults q (programIn s w) (branchesIn s w x m) in
@@ -92,6 +92,10 @@ module _ (s w : List ℕ) (pass : Pass) where
       sym
       (by-steps down _++_ [] (one pass) (made pass) (λ x. by-pass (λ q. made q x 0) (λ q. []) refl refl pass)
       (λ x m. by-pass (λ q. made q x (suc m)) (λ q. one q x ++ made q (x - 1) m) refl refl pass) n e)
+
+  pub branches-done : (e n : ℕ) {low k : Lowest} {i : ℕ} → Walking (branchFaults e) low n i k → n ≤ i
+      → Lowered low (branchesFaults pass (programIn s w) (branchesIn s w e n)) k
+  branches-done e n t h = lowered-as (branches-over e n) (walk-end t h)
 
   pub branch-walked : (e k : ℕ) {r : Labelled} {l m : Lowest} → BranchOf w (e - k) r → Lowered l (processFaultsIn (r .number)) m → Lowered l (branchFaults e k) m
   branch-walked e k o = lowered-as (ap processFaultsIn (o .holds .number))
@@ -107,7 +111,8 @@ module _ (s w : List ℕ) (pass : Pass) where
   nodeFaults n = ownFaults (n .kind) n
 
   -- what both passes find in a process A
-  adds : (A : Proc) (f : Pass → List ℕ) (B : Proc) → A ≡ B → f Repeated ≡ processRepeats B → f Undefined ≡ processUndefined (programIn s w) B → f pass ≡ processFaults pass (programIn s w) A
+  adds : (A : Proc) (f : Pass → List ℕ) (B : Proc) → A ≡ B
+      → f Repeated ≡ processRepeats B → f Undefined ≡ processUndefined (programIn s w) B → f pass ≡ processFaults pass (programIn s w) A
   adds A f B e r u = by-pass f (λ q. processFaults q (programIn s w) B) r u pass ∙ ap (processFaults pass (programIn s w)) (sym e)
 
   -- what a node with these parts has in brackets
@@ -163,7 +168,8 @@ module _ (s w : List ℕ) (pass : Pass) (A : Proc) (at first second third : ℕ)
   abbrev whole : ℕ → Parts → Pass → List ℕ
   whole k m q = nodeFaults s w q (node k) ++ (innerFaults s w q m (node k) ++ processFaultsIn s w q (followedAt m (node k)))
 
-  goes-on : (k : ℕ) (m : Parts) (B : Proc) → A ≡ B → whole k m Repeated ≡ processRepeats B → whole k m Undefined ≡ processUndefined (programIn s w) B → InnerIn s w m (node k) → ProcessIn s w (followedAt m (node k))
+  goes-on : (k : ℕ) (m : Parts) (B : Proc) → A ≡ B → whole k m Repeated ≡ processRepeats B → whole k m Undefined ≡ processUndefined (programIn s w) B
+      → InnerIn s w m (node k) → ProcessIn s w (followedAt m (node k))
       → processTerms B ≡ suc (innerTerms s w m (node k) + processTerms (processIn s w (followedAt m (node k)))) → Faulty s w pass (node k) m A
   goes-on k m B e r u f g t = record { is = adds s w pass A (whole k m) B e r u; inner = f; last = g; terms = ap processTerms e ∙ t }
 
@@ -175,7 +181,8 @@ module _ (s w : List ℕ) (pass : Pass) (A : Proc) (at first second third : ℕ)
   unfolding processTerms
   no-terms = ap processTerms none
 
-  ends : (k : ℕ) (m : Parts) → followedAt m (node k) ≡ processTermLimit → nodeFaults s w pass (node k) ++ innerFaults s w pass m (node k) ≡ processFaults pass (programIn s w) A → InnerIn s w m (node k)
+  ends : (k : ℕ) (m : Parts) → followedAt m (node k) ≡ processTermLimit
+      → nodeFaults s w pass (node k) ++ innerFaults s w pass m (node k) ≡ processFaults pass (programIn s w) A → InnerIn s w m (node k)
       → processTerms A ≡ suc (innerTerms s w m (node k)) → Faulty s w pass (node k) m A
   ends k m z e f t = record {
     is = ap (λ l. nodeFaults s w pass (node k) ++ (innerFaults s w pass m (node k) ++ l)) (ap (processFaultsIn s w pass) z ∙ nothing-found)
@@ -188,6 +195,9 @@ module _ (s w : List ℕ) (pass : Pass) (A : Proc) (at first second third : ℕ)
 
   abbrev branchly : Pass → List ℕ
   branchly q = labelFaults q (branchLabels (branchesIn s w second third)) ++ branchesFaults q (programIn s w) (branchesIn s w second third)
+
+  labels-listed : labelFaults pass (numbered (nameOf s w (BranchesFrom second)) 0 third) ++ branchesFaults pass (programIn s w) (branchesIn s w second third) ≡ branchly pass
+  labels-listed = ap (λ l. labelFaults pass l ++ branchesFaults pass (programIn s w) (branchesIn s w second third)) (branch-labels s w second third)
 
   abbrev called : Pass → List ℕ
   called q = callFaults q (programIn s w) (nameIn s first)
@@ -206,7 +216,7 @@ module _ (s w : List ℕ) (pass : Pass) (A : Proc) (at first second third : ℕ)
       next (λ (t, f, (g, e)). goes-on 5 Both _ e refl refl (f .1) (g .1) refl)
       next (λ (f, e). goes-on 6 Third _ e refl refl tt (f .1) (omega arith))
       next (λ (l, (f, e)). goes-on 7 Third _ e refl refl tt (f .1) (omega arith))
-      next (λ (l, f, e). ends 8 BranchList refl ((λ j. labelFaults pass (branch-labels s w second third j) ++ branchesFaults pass (programIn s w) (branchesIn s w second third)) ∙ adds s w pass A branchly _ e refl refl) f (ap processTerms e))
+      next (λ (l, f, e). ends 8 BranchList refl (labels-listed ∙ adds s w pass A branchly _ e refl refl) f (ap processTerms e))
       next (λ e. ends 9 Leaf refl (adds s w pass A (λ q. []) _ e refl refl) tt (ap processTerms e))
       next (λ (c, e). ends 10 Leaf refl (append-nil (called pass) ∙ adds s w pass A called _ e refl refl) tt (ap processTerms e))
       next (λ (f, e). goes-on 11 Third _ e refl refl tt (f .1) (omega arith))
@@ -226,12 +236,13 @@ module _ {s w : List ℕ} {p : ℕ} {n : TermNode} (t : Tables s w) (b : p < pro
   pub recv-branches : n .kind ≡ 8 → BranchesIn s w (n .second) (n .third)
   recv-branches e = subst (atKind Here) e here .1
 
-  pub faulty : (pass : Pass) (m : Parts) → m ≡ partsOf (n .kind) → Faulty s w pass n m (processIn s w p)
+  faulty : (pass : Pass) (m : Parts) → m ≡ partsOf (n .kind) → Faulty s w pass n m (processIn s w p)
   faulty pass m z =
       let none = process-root s w (t .within) processTermLimit (nothing-there s w) .none (omega arith) in
       let A = processIn s w p in
       subst (λ m. Faulty s w pass n m A) (sym z)
-      (each-kind Here (At s w pass A (n .at) (n .first) (n .second) (n .third) none) (cases s w pass A (n .at) (n .first) (n .second) (n .third) none) (n .kind) here)
+      (each-kind Here (At s w pass A (n .at) (n .first) (n .second) (n .third) none)
+      (cases s w pass A (n .at) (n .first) (n .second) (n .third) none) (n .kind) here)
 
 -- ── as far as the walk over a process has come: what is found from here on is what is left of the whole
 pub record Following (s w : List ℕ) (pass : Pass) (whole : ℕ) (low : Lowest) (p : ℕ) (l : Lowest) : Type 0 where
@@ -244,9 +255,14 @@ module _ {s w : List ℕ} {pass : Pass} {whole : ℕ} {low : Lowest} where
   follow-start a = record { stands = a; fewer = omega arith; left = left-all }
 
   module _ {p : ℕ} {l : Lowest} (t : Following s w pass whole low p l) where
-    pub follow-on : {n : TermNode} {m : Parts} {k r : Lowest} (q : ℕ) → Faulty s w pass n m (processIn s w p) → Lowered l (nodeFaults s w pass n) k → Lowered k (innerFaults s w pass m n) r → q ≡ followedAt m n
-        → Following s w pass whole low q r
-    follow-on q o f g z = rw z (record { stands = o .last; fewer = omega (arith, o .terms, t .fewer); left = left-after (left-after (left-as (sym (o .is)) (t .left)) f) g })
+    pub follow-node : {n : TermNode} {m : Parts} → Tables s w → p < processTermLimit → TermOf w p n → m ≡ partsOf (n .kind) → Faulty s w pass n m (processIn s w p)
+    follow-node u b o z = faulty u b (t .stands) o pass _ z
+
+    pub follow-on : {n : TermNode} {m : Parts} {k r : Lowest} (q : ℕ) → Faulty s w pass n m (processIn s w p)
+        → Lowered l (nodeFaults s w pass n) k → Lowered k (innerFaults s w pass m n) r → q ≡ followedAt m n → Following s w pass whole low q r
+    follow-on q o f g z =
+        let rest = left-after (left-after (left-as (sym (o .is)) (t .left)) f) g in
+        rw z (record { stands = o .last; fewer = omega (arith, o .terms, t .fewer); left = rest })
 
     pub follow-end : Tables s w → processTermLimit ≤ p → Lowered low (processFaultsIn s w pass whole) l
     follow-end u b = left-done (t .left) (lowered-as (no-process s w pass u p b (t .stands)) lowered-none)
@@ -259,7 +275,8 @@ pub record InnerAt (n : TermNode) (s w : List ℕ) (m x : Parts) : Type 0 where
 pub inner-at : (n : TermNode) (s w : List ℕ) {m : Parts} (x : Parts) → m ≡ x → InnerAt n s w m x
 inner-at n s w x e = record { terms = ap (λ q. innerTerms s w q n) e; stands = subst (λ q. InnerIn s w q n) e }
 
-pub inner-found : (s w : List ℕ) (pass : Pass) (n : TermNode) {m : Parts} (x : Parts) {l k : Lowest} → m ≡ x → Lowered l (innerFaults s w pass x n) k → Lowered l (innerFaults s w pass m n) k
+pub inner-found : (s w : List ℕ) (pass : Pass) (n : TermNode) {m : Parts} (x : Parts) {l k : Lowest} → m ≡ x
+    → Lowered l (innerFaults s w pass x n) k → Lowered l (innerFaults s w pass m n) k
 inner-found s w pass n x e = lowered-as (ap (λ q. innerFaults s w pass q n) (sym e))
 
 -- ── a call, by the pass

@@ -55,7 +55,8 @@ none-below : (g : ℕ → Bool) (n i : ℕ) → false ≡ fold _||_ false g i n 
 none-below g zero i e k a b = absurd (omega arith)
 none-below g (suc n) i e k a b = go (g i) refl e (λ q c. none-below g n (i + 1) q k c (omega arith))
   where
-    go : (x : Bool) → g i ≡ x → false ≡ (x || fold _||_ false g (i + 1) n) → (false ≡ fold _||_ false g (i + 1) n → i + 1 ≤ k → g k ≡ false) → g k ≡ false
+    go : (x : Bool) → g i ≡ x → false ≡ (x || fold _||_ false g (i + 1) n)
+        → (false ≡ fold _||_ false g (i + 1) n → i + 1 ≤ k → g k ≡ false) → g k ≡ false
     go true p q later = absurd (false≢true q)
     go false p q later = at (eq-or-lt-of-le a)
       where
@@ -71,13 +72,19 @@ markedFrom f m i (suc n) = cond (getD m i false) (f i .0 ∷ markedFrom f m (i +
 unfoldable pub marked : List ℕ → List ℕ → List Bool → List Name
 marked s w m = markedFrom (namedType s w) m 0 (tallyIn w .types)
 
--- the type i is marked and has the name x
-unfoldable pub isMarked : List ℕ → List ℕ → List Bool → Name → ℕ → Bool
-isMarked s w m x i = cond (getD m i false) (same x (namedType s w i .0)) false
+-- the type i, whose mark is b, is marked and has the name x
+unfoldable pub markedSo : List ℕ → List ℕ → Bool → Name → ℕ → Bool
+markedSo s w b x i = cond b (same x (namedType s w i .0)) false
+
+abbrev pub isMarked : List ℕ → List ℕ → List Bool → Name → ℕ → Bool
+isMarked s w m x i = markedSo s w (getD m i false) x i
 
 -- two lists of marks differ at the number i
-unfoldable pub differsAt : List Bool → List Bool → ℕ → Bool
-differsAt a b i = cond (getD a i false) (not (getD b i false)) (getD b i false)
+abbrev pub differs : Bool → Bool → Bool
+differs a b = cond a (not b) b
+
+abbrev pub differsAt : List Bool → List Bool → ℕ → Bool
+differsAt a b i = differs (getD a i false) (getD b i false)
 
 -- the marks that follow m
 pub record Next (s w : List ℕ) (m r : List Bool) : Type 0 where
@@ -102,16 +109,16 @@ any-marked f m x (suc n) i = go (getD m i false) (any-marked f m x n (i + 1))
     go false e = e
 
 pub marked-any : (s w : List ℕ) (m : List Bool) (x : Name) → anyBelow (isMarked s w m x) (tallyIn w .types) ≡ any (same x) (marked s w m)
-unfolding anyBelow isMarked marked
+unfolding anyBelow markedSo marked
 marked-any s w m x = any-marked (namedType s w) m x (tallyIn w .types) 0
 
-pub marked-not : (s w : List ℕ) (m : List Bool) (x : Name) (i : ℕ) → getD m i false ≡ false → false ≡ isMarked s w m x i
-unfolding isMarked
-marked-not s w m x i e = rw e refl
+pub marked-not : (s w : List ℕ) (b : Bool) (x : Name) (i : ℕ) → b ≡ false → false ≡ markedSo s w b x i
+unfolding markedSo
+marked-not s w b x i e = rw e refl
 
-pub marked-named : (s w : List ℕ) (m : List Bool) (x : Name) (i : ℕ) {t : Labelled} {r : Bool} → getD m i false ≡ true → TypeOf w i t → r ≡ same x (nameAt s (t .at)) → r ≡ isMarked s w m x i
-unfolding isMarked
-marked-named s w m x i e o q = rw e (q ∙ ap (λ (d : Name × Ty Name). same x (d .0)) (sym (o .is s)))
+pub marked-named : (s w : List ℕ) (b : Bool) (x : Name) (i : ℕ) {t : Labelled} {r : Bool} → b ≡ true → TypeOf w i t → r ≡ same x (nameAt s (t .at)) → r ≡ markedSo s w b x i
+unfolding markedSo
+marked-named s w b x i e o q = rw e (q ∙ ap (λ (d : Name × Ty Name). same x (d .0)) (sym (o .is s)))
 
 -- ── rounds
 -- the marks r are those of the types with @, -o or &, or a name of bad, up to the number i
@@ -151,15 +158,19 @@ settled types k (suc n) e b = at (eq-or-lt-of-le b) (λ c. settled types k n e c
 
 -- marks that do not differ mark the same names
 same-marks : (s w : List ℕ) (m r : List Bool) → false ≡ anyBelow (differsAt m r) (tallyIn w .types) → marked s w r ≡ marked s w m
-unfolding anyBelow differsAt marked
-same-marks s w m r e = go (tallyIn w .types) 0 (λ k b. alike (getD m k false) (getD r k false) (none-below (differsAt m r) (tallyIn w .types) 0 e k (omega arith) (omega arith)))
+unfolding anyBelow marked
+same-marks s w m r e =
+    let alike-at : (k : ℕ) → k < tallyIn w .types → getD r k false ≡ getD m k false =
+    λ k b. alike (getD m k false) (getD r k false) (none-below (differsAt m r) (tallyIn w .types) 0 e k (omega arith) (omega arith)) in
+    go (tallyIn w .types) 0 (λ k b. alike-at k (omega arith))
   where
-    alike : (x y : Bool) → cond x (not y) y ≡ false → y ≡ x
+    alike : (x y : Bool) → differs x y ≡ false → y ≡ x
     alike true true e = refl
     alike true false e = absurd (true≢false e)
     alike false y e = e
 
-    go : (n i : ℕ) → ((k : ℕ) → k < i + n → getD r k false ≡ getD m k false) → markedFrom (namedType s w) r i n ≡ markedFrom (namedType s w) m i n
+    go : (n i : ℕ) → ((k : ℕ) → k < i + n → getD r k false ≡ getD m k false)
+        → markedFrom (namedType s w) r i n ≡ markedFrom (namedType s w) m i n
     go zero i h = refl
     go (suc n) i h = rw (h i (omega arith), go n (i + 1) (λ k b. h k (omega arith))) refl
 
@@ -209,12 +220,14 @@ module _ {s w : List ℕ} where
         is = n .is ∙ ap (λ l. namesWithOther l (programIn s w .types)) (t .is) ∙ ap (λ i. reachOther i (programIn s w .types)) (sym (add-one k));
       })
 
-  pub rounds-settled : {m r : List Bool} {k n : ℕ} {differ : Bool} → Rounds s w m k → Next s w m r → n ≡ tallyIn w .types → differ ≡ anyBelow (differsAt m r) n → differ ≡ false → Reaches s w m
+  pub rounds-settled : {m r : List Bool} {k n : ℕ} {differ : Bool} → Rounds s w m k → Next s w m r → n ≡ tallyIn w .types
+      → differ ≡ anyBelow (differsAt m r) n → differ ≡ false → Reaches s w m
   rounds-settled {m} {r} {k} t n z d e =
       let types = programIn s w .types in
       let b = t .upto in
       let alike = same-marks s w m r (sym e ∙ d ∙ ap (anyBelow (differsAt m r)) z) in
-      let again : namesWithOther (reachOther k types) types ≡ reachOther k types = ap (λ l. namesWithOther l types) (sym (t .is)) ∙ sym (n .is) ∙ alike ∙ t .is in
+      let again : namesWithOther (reachOther k types) types ≡ reachOther k types =
+      ap (λ l. namesWithOther l types) (sym (t .is)) ∙ sym (n .is) ∙ alike ∙ t .is in
       record { is = t .is ∙ sym (settled types k (length types) again (omega (arith, types-long s w))) }
 
   pub rounds-end : {m : List Bool} {k : ℕ} → Rounds s w m k → tallyIn w .types ≤ k → Reaches s w m

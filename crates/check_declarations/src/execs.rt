@@ -12,6 +12,7 @@ use read_tables::access::exec_count;
 use read_tables::search::find_process;
 ghost use mathlib.Core.Path.{_≡_};
 ghost use Prim.Native.Nat.{_<_};
+ghost use Rattle.notation.specs.Limits.{execLimit};
 ghost use Rattle.notation.specs.Token.{nameAt};
 ghost use Rattle.calculus.specs.Declarations.{keepsRule, wrongExecs};
 ghost use Rattle.calculus.specs.Named.{lookup};
@@ -69,7 +70,7 @@ fn wrong_exec(
     i: usize,
     low: Lowest,
 ) -> Lowest
-    requires { ⌜ Tables (now text) (now scratch) × Reaches (now text) (now scratch) marks × (i < 16) ⌝ }
+    requires { ⌜ Tables (now text) (now scratch) × Reaches (now text) (now scratch) marks × (i < execLimit) ⌝ }
     ensures { λ r. ⌜ Lowered low (breakingAt (programIn (now (text .entry)) (now (scratch .entry))) (execIn (now (text .entry)) (now (scratch .entry))) i) r ⌝ }
 {
     let at = exec_at(scratch, i);

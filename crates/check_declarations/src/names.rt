@@ -10,7 +10,6 @@ use read_tables::access::entry;
 ghost use mathlib.Core.Path.{_≡_};
 ghost use mathlib.Core.List.{[]};
 ghost use Prim.Native.Nat.{_+_, _<_};
-ghost use Rattle.notation.specs.Bytes.{same};
 ghost use Rattle.calculus.specs.Declarations.{repeats};
 ghost use Rattle.notation.specs.Tables.{Area};
 ghost use Rattle.notation.specs.Limits.{textLimit};
@@ -75,25 +74,17 @@ fn name_at(scratch: &[u32], names: Names, k: usize) -> Place
     }
 }
 
-// The names j and k of a list are the same.
-fn same_names(text: &[u8], scratch: &[u32], names: Names, j: usize, k: usize) -> bool
-    requires { ⌜ Area (now scratch) × Fits names (j + 1) × Fits names (k + 1) ⌝ }
-    ensures { λ r. ⌜ r ≡ same (nameOf (now (text .entry)) (now (scratch .entry)) names j .name) (nameOf (now (text .entry)) (now (scratch .entry)) names k .name) ⌝ }
-{
-    let a = name_at(scratch, names, j);
-    let b = name_at(scratch, names, k);
-    names_equal(text, a.letter, b.letter)
-}
-
 // The name j comes among those before it.
 fn seen_before(text: &[u8], scratch: &[u32], names: Names, j: usize) -> bool
     requires { ⌜ Area (now scratch) × Fits names (j + 1) ⌝ }
     ensures { λ r. ⌜ r ≡ seenBelow (nameOf (now (text .entry)) (now (scratch .entry)) names) (nameOf (now (text .entry)) (now (scratch .entry)) names j .name) j ⌝ }
 {
+    let a = name_at(scratch, names, j);
     let mut k = j;
     while 0 < k {
         k -= 1;
-        if same_names(text, scratch, names, j, k) {
+        let b = name_at(scratch, names, k);
+        if names_equal(text, a.letter, b.letter) {
             return true;
         }
     }

@@ -18,20 +18,14 @@ ghost use Rattle.calculus.specs.Named.{any};
 ghost use Rattle.read_tables.specs.Program.{plainIn};
 ghost use Rattle.read_tables.specs.Roots.{TypeIn, AlternativesIn, alternativesIn};
 ghost use Rattle.read_tables.specs.Whole.{Tables};
-ghost use Rattle.check_declarations.specs.Reach.{anyBelow, differsAt, isMarked, marked, Next, Reaches};
+ghost use Rattle.check_declarations.specs.Reach.{anyBelow, differs, differsAt, markedSo, marked, Next, Reaches};
 
-// The type i is marked, and its name is the one at `at`.
-fn marked_so(
-    text: &[u8],
-    scratch: &[u32],
-    marks: [bool; Script::TYPES],
-    i: usize,
-    at: usize,
-) -> bool
+// The type i has this mark, which is set, and its name is the one at `at`.
+fn marked_so(text: &[u8], scratch: &[u32], mark: bool, i: usize, at: usize) -> bool
     requires { ⌜ Tables (now text) (now scratch) × (i < typeLimit) ⌝ }
-    ensures { λ r. ⌜ r ≡ isMarked (now (text .entry)) (now (scratch .entry)) marks (nameAt (now (text .entry)) at) i ⌝ }
+    ensures { λ r. ⌜ r ≡ markedSo (now (text .entry)) (now (scratch .entry)) mark (nameAt (now (text .entry)) at) i ⌝ }
 {
-    if marks[i] {
+    if mark {
         let t = declared_type(scratch, i);
         let there = t.at;
         return names_equal(text, at, there);
@@ -47,7 +41,7 @@ fn is_marked(text: &[u8], scratch: &[u32], marks: [bool; Script::TYPES], at: usi
     let n = type_count(scratch);
     let mut i: usize = 0;
     while i < n {
-        if marked_so(text, scratch, marks, i, at) {
+        if marked_so(text, scratch, marks[i], i, at) {
             return true;
         }
         i += 1;
@@ -119,15 +113,14 @@ fn next_marks(text: &[u8], scratch: &[u32], marks: [bool; Script::TYPES]) -> [bo
     next
 }
 
-// The marks of the type i differ.
-fn differ_at(a: [bool; Script::TYPES], b: [bool; Script::TYPES], i: usize) -> bool
-    requires { ⌜ i < typeLimit ⌝ }
-    ensures { λ r. ⌜ r ≡ differsAt a b i ⌝ }
+// One of two marks is set, the other is not.
+fn mark_differs(a: bool, b: bool) -> bool
+    ensures { λ r. ⌜ r ≡ differs a b ⌝ }
 {
-    if a[i] {
-        return !b[i];
+    if a {
+        return !b;
     }
-    b[i]
+    b
 }
 
 // The marks of one of the first n types differ.
@@ -137,7 +130,7 @@ fn marks_differ(a: [bool; Script::TYPES], b: [bool; Script::TYPES], n: usize) ->
 {
     let mut i: usize = 0;
     while i < n {
-        if differ_at(a, b, i) {
+        if mark_differs(a[i], b[i]) {
             return true;
         }
         i += 1;

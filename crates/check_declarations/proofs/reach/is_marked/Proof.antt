@@ -9,16 +9,19 @@ use Rattle.check_declarations.proofs.reach.is_marked.Statement.{stateme
 use Rattle.check_declarations.proofs.reach.is_marked.Tie as tie
 
 abbrev Inv-loop : tie.InvT-loop
-Inv-loop text scratch marks at n i₀ i = Testing (isMarked text scratch marks (nameAt text at)) (tallyIn scratch .types) i
+Inv-loop text scratch at marks n i₀ i = Testing (isMarked text scratch marks (nameAt text at)) (tallyIn scratch .types) i
 
 abbrev μ-loop : tie.MeasureT-loop
-μ-loop text scratch marks at n i₀ i = n - i
+μ-loop text scratch at marks n i₀ i = n - i
 
 type-count-requires : tie.Need-type-count-requires Inv-loop μ-loop
 type-count-requires c κs = search needs
 
 loop-holds : tie.Need-loop-holds Inv-loop μ-loop
 loop-holds c = test-start
+
+array-read-marked-so : tie.Need-array-read-marked-so Inv-loop μ-loop
+array-read-marked-so c = search needs
 
 marked-so-requires : tie.Need-marked-so-requires Inv-loop μ-loop
 marked-so-requires c κs = search needs
@@ -48,6 +51,7 @@ is-marked-spec =
     μ-loop
     type-count-requires
     loop-holds
+    array-read-marked-so
     marked-so-requires
     returns
     add-i

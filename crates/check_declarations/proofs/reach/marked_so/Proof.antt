@@ -3,9 +3,6 @@ use borrow.Author.Needs.{needs}
 use Rattle.check_declarations.proofs.reach.marked_so.Statement.{statement}
 use Rattle.check_declarations.proofs.reach.marked_so.Tie as tie
 
-array-read-if1 : tie.Need-array-read-if1
-array-read-if1 c = search needs
-
 declared-type-requires : tie.Need-declared-type-requires
 declared-type-requires c κs = search needs
 
@@ -21,4 +18,4 @@ returns-2 c = marked-not _ _ _ _ _ (c .if1 .left)
 pub marked-so-spec : {M : Type 1} → statement M
 marked-so-spec =
     tie.close
-    (tie.spec array-read-if1 declared-type-requires names-equal-requires returns returns-2)
+    (tie.spec declared-type-requires names-equal-requires returns returns-2)

@@ -6,19 +6,25 @@ use Rattle.check_declarations.proofs.reach.marks_differ.Statement.{stat
 use Rattle.check_declarations.proofs.reach.marks_differ.Tie as tie
 
 abbrev Inv-loop : tie.InvT-loop
-Inv-loop a b n i₀ i = Testing (differsAt a b) n i
+Inv-loop n a b i₀ i = Testing (differsAt a b) n i
 
 abbrev μ-loop : tie.MeasureT-loop
-μ-loop a b n i₀ i = n - i
+μ-loop n a b i₀ i = n - i
 
 loop-holds : tie.Need-loop-holds Inv-loop μ-loop
 loop-holds c = test-start
 
-differ-at-requires : tie.Need-differ-at-requires Inv-loop μ-loop
-differ-at-requires c κs = search needs
+array-read-mark-differs : tie.Need-array-read-mark-differs Inv-loop μ-loop
+array-read-mark-differs c = search needs
+
+array-read-mark-differs-2 : tie.Need-array-read-mark-differs-2 Inv-loop μ-loop
+array-read-mark-differs-2 c = search needs
+
+mark-differs-requires : tie.Need-mark-differs-requires Inv-loop μ-loop
+mark-differs-requires c κs = search needs
 
 returns : tie.Need-returns Inv-loop μ-loop
-returns c = test-found (c .before .before .before .loop .inv) (c .before .before .loop-test .taken) (c .before .differ-at .ensures) (c .if1 .taken)
+returns c = test-found (c .before .before .before .loop .inv) (c .before .before .loop-test .taken) (c .before .mark-differs .ensures) (c .if1 .taken)
 
 add-i : tie.Need-add-i Inv-loop μ-loop
 add-i c = search needs
@@ -27,7 +33,7 @@ loop-less : tie.Need-loop-less Inv-loop μ-loop
 loop-less c = search needs
 
 loop-again : tie.Need-loop-again Inv-loop μ-loop
-loop-again c = test-on (c .before .before .before .loop .inv) (c .before .before .loop-test .taken) (c .before .differ-at .ensures) refl (c .if1 .left)
+loop-again c = test-on (c .before .before .before .loop .inv) (c .before .before .loop-test .taken) (c .before .mark-differs .ensures) refl (c .if1 .left)
 
 returns-2 : tie.Need-returns-2 Inv-loop μ-loop
 returns-2 c = test-end (c .before .loop .inv) (c .loop-test .left)
@@ -39,7 +45,9 @@ marks-differ-spec =
     Inv-loop
     μ-loop
     loop-holds
-    differ-at-requires
+    array-read-mark-differs
+    array-read-mark-differs-2
+    mark-differs-requires
     returns
     add-i
     loop-less

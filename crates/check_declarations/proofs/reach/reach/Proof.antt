@@ -32,13 +32,15 @@ loop-less c = search needs
 
 loop-again : tie.Need-loop-again Inv-loop μ-loop
 loop-again c =
-    let loop = c .before .before .before .before in
-    rounds-on refl (loop .loop .inv) (omega (arith, c .before .before .before .loop-test .taken, loop .before .type-count .ensures)) (c .before .before .next-marks .ensures)
+    let at-loop = c .before .before .before .before in
+    let next = c .before .before .next-marks in
+    rounds-on refl (at-loop .loop .inv) (omega (arith, c .before .before .before .loop-test .taken, at-loop .before .type-count .ensures)) (next .ensures)
 
 returns : tie.Need-returns Inv-loop μ-loop
 returns c =
-    let loop = c .before .before .before .before in
-    rounds-settled (loop .loop .inv) (c .before .before .next-marks .ensures) (loop .before .type-count .ensures) (c .before .marks-differ .ensures) (c .if1 .left)
+    let at-loop = c .before .before .before .before in
+    let next = c .before .before .next-marks in
+    rounds-settled (at-loop .loop .inv) (next .ensures) (at-loop .before .type-count .ensures) (c .before .marks-differ .ensures) (c .if1 .left)
 
 returns-2 : tie.Need-returns-2 Inv-loop μ-loop
 returns-2 c = rounds-end (c .before .loop .inv) (omega (arith, c .loop-test .left, c .before .before .type-count .ensures))

@@ -3,9 +3,9 @@ use borrow.Author.Needs.{needs}
 use Prim.Native.Nat.{ℕ, _-_}
 use native.Mathlib.Omega.{arith}
 use mathlib.Core.Path.{refl}
-use Rattle.check_declarations.specs.Faults.{alternativeFaults, alternative-walked, choice-walked}
-use Rattle.check_declarations.specs.Listed.{alternatives-fit, alternative-first, alternative-few}
-use Rattle.check_declarations.specs.Lowest.{Walking, walk-start, walk-on, walk-end, lowered-as, lowered-then}
+use Rattle.check_declarations.specs.Faults.{alternativeFaults, alternative-walked, choice-done}
+use Rattle.check_declarations.specs.Listed.{alternatives-fit, alternative-part}
+use Rattle.check_declarations.specs.Lowest.{Walking, walk-start, walk-on}
 use Rattle.check_declarations.proofs.faults.list_faults.Reads as list-faults-reads
 use Rattle.read_tables.proofs.access.alternative.Reads as alternative-reads
 use Rattle.check_declarations.proofs.faults.choice_faults.Reads as choice-faults
@@ -50,8 +50,8 @@ choice-faults-met t =
     -- type-faults-requires
     (λ c κs.
     let entry = c .before .before .before .before .before .before in
-    let first = alternative-first _ _ (entry .pre .1 .0) _ _ (entry .pre .1 .1) _ (c .before .loop-test .taken) (c .alternative .ensures) in
-    (omega (arith, entry .pre .0, alternative-few _ _ (entry .pre .1 .0) _ _ (entry .pre .1 .1) _ (c .before .loop-test .taken) (c .alternative .ensures)), (entry .pre .1 .0, first .type)))
+    let part = alternative-part _ _ (entry .pre .1 .0) _ _ (entry .pre .1 .1) _ (c .before .loop-test .taken) (c .alternative .ensures) in
+    (omega (arith, entry .pre .0, part .0), (entry .pre .1 .0, part .1)))
     -- add-k
     (λ c. search needs)
     -- loop-less
@@ -60,8 +60,9 @@ choice-faults-met t =
     (λ c.
     let entry = c .before .before .before .before .before .before .before in
     let loop = c .before .before .before .loop in
-    walk-on refl (loop .inv) (c .before .before .loop-test .taken) (alternative-walked _ _ (entry .args .pass) (entry .args .e) (loop .k) (c .before .alternative .ensures) (c .type-faults .ensures)))
+    let found = alternative-walked _ _ (entry .args .pass) (entry .args .e) (loop .k) (c .before .alternative .ensures) (c .type-faults .ensures) in
+    walk-on refl (loop .inv) (c .before .before .loop-test .taken) found)
     -- returns
     (λ c.
     let entry = c .before .before .before .before .before in
-    lowered-as (choice-walked _ _ (entry .args .pass) (entry .args .e) (entry .args .count)) (lowered-then (c .before .before .list-faults .ensures) (walk-end (c .before .loop .inv) (c .loop-test .left))))
+    choice-done _ _ (entry .args .pass) (entry .args .e) (entry .args .count) (c .before .before .list-faults .ensures) (c .before .loop .inv) (c .loop-test .left))

@@ -3,9 +3,9 @@ use borrow.Author.Needs.{needs}
 use Prim.Native.Nat.{ℕ, _-_}
 use native.Mathlib.Omega.{arith}
 use mathlib.Core.Path.{refl}
-use Rattle.check_declarations.specs.Listed.{branches-fit, branch-first, branch-few}
-use Rattle.check_declarations.specs.Lowest.{Walking, walk-start, walk-on, walk-end, lowered-as}
-use Rattle.check_declarations.specs.ProcessFaults.{branchFaults, branch-walked, branches-over}
+use Rattle.check_declarations.specs.Listed.{branches-fit, branch-part}
+use Rattle.check_declarations.specs.Lowest.{Walking, walk-start, walk-on}
+use Rattle.check_declarations.specs.ProcessFaults.{branchFaults, branch-walked, branches-done}
 use Rattle.read_tables.proofs.access.branch.Reads as branch-reads
 use Rattle.check_declarations.proofs.processes.branches_faults.Reads as branches-faults
 use Rattle.check_declarations.proofs.processes.process_faults.Reads as process-faults
@@ -44,8 +44,8 @@ branches-faults-met t =
     -- process-faults-requires
     (λ c κs.
     let entry = c .before .before .before .before .before in
-    let first = branch-first _ _ (entry .pre .1 .0) _ _ (entry .pre .1 .1) _ (c .before .loop-test .taken) (c .branch .ensures) in
-    (omega (arith, entry .pre .0, branch-few _ _ (entry .pre .1 .0) _ _ (entry .pre .1 .1) _ (c .before .loop-test .taken) (c .branch .ensures)), (entry .pre .1 .0, first .process)))
+    let part = branch-part _ _ (entry .pre .1 .0) _ _ (entry .pre .1 .1) _ (c .before .loop-test .taken) (c .branch .ensures) in
+    (omega (arith, entry .pre .0, part .0), (entry .pre .1 .0, part .1)))
     -- add-k
     (λ c. search needs)
     -- loop-less
@@ -54,8 +54,9 @@ branches-faults-met t =
     (λ c.
     let entry = c .before .before .before .before .before .before in
     let loop = c .before .before .before .loop in
-    walk-on refl (loop .inv) (c .before .before .loop-test .taken) (branch-walked _ _ (entry .args .pass) (entry .args .e) (loop .k) (c .before .branch .ensures) (c .process-faults .ensures)))
+    let found = branch-walked _ _ (entry .args .pass) (entry .args .e) (loop .k) (c .before .branch .ensures) (c .process-faults .ensures) in
+    walk-on refl (loop .inv) (c .before .before .loop-test .taken) found)
     -- returns
     (λ c.
     let entry = c .before .before .before .before in
-    lowered-as (branches-over _ _ (entry .args .pass) (entry .args .e) (entry .args .count)) (walk-end (c .before .loop .inv) (c .loop-test .left)))
+    branches-done _ _ (entry .args .pass) (entry .args .e) (entry .args .count) (c .before .loop .inv) (c .loop-test .left))

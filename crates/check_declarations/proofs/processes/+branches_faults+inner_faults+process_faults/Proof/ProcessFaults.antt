@@ -5,7 +5,7 @@ use native.Mathlib.Omega.{arith}
 use mathlib.Core.Path.{ap}
 use Rattle.notation.specs.Sizes.{processTerms}
 use Rattle.read_tables.specs.Decode.{processIn}
-use Rattle.check_declarations.specs.ProcessFaults.{faulty, Following, follow-start, follow-on, follow-end}
+use Rattle.check_declarations.specs.ProcessFaults.{Following, follow-start, follow-node, follow-on, follow-end}
 use Rattle.check_declarations.proofs.processes.node_faults.Reads as node-faults-reads
 use Rattle.check_declarations.proofs.processes.parts_of.Reads as parts-of-reads
 use Rattle.check_declarations.proofs.processes.what_follows.Reads as what-follows-reads
@@ -53,31 +53,26 @@ process-faults-met t =
     (entry .pre .1 .0, (_, c .before .before .loop-test .taken, loop .inv .stands, (c .before .term-node .ensures))))
     -- inner-faults-requires
     (λ c κs.
-    let entry = c .before .before .before .before .before .before .before in
-    let loop = c .before .before .before .before .loop in
-    let loop-test = c .before .before .before .loop-test in
-    let said = faulty (entry .pre .1 .0) (loop-test .taken) (loop .inv .stands) (c .before .before .term-node .ensures) (entry .args .pass) _ (c .before .parts-of .ensures) in
-    (omega (arith, entry .pre .0, said .terms, loop .inv .fewer), (entry .pre .1 .0, said .inner)))
+    let at-node = c .before .before in
+    let entry = at-node .before .before .before .before .before in
+    let said = follow-node (at-node .before .before .loop .inv) (entry .pre .1 .0) (at-node .before .loop-test .taken) (at-node .term-node .ensures) (c .before .parts-of .ensures) in
+    (omega (arith, entry .pre .0, said .terms, at-node .before .before .loop .inv .fewer), (entry .pre .1 .0, said .inner)))
     -- what-follows-requires
     (λ c κs. search needs)
     -- loop-less
     (λ c.
-    let entry = c .before .before .before .before .before .before .before .before .before in
-    let loop = c .before .before .before .before .before .before .loop in
-    let loop-test = c .before .before .before .before .before .loop-test in
-    let term-node = c .before .before .before .before .term-node in
     let parts-of = c .before .before .before .parts-of in
-    let said = faulty (entry .pre .1 .0) (loop-test .taken) (loop .inv .stands) (term-node .ensures) (entry .args .pass) _ (parts-of .ensures) in
+    let at-node = c .before .before .before .before in
+    let entry = at-node .before .before .before .before .before in
+    let said = follow-node (at-node .before .before .loop .inv) (entry .pre .1 .0) (at-node .before .loop-test .taken) (at-node .term-node .ensures) (parts-of .ensures) in
     omega (arith, said .terms, ap (λ q. processTerms (processIn (entry .args .text .now) (entry .args .scratch .now) q)) (c .what-follows .ensures)))
     -- loop-again
     (λ c.
-    let entry = c .before .before .before .before .before .before .before .before .before in
-    let loop = c .before .before .before .before .before .before .loop in
-    let loop-test = c .before .before .before .before .before .loop-test in
-    let term-node = c .before .before .before .before .term-node in
     let parts-of = c .before .before .before .parts-of in
-    let said = faulty (entry .pre .1 .0) (loop-test .taken) (loop .inv .stands) (term-node .ensures) (entry .args .pass) _ (parts-of .ensures) in
-    follow-on (loop .inv) _ said (c .before .before .node-faults .ensures) (c .before .inner-faults .ensures) (c .what-follows .ensures))
+    let at-node = c .before .before .before .before in
+    let entry = at-node .before .before .before .before .before in
+    let said = follow-node (at-node .before .before .loop .inv) (entry .pre .1 .0) (at-node .before .loop-test .taken) (at-node .term-node .ensures) (parts-of .ensures) in
+    follow-on (at-node .before .before .loop .inv) _ said (c .before .before .node-faults .ensures) (c .before .inner-faults .ensures) (c .what-follows .ensures))
     -- returns
     (λ c.
     let entry = c .before .before .before .before in

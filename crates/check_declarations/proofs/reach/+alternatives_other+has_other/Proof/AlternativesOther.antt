@@ -3,7 +3,7 @@ use borrow.Author.Needs.{needs}
 use Prim.Native.Nat.{ℕ, _-_}
 use native.Mathlib.Omega.{arith}
 use mathlib.Core.Path.{refl, _∙_}
-use Rattle.check_declarations.specs.Listed.{alternatives-fit, alternative-first, alternative-few}
+use Rattle.check_declarations.specs.Listed.{alternatives-fit, alternative-part}
 use Rattle.check_declarations.specs.Other.{alternativeOther, alternative-tested, alternatives-other}
 use Rattle.check_declarations.specs.Reach.{marked, Testing, test-start, test-on, test-found, test-end}
 use Rattle.read_tables.proofs.access.alternative.Reads as alternative-reads
@@ -44,14 +44,15 @@ alternatives-other-met t =
     -- has-other-requires
     (λ c κs.
     let entry = c .before .before .before .before .before in
-    let first = alternative-first _ _ (entry .pre .1 .0) _ _ (entry .pre .1 .1) _ (c .before .loop-test .taken) (c .alternative .ensures) in
-    (omega (arith, entry .pre .0, alternative-few _ _ (entry .pre .1 .0) _ _ (entry .pre .1 .1) _ (c .before .loop-test .taken) (c .alternative .ensures)), (entry .pre .1 .0, first .type)))
+    let part = alternative-part _ _ (entry .pre .1 .0) _ _ (entry .pre .1 .1) _ (c .before .loop-test .taken) (c .alternative .ensures) in
+    (omega (arith, entry .pre .0, part .0), (entry .pre .1 .0, part .1)))
     -- returns
     (λ c.
     let entry = c .before .before .before .before .before .before .before in
     let loop = c .before .before .before .before .loop in
     let loop-test = c .before .before .before .loop-test in
-    test-found (loop .inv) (loop-test .taken) (alternative-tested _ _ _ (entry .args .e) (loop .k) (c .before .before .alternative .ensures) (c .before .has-other .ensures)) (c .if1 .taken) ∙ alternatives-other _ _ _ (entry .args .e) (entry .args .count))
+    let tested = alternative-tested _ _ _ (entry .args .e) (loop .k) (c .before .before .alternative .ensures) (c .before .has-other .ensures) in
+    test-found (loop .inv) (loop-test .taken) tested (c .if1 .taken) ∙ alternatives-other _ _ _ (entry .args .e) (entry .args .count))
     -- add-k
     (λ c. search needs)
     -- loop-less
@@ -61,7 +62,8 @@ alternatives-other-met t =
     let entry = c .before .before .before .before .before .before .before in
     let loop = c .before .before .before .before .loop in
     let loop-test = c .before .before .before .loop-test in
-    test-on (loop .inv) (loop-test .taken) (alternative-tested _ _ _ (entry .args .e) (loop .k) (c .before .before .alternative .ensures) (c .before .has-other .ensures)) refl (c .if1 .left))
+    let tested = alternative-tested _ _ _ (entry .args .e) (loop .k) (c .before .before .alternative .ensures) (c .before .has-other .ensures) in
+    test-on (loop .inv) (loop-test .taken) tested refl (c .if1 .left))
     -- returns-2
     (λ c.
     let entry = c .before .before .before .before in
