@@ -15,10 +15,8 @@ use Rattle.calculus.specs.Named.{lookup, isSome, names, kept}
 use Rattle.calculus.specs.Mentions.{spawnTakes, spawnLeaves, tryTakes, neverBoth, exactlyOne}
 use Rattle.calculus.specs.Checking.{check}
 use Rattle.calculus.specs.Program.{slot, Context}
-use Rattle.calculus.specs.Verdict.{refused, andThen, demand, verdictOf}
+use Rattle.calculus.specs.Verdict.{refused, andThen, demand}
 use Rattle.calculus.specs.Verdict as calculus
-use Rattle.calculus.specs.declared.verdict.Verdict.{Verdict}
-use Rattle.calculus.specs.declared.verdict.Verdict.the-variants as verdict
 use Rattle.calculus.specs.Typing.{bringing}
 use Rattle.calculus.specs.Configuration.{End}
 use Rattle.calculus.specs.WellFormed.{contextOf}
@@ -37,7 +35,7 @@ use Rattle.check_terms.specs.Next.{Step, stop, go, granted, resume, contextIn}
 use Rattle.check_terms.specs.Endings.{numberOf}
 use Rattle.check_terms.specs.Sends.{count-so}
 use Rattle.check_processes.specs.Nodes.{NodeIn, apart?, joins?, spawnStep, halfContext, spawn-at, try-at}
-use Rattle.check_processes.specs.Process.{spawn-stops, spawn-goes, then-refused, then-fine}
+use Rattle.check_processes.specs.Process.{spawn-stops, spawn-goes}
 use Rattle.check_processes.specs.Turns.{verdictAt}
 
 -- ── a split of what is held is a split of the context
@@ -191,18 +189,11 @@ module _ (s w : List ℕ) (h : Held) (link : Bool) (p : ℕ) (n : TermNode) (t :
   pub spawn-refused : (r : ℕ) → r ≡ numberOf (spawnStep s w n context) → (r ≡ 0 → ⊥) → refused r (n .at) ≡ verdictAt s w h link p
   spawn-refused r e d = spawn-stops s w n context (n .at) (λ H. andThen (first? H) (second? H)) r e d ∙ sym spawn-said
 
-  module _ (r : ℕ) (e : r ≡ numberOf (spawnStep s w n context)) (o : r ≡ 0) (a : Held) (f : contextIn s w a ≡ halfContext s w n context true) (v : Verdict) (q : verdictOf v ≡ verdictAt s w a false (n .second)) where
-    goes-on : andThen (first? context) (second? context) ≡ verdictAt s w h link p
-    goes-on = sym (spawn-said ∙ spawn-goes s w n context (n .at) (λ H. andThen (first? H) (second? H)) r e o)
-
-    first-is : verdictOf v ≡ first? context
-    first-is = q ∙ ap (λ J. check (programIn s w) J false (processIn s w (n .second))) f
-
-    pub spawn-first : {m i : ℕ} → v ≡ verdict.Refused m i → verdictOf v ≡ verdictAt s w h link p
-    spawn-first {m} {i} x = then-refused (second? context) v m i x first-is ∙ goes-on
-
-    pub spawn-second : v ≡ verdict.Fine → (b : Held) → contextIn s w b ≡ halfContext s w n context false → verdictAt s w b link (n .third) ≡ verdictAt s w h link p
-    spawn-second x b g = then-fine (second? context) v x first-is (ap (λ J. check (programIn s w) J link (processIn s w (n .third))) g) ∙ goes-on
+  pub spawn-halves : (r : ℕ) → r ≡ numberOf (spawnStep s w n context) → r ≡ 0 → (a b : Held) → contextIn s w a ≡ halfContext s w n context true → contextIn s w b ≡ halfContext s w n context false
+      → andThen (verdictAt s w a false (n .second)) (verdictAt s w b link (n .third)) ≡ verdictAt s w h link p
+  spawn-halves r e o a b f g =
+      (λ j. andThen (check (programIn s w) (f j) false (processIn s w (n .second))) (check (programIn s w) (g j) link (processIn s w (n .third))))
+      ∙ sym (spawn-said ∙ spawn-goes s w n context (n .at) (λ H. andThen (first? H) (second? H)) r e o)
 
 -- ── what a try's checks come to
 module _ (s w : List ℕ) (h : Held) (link : Bool) (p : ℕ) (n : TermNode) (t : NodeIn s w p n) (z : 12 ≤ n .kind) where
@@ -222,12 +213,8 @@ module _ (s w : List ℕ) (h : Held) (link : Bool) (p : ℕ) (n : TermNode) (t :
     pub try-refused : r ≡ false → refused 13 (n .at) ≡ verdictAt s w h link p
     try-refused e = try-by false e
 
-    module _ (e : r ≡ true) (x : Held) (k : Picks h a true x) (v : Verdict) (q : verdictOf v ≡ verdictAt s w x true (n .second)) where
-      main-is : verdictOf v ≡ main?
-      main-is = q ∙ ap (λ J. check (programIn s w) J true (processIn s w (n .second))) (tried s w h (n .second) x (keeps-so f u k))
-
-      pub try-first : {m i : ℕ} → v ≡ verdict.Refused m i → verdictOf v ≡ verdictAt s w h link p
-      try-first {m} {i} y = then-refused handler? v m i y main-is ∙ try-by true e
-
-      pub try-second : v ≡ verdict.Fine → (c : Held) → Picks h b true c → verdictAt s w c link (n .third) ≡ verdictAt s w h link p
-      try-second y c l = then-fine handler? v y main-is (ap (λ J. check (programIn s w) J link (processIn s w (n .third))) (tried s w h (n .third) c (keeps-so g u l))) ∙ try-by true e
+    pub try-halves : r ≡ true → (x y : Held) → Picks h a true x → Picks h b true y
+        → andThen (verdictAt s w x true (n .second)) (verdictAt s w y link (n .third)) ≡ verdictAt s w h link p
+    try-halves e x y k l =
+        (λ j. andThen (check (programIn s w) (tried s w h (n .second) x (keeps-so f u k) j) true (processIn s w (n .second))) (check (programIn s w) (tried s w h (n .third) y (keeps-so g u l) j) link (processIn s w (n .third))))
+        ∙ try-by true e
