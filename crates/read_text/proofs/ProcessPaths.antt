@@ -216,11 +216,11 @@ module _ (s w : List ℕ) (c : Cursor) (k : Tally) (room : Room s w c k) {q : Ta
             let e₂ = afterProcess P (moreTerms k) in
             let first : second ≡ pointerTo P (k .terms + 1) = sp ∙ sym (pointer-in m s d f P (k .terms + 1) a) in
             let after : third ≡ pointerTo Q (e₂ .terms) = tp ∙ sym (pointer-in m s b b₂ Q (l .terms) a₂) ∙ ap (λ (x : Tally). pointerTo Q (x .terms)) al in
-            let words : v₂ ≡ writeProcess P (moreTerms k) (putTerm w (k .terms) (termNode 12 at 0 (pointerTo P (k .terms + 1)) (pointerTo Q (e₂ .terms)))) =
+            let node = termNode 12 at 0 (pointerTo P (k .terms + 1)) (pointerTo Q (e₂ .terms)) in
+            let words : v₂ ≡ writeProcess P (moreTerms k) (putTerm w (k .terms) node) =
             put
             ∙ (λ j. putTerm (av j) (k .terms) (termNode 12 at 0 (first j) (after j)))
-            ∙ sym (process-put P (moreTerms k) w (k .terms) (termNode 12 at 0 (pointerTo P (k .terms + 1)) (pointerTo Q (e₂ .terms))) (omega arith)
-            (subst Inside al inside)) in
+            ∙ sym (process-put P (moreTerms k) w (k .terms) node (omega arith) (subst Inside al inside)) in
             λ j. writeProcess Q (al j) (words j)
 
         pub try-read : {p₂ : Out} {v₃ : List ℕ} → BracketedRead s v₂ b l p₂ v₃ → TermRead Try s w c k p₂ v₃

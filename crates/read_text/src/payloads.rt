@@ -16,6 +16,7 @@ use read_types::steps::then_expect;
 ghost use mathlib.Core.Path.{_≡_};
 ghost use Prim.Native.Nat.{_<_};
 ghost use Rattle.notation.specs.Limits.{textLimit};
+ghost use Rattle.notation.specs.Tables.{termKindRadix, termNode};
 ghost use Rattle.notation.specs.Token.{kindAt};
 ghost use Rattle.notation.specs.Processes.{payload, unitTaken};
 ghost use Rattle.read_types.specs.Filling.{Stepped, FitsTerm};
@@ -84,78 +85,45 @@ pub(crate) fn name_colon(text: &[u8], c: Cursor) -> Taken
     then_expect(text, process_term(text, c, Token::NAME), Token::COLON)
 }
 
-// The node of a send; what follows it is not known yet.
+// A node of this kind; what follows it is not known yet.
+fn open_node(kind: usize, at: usize, first: usize, second: usize) -> TermNode
+    requires { ⌜ (kind < termKindRadix) × (at < textLimit) × (first < textLimit) × (second < textLimit) ⌝ }
+    ensures { λ r. ⌜ r ≡ termNode kind at first second 0 ⌝ }
+    ensures { λ r. ⌜ FitsTerm r ⌝ }
+{
+    TermNode {
+        kind,
+        at,
+        first,
+        second,
+        third: 0,
+    }
+}
+
+// The node of a send.
 pub(crate) fn sent_node(at: usize, i: usize, j: usize, head: Payload) -> TermNode
     requires { ⌜ (at < textLimit) × (i < textLimit) × (j < textLimit) ⌝ }
     ensures { λ r. ⌜ r ≡ sentNode head at i j ⌝ }
     ensures { λ r. ⌜ FitsTerm r ⌝ }
 {
     match head {
-        Payload::Unit => TermNode {
-            kind: kinds::SEND_UNIT,
-            at,
-            first: i,
-            second: 0,
-            third: 0,
-        },
-        Payload::Channel => TermNode {
-            kind: kinds::SEND_CHANNEL,
-            at,
-            first: i,
-            second: j,
-            third: 0,
-        },
-        Payload::Label => TermNode {
-            kind: kinds::SEND_LABEL,
-            at,
-            first: i,
-            second: j,
-            third: 0,
-        },
-        Payload::Other => TermNode {
-            kind: kinds::SEND_UNIT,
-            at,
-            first: i,
-            second: 0,
-            third: 0,
-        },
+        Payload::Unit => open_node(kinds::SEND_UNIT, at, i, 0),
+        Payload::Channel => open_node(kinds::SEND_CHANNEL, at, i, j),
+        Payload::Label => open_node(kinds::SEND_LABEL, at, i, j),
+        Payload::Other => open_node(kinds::SEND_UNIT, at, i, 0),
     }
 }
 
-// The node of a recv of () or of a channel; what follows it is not known yet.
+// The node of a recv of () or of a channel.
 pub(crate) fn received_node(at: usize, i: usize, j: usize, head: Payload) -> TermNode
     requires { ⌜ (at < textLimit) × (i < textLimit) × (j < textLimit) ⌝ }
     ensures { λ r. ⌜ r ≡ recvdNode head at i j ⌝ }
     ensures { λ r. ⌜ FitsTerm r ⌝ }
 {
     match head {
-        Payload::Unit => TermNode {
-            kind: kinds::RECV_UNIT,
-            at,
-            first: i,
-            second: 0,
-            third: 0,
-        },
-        Payload::Channel => TermNode {
-            kind: kinds::RECV_CHANNEL,
-            at,
-            first: i,
-            second: j,
-            third: 0,
-        },
-        Payload::Label => TermNode {
-            kind: kinds::RECV_UNIT,
-            at,
-            first: i,
-            second: 0,
-            third: 0,
-        },
-        Payload::Other => TermNode {
-            kind: kinds::RECV_UNIT,
-            at,
-            first: i,
-            second: 0,
-            third: 0,
-        },
+        Payload::Unit => open_node(kinds::RECV_UNIT, at, i, 0),
+        Payload::Channel => open_node(kinds::RECV_CHANNEL, at, i, j),
+        Payload::Label => open_node(kinds::RECV_UNIT, at, i, 0),
+        Payload::Other => open_node(kinds::RECV_UNIT, at, i, 0),
     }
 }

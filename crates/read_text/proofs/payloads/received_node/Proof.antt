@@ -7,32 +7,56 @@ use Rattle.read_text.proofs.payloads.received_node.Tie as tie
 enum-told : tie.Need-enum-told
 enum-told c = search needs
 
+open-node-requires : tie.Need-open-node-requires
+open-node-requires c κs = omega (arith, c .before .before .pre)
+
 enum-told-2 : tie.Need-enum-told-2
 enum-told-2 c = search needs
+
+open-node-requires-2 : tie.Need-open-node-requires-2
+open-node-requires-2 c κs = omega (arith, c .before .before .pre)
 
 enum-told-3 : tie.Need-enum-told-3
 enum-told-3 c = search needs
 
+open-node-requires-3 : tie.Need-open-node-requires-3
+open-node-requires-3 c κs = omega (arith, c .before .before .pre)
+
 enum-told-4 : tie.Need-enum-told-4
 enum-told-4 c = search needs
 
+open-node-requires-4 : tie.Need-open-node-requires-4
+open-node-requires-4 c κs = omega (arith, c .before .before .pre)
+
 returns : tie.Need-returns
 unfolding recvdNode
-returns c = (rw (c .enum-told .given .1), omega (arith, c .before .before .pre))
+returns c = (rw (c .before .enum-told .given .1) (c .open-node .ensures .0), c .open-node .ensures .1)
 
 returns-2 : tie.Need-returns-2
 unfolding recvdNode
-returns-2 c = (rw (c .enum-told2 .given .1), omega (arith, c .before .before .pre))
+returns-2 c = (rw (c .before .enum-told2 .given .1) (c .open-node2 .ensures .0), c .open-node2 .ensures .1)
 
 returns-3 : tie.Need-returns-3
 unfolding recvdNode
-returns-3 c = (rw (c .enum-told3 .given .1), omega (arith, c .before .before .pre))
+returns-3 c = (rw (c .before .enum-told3 .given .1) (c .open-node3 .ensures .0), c .open-node3 .ensures .1)
 
 returns-4 : tie.Need-returns-4
 unfolding recvdNode
-returns-4 c = (rw (c .enum-told4 .given .1), omega (arith, c .before .before .pre))
+returns-4 c = (rw (c .before .enum-told4 .given .1) (c .open-node4 .ensures .0), c .open-node4 .ensures .1)
 
 pub received-node-spec : {M : Type 1} → statement M
 received-node-spec =
     tie.close
-    (tie.spec enum-told enum-told-2 enum-told-3 enum-told-4 returns returns-2 returns-3 returns-4)
+    (tie.spec
+    enum-told
+    open-node-requires
+    enum-told-2
+    open-node-requires-2
+    enum-told-3
+    open-node-requires-3
+    enum-told-4
+    open-node-requires-4
+    returns
+    returns-2
+    returns-3
+    returns-4)
