@@ -123,7 +123,7 @@ module _ (s w : List ℕ) (pass : Pass) where
   innerFaults BranchList n = branchesFaults pass (programIn s w) (branchesIn s w (n .second) (n .third))
 
   -- what stands at a pointer past the table is nothing
-  pub no-process : Tables s w → (p : ℕ) → processTermLimit ≤ p → ProcessIn s w p → [] ≡ processFaultsIn p
+  no-process : Tables s w → (p : ℕ) → processTermLimit ≤ p → ProcessIn s w p → [] ≡ processFaultsIn p
   unfolding processRepeats processUndefined
   no-process t p b a = adds (processIn s w p) (λ q. []) _ (process-root s w (t .within) p a .none b) refl refl
 
@@ -155,7 +155,7 @@ pub record Faulty (s w : List ℕ) (pass : Pass) (n : TermNode) (parts : Parts) 
   pub last : ProcessIn s w (followedAt parts n)
   pub terms : processTerms A ≡ suc (innerTerms s w parts n + processTerms (processIn s w (followedAt parts n)))
 
--- nothing follows at the pointer of no term
+-- an empty process stands at the pointer of no term
 nothing-there : (s w : List ℕ) → ProcessIn s w processTermLimit
 unfolding ProcessAt ProcessFrom processTerms
 nothing-there s w = record { tree = empty 0; few = omega arith; from = omega arith; is = refl }
@@ -164,15 +164,17 @@ module _ (s w : List ℕ) (pass : Pass) (A : Proc) (at first second third : ℕ)
   abbrev node : ℕ → TermNode
   node k = termNode k at first second third
 
-  -- a node that a process follows, and one that nothing does
+  -- what is found at a node and in all its parts
   abbrev whole : ℕ → Parts → Pass → List ℕ
   whole k m q = nodeFaults s w q (node k) ++ (innerFaults s w q m (node k) ++ processFaultsIn s w q (followedAt m (node k)))
 
+  -- a process follows the node
   goes-on : (k : ℕ) (m : Parts) (B : Proc) → A ≡ B → whole k m Repeated ≡ processRepeats B → whole k m Undefined ≡ processUndefined (programIn s w) B
       → InnerIn s w m (node k) → ProcessIn s w (followedAt m (node k))
       → processTerms B ≡ suc (innerTerms s w m (node k) + processTerms (processIn s w (followedAt m (node k)))) → Faulty s w pass (node k) m A
   goes-on k m B e r u f g t = record { is = adds s w pass A (whole k m) B e r u; inner = f; last = g; terms = ap processTerms e ∙ t }
 
+  -- nothing follows it
   nothing-found : processFaultsIn s w pass processTermLimit ≡ []
   unfolding processRepeats processUndefined
   nothing-found = sym (adds s w pass (processIn s w processTermLimit) (λ q. []) _ none refl refl)
