@@ -1,4 +1,4 @@
--- What a well-formed configuration gives its steps: nobody links to a process that does not wait, and there is room for what is brought in.
+-- What a well-formed configuration gives its steps: nobody links to a process that does not wait, no two hold one end, and there is room for what is brought in.
 use Prim.Native.Nat.{ℕ, suc, _+_, _≤_, _<_}
 use mathlib.Core.Path.{_≡_, refl, sym, _∙_, ap}
 use mathlib.Core.List.{List, [], _∷_, map, List·Memᴰ·head, List·Memᴰ·tail}
@@ -21,8 +21,11 @@ use Rattle.read_tables.specs.Program.{programIn}
 use Rattle.run_words.specs.ListLaws.{all-of, map-at}
 use Rattle.run_words.specs.Raw.{rawIn, linkOf}
 use Rattle.run_words.specs.Bounds.{Unlinked}
+use Rattle.run_words.specs.Near.{HeldOnce, held-key}
 use Rattle.run_words.specs.declared.records.Process.{Process as ProcessWords}
-use Rattle.check_contexts.specs.Held.{channelsOf}
+use Rattle.theory_ends.specs.Ends.{one-holder}
+use Rattle.theory_ends.specs.Lists.{found-in}
+use Rattle.check_contexts.specs.Held.{endIs, channelsOf}
 use Rattle.run_messages.specs.Kinds.{recvChannelKind}
 use Rattle.run_alone.specs.Run.{configIn, doingAs, processAs, StandsAt}
 use Rattle.run_alone.specs.Changes.{channels-many}
@@ -99,6 +102,16 @@ module _ (s w ws : List ℕ) (F : WellFormed (programIn s w) (configIn s w ws)) 
       let k = rising-few 0 (rawIn ws .given) (map (λ (o : Outside). o .number) l) (F .numbers) b (omega arith) in
       let z : length l ≡ length (rawIn ws .outside) = length-map (rawIn ws .outside) _ in
       omega (arith, k, z, length-map l (λ (o : Outside). o .number))
+
+  -- ── no end is held by two processes
+  pub held-once : HeldOnce (rawIn ws .processes)
+  held-once = record {
+    one = λ k a i j m n p q f g d e.
+        let (x, there, channel, side) = held-key k a (p .held) m d in
+        let (y, yonder, channel′, side′) = held-key k a (q .held) n e in
+        one-holder F (record { there = map-at _ (rawIn ws .processes) i f }) (record { there = map-at _ (rawIn ws .processes) j g })
+        (found-in _ m (map-at (endIs s w) (p .held) m there)) (found-in _ n (map-at (endIs s w) (q .held) n yonder)) (λ v. ((channel ∙ sym channel′) v, (side ∙ sym side′) v));
+  }
 
   -- ── nobody's link is the place of a process that does not wait
   pub unlinked-here : (i : ℕ) (p : ProcessWords) → StandsAt s w ws i p → isWaiting (doingAs s w (p .kind) (p .pointer)) ≡ false → Unlinked i (rawIn ws .processes)

@@ -18,7 +18,7 @@ use check_contexts::held::drop_end;
 use check_contexts::held::find_end;
 use notation::kinds::SEND_LABEL;
 use run_alone::outcome::Outcome;
-use run_words::far::far_end;
+use run_words::far::far_end_near;
 use run_words::held::end_at;
 use run_words::processes::load;
 use run_words::processes::store;
@@ -102,7 +102,7 @@ pub fn receive(
     let Lookup::Found(e) = f else {
         return Outcome::NotOpen;
     };
-    let g = far_end(run, e.channel, e.side);
+    let g = far_end_near(run, place, e.channel, e.side);
     match g {
         Far::Process(j, k) => return answer(text, scratch, run, place, p, c, e, j, k),
         Far::Outside(k) => return Outcome::NotOpen,

@@ -18,7 +18,7 @@ use notation::kinds::SEND_CHANNEL;
 use notation::reading::TermNode;
 use run_alone::outcome::Outcome;
 use run_alone::parting::part;
-use run_words::far::far_end;
+use run_words::far::far_end_near;
 use run_words::processes::store;
 use run_words::records::Far;
 use run_words::records::Process;
@@ -54,7 +54,7 @@ fn deliver(text: &[u8], scratch: &[u32], run: &mut [u32], sent: Sending) -> Outc
     ensures { λ o. ⌜ Carries (now (text .entry)) (now (scratch .entry)) (now (run .entry)) (now (run .exit)) o (sendingBy (now (text .entry)) (now (scratch .entry)) (now (run .entry)) sent) ⌝ }
 {
     let e = sent.over;
-    let f = far_end(run, e.channel, e.side);
+    let f = far_end_near(run, sent.place, e.channel, e.side);
     match f {
         Far::Process(j, k) => return meet(text, scratch, run, sent, j, k),
         Far::Outside(k) => return send_out(text, scratch, run, sent, k),

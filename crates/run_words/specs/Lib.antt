@@ -6,6 +6,7 @@ pub mod Operations
 pub mod RowLaws
 pub mod SliceLaws
 pub mod SearchLaws
+pub mod Near
 pub mod Bounds
 pub mod Decode
 pub mod DecodeLaws

@@ -4,6 +4,7 @@ ghost use Prim.Native.Nat.{ℕ, _+_, _-_, _*_, _≤_, _<_};
 ghost use lib.ListN.{length};
 ghost use Rattle.notation.specs.Limits.{runWords, heldLimit, processPlaces};
 ghost use Rattle.run_words.specs.Raw.{rawIn, sideOf, processOf, Bounded, heldCount, processRow, sideRadix};
+ghost use Rattle.run_words.specs.Near.{heldAround, HeldOnce};
 ghost use Rattle.run_words.specs.Operations.{heldAt, holderOf, farEnd, wasGivenUp};
 use crate::outside::find_outside;
 use crate::processes::count;
@@ -54,14 +55,65 @@ fn holder(run: &[u32], channel: u32, side: u32) -> Holder
     Holder::Nobody
 }
 
-// The far end of the end of a channel at a side.
-pub fn far_end(run: &[u32], channel: u32, side: u32) -> Far
+// The process at a place, if there is one, as the holder of an end.
+fn holder_at(run: &[u32], i: usize, channel: u32, side: u32) -> Holder
     requires { ⌜ runWords ≤ length (now run) ⌝ }
     requires { ⌜ Bounded (rawIn (now run)) ⌝ }
     requires { ⌜ side < sideRadix ⌝ }
+    ensures { λ r. ⌜ r ≡ heldAround channel (sideOf side) (rawIn (now (run .entry)) .processes) i ⌝ }
+{
+    if count(run) <= i {
+        return Holder::Nobody;
+    }
+    let f = place_holds(run, i, channel, side);
+    match f {
+        Found::At(k) => return Holder::At(i, k),
+        Found::Nothing => return Holder::Nobody,
+    }
+}
+
+// The place that is d down, or the first.
+fn place_below(place: usize, d: usize) -> usize
+    ensures { λ r. ⌜ r ≡ place - d ⌝ }
+{
+    if place < d {
+        return 0;
+    }
+    place - d
+}
+
+// The process that holds an end that no two hold, sought outwards from a place: the ends of a channel are mostly close.
+fn holder_near(run: &[u32], place: usize, channel: u32, side: u32) -> Holder
+    requires { ⌜ runWords ≤ length (now run) ⌝ }
+    requires { ⌜ Bounded (rawIn (now run)) ⌝ }
+    requires { ⌜ side < sideRadix ⌝ }
+    requires { ⌜ (place < length (rawIn (now run) .processes)) × HeldOnce (rawIn (now run) .processes) ⌝ }
+    ensures { λ r. ⌜ r ≡ holderOf channel (sideOf side) (rawIn (now (run .entry)) .processes) ⌝ }
+{
+    let n = count(run);
+    let mut d: usize = 0;
+    while d < n {
+        let up = holder_at(run, place + 1 + d, channel, side);
+        let Holder::Nobody = up else {
+            return up;
+        };
+        let down = holder_at(run, place_below(place, d), channel, side);
+        let Holder::Nobody = down else {
+            return down;
+        };
+        d += 1;
+    }
+    Holder::Nobody
+}
+
+// The far end of an end, by who holds the other end of the channel.
+fn far_by(run: &[u32], h: Holder, channel: u32, side: u32) -> Far
+    requires { ⌜ runWords ≤ length (now run) ⌝ }
+    requires { ⌜ Bounded (rawIn (now run)) ⌝ }
+    requires { ⌜ side < sideRadix ⌝ }
+    requires { ⌜ h ≡ holderOf channel (sideOf (1 - side)) (rawIn (now run) .processes) ⌝ }
     ensures { λ r. ⌜ r ≡ farEnd (rawIn (now (run .entry))) channel (sideOf side) ⌝ }
 {
-    let h = holder(run, channel, USED - side);
     match h {
         Holder::At(i, k) => return Far::Process(i, k),
         Holder::Nobody => {}
@@ -74,6 +126,29 @@ pub fn far_end(run: &[u32], channel: u32, side: u32) -> Far
         Found::At(k) => Far::Outside(k),
         Found::Nothing => Far::GivenUp,
     }
+}
+
+// The far end of the end of a channel at a side.
+pub fn far_end(run: &[u32], channel: u32, side: u32) -> Far
+    requires { ⌜ runWords ≤ length (now run) ⌝ }
+    requires { ⌜ Bounded (rawIn (now run)) ⌝ }
+    requires { ⌜ side < sideRadix ⌝ }
+    ensures { λ r. ⌜ r ≡ farEnd (rawIn (now (run .entry))) channel (sideOf side) ⌝ }
+{
+    let h = holder(run, channel, USED - side);
+    far_by(run, h, channel, side)
+}
+
+// The same where no end is held twice: sought outwards from a place.
+pub fn far_end_near(run: &[u32], place: usize, channel: u32, side: u32) -> Far
+    requires { ⌜ runWords ≤ length (now run) ⌝ }
+    requires { ⌜ Bounded (rawIn (now run)) ⌝ }
+    requires { ⌜ side < sideRadix ⌝ }
+    requires { ⌜ (place < length (rawIn (now run) .processes)) × HeldOnce (rawIn (now run) .processes) ⌝ }
+    ensures { λ r. ⌜ r ≡ farEnd (rawIn (now (run .entry))) channel (sideOf side) ⌝ }
+{
+    let h = holder_near(run, place, channel, USED - side);
+    far_by(run, h, channel, side)
 }
 
 // Whether a far end was given up.

@@ -1,5 +1,6 @@
 use mathlib.Core.Path.{sym, _∙_}
 use Rattle.run_messages.specs.Receiving.{receives-unheld, receives-on, receives-outside}
+use Rattle.run_messages.specs.Room.{held-once}
 use Rattle.run_alone.specs.Parting.{end-found}
 use borrow.Author.Needs.{needs}
 use Rattle.run_messages.proofs.receiving.receive.Statement.{statement}
@@ -19,14 +20,17 @@ returns c =
     let s = c .before .before .before .before .before .before .before in
     receives-unheld (s .args .text .now) (s .args .scratch .now) (s .args .run .now) (s .args .place) (s .args .p) (s .args .c) (c .before .before .find-end .ensures) (c .enum-told .given .1)
 
-far-end-requires : tie.Need-far-end-requires
-far-end-requires c κs =
+far-end-near-requires : tie.Need-far-end-near-requires
+far-end-near-requires c κs =
     let s = c .before .before .before .before .before .before .before .before .before in (
       (s .pre .0 .wide),
       (
         (s .pre .0 .bounds),
-        end-found {w = (s .args .scratch .now)} (c .before .before .before .before .find-end .ensures) (c .before .before .f .given .1)
-            (s .pre .1 .0 .is .held) .1,
+        (
+          end-found {w = (s .args .scratch .now)} (c .before .before .before .before .find-end .ensures) (c .before .before .f .given .1)
+              (s .pre .1 .0 .is .held) .1,
+          (s .pre .1 .0 .below, held-once (s .args .text .now) (s .args .scratch .now) (s .args .run .now) (s .pre .1 .1)),
+        ),
       ),
     )
 
@@ -36,7 +40,7 @@ enum-known-g c = search needs
 answer-requires : tie.Need-answer-requires
 answer-requires c κs =
     let s = c .before .before .before .before .before .before .before .before .before .before .before .before .before .before in
-    (s .pre .0, (s .pre .1 .0, (s .pre .1 .1, sym (sym (c .before .before .g .given .1) ∙ c .before .before .before .before .far-end .ensures))))
+    (s .pre .0, (s .pre .1 .0, (s .pre .1 .1, sym (sym (c .before .before .g .given .1) ∙ c .before .before .before .before .far-end-near .ensures))))
 
 same-length : tie.Need-same-length
 same-length c = search needs
@@ -62,7 +66,7 @@ returns-3 c =
     let run = entry .args .run .now in
     receives-on (entry .args .text .now) (entry .args .scratch .now) run (entry .args .place) (entry .args .p) (entry .args .c) (after-f .before .before .find-end .ensures) (f .given .1)
     (receives-outside (entry .args .text .now) (entry .args .scratch .now) run (entry .args .place) (entry .args .p) (entry .args .c) (f .given .0 .0) _
-    (sym (c .before .g2 .given .1) ∙ c .before .before .before .far-end .ensures))
+    (sym (c .before .g2 .given .1) ∙ c .before .before .before .far-end-near .ensures))
 
 enum-told-2 : tie.Need-enum-told-2
 enum-told-2 c = search needs
@@ -70,7 +74,7 @@ enum-told-2 c = search needs
 receive-nothing-requires : tie.Need-receive-nothing-requires
 receive-nothing-requires c κs =
     let s = c .before .before .before .before .before .before .before .before .before .before .before .before .before in
-    (s .pre .0, (s .pre .1 .0, sym (sym (c .before .enum-told2 .given .1) ∙ c .before .before .before .far-end .ensures)))
+    (s .pre .0, (s .pre .1 .0, sym (sym (c .before .enum-told2 .given .1) ∙ c .before .before .before .far-end-near .ensures)))
 
 same-length-3 : tie.Need-same-length-3
 same-length-3 c = search needs
@@ -90,7 +94,7 @@ receive-spec =
     enum-known-f
     enum-told
     returns
-    far-end-requires
+    far-end-near-requires
     enum-known-g
     answer-requires
     same-length
