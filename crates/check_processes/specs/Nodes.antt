@@ -109,6 +109,10 @@ module _ (s w : List ℕ) (p : ℕ) (n : TermNode) (t : NodeIn s w p n) where
   abbrev Part : ℕ → Type 0
   Part x = (processTerms (processIn s w x) < processTerms A) × ProcessIn s w x
 
+  -- two halves and the term itself
+  abbrev HalvesOf : ℕ → ℕ → Type 0
+  HalvesOf x y = suc (processTerms (processIn s w x)) + processTerms (processIn s w y) ≤ processTerms A
+
   -- the rule's step, then the rest
   abbrev Over : Bool → (Context → Step) → Type 0
   Over link step = (G : Context) → check P G link A ≡ resume (n .at) (step G) (λ H. check P H link (processIn s w (n .third)))
@@ -181,13 +185,13 @@ module _ (s w : List ℕ) (p : ℕ) (n : TermNode) (t : NodeIn s w p n) where
 
   abbrev Spawns : Type 0
   Spawns =
-      TypeIn s w (n .first) × Part (n .second) × Part (n .third)
+      TypeIn s w (n .first) × Part (n .second) × Part (n .third) × HalvesOf (n .second) (n .third)
       × ((link : Bool) (G : Context) → check P G link A ≡ resume (n .at) (spawnStep s w n G) (spawnRest link))
 
   spawns : Said 5 → Spawns
-  unfolding check spawnStep
+  unfolding check spawnStep processTerms
   spawns (y, f, (g, e)) =
-      (y, f, g, λ link G. ap (check P G link) e ∙ demand-asks 13 (n .at) (apart? s w n G) _ (granted 15 (joins? s w n G) (go G)) (spawnRest link) (demand-asks 15 (n .at) (joins? s w n G) _ (go G) (spawnRest link) refl))
+      (y, f, g, omega (arith, ap processTerms e), λ link G. ap (check P G link) e ∙ demand-asks 13 (n .at) (apart? s w n G) _ (granted 15 (joins? s w n G) (go G)) (spawnRest link) (demand-asks 15 (n .at) (joins? s w n G) _ (go G) (spawnRest link) refl))
 
   pub spawn-at : n .kind ≡ 5 → Spawns
   spawn-at z = spawns (said 5 z)
@@ -206,12 +210,12 @@ module _ (s w : List ℕ) (p : ℕ) (n : TermNode) (t : NodeIn s w p n) where
 
   abbrev Tries : Type 0
   Tries =
-      Part (n .second) × Part (n .third)
+      Part (n .second) × Part (n .third) × HalvesOf (n .second) (n .third)
       × ((link : Bool) (G : Context) → check P G link A ≡ demand 13 (n .at) (exactlyOne (processIn s w (n .second)) (processIn s w (n .third)) (names G)) (andThen (check P (tryTakes (processIn s w (n .second)) G) true (processIn s w (n .second))) (check P (tryTakes (processIn s w (n .third)) G) link (processIn s w (n .third)))))
 
   tries : Said 12 → Tries
-  unfolding check
-  tries (f, (g, e)) = (f, g, λ link G. ap (check P G link) e)
+  unfolding check processTerms
+  tries (f, (g, e)) = (f, g, omega (arith, ap processTerms e), λ link G. ap (check P G link) e)
 
   thirteen-kinds : n .kind < 13
   thirteen-kinds = within (processCases s w n A) (n .kind) (t .says)

@@ -184,7 +184,7 @@ module _ (s w : List ℕ) (h : Held) (link : Bool) (p : ℕ) (n : TermNode) (t :
   second? H = check (programIn s w) (halfContext s w n H false) link (processIn s w (n .third))
 
   spawn-said : verdictAt s w h link p ≡ resume (n .at) (spawnStep s w n context) (λ H. andThen (first? H) (second? H))
-  spawn-said = spawn-at s w p n t z .3 link context
+  spawn-said = spawn-at s w p n t z .4 link context
 
   pub spawn-refused : (r : ℕ) → r ≡ numberOf (spawnStep s w n context) → (r ≡ 0 → ⊥) → refused r (n .at) ≡ verdictAt s w h link p
   spawn-refused r e d = spawn-stops s w n context (n .at) (λ H. andThen (first? H) (second? H)) r e d ∙ sym spawn-said
@@ -205,7 +205,7 @@ module _ (s w : List ℕ) (h : Held) (link : Bool) (p : ℕ) (n : TermNode) (t :
 
   module _ (u : HeldIn s w h) {a b : Marks} (f : Takes s w h (OfTry (n .second)) ALL a) (g : Takes s w h (OfTry (n .third)) ALL b) (r : Bool) (d : Divides (h .count) a b true r) where
     try-said : verdictAt s w h link p ≡ demand 13 (n .at) r (andThen main? handler?)
-    try-said = try-at s w p n t z .2 link (contextIn s w h) ∙ ap (λ c. demand 13 (n .at) c (andThen main? handler?)) (sym (tried-once s w h (n .second) (n .third) r (fair-each f u g d)))
+    try-said = try-at s w p n t z .3 link (contextIn s w h) ∙ ap (λ c. demand 13 (n .at) c (andThen main? handler?)) (sym (tried-once s w h (n .second) (n .third) r (fair-each f u g d)))
 
     try-by : (c : Bool) → r ≡ c → demand 13 (n .at) c (andThen main? handler?) ≡ verdictAt s w h link p
     try-by c e = sym (try-said ∙ ap (λ c. demand 13 (n .at) c (andThen main? handler?)) e)

@@ -79,24 +79,31 @@ restVerdict s w r = cond (r .on) (verdictAt s w (r .held) (r .link) (r .rest)) (
 abbrev pub verdictAfter : List ℕ → List ℕ → Turn → calculus.Verdict
 verdictAfter s w r = andThen (halfVerdict s w (r .halved) (r .half) (r .tied) (r .from)) (restVerdict s w r)
 
--- a process that is to be checked, with fewer terms than the one at p
-pub record Fewer (s w : List ℕ) (p : ℕ) (h : Held) (rest : ℕ) : Type 0 where
-  pub held : HeldIn s w h
-  pub stands : ProcessIn s w rest
-  pub fewer : processTerms (processIn s w rest) < processTerms (processIn s w p)
-
 -- a choice at p
 pub record ChoiceAt (s w : List ℕ) (h : Held) (p : ℕ) (n : TermNode) : Type 0 where
   pub held : HeldIn s w h
   pub node : NodeIn s w p n
   pub kind : n .kind ≡ 8
 
+-- what a turn leaves to be checked stands in the tables
+pub record TurnIn (s w : List ℕ) (r : Turn) : Type 0 where
+  pub goes : r .on ≡ true → HeldIn s w (r .held) × ProcessIn s w (r .rest)
+  pub halves : r .halved ≡ true → HeldIn s w (r .half) × ProcessIn s w (r .from)
+  pub chooses : r .on ≡ false → r .choice ≡ true → ChoiceAt s w (r .held) (r .rest) (r .node)
+
+-- how many terms it leaves: a first half counts one more, which is the term itself
+abbrev pub restTerms : List ℕ → List ℕ → Turn → ℕ
+restTerms s w r = cond (r .on) (processTerms (processIn s w (r .rest))) (cond (r .choice) (processTerms (processIn s w (r .rest))) 0)
+
+abbrev pub turnTerms : List ℕ → List ℕ → Turn → ℕ
+turnTerms s w r = cond (r .halved) (suc (processTerms (processIn s w (r .from)))) 0 + restTerms s w r
+
 -- a turn of the process at p
 pub record Turned (s w : List ℕ) (h : Held) (link : Bool) (p : ℕ) (r : Turn) : Type 0 where
   pub is : verdictAfter s w r ≡ verdictAt s w h link p
-  pub goes : r .on ≡ true → Fewer s w p (r .held) (r .rest)
-  pub halves : r .halved ≡ true → Fewer s w p (r .half) (r .from)
-  pub chooses : r .on ≡ false → r .choice ≡ true → ChoiceAt s w (r .held) (r .rest) (r .node) × (r .rest ≡ p)
+  pub stands : TurnIn s w r
+  pub fewer : turnTerms s w r ≤ processTerms (processIn s w p)
+  pub less : r .on ≡ true → processTerms (processIn s w (r .rest)) < processTerms (processIn s w p)
 
 not-both : {b : Bool} {A : Type 0} → b ≡ false → b ≡ true → A
 not-both e q = absurd (false≢true (sym e ∙ q))
@@ -114,44 +121,64 @@ rest-onward s w r h link rest o = λ j. cond (o .on j) (verdictAt s w (o .held j
 rest-choosing : (s w : List ℕ) (r : Turn) (h : Held) (link : Bool) (p : ℕ) (n : TermNode) → Choosing h link p n r → restVerdict s w r ≡ verdictAt s w h link p
 rest-choosing s w r h link p n o = λ j. cond (o .ends j) (verdictAt s w (o .held j) (o .linked j) (o .resting j)) (cond (o .choice j) (verdictAt s w (o .held j) (o .linked j) (o .resting j)) (verdictOf (r .verdict)))
 
-fewer-as : {s w : List ℕ} {p : ℕ} {h k : Held} {rest other : ℕ} → k ≡ h → other ≡ rest → Fewer s w p h rest → Fewer s w p k other
-fewer-as {s} {w} {p} {h} {k} {rest} {other} e z f = subst (λ x. Fewer s w p x other) (sym e) (subst (Fewer s w p h) (sym z) f)
+-- how many terms there are after each
+terms-given : (s w : List ℕ) (r : Turn) (v : Verdict) → Given v r → turnTerms s w r ≡ 0
+terms-given s w r v g =
+    let q : turnTerms s w r ≡ 0 + 0 = λ j. cond (g .whole j) (suc (processTerms (processIn s w (r .from)))) 0 + cond (g .ends j) (processTerms (processIn s w (r .rest))) (cond (g .no-choice j) (processTerms (processIn s w (r .rest))) 0) in
+    omega (arith, q)
+
+terms-onward : (s w : List ℕ) (r : Turn) (h : Held) (link : Bool) (rest : ℕ) → Onward h link rest r → restTerms s w r ≡ processTerms (processIn s w rest)
+terms-onward s w r h link rest o = λ j. cond (o .on j) (processTerms (processIn s w (o .resting j))) (cond (r .choice) (processTerms (processIn s w (o .resting j))) 0)
+
+terms-choosing : (s w : List ℕ) (r : Turn) (h : Held) (link : Bool) (p : ℕ) (n : TermNode) → Choosing h link p n r → restTerms s w r ≡ processTerms (processIn s w p)
+terms-choosing s w r h link p n o = λ j. cond (o .ends j) (processTerms (processIn s w (o .resting j))) (cond (o .choice j) (processTerms (processIn s w (o .resting j))) 0)
+
+whole-terms : (s w : List ℕ) (r : Turn) → r .halved ≡ false → turnTerms s w r ≡ 0 + restTerms s w r
+whole-terms s w r e = ap (λ c. cond c (suc (processTerms (processIn s w (r .from)))) 0 + restTerms s w r) e
+
+part-as : {s w : List ℕ} {h k : Held} {p q : ℕ} → k ≡ h → q ≡ p → HeldIn s w h × ProcessIn s w p → HeldIn s w k × ProcessIn s w q
+part-as {s} {w} e z (f, a) = (subst (HeldIn s w) (sym e) f, subst (ProcessIn s w) (sym z) a)
 
 module _ {s w : List ℕ} {h : Held} {link : Bool} {p : ℕ} {r : Turn} where
   pub turned-given : {v : Verdict} → Given v r → verdictOf v ≡ verdictAt s w h link p → Turned s w h link p r
   turned-given {v} g q = record {
     is = whole-is s w r (g .whole) ∙ rest-given s w r v g ∙ q;
-    goes = λ z. not-both (g .ends) z;
-    halves = λ z. not-both (g .whole) z;
-    chooses = λ _ z. not-both (g .no-choice) z;
+    stands = record { goes = λ z. not-both (g .ends) z; halves = λ z. not-both (g .whole) z; chooses = λ _ z. not-both (g .no-choice) z };
+    fewer = omega (arith, terms-given s w r v g);
+    less = λ z. not-both (g .ends) z;
   }
 
-  pub turned-onward : {k : Held} {l : Bool} {rest : ℕ} → Onward k l rest r → verdictAt s w k l rest ≡ verdictAt s w h link p → Fewer s w p k rest → Turned s w h link p r
-  turned-onward {k} {l} {rest} o q f = record {
+  pub turned-onward : {k : Held} {l : Bool} {rest : ℕ} → Onward k l rest r → verdictAt s w k l rest ≡ verdictAt s w h link p → HeldIn s w k → ProcessIn s w rest
+      → processTerms (processIn s w rest) < processTerms (processIn s w p) → Turned s w h link p r
+  turned-onward {k} {l} {rest} o q f a b = record {
     is = whole-is s w r (o .whole) ∙ rest-onward s w r k l rest o ∙ q;
-    goes = λ _. fewer-as (o .held) (o .resting) f;
-    halves = λ z. not-both (o .whole) z;
-    chooses = λ _ z. not-both (o .no-choice) z;
+    stands = record { goes = λ _. part-as (o .held) (o .resting) (f, a); halves = λ z. not-both (o .whole) z; chooses = λ z. not-both z (o .on) };
+    fewer = omega (arith, b, whole-terms s w r (o .whole), terms-onward s w r k l rest o);
+    less = λ _. omega (arith, b, ap (λ i. processTerms (processIn s w i)) (o .resting));
   }
 
   pub turned-choosing : {n : TermNode} → Choosing h link p n r → HeldIn s w h → NodeIn s w p n → n .kind ≡ 8 → Turned s w h link p r
   turned-choosing {n} o f g z = record {
     is = whole-is s w r (o .whole) ∙ rest-choosing s w r h link p n o;
-    goes = λ y. not-both (o .ends) y;
-    halves = λ y. not-both (o .whole) y;
-    chooses = λ _ _.
-        let c : ChoiceAt s w h p n = record { held = f; node = g; kind = z } in
-        (subst (λ x. ChoiceAt s w x (r .rest) (r .node)) (sym (o .held)) (subst (λ x. ChoiceAt s w h x (r .node)) (sym (o .resting)) (subst (ChoiceAt s w h p) (sym (o .node)) c)), o .resting);
+    stands = record {
+      goes = λ y. not-both (o .ends) y;
+      halves = λ y. not-both (o .whole) y;
+      chooses = λ _ _.
+          let c : ChoiceAt s w h p n = record { held = f; node = g; kind = z } in
+          subst (λ x. ChoiceAt s w x (r .rest) (r .node)) (sym (o .held)) (subst (λ x. ChoiceAt s w h x (r .node)) (sym (o .resting)) (subst (ChoiceAt s w h p) (sym (o .node)) c));
+    };
+    fewer = omega (arith, whole-terms s w r (o .whole), terms-choosing s w r h link p n o);
+    less = λ y. not-both (o .ends) y;
   }
 
   -- two halves
   pub turned-halves : {t : Turn} {a b : Held} {l m : Bool} {first second : ℕ} → Onward b m second t → r ≡ halvedBy a l first t → andThen (verdictAt s w a l first) (verdictAt s w b m second) ≡ verdictAt s w h link p
-      → Fewer s w p a first → Fewer s w p b second → Turned s w h link p r
-  turned-halves {t} {a} {b} {l} {m} {first} {second} o e q f g = subst (Turned s w h link p) (sym e) (record {
+      → HeldIn s w a × ProcessIn s w first → HeldIn s w b × ProcessIn s w second → suc (processTerms (processIn s w first)) + processTerms (processIn s w second) ≤ processTerms (processIn s w p) → Turned s w h link p r
+  turned-halves {t} {a} {b} {l} {m} {first} {second} o e q f g n = subst (Turned s w h link p) (sym e) (record {
     is = ap (andThen (verdictAt s w a l first)) (rest-onward s w t b m second o) ∙ q;
-    goes = λ _. fewer-as (o .held) (o .resting) g;
-    halves = λ _. f;
-    chooses = λ _ z. not-both (o .no-choice) z;
+    stands = record { goes = λ _. part-as (o .held) (o .resting) g; halves = λ _. f; chooses = λ z. not-both z (o .on) };
+    fewer = omega (arith, n, terms-onward s w t b m second o);
+    less = λ _. omega (arith, n, ap (λ i. processTerms (processIn s w i)) (o .resting));
   })
 
 -- ── the rest of a term that goes on, or its refusal
@@ -168,88 +195,74 @@ turned-after {s} {w} {h} {link} {p} {x} {at} {rest} {r} {t} f g q (b, a) = by-fo
     by c e = q ∙ ap (λ y. resume at y (λ H. check (programIn s w) H link (processIn s w rest))) (sym (g .is) ∙ ap (λ d. cond d (go (contextIn s w (x .held))) (stop (x .refusal))) e)
 
     by-follows : Follows x link at rest r → Turned s w h link p r
-    by-follows (goes z o) = turned-onward o (sym (by true (eq-eqb _ _ z))) (record { held = g .fits z; stands = a; fewer = b })
+    by-follows (goes z o) = turned-onward o (sym (by true (eq-eqb _ _ z))) (g .fits z) a b
     by-follows (stops z o) = turned-given o (sym (by false (ne-eqb _ _ z)))
 
--- ── as far as the loop over the terms has come: the turn t, whose first half was fine, is of a process with no more terms than the one at p
-pub record Checking (s w : List ℕ) (h : Held) (link : Bool) (p : ℕ) (t : Turn) : Type 0 where
-  pub is : restVerdict s w t ≡ verdictAt s w h link p
-  pub held : t .on ≡ true → HeldIn s w (t .held)
-  pub stands : t .on ≡ true → ProcessIn s w (t .rest)
-  pub fewer : t .on ≡ true → processTerms (processIn s w (t .rest)) ≤ processTerms (processIn s w p)
-  pub chooses : t .on ≡ false → t .choice ≡ true → ChoiceAt s w (t .held) (t .rest) (t .node) × (processTerms (processIn s w (t .rest)) ≤ processTerms (processIn s w p))
+-- ── as far as the loop over the terms has come: the turn t is to be carried on
+pub record Checking (s w : List ℕ) (t₀ t : Turn) : Type 0 where
+  pub is : verdictAfter s w t ≡ verdictAfter s w t₀
+  pub stands : TurnIn s w t
+  pub fewer : turnTerms s w t ≤ turnTerms s w t₀
 
 abbrev pub termsLeft : List ℕ → List ℕ → Turn → ℕ
 termsLeft s w t = cond (t .on) (suc (processTerms (processIn s w (t .rest)))) 0
 
-pub check-begin : {s w : List ℕ} {h : Held} {link : Bool} {p : ℕ} {t : Turn} → Onward h link p t → HeldIn s w h → ProcessIn s w p → Checking s w (t .held) (t .link) (t .rest) t
-check-begin {s} {w} {t = t} o f a = record {
-  is = ap (λ c. cond c (verdictAt s w (t .held) (t .link) (t .rest)) (cond (t .choice) (verdictAt s w (t .held) (t .link) (t .rest)) (verdictOf (t .verdict)))) (o .on);
-  held = λ _. subst (HeldIn s w) (sym (o .held)) f;
-  stands = λ _. subst (ProcessIn s w) (sym (o .resting)) a;
-  fewer = λ _. omega arith;
-  chooses = λ z. not-both z (o .on);
-}
+pub check-begin : {s w : List ℕ} {t : Turn} → TurnIn s w t → Checking s w t t
+check-begin a = record { is = refl; stands = a; fewer = omega arith }
 
--- the loop began with the process at p
-begun : (s w : List ℕ) {h : Held} {link : Bool} {p : ℕ} {t : Turn} → Onward h link p t → verdictAt s w (t .held) (t .link) (t .rest) ≡ verdictAt s w h link p
-begun s w o = λ j. verdictAt s w (o .held j) (o .linked j) (o .resting j)
+module _ {s w : List ℕ} {t₀ t : Turn} (u : Checking s w t₀ t) (x : Verdict) (e : verdictOf x ≡ halfVerdict s w (t .halved) (t .half) (t .tied) (t .from)) where
+  pub half-refused : {n i : ℕ} → x ≡ verdict.Refused n i → verdictOf x ≡ verdictAfter s w t₀
+  half-refused {n} {i} q = then-refused (restVerdict s w t) x n i q e ∙ u .is
 
-module _ {s w : List ℕ} {h : Held} {link : Bool} {p : ℕ} {t₀ t : Turn} (o : Onward h link p t₀) (u : Checking s w (t₀ .held) (t₀ .link) (t₀ .rest) t) where
-  -- no more terms than at first
-  pub check-fewer : t .on ≡ true → processTerms (processIn s w (t .rest)) ≤ processTerms (processIn s w p)
-  check-fewer z = omega (arith, u .fewer z, ap (λ i. processTerms (processIn s w i)) (o .resting))
+  module _ (q : x ≡ verdict.Fine) where
+    -- the first half is fine, so what follows decides
+    rest-is : restVerdict s w t ≡ verdictAfter s w t₀
+    rest-is = then-fine (restVerdict s w t) x q e refl ∙ u .is
 
-  module _ (z : t .on ≡ false) where
-    pub check-done : t .choice ≡ false → verdictOf (t .verdict) ≡ verdictAt s w h link p
-    check-done q = sym (λ j. cond (z j) (verdictAt s w (t .held) (t .link) (t .rest)) (cond (q j) (verdictAt s w (t .held) (t .link) (t .rest)) (verdictOf (t .verdict)))) ∙ u .is ∙ begun s w o
+    module _ (z : t .on ≡ false) where
+      pub check-done : t .choice ≡ false → verdictOf (t .verdict) ≡ verdictAfter s w t₀
+      check-done c = sym (λ j. cond (z j) (verdictAt s w (t .held) (t .link) (t .rest)) (cond (c j) (verdictAt s w (t .held) (t .link) (t .rest)) (verdictOf (t .verdict)))) ∙ rest-is
 
-    module _ (q : t .choice ≡ true) where
-      pub choice-stands : ChoiceAt s w (t .held) (t .rest) (t .node) × (processTerms (processIn s w (t .rest)) ≤ processTerms (processIn s w p))
-      choice-stands = (u .chooses z q .0, omega (arith, u .chooses z q .1, ap (λ i. processTerms (processIn s w i)) (o .resting)))
+      pub choice-is : {v : calculus.Verdict} → t .choice ≡ true → v ≡ verdictAt s w (t .held) (t .link) (t .rest) → v ≡ verdictAfter s w t₀
+      choice-is c y = y ∙ sym (λ j. cond (z j) (verdictAt s w (t .held) (t .link) (t .rest)) (cond (c j) (verdictAt s w (t .held) (t .link) (t .rest)) (verdictOf (t .verdict)))) ∙ rest-is
 
-      pub choice-is : {v : calculus.Verdict} → v ≡ verdictAt s w (t .held) (t .link) (t .rest) → v ≡ verdictAt s w h link p
-      choice-is e = e ∙ sym (λ j. cond (z j) (verdictAt s w (t .held) (t .link) (t .rest)) (cond (q j) (verdictAt s w (t .held) (t .link) (t .rest)) (verdictOf (t .verdict)))) ∙ u .is ∙ begun s w o
+    module _ {r : Turn} (z : t .on ≡ true) (v : Turned s w (t .held) (t .link) (t .rest) r) where
+      pub check-next : Checking s w t₀ r
+      check-next = record {
+        is = v .is ∙ sym (ap (λ c. cond c (verdictAt s w (t .held) (t .link) (t .rest)) (cond (t .choice) (verdictAt s w (t .held) (t .link) (t .rest)) (verdictOf (t .verdict)))) z) ∙ rest-is;
+        stands = v .stands;
+        fewer = omega (arith, v .fewer, u .fewer, rest-terms);
+      }
+        where
+          rest-terms : restTerms s w t ≡ processTerms (processIn s w (t .rest))
+          rest-terms = ap (λ c. cond c (processTerms (processIn s w (t .rest))) (cond (t .choice) (processTerms (processIn s w (t .rest))) 0)) z
 
-  -- one turn more, and its first half
-  module _ {r : Turn} (z : t .on ≡ true) (v : Turned s w (t .held) (t .link) (t .rest) r) (x : Verdict) (e : verdictOf x ≡ halfVerdict s w (r .halved) (r .half) (r .tied) (r .from)) where
-    turn-is : verdictAfter s w r ≡ verdictAt s w (t₀ .held) (t₀ .link) (t₀ .rest)
-    turn-is = v .is ∙ sym (ap (λ c. cond c (verdictAt s w (t .held) (t .link) (t .rest)) (cond (t .choice) (verdictAt s w (t .held) (t .link) (t .rest)) (verdictOf (t .verdict)))) z) ∙ u .is
+      pub check-less : termsLeft s w r < termsLeft s w t
+      check-less = by-on (r .on) refl
+        where
+          now : termsLeft s w t ≡ suc (processTerms (processIn s w (t .rest)))
+          now = ap (λ c. cond c (suc (processTerms (processIn s w (t .rest)))) 0) z
 
-    pub half-refused : {n i : ℕ} → x ≡ verdict.Refused n i → verdictOf x ≡ verdictAt s w h link p
-    half-refused {n} {i} q = then-refused (restVerdict s w r) x n i q e ∙ turn-is ∙ begun s w o
+          by-on : (b : Bool) → r .on ≡ b → cond b (suc (processTerms (processIn s w (r .rest)))) 0 < termsLeft s w t
+          by-on true y = omega (arith, now, v .less y)
+          by-on false y = omega (arith, now)
 
-    pub check-next : x ≡ verdict.Fine → Checking s w (t₀ .held) (t₀ .link) (t₀ .rest) r
-    check-next q = record {
-      is = then-fine (restVerdict s w r) x q e refl ∙ turn-is;
-      held = λ y. v .goes y .held;
-      stands = λ y. v .goes y .stands;
-      fewer = λ y. omega (arith, v .goes y .fewer, u .fewer z);
-      chooses = λ y c. (v .chooses y c .0, omega (arith, u .fewer z, ap (λ i. processTerms (processIn s w i)) (v .chooses y c .1)));
-    }
-
-    pub check-less : termsLeft s w r < termsLeft s w t
-    check-less = by-on (r .on) refl
-      where
-        now : termsLeft s w t ≡ suc (processTerms (processIn s w (t .rest)))
-        now = ap (λ c. cond c (suc (processTerms (processIn s w (t .rest)))) 0) z
-
-        by-on : (b : Bool) → r .on ≡ b → cond b (suc (processTerms (processIn s w (r .rest)))) 0 < termsLeft s w t
-        by-on true y = omega (arith, now, v .goes y .fewer)
-        by-on false y = omega (arith, now)
-
--- ── the check of a first half
+-- ── what falls
 module _ (s w : List ℕ) where
-  pub half-falls : (q : ℕ) {h : Held} {link : Bool} {p : ℕ} {r : Turn} {t : ℕ} → Turned s w h link p r → processTerms (processIn s w p) ≤ processTerms (processIn s w q) → 8 * processTerms (processIn s w q) + 7 ≡ t
-      → cond (r .halved) (8 * processTerms (processIn s w (r .from)) + 8) 0 < t
-  half-falls q {r = r} {t = t} v l e = by-half (r .halved) refl
+  pub half-falls : (t₀ t : Turn) {n : ℕ} → turnTerms s w t ≤ turnTerms s w t₀ → 8 * turnTerms s w t₀ + 7 ≡ n → cond (t .halved) (8 * processTerms (processIn s w (t .from)) + 9) 0 < n
+  half-falls t₀ t {n} l e = by-half (t .halved) refl
     where
-      by-half : (b : Bool) → r .halved ≡ b → cond b (8 * processTerms (processIn s w (r .from)) + 8) 0 < t
-      by-half true z = omega (arith, v .halves z .fewer)
+      by-half : (b : Bool) → t .halved ≡ b → cond b (8 * processTerms (processIn s w (t .from)) + 9) 0 < n
+      by-half true z = let q = ap (λ c. cond c (suc (processTerms (processIn s w (t .from)))) 0) z in omega (arith, l, e, q)
       by-half false z = omega arith
 
-  pub half-there : (halved : Bool) (p : ℕ) {t : ℕ} → halved ≡ true → cond halved (8 * processTerms (processIn s w p) + 8) 0 ≡ t → 8 * processTerms (processIn s w p) + 8 ≡ t
-  half-there halved p z e = sym (ap (λ b. cond b (8 * processTerms (processIn s w p) + 8) 0) z) ∙ e
+  pub choice-falls : (t₀ t : Turn) → turnTerms s w t ≤ turnTerms s w t₀ → t .on ≡ false → t .choice ≡ true → processTerms (processIn s w (t .rest)) ≤ turnTerms s w t₀
+  choice-falls t₀ t l z c =
+      let q : restTerms s w t ≡ processTerms (processIn s w (t .rest)) = λ j. cond (z j) (processTerms (processIn s w (t .rest))) (cond (c j) (processTerms (processIn s w (t .rest))) 0) in
+      omega (arith, l, q)
+
+  pub half-there : (halved : Bool) (p : ℕ) {t : ℕ} → halved ≡ true → cond halved (8 * processTerms (processIn s w p) + 9) 0 ≡ t → 8 * processTerms (processIn s w p) + 9 ≡ t
+  half-there halved p z e = sym (ap (λ b. cond b (8 * processTerms (processIn s w p) + 9) 0) z) ∙ e
 
   module _ (h : Held) (link : Bool) (p : ℕ) {halved : Bool} where
     pub half-so : halved ≡ true → halfVerdict s w halved h link p ≡ verdictAt s w h link p

@@ -1,8 +1,8 @@
 // The check of a process: the first term in text order that is at fault, then the lowest number.
 use crate::choices::Offer;
 use crate::choices::labels_offered;
+use crate::turns::Turn;
 use crate::turns::check_turn;
-use crate::turns::goes_on;
 use calculus::verdict::Verdict;
 use check_contexts::held::retype_end;
 use check_types::acting::labelled;
@@ -25,22 +25,34 @@ ghost use Rattle.read_tables.specs.Roots.{ProcessIn, AlternativesIn, alternativ
 ghost use Rattle.read_tables.specs.Whole.{Tables};
 ghost use Rattle.check_terms.specs.Next.{contextIn};
 ghost use Rattle.check_processes.specs.Nodes.{NodeIn};
-ghost use Rattle.check_processes.specs.Turns.{halfVerdict};
+ghost use Rattle.check_processes.specs.Turns.{TurnIn, halfVerdict, verdictAfter};
 
-// The process at the pointer p, with what it holds and with a link or none: nothing is at fault, or a refusal. A turn for each term that follows.
+// The process at the pointer p, with what it holds and with a link or none: nothing is at fault, or a refusal.
 pub fn check_process(text: &[u8], scratch: &[u32], h: Held, link: bool, p: usize) -> Verdict
     requires { ⌜ Tables (now text) (now scratch) × HeldIn (now text) (now scratch) h × ProcessIn (now text) (now scratch) p ⌝ }
     ensures { λ r. ⌜ verdictOf r ≡ check (programIn (now (text .entry)) (now (scratch .entry))) (contextIn (now (text .entry)) (now (scratch .entry)) h) link (processIn (now (text .entry)) (now (scratch .entry)) p) ⌝ }
 {
-    let mut t = goes_on(h, link, p);
-    while t.on {
-        let held = t.held;
-        t = check_turn(text, scratch, held, t.link, t.rest);
+    let t = check_turn(text, scratch, h, link, p);
+    check_on(text, scratch, t)
+}
+
+// From a turn on: its first half, and a turn for each term that follows.
+fn check_on(text: &[u8], scratch: &[u32], first: Turn) -> Verdict
+    requires { ⌜ Tables (now text) (now scratch) × TurnIn (now text) (now scratch) first ⌝ }
+    ensures { λ r. ⌜ verdictOf r ≡ verdictAfter (now (text .entry)) (now (scratch .entry)) first ⌝ }
+{
+    let mut t = first;
+    loop {
         let half = t.half;
         let v = check_half(text, scratch, t.halved, half, t.tied, t.from);
         let Verdict::Fine = v else {
             return v;
         };
+        if !t.on {
+            break;
+        }
+        let held = t.held;
+        t = check_turn(text, scratch, held, t.link, t.rest);
     }
     if t.choice {
         let held = t.held;

@@ -19,7 +19,7 @@ returns c =
     let e = entry .args in
     let raises = raise-at (e .text .now) (e .scratch .now) (e .p) (e .n) (entry .pre .2) (entry .pre .3) in
     let said = raises .1 (e .link) (contextIn (e .text .now) (e .scratch .now) (e .h)) in
-    turned-onward (c .goes-on .ensures) (raise-goes (e .n .at) (e .link) _ said (c .before .if1 .taken)) (record { held = entry .pre .1; stands = raises .0 .1; fewer = raises .0 .0 })
+    turned-onward (c .goes-on .ensures) (raise-goes (e .n .at) (e .link) _ said (c .before .if1 .taken)) (entry .pre .1) (raises .0 .1) (raises .0 .0)
 
 done-requires : tie.Need-done-requires
 done-requires c κs = search needs

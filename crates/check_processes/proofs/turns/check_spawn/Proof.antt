@@ -83,8 +83,8 @@ returns-2 c =
     let first = half-so (e .text .now) (e .scratch .now) (e .h) (e .n) takes held true (c .before .before .before .before .before .narrow .ensures) (c .before .before .before .before .narrow2 .ensures) (c .before .before .before .spawn-half .ensures) in
     let second = half-so (e .text .now) (e .scratch .now) (e .h) (e .n) takes held false (c .before .before .before .before .before .narrow .ensures) (c .before .before .before .before .narrow2 .ensures) (c .before .before .spawn-half2 .ensures) in
     turned-halves (c .before .goes-on .ensures) (c .with-half .ensures) (spawn-halves (e .text .now) (e .scratch .now) (e .h) (e .link) (e .p) (e .n) (entry .pre .2) (entry .pre .3) _ (c .before .before .before .before .before .before .before .spawn-refusal .ensures) (c .before .before .before .before .before .before .if1 .left) _ _ first second)
-    (record { held = c .before .before .before .spawn-half .ensures .fits takes held type; stands = spawns .1 .1; fewer = spawns .1 .0 })
-    (record { held = c .before .before .spawn-half2 .ensures .fits takes held type; stands = spawns .2 .1; fewer = spawns .2 .0 })
+    (c .before .before .before .spawn-half .ensures .fits takes held type, spawns .1 .1)
+    (c .before .before .spawn-half2 .ensures .fits takes held type, spawns .2 .1) (spawns .3)
 
 pub check-spawn-spec : {M : Type 1} → statement M
 check-spawn-spec =

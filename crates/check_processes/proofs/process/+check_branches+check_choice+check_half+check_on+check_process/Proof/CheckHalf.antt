@@ -6,8 +6,8 @@ use mathlib.Core.Path.{sym, _∙_}
 use Rattle.check_processes.specs.Turns.{half-there, half-so, half-none}
 use Rattle.check_processes.proofs.process.check_half.Reads as check-half
 use Rattle.check_processes.proofs.process.check_process.Reads as check-process
-use Rattle.check_processes.proofs.process.+check_branches+check_choice+check_half+check_process.Lts-check_half as check-half-lts
-use Rattle.check_processes.proofs.process.+check_branches+check_choice+check_half+check_process.Proof.Measures.{check-half-at, check-process-below}
+use Rattle.check_processes.proofs.process.+check_branches+check_choice+check_half+check_on+check_process.Lts-check_half as check-half-lts
+use Rattle.check_processes.proofs.process.+check_branches+check_choice+check_half+check_on+check_process.Proof.Measures.{check-half-at, check-process-below}
 
 pub check-half-met : {M : Type 1} (t : ℕ) → check-half-lts.Closed (check-process-below t, check-process.Post) (check-half-at t) check-half.Post M
 check-half-met t =

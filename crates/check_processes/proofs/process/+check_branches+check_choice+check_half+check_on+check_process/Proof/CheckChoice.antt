@@ -13,8 +13,8 @@ use Rattle.check_processes.specs.Nodes.{choose-at}
 use Rattle.check_processes.proofs.choices.labels_offered.Reads as labels-offered-reads
 use Rattle.check_processes.proofs.process.check_branches.Reads as check-branches
 use Rattle.check_processes.proofs.process.check_choice.Reads as check-choice
-use Rattle.check_processes.proofs.process.+check_branches+check_choice+check_half+check_process.Lts-check_choice as check-choice-lts
-use Rattle.check_processes.proofs.process.+check_branches+check_choice+check_half+check_process.Proof.Measures.{check-branches-below, check-choice-at}
+use Rattle.check_processes.proofs.process.+check_branches+check_choice+check_half+check_on+check_process.Lts-check_choice as check-choice-lts
+use Rattle.check_processes.proofs.process.+check_branches+check_choice+check_half+check_on+check_process.Proof.Measures.{check-branches-below, check-choice-at}
 
 pub check-choice-met : {M : Type 1} (t : ℕ) → check-choice-lts.Closed (labels-offered-reads.Asked, labels-offered-reads.Learnt, check-branches-below t, check-branches.Post) (check-choice-at t) check-choice.Post M
 check-choice-met t =

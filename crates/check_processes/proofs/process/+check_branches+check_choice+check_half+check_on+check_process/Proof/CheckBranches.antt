@@ -15,8 +15,8 @@ use Rattle.notation.proofs.words.narrow.Reads as narrow-reads
 use Rattle.check_contexts.proofs.held.retype_end.Reads as retype-end-reads
 use Rattle.check_processes.proofs.process.check_branches.Reads as check-branches
 use Rattle.check_processes.proofs.process.check_process.Reads as check-process
-use Rattle.check_processes.proofs.process.+check_branches+check_choice+check_half+check_process.Lts-check_branches as check-branches-lts
-use Rattle.check_processes.proofs.process.+check_branches+check_choice+check_half+check_process.Proof.Measures.{check-branches-at, check-process-below}
+use Rattle.check_processes.proofs.process.+check_branches+check_choice+check_half+check_on+check_process.Lts-check_branches as check-branches-lts
+use Rattle.check_processes.proofs.process.+check_branches+check_choice+check_half+check_on+check_process.Proof.Measures.{check-branches-at, check-process-below}
 
 abbrev Inv-loop : check-branches-lts.InvT-loop
 Inv-loop text scratch h link at c e m d k i₀ i = CheckedTo text scratch h link at c e m d k i
