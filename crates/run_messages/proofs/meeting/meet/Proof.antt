@@ -28,11 +28,8 @@ turn-on-requires c κs =
     let load = c .before .before .before .load in
     let entry = c .before .before .before .before .before .before .before .before in (
       entry .pre .0 .tables,
-      (
-        _,
-        (stands-at (entry .args .text .now) (entry .args .scratch .now) (entry .args .run .now) (entry .args .j) (load .result) (entry .pre .0) (load .ensures .0)
-            (load .ensures .1 .0) (load .ensures .1 .1)) .is,
-      ),
+      (stands-at (entry .args .text .now) (entry .args .scratch .now) (entry .args .run .now) (entry .args .j) (load .result) (entry .pre .0) (load .ensures .0)
+          (load .ensures .1 .0) (load .ensures .1 .1)) .is .term,
     )
 
 add-if1 : tie.Need-add-if1
