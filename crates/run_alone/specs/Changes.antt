@@ -110,6 +110,11 @@ module _ (s w : List ℕ) where
         is = record { kind = b .kind; pointer = b .pointer; link = b .link; term = f .term; held = record { many = m; each = f .held } };
       }
 
+  -- as its words were read
+  pub loaded : {ws : List ℕ} {i : ℕ} (p : ProcessWords) → RunOf s w ws
+      → (getElem? (rawIn ws .processes) i ≡ some (values.processIn p)) × (BoundedProcess (length (rawIn ws .processes)) (values.processIn p) × (p .held .count ≤ heldLimit)) → StandsAt s w ws i p
+  loaded {ws} {i} p t (g, (b, m)) = stands-at ws i p t g b m
+
   -- ── what is changed
   module _ (old new : List ℕ) (t : RunOf s w old) where
     by-processes : (f : List RawProcess → List RawProcess) (l : List Process) → map decodes (f (rawIn old .processes)) ≡ l → All (Fits s w) (f (rawIn old .processes))

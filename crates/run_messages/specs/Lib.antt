@@ -5,3 +5,4 @@ pub mod Meeting
 pub mod Outward
 pub mod Receiving
 pub mod Room
+pub mod Waiting

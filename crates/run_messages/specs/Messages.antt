@@ -38,13 +38,12 @@ use Rattle.check_types.specs.declared.messages.Choosing.the-variants.{Chooses}
 use Rattle.check_types.specs.declared.messages.Choosing.the-variants as NoChoosing
 use Rattle.run_words.specs.declared.records.End.{End as EndWords}
 use Rattle.run_words.specs.declared.records.Held.{Held}
-use Rattle.run_words.specs.declared.records.Process.{Process as ProcessWords}
 use Rattle.check_contexts.specs.Held.{channelsOf, HeldIn, endFound, Sees, Drops, Retypes}
 use Rattle.check_contexts.specs.declared.held.Lookup.{Lookup}
 use Rattle.check_contexts.specs.declared.held.Lookup.the-variants as lookups
-use Rattle.run_words.specs.Raw.{pointerLimit, runningKind}
+use Rattle.run_words.specs.Raw.{pointerLimit, runningKind, foldingKind}
 use Rattle.run_messages.specs.Kinds.{sendChannelKind, sendLabelKind, sendUnitKind}
-use Rattle.run_alone.specs.Run.{doingAs, ProcessOf}
+use Rattle.run_alone.specs.Run.{doingAs}
 use Rattle.run_alone.specs.Changes.{channels-many}
 
 -- the message of a send: kinds 1, 2 and 3
@@ -289,29 +288,29 @@ module _ (s w : List ℕ) (x : ℕ) where
   no-turn : (d : Doing) → turnOf d ≡ alone → Heard s w x d (termNode 0 0 0 0 0)
   no-turn d e = record { is = ap (heard (nameAt s x)) e; parts = tt }
 
-  module _ (r : ProcessWords) {m : ℕ} (o : ProcessOf s w m r) (t : Tables s w) where
-    pub heard-idle : (r .kind ≡ runningKind → ⊥) → Heard s w x (doingAs s w (r .kind) (r .pointer)) (termNode 0 0 0 0 0)
-    heard-idle z = no-turn (doingAs s w (r .kind) (r .pointer)) (go (r .kind) z)
+  module _ (kind pointer : ℕ) (o : (kind ≡ foldingKind → ⊥) → ProcessIn s w pointer) (t : Tables s w) where
+    pub heard-idle : (kind ≡ runningKind → ⊥) → Heard s w x (doingAs s w kind pointer) (termNode 0 0 0 0 0)
+    heard-idle z = no-turn (doingAs s w kind pointer) (go kind z)
       where
-        go : (k : ℕ) → (k ≡ 0 → ⊥) → turnOf (doingAs s w k (r .pointer)) ≡ alone
+        go : (k : ℕ) → (k ≡ 0 → ⊥) → turnOf (doingAs s w k pointer) ≡ alone
         go zero z = absurd (z refl)
         go (suc zero) z = refl
         go (suc (suc k)) z = refl
 
-    module _ (z : r .kind ≡ runningKind) where
-      runs-term : ProcessIn s w (r .pointer)
-      runs-term = o .term (λ e. let q : _≡_ {A = ℕ} 0 1 = sym z ∙ e in omega arith)
+    module _ (z : kind ≡ runningKind) where
+      runs-term : ProcessIn s w pointer
+      runs-term = o (λ e. let q : _≡_ {A = ℕ} 0 1 = sym z ∙ e in omega arith)
 
-      running-so : doingAs s w (r .kind) (r .pointer) ≡ running (processIn s w (r .pointer))
-      running-so = ap (λ k. doingAs s w k (r .pointer)) z
+      running-so : doingAs s w kind pointer ≡ running (processIn s w pointer)
+      running-so = ap (λ k. doingAs s w k pointer) z
 
-      pub heard-empty : processTermLimit ≤ r .pointer → Heard s w x (doingAs s w (r .kind) (r .pointer)) (termNode 0 0 0 0 0)
-      heard-empty b = no-turn (doingAs s w (r .kind) (r .pointer)) (ap turnOf running-so ∙ ap turn (process-root s w (t .within) (r .pointer) runs-term .none b))
+      pub heard-empty : processTermLimit ≤ pointer → Heard s w x (doingAs s w kind pointer) (termNode 0 0 0 0 0)
+      heard-empty b = no-turn (doingAs s w kind pointer) (ap turnOf running-so ∙ ap turn (process-root s w (t .within) pointer runs-term .none b))
 
-      module _ (b : r .pointer < processTermLimit) (n : TermNode) (f : TermOf w (r .pointer) n) where
-        turn-so : (turn (processIn s w (r .pointer)) ≡ turnBy s w n (n .kind)) × partsBy s w n (n .kind)
-        turn-so = each-kind (processCases s w n (processIn s w (r .pointer))) (Turns s w (processIn s w (r .pointer)) (label-small s w (r .pointer) t runs-term) (n .at) (n .first) (n .second) (n .third))
-            (turns s w (processIn s w (r .pointer)) (label-small s w (r .pointer) t runs-term) (n .at) (n .first) (n .second) (n .third)) (n .kind) (f .says s t runs-term .node b .1)
+      module _ (b : pointer < processTermLimit) (n : TermNode) (f : TermOf w pointer n) where
+        turn-so : (turn (processIn s w pointer) ≡ turnBy s w n (n .kind)) × partsBy s w n (n .kind)
+        turn-so = each-kind (processCases s w n (processIn s w pointer)) (Turns s w (processIn s w pointer) (label-small s w pointer t runs-term) (n .at) (n .first) (n .second) (n .third))
+            (turns s w (processIn s w pointer) (label-small s w pointer t runs-term) (n .at) (n .first) (n .second) (n .third)) (n .kind) (f .says s t runs-term .node b .1)
 
         none-either : (c : Bool) → alone ≡ cond c alone alone
         none-either true = refl
@@ -329,11 +328,11 @@ module _ (s w : List ℕ) (x : ℕ) where
         named (suc (suc (suc (suc (suc (suc (suc (suc zero)))))))) c e = ap (λ d. cond d (turnBy s w n 8) alone) e
         named (suc (suc (suc (suc (suc (suc (suc (suc (suc k))))))))) c e = none-either c
 
-        heard-so : (c : Bool) → same (nameAt s (n .first)) (nameAt s x) ≡ c → heard (nameAt s x) (turnOf (doingAs s w (r .kind) (r .pointer))) ≡ cond c (turnBy s w n (n .kind)) alone
+        heard-so : (c : Bool) → same (nameAt s (n .first)) (nameAt s x) ≡ c → heard (nameAt s x) (turnOf (doingAs s w kind pointer)) ≡ cond c (turnBy s w n (n .kind)) alone
         heard-so c e = ap (λ d. heard (nameAt s x) (turnOf d)) running-so ∙ ap (heard (nameAt s x)) (turn-so .0) ∙ named (n .kind) c e
 
-        pub heard-there : same (nameAt s (n .first)) (nameAt s x) ≡ true → Heard s w x (doingAs s w (r .kind) (r .pointer)) n
+        pub heard-there : same (nameAt s (n .first)) (nameAt s x) ≡ true → Heard s w x (doingAs s w kind pointer) n
         heard-there e = record { is = heard-so true e; parts = turn-so .1 }
 
-        pub heard-other : same (nameAt s (n .first)) (nameAt s x) ≡ false → Heard s w x (doingAs s w (r .kind) (r .pointer)) (termNode 0 0 0 0 0)
+        pub heard-other : same (nameAt s (n .first)) (nameAt s x) ≡ false → Heard s w x (doingAs s w kind pointer) (termNode 0 0 0 0 0)
         heard-other e = record { is = heard-so false e; parts = tt }

@@ -3,3 +3,4 @@ pub mod messages;
 pub mod outward;
 pub mod receiving;
 pub mod sending;
+pub mod waiting;

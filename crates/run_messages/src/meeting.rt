@@ -224,7 +224,7 @@ pub(crate) fn meet(
     let h = r.held;
     let y = end_at(h, k);
     let x = y.name as usize;
-    let t = turn_on(text, scratch, r, x);
+    let t = turn_on(text, scratch, r.kind, r.pointer, x);
     let n = sent.term;
     if t.kind != n.kind + RECEIVES {
         return Outcome::NotOpen;

@@ -6,11 +6,12 @@ ghost use Rattle.notation.specs.Tables.{termNode};
 ghost use Rattle.calculus.specs.Types.{standing, passing, choosing};
 ghost use Rattle.calculus.specs.Steps.{afterPassing, afterChoosing, afterMessage, passedType};
 ghost use Rattle.read_tables.specs.Program.{plainIn, programIn};
-ghost use Rattle.read_tables.specs.Roots.{TypeIn};
+ghost use Rattle.read_tables.specs.Roots.{TypeIn, ProcessIn};
 ghost use Rattle.read_tables.specs.Whole.{Tables};
+ghost use Rattle.run_words.specs.Raw.{foldingKind};
 ghost use Rattle.check_contexts.specs.Held.{HeldIn};
 ghost use Rattle.run_messages.specs.Kinds.{sendLabelKind, sendUnitKind};
-ghost use Rattle.run_alone.specs.Run.{doingAs, ProcessOf};
+ghost use Rattle.run_alone.specs.Run.{doingAs};
 ghost use Rattle.run_messages.specs.Messages.{message, TypeAfter, MovesOn, SentHeld, Heard};
 use check_contexts::held::Lookup;
 use check_contexts::held::drop_end;
@@ -162,16 +163,16 @@ fn idle() -> TermNode
     }
 }
 
-// The node of the term that a process runs, where it acts on the channel whose name is the one at `x`.
-pub(crate) fn turn_on(text: &[u8], scratch: &[u32], r: Process, x: usize) -> TermNode
+// The node of the term at a pointer, where a process runs it and it acts on the channel whose name is the one at `x`.
+pub(crate) fn turn_on(text: &[u8], scratch: &[u32], kind: u32, pointer: u32, x: usize) -> TermNode
     requires { ⌜ Tables (now text) (now scratch) ⌝ }
-    requires { ⌜ ((m : ℕ) × ProcessOf (now text) (now scratch) m r) ⌝ }
-    ensures { λ t. ⌜ Heard (now (text .entry)) (now (scratch .entry)) x (doingAs (now (text .entry)) (now (scratch .entry)) (r .kind) (r .pointer)) t ⌝ }
+    requires { ⌜ ((kind ≡ foldingKind → ⊥) → ProcessIn (now text) (now scratch) pointer) ⌝ }
+    ensures { λ t. ⌜ Heard (now (text .entry)) (now (scratch .entry)) x (doingAs (now (text .entry)) (now (scratch .entry)) kind pointer) t ⌝ }
 {
-    if r.kind != RUNNING {
+    if kind != RUNNING {
         return idle();
     }
-    let p = r.pointer as usize;
+    let p = pointer as usize;
     if Script::PROCESS_TERMS <= p {
         return idle();
     }

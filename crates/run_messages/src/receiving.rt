@@ -49,7 +49,7 @@ fn answer(
     let h = r.held;
     let y = end_at(h, k);
     let x = y.name as usize;
-    let t = turn_on(text, scratch, r, x);
+    let t = turn_on(text, scratch, r.kind, r.pointer, x);
     if t.kind == IDLE {
         return Outcome::NotOpen;
     }

@@ -25,6 +25,7 @@ use Rattle.read_tables.specs.Names.{CallAt}
 use Rattle.read_tables.specs.Program.{programIn}
 use Rattle.read_tables.specs.Roots.{TypeIn, ProcessIn, Handlers, each-kind, processCases, process-root}
 use Rattle.run_words.specs.Raw.{rawIn, linkOf, pointerLimit, runningKind}
+use Rattle.run_words.specs.Values.{valueOf}
 use Rattle.run_words.specs.declared.records.Process.{Process as ProcessWords}
 use Rattle.check_contexts.specs.Held.{channelsOf}
 use Rattle.calculus.specs.Typing.{Bodies}
@@ -36,6 +37,7 @@ use Rattle.run_alone.specs.Changes.{places-in}
 use Rattle.run_alone.specs.Spawning.{SpawnIn}
 use Rattle.run_messages.specs.Messages.{messageBy, SendNode, label-small}
 use Rattle.run_messages.specs.Sending.{sendBy}
+use Rattle.run_messages.specs.Waiting.{Awaits, value-stands}
 use Rattle.run_alone.specs.Calling.{CallIn, names-many}
 
 -- every process of the program has at most 16 channels, as an accepted text's have
@@ -254,6 +256,26 @@ module _ (s w old : List ℕ) (t : RunOf s w old) (F : WellFormed (programIn s w
   pub steps-as : {new : List ℕ} {r : OutcomeWords} (k : ℕ) → p .kind ≡ k → Carries s w old new r (doingBy k) → Carries s w old new r (step (programIn s w) (configIn s w old) i)
   unfolding step
   steps-as {new} {r} k e c = subst (λ o. Carries s w old new r (stepOf (programIn s w) (configIn s w old) i o)) (sym (u .there)) (subst (λ m. Carries s w old new r (doingBy m)) (sym e) c)
+
+-- ── a recv that waits, told from the words
+-- where the answer is yes, the step is not open
+pub record Waits (s w ws : List ℕ) (i : ℕ) (r : Bool) : Type 0 where
+  pub is : r ≡ true → Carries s w ws ws NotOpen (step (programIn s w) (configIn s w ws) i)
+
+pub waits-not : {s w ws : List ℕ} {i : ℕ} → Waits s w ws i false
+waits-not = record { is = λ z. absurd (false≢true z) }
+
+pub waits-so : {s w ws : List ℕ} {i : ℕ} (t : RunOf s w ws) → WellFormed (programIn s w) (configIn s w ws) → i < length (rawIn ws .processes) → (kind pointer : ℕ) (n : TermNode) {r : Bool} → kind ≡ valueOf ws i .kind
+    → pointer ≡ valueOf ws i .pointer → kind ≡ runningKind → pointer < processTermLimit → TermOf w pointer n → recvUnitKind ≤ n .kind → n .kind ≤ recvLabelKind → Awaits s w ws i (n .first) r → Waits s w ws i r
+waits-so {s} {w} {ws} {i} t F b kind pointer n k p z l o low high a =
+    let q = valueOf ws i in
+    let u = value-stands t i b in
+    let runs : q .kind ≡ runningKind = sym k ∙ z in
+    record {
+      is = λ y.
+          steps-as s w ws t F i q u 0 runs
+          (ruled-receive s w ws i q n (node-rules s w ws t F i q u n runs (omega (arith, l, p)) (subst (λ m. TermOf w m n) p o)) low high (a .is y));
+    }
 
 pub past-end : {A : Type 0} (l : List A) (i : ℕ) → length l ≤ i → getElem? l i ≡ none
 past-end [] i h = refl

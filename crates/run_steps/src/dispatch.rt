@@ -1,13 +1,14 @@
 // The step at a place: "Which rule applies is decided by the term's kind".
 ghost use mathlib.Core.Path.{_≡_};
 ghost use Prim.Native.Nat.{_≤_, _<_};
+ghost use lib.ListN.{length};
 ghost use Rattle.calculus.specs.Steps.{step};
 ghost use Rattle.calculus.specs.WellFormed.{WellFormed};
 ghost use Rattle.read_tables.specs.Program.{programIn};
-ghost use Rattle.run_words.specs.Raw.{runningKind};
+ghost use Rattle.run_words.specs.Raw.{rawIn, runningKind};
 ghost use Rattle.run_messages.specs.Kinds.{fwdKind};
 ghost use Rattle.run_alone.specs.Run.{configIn, RunOf, StandsAt, Carries};
-ghost use Rattle.run_steps.specs.Dispatch.{SmallSignatures, RuledBy, termBy};
+ghost use Rattle.run_steps.specs.Dispatch.{SmallSignatures, RuledBy, Waits, termBy};
 use notation::kinds::CALL;
 use notation::kinds::CANCEL;
 use notation::kinds::FWD;
@@ -32,7 +33,9 @@ use run_alone::spawning::spawn;
 use run_alone::trying::try_both;
 use run_messages::receiving::receive;
 use run_messages::sending::send;
+use run_messages::waiting::awaits;
 use run_words::processes::count;
+use run_words::processes::doing;
 use run_words::processes::load;
 use run_words::records::FOLDING;
 use run_words::records::Process;
@@ -122,7 +125,32 @@ fn step_running(text: &[u8], scratch: &[u32], run: &mut [u32], place: usize, p: 
     step_term(text, scratch, run, place, p, n)
 }
 
-// The step at a place, as the calculus has it.
+// Whether the process at a place runs a recv that waits for a send, told from the words: to load it would copy all that it holds.
+fn is_waiting(text: &[u8], scratch: &[u32], run: &[u32], place: usize) -> bool
+    requires { ⌜ RunOf (now text) (now scratch) (now run) ⌝ }
+    requires { ⌜ WellFormed (programIn (now text) (now scratch)) (configIn (now text) (now scratch) (now run)) ⌝ }
+    requires { ⌜ place < length (rawIn (now run) .processes) ⌝ }
+    ensures { λ r. ⌜ Waits (now (text .entry)) (now (scratch .entry)) (now (run .entry)) place r ⌝ }
+{
+    let d = doing(run, place);
+    if d.kind != RUNNING {
+        return false;
+    }
+    let at = d.pointer as usize;
+    if Script::PROCESS_TERMS <= at {
+        return false;
+    }
+    let n = term_node(scratch, at);
+    if n.kind < RECV_UNIT {
+        return false;
+    }
+    if RECV_LABEL < n.kind {
+        return false;
+    }
+    awaits(text, scratch, run, place, n.first)
+}
+
+// The step at a place, as the calculus has it. Most places that are tried wait, so that is asked first.
 pub fn step_at(text: &[u8], scratch: &[u32], run: &mut [u32], place: usize) -> Outcome
     requires { ⌜ RunOf (now text) (now scratch) (now run) ⌝ }
     requires { ⌜ WellFormed (programIn (now text) (now scratch)) (configIn (now text) (now scratch) (now run)) ⌝ }
@@ -130,6 +158,9 @@ pub fn step_at(text: &[u8], scratch: &[u32], run: &mut [u32], place: usize) -> O
     ensures { λ r. ⌜ Carries (now (text .entry)) (now (scratch .entry)) (now (run .entry)) (now (run .exit)) r (step (programIn (now (text .entry)) (now (scratch .entry))) (configIn (now (text .entry)) (now (scratch .entry)) (now (run .entry))) place) ⌝ }
 {
     if count(run) <= place {
+        return Outcome::NotOpen;
+    }
+    if is_waiting(text, scratch, run, place) {
         return Outcome::NotOpen;
     }
     let p = load(run, place);

@@ -1,14 +1,15 @@
 -- The words of a slice, stored, and its configuration.
 use Prim.Native.Nat.{ℕ, _+_, _-_, _*_, _/_, _%_, _≤_, _<_}
 use mathlib.Core.List.{List, [], _∷_}
-use mathlib.Core.Path.{_≡_, ap, _∙_}
+use mathlib.Core.Path.{_≡_, refl, sym, ap, _∙_}
 use mathlib.Core.Option.{some}
 use native.Mathlib.Omega.{arith}
-use lib.ListN.{length, getD, getElem?, set, length-set}
-use lib.Seq.{getD-set-same, getD-set-other}
+use lib.ListN.{length, getD, getElem?, set, drop, length-set}
+use lib.Seq.{getD-set-same, getD-set-other, getD-drop}
+use Rattle.notation.specs.Limits.{heldLimit}
 use Rattle.run_words.specs.ListLaws.{all-at}
-use Rattle.run_words.specs.Raw.{RawProcess, RawOutside, linkOf, rows, endOf, processOf, outsideOf, rawIn, BoundedProcess, Bounded, processRow}
-use Rattle.run_words.specs.Values.{Changed, Moved, Written}
+use Rattle.run_words.specs.Raw.{RawProcess, RawOutside, linkOf, rows, endOf, processOf, outsideOf, rawIn, BoundedProcess, Bounded, processRow, heldCount}
+use Rattle.run_words.specs.Values.{heldIn, processIn, valueOf, Changed, Moved, Written}
 use Rattle.run_words.specs.Operations.{single, withProcesses, withOutside, withGiven}
 use Rattle.run_words.specs.RowLaws.{outside-local, rows-same, rows-set}
 use Rattle.run_words.specs.SliceLaws.{word, ends-moved, counted, counted-outside, process-at, processes-local, sixteen}
@@ -22,6 +23,14 @@ process-of w doing link n hs p q r h e =
     let held : rows endOf 2 3 (w 2) w ≡ ends hs n =
     ap (λ m. rows endOf 2 3 m w) r ∙ ends-moved 3 0 n w (word hs) h (λ k l. e k l ∙ let z : k ≡ 0 + k = omega arith in ap (word hs) z) in
     λ i. record { kind = p i % 4; pointer = p i / 4; held = held i; link = linkOf (q i) }
+
+pub value-is : (ws : List ℕ) (i : ℕ) → heldCount ws i ≤ heldLimit → processOf (processRow ws i) ≡ processIn (valueOf ws i)
+unfolding heldIn
+value-is ws i h =
+    let b = 80 + 40 * i in
+    process-of (processRow ws i) (processRow ws i 0) (processRow ws i 1) (processRow ws i 2) (drop (b + 3) ws) refl refl refl h (λ k l.
+    let e : b + (3 + k) ≡ b + 3 + k = omega arith in
+    ap (word ws) e ∙ sym (getD-drop (b + 3) ws k 0))
 
 -- ── the words of a process, stored
 pub written : (old : List ℕ) (b kind pointer link n : ℕ) (hs new : List ℕ) → b + 40 ≤ length old → kind < 4 → n ≤ 16

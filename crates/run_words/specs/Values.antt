@@ -1,5 +1,5 @@
 -- What the code's values mean, and what becomes of the words that it writes.
-use Prim.Native.Nat.{ℕ, _+_, _≤_, _<_}
+use Prim.Native.Nat.{ℕ, _+_, _*_, _/_, _%_, _≤_, _<_}
 use mathlib.Core.List.{List}
 use mathlib.Core.Path.{_≡_}
 use mathlib.Core.Bool.{Bool, true, false, cond}
@@ -7,7 +7,7 @@ use lib.ListN.{length, getD, drop}
 use Rattle.notation.specs.Limits.{channelPlaces, runWords}
 use Rattle.calculus.specs.Configuration.{among}
 use Rattle.run_words.specs.ListLaws.{length-tab}
-use Rattle.run_words.specs.Raw.{RawEnd, RawProcess, RawOutside, RawConfig, endWords, runningKind, foldingKind, sideOf, linkOf, rows, endOf, rawIn}
+use Rattle.run_words.specs.Raw.{RawEnd, RawProcess, RawOutside, RawConfig, processRow, heldCount, placesAt, placeWords, endsFrom, kindRadix, endWords, runningKind, foldingKind, sideOf, linkOf, rows, endOf, rawIn}
 use Rattle.run_words.specs.declared.records.End.{End}
 use Rattle.run_words.specs.declared.records.Held.{Held}
 use Rattle.run_words.specs.declared.records.Process.{Process}
@@ -49,6 +49,15 @@ foldingUp held p = ofHeld held (ofKind foldingKind p)
 
 abbrev pub outsideIn : Outside → RawOutside
 outsideIn o = record { number = o .number; node = o .node; channel = o .channel }
+
+-- the process at a place, as its words stand: what loading it comes to
+abbrev pub valueOf : List ℕ → ℕ → Process
+valueOf ws i = record {
+  kind = processRow ws i 0 % kindRadix;
+  pointer = processRow ws i 0 / kindRadix;
+  link = processRow ws i 1;
+  held = record { count = heldCount ws i; words = drop (placesAt + placeWords * i + endsFrom) ws };
+}
 
 -- a count is a length
 pub held-length : (h : Held) → length (heldIn h) ≡ h .count

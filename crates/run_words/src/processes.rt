@@ -5,10 +5,11 @@ ghost use mathlib.Core.Option.{some};
 ghost use lib.ListN.{length, getElem?, set};
 ghost use Rattle.notation.specs.Limits.{runWords, heldLimit, processPlaces, channelPlaces};
 ghost use Rattle.run_words.specs.Raw.{rawIn, processOf, BoundedProcess, Bounded, heldCount, placeWords, pointerLimit, processRow, sideRadix};
-ghost use Rattle.run_words.specs.Values.{endIn, processIn, Changed, Written};
+ghost use Rattle.run_words.specs.Values.{endIn, processIn, valueOf, Changed, Written};
 ghost use Rattle.run_words.specs.Operations.{onProcesses};
 use crate::held::unpacked;
 use crate::records::COUNT;
+use crate::records::Doing;
 use crate::records::END_WORDS;
 use crate::records::ENDS;
 use crate::records::ENDS_AT;
@@ -54,8 +55,20 @@ pub(crate) fn get(run: &[u32], i: usize) -> Process
     }
 }
 
+// What the process at a place does and its term, read off its words.
+pub fn doing(run: &[u32], i: usize) -> Doing
+    requires { ⌜ (runWords ≤ length (now run)) × (i < processPlaces) ⌝ }
+    ensures { λ r. ⌜ (r .kind ≡ valueOf (now (run .entry)) i .kind) × (r .pointer ≡ valueOf (now (run .entry)) i .pointer) ⌝ }
+{
+    let word = run[PLACES_AT + PLACE_WORDS * i];
+    Doing {
+        kind: word % KIND_RADIX,
+        pointer: word / KIND_RADIX,
+    }
+}
+
 // How many ends the process at a place holds, read off its words: to load the process would copy them all.
-pub(crate) fn held_count(run: &[u32], i: usize) -> usize
+pub fn held_count(run: &[u32], i: usize) -> usize
     requires { ⌜ (runWords ≤ length (now run)) × (i < processPlaces) ⌝ }
     ensures { λ r. ⌜ r ≡ heldCount (now (run .entry)) i ⌝ }
 {
@@ -63,7 +76,7 @@ pub(crate) fn held_count(run: &[u32], i: usize) -> usize
 }
 
 // One of these ends, by its position.
-pub(crate) fn held_end(run: &[u32], i: usize, k: usize) -> End
+pub fn held_end(run: &[u32], i: usize, k: usize) -> End
     requires { ⌜ (runWords ≤ length (now run)) × (i < processPlaces) × (k < heldLimit) ⌝ }
     requires { ⌜ k < heldCount (now run) i ⌝ }
     ensures { λ r. ⌜ getElem? (processOf (processRow (now (run .entry)) i) .held) k ≡ some (endIn r) ⌝ }

@@ -80,6 +80,12 @@ pub struct Process {
     pub held: Held,
 }
 
+// What a process does, and its term.
+pub struct Doing {
+    pub kind: u32,
+    pub pointer: u32,
+}
+
 // Nothing is held.
 const NOTHING: Held = Held {
     count: 0,

@@ -1,7 +1,7 @@
 use mathlib.Core.Path.{sym, subst}
 use native.Mathlib.Omega.{arith}
 use Rattle.run_alone.specs.Forwarding.{far-place, far-position, far-holder, far-moved, far-held, regained, regained-of, mid-becomes, mid-many, moves-far}
-use Rattle.run_alone.specs.Changes.{stands-at, bounded-of}
+use Rattle.run_alone.specs.Changes.{loaded, bounded-of}
 use Rattle.run_words.specs.ListLaws.{all-at}
 use Rattle.run_words.specs.Values.{heldIn}
 use Rattle.check_contexts.specs.Held.{EndIn}
@@ -31,7 +31,7 @@ replaced-requires c κs =
     let scratch = entry .args .scratch .now in
     let run = entry .args .run .now in
     let o = all-at (EndIn text scratch) (heldIn (load .result .held)) (entry .args .k)
-    ((stands-at text scratch run (entry .args .j) (load .result) (entry .pre .0) (load .ensures .0) (load .ensures .1 .0) (load .ensures .1 .1)) .is .held .each) (c .end-at .ensures .0) in (
+    ((loaded _ _ (load .result) (entry .pre .0) (load .ensures)) .is .held .each) (c .end-at .ensures .0) in (
       (load .ensures .1 .1, (far-position text scratch run (entry .args .e) (entry .args .j) (entry .args .k) (entry .pre .1 .1 .1 .0) (load .result) (load .ensures .0))),
       (record { name = o .bounds .name; node = o .bounds .node; channel = entry .pre .1 .1 .1 .1 }, c .end-at .ensures .1 .0),
     )
@@ -58,7 +58,7 @@ store-requires-2 c κs =
     let place = entry .args .place in
     let q = entry .args .q in
     let d = entry .args .d in
-    let stands-at′ = stands-at text scratch run j (load .result) (entry .pre .0) (load .ensures .0) (load .ensures .1 .0) (load .ensures .1 .1) in (
+    let stands = loaded _ _ (load .result) (entry .pre .0) (load .ensures) in (
       mid-becomes text scratch run e j k (entry .pre .1 .1 .1 .0) (entry .pre .0) place q (load .result) (end-at .result) d (replaced .result) _ (entry .pre .1 .1 .0) (store .ensures .0)
           (store .ensures .1) .run .wide,
       (
@@ -73,8 +73,8 @@ store-requires-2 c κs =
           bounded-of text scratch (subst
               (λ n. ProcessOf text scratch n (regained text scratch run e j k (entry .pre .1 .1 .1 .0) (entry .pre .0) place q (load .result) (end-at .result) d (replaced .result)))
               (sym (mid-many text scratch run e j k (entry .pre .1 .1 .1 .0) (entry .pre .0) place q (load .result) (end-at .result) d (replaced .result) _ (entry .pre .1 .1 .0) (store .ensures .0)
-              (store .ensures .1))) (regained-of text scratch run e j k (entry .pre .1 .1 .1 .0) (entry .pre .0) place q (load .result) (end-at .result) d (replaced .result) stands-at′ (far-held text scratch
-              run e j k (entry .pre .1 .1 .1 .0) (load .result) (load .ensures .0) (end-at .result) (end-at .ensures .0) (d .channel) _ (replaced .ensures .0) (replaced .ensures .1) (stands-at′ .is .held)
+              (store .ensures .1))) (regained-of text scratch run e j k (entry .pre .1 .1 .1 .0) (entry .pre .0) place q (load .result) (end-at .result) d (replaced .result) stands (far-held text scratch
+              run e j k (entry .pre .1 .1 .1 .0) (load .result) (load .ensures .0) (end-at .result) (end-at .ensures .0) (d .channel) _ (replaced .ensures .0) (replaced .ensures .1) (stands .is .held)
               (entry .pre .1 .1 .1 .1)))),
         ),
       ),
@@ -100,13 +100,13 @@ returns c =
     let place = entry .args .place in
     let q = entry .args .q in
     let d = entry .args .d in
-    let stands-at′ = stands-at text scratch run j (load .result) (entry .pre .0) (load .ensures .0) (load .ensures .1 .0) (load .ensures .1 .1) in
+    let stands = loaded _ _ (load .result) (entry .pre .0) (load .ensures) in
     moves-far text scratch run e j k (entry .pre .1 .1 .1 .0) (entry .pre .0) place q (load .result) (end-at .result) d (replaced .result) _ (entry .pre .1 .1 .0) (store .ensures .0)
     (store .ensures .1) _ (subst (λ n. ProcessOf text scratch n (regained text scratch run e j k (entry .pre .1 .1 .1 .0) (entry .pre .0) place q (load .result) (end-at .result) d
     (replaced .result))) (sym (mid-many text scratch run e j k (entry .pre .1 .1 .1 .0) (entry .pre .0) place q (load .result) (end-at .result) d (replaced .result) _ (entry .pre .1 .1 .0)
-    (store .ensures .0) (store .ensures .1))) (regained-of text scratch run e j k (entry .pre .1 .1 .1 .0) (entry .pre .0) place q (load .result) (end-at .result) d (replaced .result) stands-at′
+    (store .ensures .0) (store .ensures .1))) (regained-of text scratch run e j k (entry .pre .1 .1 .1 .0) (entry .pre .0) place q (load .result) (end-at .result) d (replaced .result) stands
     (far-held text scratch run e j k (entry .pre .1 .1 .1 .0) (load .result) (load .ensures .0) (end-at .result) (end-at .ensures .0) (d .channel) _ (replaced .ensures .0) (replaced .ensures .1)
-    (stands-at′ .is .held) (entry .pre .1 .1 .1 .1)))) (far-moved text scratch run e j k (entry .pre .1 .1 .1 .0) (load .result) (load .ensures .0) (end-at .result) (end-at .ensures .0) (d .channel)
+    (stands .is .held) (entry .pre .1 .1 .1 .1)))) (far-moved text scratch run e j k (entry .pre .1 .1 .1 .0) (load .result) (load .ensures .0) (end-at .result) (end-at .ensures .0) (d .channel)
     _ (replaced .ensures .0)) (far-holder text scratch run e j k (entry .pre .1 .1 .1 .0) (load .result) (load .ensures .0) (end-at .result) (end-at .ensures .0))
     (c .before .before .store2 .ensures .0) (c .before .before .store2 .ensures .1)
 

@@ -1,5 +1,5 @@
 use Rattle.run_alone.specs.Handlers.{handler-none, handler-place, handler-below, handler-fine, handler-changed}
-use Rattle.run_alone.specs.Changes.{stands-at, bounded-of}
+use Rattle.run_alone.specs.Changes.{loaded, bounded-of}
 use borrow.Author.Needs.{needs}
 use Rattle.run_alone.proofs.handlers.change_handler.Statement.{statement}
 use Rattle.run_alone.proofs.handlers.change_handler.Tie as tie
@@ -49,7 +49,7 @@ store-requires c κs =
               (handler-place text scratch run run (entry .pre .0) raised link (wide .result) (after-wide .before .if1 .left) (wide .ensures .0)) (entry .pre .1),
           bounded-of _ _
               (handler-fine text scratch run run (entry .pre .0) raised link (wide .result) (load .result)
-              (stands-at text scratch run (wide .result) (load .result) (entry .pre .0) (load .ensures .0) (load .ensures .1 .0) (load .ensures .1 .1)) _ (c .before .handler-kind .ensures)),
+              (loaded _ _ (load .result) (entry .pre .0) (load .ensures)) _ (c .before .handler-kind .ensures)),
         ),
       ),
     )
@@ -67,7 +67,7 @@ returns-2 c =
     let scratch = entry .args .scratch .now in
     let run = entry .args .run .now in
     handler-changed text scratch run _ (entry .pre .0) (entry .args .raised) (entry .args .link) (wide .result) (load .result)
-    (stands-at text scratch run (wide .result) (load .result) (entry .pre .0) (load .ensures .0) (load .ensures .1 .0) (load .ensures .1 .1)) _
+    (loaded _ _ (load .result) (entry .pre .0) (load .ensures)) _
     (c .before .before .before .before .handler-kind .ensures) (handler-place text scratch run run (entry .pre .0) (entry .args .raised) (entry .args .link) (wide .result)
     (after-load .before .before .before .if1 .left) (wide .ensures .0)) (c .before .before .store .ensures .0) (c .before .before .store .ensures .1)
 

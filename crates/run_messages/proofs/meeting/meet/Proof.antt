@@ -1,6 +1,6 @@
 use native.Mathlib.Omega.{arith}
 use Rattle.run_messages.specs.Meeting.{meets-other, meets}
-use Rattle.run_alone.specs.Changes.{stands-at}
+use Rattle.run_alone.specs.Changes.{loaded}
 use Rattle.run_alone.specs.Forwarding.{far-place, far-position, far-holder}
 use Rattle.run_messages.specs.Room.{room-to-hear}
 use borrow.Author.Needs.{needs}
@@ -28,11 +28,7 @@ turn-on-requires c κs =
     let load = c .before .before .before .load in
     let entry = c .before .before .before .before .before .before .before .before in (
       entry .pre .0 .tables,
-      (
-        _,
-        (stands-at (entry .args .text .now) (entry .args .scratch .now) (entry .args .run .now) (entry .args .j) (load .result) (entry .pre .0) (load .ensures .0)
-            (load .ensures .1 .0) (load .ensures .1 .1)) .is,
-      ),
+      (loaded _ _ (load .result) (entry .pre .0) (load .ensures)) .is .term,
     )
 
 add-if1 : tie.Need-add-if1
@@ -61,7 +57,7 @@ hear-requires c κs =
     let load = after-load .load in
     let entry = after-load .before .before .before .before .before in
     let run = entry .args .run .now in
-    let r = stands-at (entry .args .text .now) (entry .args .scratch .now) run (entry .args .j) (load .result) (entry .pre .0) (load .ensures .0) (load .ensures .1 .0) (load .ensures .1 .1) in (
+    let r = loaded _ _ (load .result) (entry .pre .0) (load .ensures) in (
       entry .pre .0,
       (
         entry .pre .1 .0,

@@ -1,6 +1,6 @@
 use mathlib.Core.Logic.{inl, inr}
 use Rattle.run_messages.specs.Receiving.{send-parts, answers-not, answers}
-use Rattle.run_alone.specs.Changes.{stands-at}
+use Rattle.run_alone.specs.Changes.{loaded}
 use Rattle.run_alone.specs.Forwarding.{far-place, far-position, far-holder}
 use borrow.Author.Needs.{needs}
 use Rattle.run_messages.proofs.receiving.answer.Statement.{statement}
@@ -27,11 +27,7 @@ turn-on-requires c κs =
     let load = c .before .before .before .load in
     let entry = c .before .before .before .before .before .before .before .before in (
       entry .pre .0 .tables,
-      (
-        _,
-        (stands-at (entry .args .text .now) (entry .args .scratch .now) (entry .args .run .now) (entry .args .j) (load .result) (entry .pre .0) (load .ensures .0)
-            (load .ensures .1 .0) (load .ensures .1 .1)) .is,
-      ),
+      (loaded _ _ (load .result) (entry .pre .0) (load .ensures)) .is .term,
     )
 
 same-length : tie.Need-same-length
@@ -70,8 +66,7 @@ send-requires c κs =
     let entry = after-load .before .before .before .before .before in (
       entry .pre .0,
       (
-        (stands-at (entry .args .text .now) (entry .args .scratch .now) (entry .args .run .now) (entry .args .j) (load .result) (entry .pre .0) (load .ensures .0) (load .ensures .1 .0)
-            (load .ensures .1 .1)),
+        (loaded _ _ (load .result) (entry .pre .0) (load .ensures)),
         (
           (send-parts (entry .args .text .now) (entry .args .scratch .now) (turn-on .result) (c .before .before .before .if1 .left) (c .before .if2 .left)
               (turn-on .ensures .parts)),
