@@ -12,7 +12,7 @@ pub enum Taken {
     Refused(u32, usize),
 }
 
-// How far each table is filled, and what was read last: a type's node, a process's pointer or a list's length.
+// How far each table is filled, and what was read last: the number of a type or the length of a list.
 pub struct Tally {
     pub types: usize,
     pub processes: usize,
