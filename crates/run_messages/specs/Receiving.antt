@@ -60,6 +60,14 @@ answering-heard p C h alone = refl
 abbrev pub receivingBy : List ℕ → List ℕ → List ℕ → ℕ → ProcessWords → ℕ → EndWords → Outcome
 receivingBy s w old i p c e = receiving (programIn s w) (configIn s w old) i (processAs s w p) (nameAt s c) (farOf s w old e)
 
+-- some far end is at a place and position; whatever recv has its far end there, that is what becomes of it
+pub record FarAt (s w ws : List ℕ) (j k : ℕ) : Type 0 where
+  pub end : EndWords
+  pub is : farRaw s w ws end ≡ far.Process j k
+
+pub record Answers (s w old new : List ℕ) (j k : ℕ) (o : OutcomeWords) : Type 0 where
+  pub is : (i : ℕ) (p : ProcessWords) (c : ℕ) (e : EndWords) → farRaw s w old e ≡ far.Process j k → Carries s w old new o (receivingBy s w old i p c e)
+
 -- ── by the kind of the far end's node
 module _ (s w : List ℕ) (C : Config) (h : Holder) (t : TermNode) where
   answered-alone : (k : ℕ) → (k ≡ 1 → ⊥) → (k ≡ 2 → ⊥) → (k ≡ 3 → ⊥) → answeredBy (programIn s w) C h (turnBy s w t k) ≡ notOpen

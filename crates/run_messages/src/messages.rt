@@ -1,6 +1,6 @@
 // What goes over a channel, and what becomes of its type and of the sender's channels.
 ghost use mathlib.Core.Path.{_≡_};
-ghost use Prim.Native.Nat.{ℕ, _+_, _≤_, _<_};
+ghost use Prim.Native.Nat.{_+_, _≤_, _<_};
 ghost use Rattle.notation.specs.Token.{nameAt};
 ghost use Rattle.notation.specs.Tables.{termNode};
 ghost use Rattle.calculus.specs.Types.{standing, passing, choosing};

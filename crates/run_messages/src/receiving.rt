@@ -8,7 +8,7 @@ ghost use Rattle.read_tables.specs.Program.{programIn};
 ghost use Rattle.run_words.specs.declared.records.Far.the-variants as far;
 ghost use Rattle.run_alone.specs.Run.{configIn, processAs, RunOf, StandsAt, Carries};
 ghost use Rattle.run_alone.specs.Forwarding.{farRaw};
-ghost use Rattle.run_messages.specs.Receiving.{receivingBy};
+ghost use Rattle.run_messages.specs.Receiving.{receivingBy, FarAt, Answers};
 use crate::messages::IDLE;
 use crate::messages::turn_on;
 use crate::sending::send;
@@ -28,22 +28,11 @@ use run_words::records::Far;
 use run_words::records::Process;
 
 // The far end is at position k of what the process at place j holds: the step is that process' send, if it sends there.
-fn answer(
-    text: &[u8],
-    scratch: &[u32],
-    run: &mut [u32],
-    place: usize,
-    p: Process,
-    c: usize,
-    e: End,
-    j: usize,
-    k: usize,
-) -> Outcome
+fn answer(text: &[u8], scratch: &[u32], run: &mut [u32], j: usize, k: usize) -> Outcome
     requires { ⌜ RunOf (now text) (now scratch) (now run) ⌝ }
-    requires { ⌜ StandsAt (now text) (now scratch) (now run) place p ⌝ }
     requires { ⌜ WellFormed (programIn (now text) (now scratch)) (configIn (now text) (now scratch) (now run)) ⌝ }
-    requires { ⌜ farRaw (now text) (now scratch) (now run) e ≡ far.Process j k ⌝ }
-    ensures { λ o. ⌜ Carries (now (text .entry)) (now (scratch .entry)) (now (run .entry)) (now (run .exit)) o (receivingBy (now (text .entry)) (now (scratch .entry)) (now (run .entry)) place p c e) ⌝ }
+    requires { ⌜ FarAt (now text) (now scratch) (now run) j k ⌝ }
+    ensures { λ o. ⌜ Answers (now (text .entry)) (now (scratch .entry)) (now (run .entry)) (now (run .exit)) j k o ⌝ }
 {
     let r = load(run, j);
     let h = r.held;
@@ -104,7 +93,7 @@ pub fn receive(
     };
     let g = far_end_near(run, place, e.channel, e.side);
     match g {
-        Far::Process(j, k) => return answer(text, scratch, run, place, p, c, e, j, k),
+        Far::Process(j, k) => return answer(text, scratch, run, j, k),
         Far::Outside(k) => return Outcome::NotOpen,
         Far::GivenUp => return receive_nothing(text, scratch, run, place, p, c, e),
     }

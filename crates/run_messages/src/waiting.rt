@@ -1,5 +1,4 @@
 // A recv that waits for a send, told from the words of the run: no process is loaded.
-ghost use mathlib.Core.Path.{_≡_};
 ghost use Prim.Native.Nat.{_≤_, _<_};
 ghost use lib.ListN.{length};
 ghost use Rattle.notation.specs.Limits.{runWords, heldLimit, processPlaces};

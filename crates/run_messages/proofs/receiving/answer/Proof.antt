@@ -9,13 +9,13 @@ use Rattle.run_messages.proofs.receiving.answer.Tie as tie
 load-requires : tie.Need-load-requires
 load-requires c κs =
     let s = c .before .before .before .before in
-    ((s .pre .0 .wide), ((s .pre .0 .bounds), far-place (s .args .text .now) (s .args .scratch .now) (s .args .run .now) (s .args .e) (s .args .j) (s .args .k) (s .pre .1 .1 .1)))
+    ((s .pre .0 .wide), ((s .pre .0 .bounds), far-place (s .args .text .now) (s .args .scratch .now) (s .args .run .now) (s .pre .1 .1 .end) (s .args .j) (s .args .k) (s .pre .1 .1 .is)))
 
 end-at-requires : tie.Need-end-at-requires
 end-at-requires c κs =
     let s = c .before .before .before .before .before .before in (
       c .before .load .ensures .1 .1,
-      (far-position (s .args .text .now) (s .args .scratch .now) (s .args .run .now) (s .args .e) (s .args .j) (s .args .k) (s .pre .1 .1 .1) (c .before .load .result)
+      (far-position (s .args .text .now) (s .args .scratch .now) (s .args .run .now) (s .pre .1 .1 .end) (s .args .j) (s .args .k) (s .pre .1 .1 .is) (c .before .load .result)
           (c .before .load .ensures .0)),
     )
 
@@ -39,9 +39,12 @@ returns c =
     let load = c .before .before .before .before .before .before .load in
     let entry = c .before .before .before .before .before .before .before .before .before .before .before in
     let run = entry .args .run .now in
-    answers-not (entry .args .text .now) (entry .args .scratch .now) run (entry .args .place) (entry .args .p) (entry .args .c) (entry .args .e) (entry .args .j) (end-at .result .name) (load .result)
-    (c .before .before .turn-on .result) (far-holder (entry .args .text .now) (entry .args .scratch .now) run (entry .args .e) (entry .args .j) (entry .args .k) (entry .pre .1 .1 .1) (load .result)
-    (load .ensures .0) (end-at .result) (end-at .ensures .0)) (c .before .before .turn-on .ensures) (inl (c .if1 .taken))
+    record {
+      is = λ i p n e f.
+          answers-not (entry .args .text .now) (entry .args .scratch .now) run i p n e (entry .args .j) (end-at .result .name) (load .result)
+          (c .before .before .turn-on .result) (far-holder (entry .args .text .now) (entry .args .scratch .now) run e (entry .args .j) (entry .args .k) f (load .result)
+          (load .ensures .0) (end-at .result) (end-at .ensures .0)) (c .before .before .turn-on .ensures) (inl (c .if1 .taken));
+    }
 
 same-length-2 : tie.Need-same-length-2
 same-length-2 c = search needs
@@ -54,9 +57,12 @@ returns-2 c =
     let load = after-end-at .before .before .load in
     let entry = after-end-at .before .before .before .before .before .before .before in
     let run = entry .args .run .now in
-    answers-not (entry .args .text .now) (entry .args .scratch .now) run (entry .args .place) (entry .args .p) (entry .args .c) (entry .args .e) (entry .args .j) (end-at .result .name) (load .result)
-    (turn-on .result) (far-holder (entry .args .text .now) (entry .args .scratch .now) run (entry .args .e) (entry .args .j) (entry .args .k) (entry .pre .1 .1 .1) (load .result) (load .ensures .0)
-    (end-at .result) (end-at .ensures .0)) (turn-on .ensures) (inr (c .if2 .taken))
+    record {
+      is = λ i p n e f.
+          answers-not (entry .args .text .now) (entry .args .scratch .now) run i p n e (entry .args .j) (end-at .result .name) (load .result)
+          (turn-on .result) (far-holder (entry .args .text .now) (entry .args .scratch .now) run e (entry .args .j) (entry .args .k) f (load .result) (load .ensures .0)
+          (end-at .result) (end-at .ensures .0)) (turn-on .ensures) (inr (c .if2 .taken));
+    }
 
 send-requires : tie.Need-send-requires
 send-requires c κs =
@@ -70,7 +76,7 @@ send-requires c κs =
         (
           (send-parts (entry .args .text .now) (entry .args .scratch .now) (turn-on .result) (c .before .before .before .if1 .left) (c .before .if2 .left)
               (turn-on .ensures .parts)),
-          entry .pre .1 .1 .0,
+          entry .pre .1 .0,
         ),
       ),
     )
@@ -87,9 +93,12 @@ returns-3 c =
     let load = after-end-at .before .before .load in
     let entry = after-end-at .before .before .before .before .before .before .before in
     let run = entry .args .run .now in
-    answers (entry .args .text .now) (entry .args .scratch .now) run (entry .args .place) (entry .args .p) (entry .args .c) (entry .args .e) (entry .args .j) (end-at .result .name) (load .result)
-    (turn-on .result) (far-holder (entry .args .text .now) (entry .args .scratch .now) run (entry .args .e) (entry .args .j) (entry .args .k) (entry .pre .1 .1 .1) (load .result) (load .ensures .0)
-    (end-at .result) (end-at .ensures .0)) (turn-on .ensures) (after-if1 .if1 .left) (c .before .before .before .before .if2 .left) (c .before .before .send .ensures)
+    record {
+      is = λ i p n e f.
+          answers (entry .args .text .now) (entry .args .scratch .now) run i p n e (entry .args .j) (end-at .result .name) (load .result)
+          (turn-on .result) (far-holder (entry .args .text .now) (entry .args .scratch .now) run e (entry .args .j) (entry .args .k) f (load .result) (load .ensures .0)
+          (end-at .result) (end-at .ensures .0)) (turn-on .ensures) (after-if1 .if1 .left) (c .before .before .before .before .if2 .left) (c .before .before .send .ensures);
+    }
 
 pub answer-spec : {M : Type 1} → statement M
 answer-spec =

@@ -39,8 +39,10 @@ enum-known-g c = search needs
 
 answer-requires : tie.Need-answer-requires
 answer-requires c κs =
-    let s = c .before .before .before .before .before .before .before .before .before .before .before .before .before .before in
-    (s .pre .0, (s .pre .1 .0, (s .pre .1 .1, sym (sym (c .before .before .g .given .1) ∙ c .before .before .before .before .far-end-near .ensures))))
+    let after-f = c .before .before .before .before .before .before .before in
+    let s = after-f .before .before .before .before .before .before .before in
+    let far = sym (sym (c .before .before .g .given .1) ∙ c .before .before .before .before .far-end-near .ensures) in
+    (s .pre .0, (s .pre .1 .1, record { end = after-f .f .given .0 .0; is = far }))
 
 same-length : tie.Need-same-length
 same-length c = search needs
@@ -49,8 +51,9 @@ returns-2 : tie.Need-returns-2
 returns-2 c =
     let after-f = c .before .before .before .before .before .before .before .before .before .before in
     let entry = after-f .before .before .before .before .before .before .before in
+    let far = sym (sym (c .before .before .before .before .before .g .given .1) ∙ c .before .before .before .before .before .before .before .far-end-near .ensures) in
     receives-on (entry .args .text .now) (entry .args .scratch .now) (entry .args .run .now) (entry .args .place) (entry .args .p) (entry .args .c) (after-f .before .before .find-end .ensures)
-    (after-f .f .given .1) (c .before .before .answer .ensures)
+    (after-f .f .given .1) (c .before .before .answer .ensures .is (entry .args .place) (entry .args .p) (entry .args .c) (after-f .f .given .0 .0) far)
 
 enum-known-g-2 : tie.Need-enum-known-g-2
 enum-known-g-2 c = search needs
