@@ -1,14 +1,16 @@
 -- What the definition says on each way through the code that reads an atom.
 use mathlib.Core.Path.{_≡_, refl, ap, sym, _∙_}
 use mathlib.Core.List.{List}
-use mathlib.Core.Bool.{Bool, true, false, cond}
+use mathlib.Core.Logic.{_⊎_, inl, inr}
+use mathlib.Core.Bool.{Bool, true, false, cond, _||_}
 use Prim.Native.Nat.{ℕ, suc, _-_, _*_, _<_, _≤_}
 use native.Mathlib.Omega.{arith}
 use native.Mathlib.Decide.{ℕ-discrete}
 use lib.Dec.{eqb}
+use borrow.Author.Tests.{eqb-true, ne-eqb}
 use Rattle.notation.specs.Fine.{FineAlternatives, FineType, SomeAlternative}
 use Rattle.notation.specs.Limits.{typeTermLimit}
-use Rattle.notation.specs.Token.{kindAt, kOne, kName, kRoundOpen, kRoundClose, kBraceOpen, kBraceClose, kPlus}
+use Rattle.notation.specs.Token.{kindAt, kOne, kName, kRoundOpen, kRoundClose, kBraceOpen, kBraceClose, kPlus, kWith}
 use Rattle.notation.specs.Tree.{Located, Ty, unit, named, plus, with, Alternatives}
 use Rattle.notation.specs.Reader.{Result, got, take, part, expect, misfit, opening, typeTerm, closed, thenToken, onwardFrom, nameIn}
 use Rattle.notation.specs.Types.{typeHead, choiceBy, atomBy, readType, readAtom, readAlternatives}
@@ -22,9 +24,35 @@ use Rattle.notation.specs.declared.token.TypeHead.{TypeHead}
 use Rattle.notation.specs.declared.token.TypeHead.the-variants.{One, Name, Round, Plus, With, Other}
 use Rattle.read_types.specs.declared.steps.Out.{Out}
 use Rattle.read_types.specs.declared.steps.Out.the-variants.{Got, Not}
-use Rattle.read_types.specs.Filling.{Stepped, Closes, not-read, not-closed, read, choiceOpening, asOut, misfitOut, Room, Meets, typeForm, choiceOf, unread, TypeRead, AtomRead, AlternativesRead, OneRead, NameRead, RoundRead, ChoiceRead}
+use Rattle.read_types.specs.Filling.{Stepped, Closes, not-read, not-closed, read, choiceOpening, isChoice, asOut, misfitOut, Room, Meets, typeForm, choiceOf, unread, TypeRead, AtomRead, AlternativesRead, OneRead, NameRead, RoundRead, ChoiceRead}
 use Rattle.read_types.proofs.Late.{alternatives-put}
 use Rattle.read_types.proofs.Filled.{same, _upon_, node-kept, took, refused-out, made-got, gone-on, stopped, meets-no, meets-got, more-no, more-made}
+
+-- the mark of a choice is one of two
+choice-marks : (k : ℕ) → isChoice k ≡ true → (k ≡ kPlus) ⊎ (k ≡ kWith)
+unfolding isChoice
+choice-marks k e = go (eqb k kPlus) refl e
+  where
+    go : (b : Bool) → eqb k kPlus ≡ b → (b || eqb k kWith) ≡ true → (k ≡ kPlus) ⊎ (k ≡ kWith)
+    go true x e = inl (eqb-true k kPlus x)
+    go false x e = inr (eqb-true k kWith e)
+
+pub choice-mark : (k : ℕ) → isChoice k ≡ true → (28 ≤ k) × (k ≤ 29)
+choice-mark k e = go (choice-marks k e)
+  where
+    go : (k ≡ kPlus) ⊎ (k ≡ kWith) → (28 ≤ k) × (k ≤ 29)
+    go (inl x) = omega arith
+    go (inr x) = omega arith
+
+-- a token that begins no atom
+neither : (x y : Bool) → (x || y) ≡ false → cond x Plus (cond y With Other) ≡ Other
+neither false false e = refl
+neither true y e = cc
+neither false true e = cc
+
+head-other : (k : ℕ) → (k ≡ kOne → ⊥) → (k ≡ kName → ⊥) → (k ≡ kRoundOpen → ⊥) → isChoice k ≡ false → typeHead k ≡ Other
+unfolding typeHead isChoice
+head-other k a b c e = rw (ne-eqb _ _ a, ne-eqb _ _ b, ne-eqb _ _ c) (neither (eqb k kPlus) (eqb k kWith) e)
 
 -- the definition at one more fuel
 atom-suc : (m : ℕ) (s : List ℕ) (c : Cursor)
@@ -185,26 +213,27 @@ module _ (s w : List ℕ) (c : Cursor) (k : Tally) (room : Room s w c k) where
           on = t .on;
         }
 
-    pub atom-one : {r : Out} {v : List ℕ} → typeHead kind ≡ One → OneRead s w c k r v → AtomRead s w c k r v
-    unfolding atomBy
-    atom-one e t = atom-as e (omega arith) t (λ m. refl)
+    pub atom-one : {r : Out} {v : List ℕ} → kind ≡ kOne → OneRead s w c k r v → AtomRead s w c k r v
+    unfolding typeHead atomBy
+    atom-one e t = atom-as (ap typeHead e) (omega arith) t (λ m. refl)
 
-    pub atom-name : {r : Out} {v : List ℕ} → typeHead kind ≡ Name → NameRead s w c k r v → AtomRead s w c k r v
-    unfolding atomBy
-    atom-name e t = atom-as e (omega arith) t (λ m. refl)
+    pub atom-name : {r : Out} {v : List ℕ} → kind ≡ kName → NameRead s w c k r v → AtomRead s w c k r v
+    unfolding typeHead atomBy
+    atom-name e t = atom-as (ap typeHead e) (omega arith) t (λ m. refl)
 
-    pub atom-round : {r : Out} {v : List ℕ} → typeHead kind ≡ Round → RoundRead s w c k r v → AtomRead s w c k r v
-    unfolding atomBy
-    atom-round e t = atom-as e (omega arith) t (λ m. refl)
+    pub atom-round : {r : Out} {v : List ℕ} → kind ≡ kRoundOpen → RoundRead s w c k r v → AtomRead s w c k r v
+    unfolding typeHead atomBy
+    atom-round e t = atom-as (ap typeHead e) (omega arith) t (λ m. refl)
 
-    pub atom-plus : {r : Out} {v : List ℕ} → typeHead kind ≡ Plus → ChoiceRead 28 s w c k r v → AtomRead s w c k r v
-    unfolding atomBy choiceOf
-    atom-plus e t = atom-as e (omega arith) t (λ m. refl)
+    pub atom-choice : {r : Out} {v : List ℕ} → isChoice kind ≡ true → ChoiceRead kind s w c k r v → AtomRead s w c k r v
+    unfolding typeHead atomBy choiceOf
+    atom-choice {r} {v} e t = go (choice-marks kind e)
+      where
+        go : (kind ≡ kPlus) ⊎ (kind ≡ kWith) → AtomRead s w c k r v
+        go (inl x) = atom-as (ap typeHead x) (omega arith) t (λ m. rw x)
+        go (inr x) = atom-as (ap typeHead x) (omega arith) t (λ m. rw x)
 
-    pub atom-with : {r : Out} {v : List ℕ} → typeHead kind ≡ With → ChoiceRead 29 s w c k r v → AtomRead s w c k r v
-    unfolding atomBy choiceOf
-    atom-with e t = atom-as e (omega arith) t (λ m. refl)
-
-    pub atom-other : {r : Out} → typeHead kind ≡ Other → r ≡ misfitOut s c → AtomRead s w c k r w
+    pub atom-other : {r : Out} → (kind ≡ kOne → ⊥) → (kind ≡ kName → ⊥) → (kind ≡ kRoundOpen → ⊥) → isChoice kind ≡ false → r ≡ misfitOut s c
+        → AtomRead s w c k r w
     unfolding atomBy misfit
-    atom-other e h = more-no typeForm s w c k (λ m. readAtom m s c) h same (λ m _. atom-by e m)
+    atom-other a b c′ e h = more-no typeForm s w c k (λ m. readAtom m s c) h same (λ m _. atom-by (head-other kind a b c′ e) m)

@@ -2,12 +2,12 @@
 use mathlib.Core.Path.{_≡_}
 use Prim.Native.Nat.{ℕ, zero, suc, _+_, _-_, _*_, _<_, _≤_}
 use mathlib.Core.List.{List}
-use mathlib.Core.Bool.{cond}
+use mathlib.Core.Bool.{Bool, cond, _||_}
 use lib.ListN.{length, getD, drop, set}
 use lib.Dec.{eqb}
 use Rattle.notation.specs.Fine.{SomeAlternative, FineType, FineAlternatives}
 use Rattle.notation.specs.Limits.{textLimit, labelLimit, typeTermLimit, processTermLimit}
-use Rattle.notation.specs.Token.{tokenAt, width, kColon, kRoundClose, kBraceOpen, kStar, kAt, kOne, kName, kPlus}
+use Rattle.notation.specs.Token.{tokenAt, width, kColon, kRoundClose, kBraceOpen, kStar, kAt, kOne, kName, kPlus, kWith}
 use Rattle.notation.specs.Tree.{Located, Ty, unit, named, tensor, par, lolli, plus, with, Alternatives, alternative}
 use Rattle.notation.specs.Reader.{Result, got, refused, take, fault, expect, opening, typeTerm, closed, thenToken, nameIn}
 use Rattle.notation.specs.Types.{readType, readAtom, readAlternatives, isInfix, labelTerm, rightBy, roundBy, choiceBy}
@@ -210,6 +210,10 @@ NameRead s w c k = Meets typeForm s w c k 0 (λ m. take (typeTerm s kName c) λ 
 
 abbrev pub RoundRead : List ℕ → List ℕ → Cursor → Tally → Out → List ℕ → Type 0
 RoundRead s w c k = Meets typeForm s w c k (3 * unread s c) (λ m. roundBy (λ d. readType m s d) s c)
+
+-- whether a token of this kind is the mark of a choice
+unfoldable pub isChoice : ℕ → Bool
+isChoice k = eqb k kPlus || eqb k kWith
 
 -- the type that a choice's mark makes of its alternatives
 unfoldable pub choiceOf : ℕ → Alternatives Located → Ty Located

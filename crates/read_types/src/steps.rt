@@ -6,15 +6,14 @@ use notation::script::Script;
 use notation::token::Payload;
 use notation::token::TermHead;
 use notation::token::Token;
-use notation::token::TypeHead;
 use notation::token::next_token;
 ghost use mathlib.Core.Path.{_≡_};
 ghost use Prim.Native.Nat.{_≤_};
 ghost use Rattle.notation.specs.Token.{kindAt, width};
 ghost use Rattle.notation.specs.Reader.{fault, expect, opening, typeTerm, processTerm};
-ghost use Rattle.notation.specs.Types.{typeHead, isInfix, labelTerm};
+ghost use Rattle.notation.specs.Types.{isInfix, labelTerm};
 ghost use Rattle.notation.specs.Processes.{termHead, payload};
-ghost use Rattle.read_types.specs.Filling.{Stepped, Followed, Closes, asOut, misfitTaken, misfitOut};
+ghost use Rattle.read_types.specs.Filling.{Stepped, Followed, Closes, isChoice, asOut, misfitTaken, misfitOut};
 
 // Where a reading went on to, with the fill of the tables; or the refusal's number and offset.
 pub enum Out {
@@ -207,26 +206,14 @@ pub fn misfit(text: &[u8], c: Cursor) -> Out
     refusal(misfit_token(text, c))
 }
 
-// What a token of this kind begins in a type.
-pub(crate) fn type_head(kind: usize) -> TypeHead
-    ensures { λ r. ⌜ r ≡ typeHead kind ⌝ }
+// Whether a token of this kind is the mark of a choice.
+pub(crate) fn is_choice(kind: usize) -> bool
+    ensures { λ r. ⌜ r ≡ isChoice kind ⌝ }
 {
-    if kind == Token::ONE {
-        return TypeHead::One;
-    }
-    if kind == Token::NAME {
-        return TypeHead::Name;
-    }
-    if kind == Token::ROUND_OPEN {
-        return TypeHead::Round;
-    }
     if kind == Token::PLUS {
-        return TypeHead::Plus;
+        return true;
     }
-    if kind == Token::WITH {
-        return TypeHead::With;
-    }
-    TypeHead::Other
+    kind == Token::WITH
 }
 
 pub(crate) fn is_infix(kind: usize) -> bool

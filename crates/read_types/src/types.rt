@@ -3,6 +3,7 @@
 use crate::steps::Out;
 use crate::steps::closing;
 use crate::steps::expect;
+use crate::steps::is_choice;
 use crate::steps::is_infix;
 use crate::steps::kind_at;
 use crate::steps::label_term;
@@ -10,7 +11,6 @@ use crate::steps::misfit;
 use crate::steps::opening;
 use crate::steps::refusal;
 use crate::steps::then_expect;
-use crate::steps::type_head;
 use crate::steps::type_term;
 use crate::store::lasting;
 use crate::store::pair_word;
@@ -24,7 +24,6 @@ use notation::reading::TypeNode;
 use notation::script::Script;
 use notation::tables::ALTERNATIVES_AT;
 use notation::token::Token;
-use notation::token::TypeHead;
 ghost use mathlib.Core.Path.{_≡_};
 ghost use Prim.Native.Nat.{_+_, _<_, _≤_};
 ghost use Rattle.notation.specs.Limits.{labelLimit, typeTermLimit};
@@ -159,22 +158,26 @@ fn name_type(text: &[u8], scratch: &mut [u32], c: Cursor, k: Tally) -> Out
     Out::Got(d, l)
 }
 
-// An atom, by what begins it.
+// An atom, by what begins it. Each kind is called in one place, so that all of them share one frame.
 fn read_atom(text: &[u8], scratch: &mut [u32], c: Cursor, k: Tally) -> Out
     requires { ⌜ Room (now text) (now scratch) c k ⌝ }
     ensures { λ r. ⌜ AtomRead (now (text .entry)) (now (scratch .entry)) c k r (now (scratch .exit)) ⌝ }
 {
     let at = c.at;
     let kind = kind_at(text, at);
-    let head = type_head(kind);
-    match head {
-        TypeHead::One => one_type(text, scratch, c, k),
-        TypeHead::Name => name_type(text, scratch, c, k),
-        TypeHead::Round => read_round(text, scratch, c, k),
-        TypeHead::Plus => read_choice(text, scratch, c, k, Token::PLUS),
-        TypeHead::With => read_choice(text, scratch, c, k, Token::WITH),
-        TypeHead::Other => misfit(text, c),
+    if kind == Token::ONE {
+        return one_type(text, scratch, c, k);
     }
+    if kind == Token::NAME {
+        return name_type(text, scratch, c, k);
+    }
+    if kind == Token::ROUND_OPEN {
+        return read_round(text, scratch, c, k);
+    }
+    if is_choice(kind) {
+        return read_choice(text, scratch, c, k, kind);
+    }
+    misfit(text, c)
 }
 
 // A type in round brackets.
