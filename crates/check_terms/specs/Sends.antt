@@ -4,49 +4,39 @@ use mathlib.Core.Path.{_≡_, refl, sym, _∙_, ap, subst}
 use mathlib.Core.List.{List, [], _∷_, _++_}
 use mathlib.Core.Bool.{Bool, true, false, cond, not, _&&_}
 use mathlib.Core.Option.{Option, some, none, Option·map}
-use native.Mathlib.Omega.{arith}
 use lib.Dec.{ltb}
 use lib.ListN.{length, length-map}
 use borrow.Author.Tests.{lt-ltb, le-ltb}
 use Rattle.notation.specs.Bytes.{same}
 use Rattle.notation.specs.Limits.{heldLimit}
 use Rattle.notation.specs.Token.{nameAt}
-use Rattle.notation.specs.Tree.{Name, Ty}
+use Rattle.notation.specs.Tree.{Name}
 use Rattle.notation.specs.declared.reading.Found.{Found}
 use Rattle.notation.specs.declared.reading.Found.the-variants as found
 use Rattle.calculus.specs.Named.{lookup, without, changed, isSome}
-use Rattle.calculus.specs.Types.{sameSide, shape, atLeaf, Passing}
-use Rattle.calculus.specs.Program.{Slot, slot, Context, Program}
+use Rattle.calculus.specs.Types.{sameSide, shape, atLeaf}
+use Rattle.calculus.specs.Program.{Slot, slot, Context}
 use Rattle.calculus.specs.Typing.{acting, retyped, bringing}
-use Rattle.calculus.specs.Checking.{mayBring, isUnitOn}
-use Rattle.calculus.specs.Configuration.{End, end}
-use Rattle.calculus.specs.Configuration.{retypedEnd}
+use Rattle.calculus.specs.Checking.{mayBring}
 use Rattle.calculus.specs.WellFormed.{contextOf}
 use Rattle.theory_ends.specs.Contexts.{context-lookup, context-without, context-retyped, context-append, context-length}
 use Rattle.run_words.specs.Raw.{sideOf}
-use Rattle.run_words.specs.Lists.{All}
-use Rattle.run_words.specs.ListLaws.{all-weaken}
-use Rattle.run_words.specs.Raw.{BoundedEnd}
 use Rattle.run_words.specs.Values.{endIn, heldIn, held-length}
 use Rattle.run_words.specs.declared.records.End.{End as EndWords}
 use Rattle.run_words.specs.declared.records.Held.{Held}
 use Rattle.read_tables.specs.Program.{plainIn, programIn}
 use Rattle.read_tables.specs.Roots.{TypeIn}
 use Rattle.read_tables.specs.Search.{placeOf}
-use Rattle.check_types.specs.Acting.{passingOf, passedIn}
+use Rattle.check_types.specs.Acting.{passingOf}
 use Rattle.check_types.specs.declared.messages.Passing.{Passing as PassingWords}
 use Rattle.check_types.specs.declared.messages.Passing.the-variants.{Passes}
 use Rattle.check_types.specs.declared.messages.Passing.the-variants as NoPassing
-use Rattle.check_contexts.specs.Held.{channelsOf, EndIn, HeldIn, endIs, endFound, FoundIn, Sees, Drops, Retypes, Brings}
+use Rattle.check_contexts.specs.Held.{channelsOf, EndIn, endFound, FoundIn, Sees, Drops, Retypes, Brings}
 use Rattle.check_contexts.specs.declared.held.Lookup.{Lookup}
 use Rattle.check_contexts.specs.declared.held.Lookup.the-variants as lookups
-use Rattle.check_terms.specs.Next.{Step, stop, go, asking, granted, contextIn, asking-none, asking-some, granted-not, granted-so}
-use Rattle.check_terms.specs.Rules.{closes, passesOver, passes, choosesOver, chooses, givesUp, takesFrom, receives}
+use Rattle.check_terms.specs.Next.{Step, stop, go, asking, granted, contextIn, asking-none, asking-some}
+use Rattle.check_terms.specs.Rules.{closes, passesOver, passes, chooses, givesUp, receives}
 use Rattle.check_terms.specs.Acting.{slotOf, slotIn, Acts, PassesOver, ChoosesOver, TakenFrom, typedAt, different-sides, equal-sides}
-
--- what is held keeps its bounds
-pub bounded-ends : (s w : List ℕ) (h : Held) → HeldIn s w h → All BoundedEnd (heldIn h)
-bounded-ends s w h t = all-weaken (EndIn s w) BoundedEnd (λ e o. o .bounds) (heldIn h) (t .each)
 
 module _ (s w : List ℕ) (h : Held) where
   abbrev G : Context

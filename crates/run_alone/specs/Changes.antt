@@ -8,6 +8,7 @@ use native.Mathlib.Omega.{arith}
 use native.Mathlib.Decide.{decLt}
 use lib.Dec.{eqb}
 use lib.ListN.{length-map, length, set, getElem?}
+use Rattle.check_contexts.specs.Halves.{held-bounded}
 use Rattle.notation.specs.Limits.{heldLimit, processTermLimit}
 use Rattle.notation.specs.Token.{nameAt}
 use Rattle.notation.specs.Tree.{empty}
@@ -19,8 +20,8 @@ use Rattle.read_tables.specs.Roots.{TypeIn, ProcessIn, process-tree, process-ro
 use Rattle.notation.specs.From.{ProcessFrom}
 use Rattle.read_tables.specs.Whole.{Tables}
 use Rattle.run_words.specs.Lists.{All}
-use Rattle.run_words.specs.ListLaws.{all-at, all-set, all-append, all-weaken, below-length, all-map, all-insert, all-remove}
-use Rattle.run_words.specs.Raw.{RawEnd, RawProcess, RawOutside, RawConfig, BoundedEnd, BoundedProcess, linkOf, linksBelow, rawIn, Bounded, pointerLimit, runningKind}
+use Rattle.run_words.specs.ListLaws.{all-at, all-set, all-append, below-length, all-map, all-insert, all-remove}
+use Rattle.run_words.specs.Raw.{RawEnd, RawProcess, RawOutside, RawConfig, BoundedProcess, linkOf, linksBelow, rawIn, Bounded, pointerLimit, runningKind}
 use Rattle.run_words.specs.Values as values
 use Rattle.run_words.specs.Values.{Changed, heldIn, held-length}
 use Rattle.run_words.specs.Operations as raw
@@ -30,7 +31,7 @@ use Rattle.run_words.specs.Decode.{decodedOutside, decodedProcess, decoded}
 use Rattle.run_words.specs.declared.records.Held.{Held}
 use Rattle.run_words.specs.declared.records.Process.{Process as ProcessWords}
 use Rattle.run_words.specs.declared.records.Outside.{Outside as OutsideWords}
-use Rattle.check_contexts.specs.Held.{endIs, channelsOf, EndIn, HeldIn}
+use Rattle.check_contexts.specs.Held.{endIs, channelsOf, HeldIn}
 use Rattle.run_alone.specs.Run.{configIn, processAs, Fits, RunOf, ProcessOf, StandsAt, Becomes}
 
 -- one change after another
@@ -59,9 +60,6 @@ module _ (s w : List ℕ) (h : Held) where
       go : (l : List RawEnd) → length l ≡ 0 → l ≡ []
       go [] e = refl
       go (x ∷ l) e = absurd (omega arith)
-
-pub held-bounded : {s w : List ℕ} (h : Held) → HeldIn s w h → All BoundedEnd (heldIn h)
-held-bounded {s} {w} h t = all-weaken (EndIn s w) BoundedEnd (λ e b. b .bounds) (heldIn h) (t .each)
 
 -- a pointer fits into its bits
 pub pointer-small : (s w : List ℕ) (p : ℕ) → Tables s w → ProcessIn s w p → p < pointerLimit
@@ -92,7 +90,7 @@ module _ (s w : List ℕ) where
     kind = t .kind;
     pointer = t .pointer;
     many = omega (arith, held-length (p .held), t .held .many);
-    each = held-bounded (p .held) (t .held);
+    each = held-bounded (t .held);
     link = t .link;
   }
 

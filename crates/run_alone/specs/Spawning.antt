@@ -32,7 +32,7 @@ use Rattle.run_words.specs.DecodeLaws.{decoded-fresh}
 use Rattle.run_words.specs.declared.records.Held.{Held}
 use Rattle.run_words.specs.declared.records.Process.{Process as ProcessWords}
 use Rattle.check_contexts.specs.Held.{channelsOf, HeldIn}
-use Rattle.check_contexts.specs.Halves.{Takes, HasRoom, has-room, SpawnHalf}
+use Rattle.check_contexts.specs.Halves.{Takes, HasRoom, has-room, SpawnHalf, held-bounded}
 use Rattle.check_contexts.specs.Marks.{ALL}
 use Rattle.check_contexts.specs.declared.marks.Marks.{Marks}
 use Rattle.check_contexts.specs.declared.halves.Half.the-variants.{OfSpawn}
@@ -40,7 +40,7 @@ use Rattle.run_alone.specs.declared.outcome.Outcome.{Outcome as OutcomeW
 use Rattle.run_alone.specs.declared.outcome.Outcome.the-variants.{Carried, Lacking}
 use Rattle.run_alone.specs.declared.spawning.SpawnTerm.{SpawnTerm}
 use Rattle.run_alone.specs.Run.{configIn, processAs, RunOf, ProcessOf, StandsAt, Becomes, Carries}
-use Rattle.run_alone.specs.Changes.{held-bounded, then, stored, came, runs-on, places-after, places-in}
+use Rattle.run_alone.specs.Changes.{then, stored, came, runs-on, places-after, places-in}
 use Rattle.run_alone.specs.Places.{no-place, a-place}
 
 module _ (s w : List ℕ) where
@@ -69,7 +69,7 @@ module _ (s w : List ℕ) where
     -- what is asked of each half
     pub half-asked : {k : ℕ} → Tables s w → k < channelPlaces → (first : Bool)
         → ((h .count ≤ heldLimit) × All BoundedEnd (heldIn h) × HasRoom h marks first) × ((m .name < textLimit) × (m .node < typeTermLimit) × (k < channelPlaces))
-    half-asked g l first = ((u .many, held-bounded h u, half-room first), (f .name, node-there s w g (m .node) (f .type), l))
+    half-asked g l first = ((u .many, held-bounded u, half-room first), (f .name, node-there s w g (m .node) (f .type), l))
 
     pub halved : {k : ℕ} {ours theirs : Held} → SpawnHalf h marks (m .name) (m .node) true k ours → SpawnHalf h marks (m .name) (m .node) false k theirs → Halved h m k ours theirs
     unfolding spawnTakes spawnLeaves

@@ -1,9 +1,10 @@
+use Rattle.check_contexts.specs.Halves.{held-bounded}
 use Rattle.check_contexts.specs.Held.{Retypes}
 use mathlib.Core.Path.{_≡_, refl, sym, _∙_, ap, subst}
 use native.Mathlib.Omega.{arith}
 use borrow.Author.Needs.{needs}
 use Rattle.read_tables.specs.Access.{node-there}
-use Rattle.check_terms.specs.Sends.{acts-not, acts-so, end-found, found-type, bounded-ends, chooses-absent, chooses-not, chooses-so}
+use Rattle.check_terms.specs.Sends.{acts-not, acts-so, end-found, found-type, chooses-absent, chooses-not, chooses-so}
 use Rattle.check_terms.specs.Next.{stops, goes}
 use Rattle.check_terms.proofs.sends.choose_next.Statement.{statement}
 use Rattle.check_terms.proofs.sends.choose_next.Tie as tie
@@ -80,8 +81,7 @@ retype-end-requires c κs =
           c .narrow .ensures,
         ),
       ),
-      bounded-ends text scratch (entry .args .h)
-          (entry .pre .1),
+      held-bounded (entry .pre .1),
     )
 
 returns-3 : tie.Need-returns-3

@@ -1,9 +1,10 @@
 use mathlib.Core.Path.{_≡_, refl, sym, _∙_, ap, subst}
 use native.Mathlib.Omega.{arith}
 use borrow.Author.Needs.{needs}
+use Rattle.check_contexts.specs.Halves.{held-bounded}
 use Rattle.read_tables.specs.Access.{node-there}
 use Rattle.check_contexts.specs.Held.{Retypes}
-use Rattle.check_terms.specs.Sends.{acts-not, acts-so, sees-not, sees-so, end-found, found-type, bounded-ends, passes-absent, passes-nothing, passes-itself, passes-not, passes-so}
+use Rattle.check_terms.specs.Sends.{acts-not, acts-so, sees-not, sees-so, end-found, found-type, passes-absent, passes-nothing, passes-itself, passes-not, passes-so}
 use Rattle.check_terms.specs.Next.{stops, goes}
 use Rattle.check_terms.proofs.sends.pass_next.Statement.{statement}
 use Rattle.check_terms.proofs.sends.pass_next.Tie as tie
@@ -136,7 +137,7 @@ retype-end-requires c κs =
           c .narrow .ensures,
         ),
       ),
-      bounded-ends text scratch _ u,
+      held-bounded u,
     )
 
 returns-5 : tie.Need-returns-5

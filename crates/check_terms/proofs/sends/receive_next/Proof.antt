@@ -4,8 +4,8 @@ use borrow.Author.Needs.{needs}
 use Rattle.read_tables.specs.Access.{node-there}
 use Rattle.check_types.specs.Acting.{passedIn}
 use Rattle.check_contexts.specs.Held.{Retypes, Brings}
-use Rattle.check_contexts.specs.Halves.{not-true, not-false}
-use Rattle.check_terms.specs.Sends.{acts-not, acts-so, end-found, bounded-ends, retyped-count, receives-absent, receives-nothing, receives-known, receives-full, receives-so}
+use Rattle.check_contexts.specs.Halves.{not-true, not-false, held-bounded}
+use Rattle.check_terms.specs.Sends.{acts-not, acts-so, end-found, retyped-count, receives-absent, receives-nothing, receives-known, receives-full, receives-so}
 use Rattle.check_terms.specs.Next.{stops, goes}
 use Rattle.check_terms.proofs.sends.receive_next.Statement.{statement}
 use Rattle.check_terms.proofs.sends.receive_next.Tie as tie
@@ -132,8 +132,7 @@ retype-end-requires c κs =
           c .narrow .ensures,
         ),
       ),
-      bounded-ends text scratch (entry .args .h)
-          (entry .pre .1),
+      held-bounded (entry .pre .1),
     )
 
 narrow-requires-2 : tie.Need-narrow-requires-2

@@ -1,8 +1,7 @@
 use mathlib.Core.Path.{sym, subst}
 use Rattle.read_tables.specs.Roots.{ProcessIn}
 use Rattle.run_alone.specs.Trying.{half-tried}
-use Rattle.run_alone.specs.Changes.{held-bounded}
-use Rattle.check_contexts.specs.Halves.{keeps-so}
+use Rattle.check_contexts.specs.Halves.{keeps-so, held-bounded}
 use borrow.Author.Needs.{needs}
 use Rattle.run_alone.proofs.trying.try_half.Statement.{statement}
 use Rattle.run_alone.proofs.trying.try_half.Tie as tie
@@ -18,7 +17,7 @@ half-takes-requires c κs =
 keep-requires : tie.Need-keep-requires
 keep-requires c κs =
     let s = c .before .before .before .before in
-    (s .pre .1 .1 .many, held-bounded (s .args .h) (s .pre .1 .1))
+    (s .pre .1 .1 .many, held-bounded (s .pre .1 .1))
 
 returns : tie.Need-returns
 returns c =
