@@ -19,7 +19,7 @@ use Rattle.notation.specs.declared.reading.Taken.{Taken}
 use Rattle.notation.specs.declared.reading.Taken.the-variants.{At, Refused}
 use Rattle.read_types.specs.declared.steps.Out.{Out}
 use Rattle.read_types.specs.declared.steps.Out.the-variants.{Got, Not}
-use Rattle.read_types.specs.Filling.{Kept, Stepped, asOut, Room, Form, Made, Meets, AheadType, typeForm, infixKind, rootBefore, Waits, putMark, wholeRoot, unread, TypeRead, AtomRead}
+use Rattle.read_types.specs.Filling.{Kept, Stepped, asOut, Room, Form, Made, Meets, AheadType, typeForm, infixKind, rootBefore, Waits, putMark, MarkPut, wholeRoot, unread, TypeRead, AtomRead}
 use Rattle.read_types.proofs.Filled.{same, _upon_, node-kept, took, refused-out, made-got, made-same, made-lastly, gone-on, stopped, meets-no, at-more, more-no, more-got}
 use Rattle.read_types.proofs.Taking.{width-pos}
 use Rattle.read_types.proofs.Late.{type-put}
@@ -54,11 +54,11 @@ before-most kind l h = go (isInfix kind) refl
     go false e = omega (arith, before-other kind l e)
 
 -- the node of a mark that waits, and the root of the whole; and where none waits
-pub mark-put : (mark : ℕ) → isInfix mark ≡ true → (i left right : ℕ) (w : List ℕ) → putMark mark i left right w ≡ putNode w i (typeNode (infixKind mark) left right)
+mark-put : (mark : ℕ) → isInfix mark ≡ true → (i left right : ℕ) (w : List ℕ) → putMark mark i left right w ≡ putNode w i (typeNode (infixKind mark) left right)
 unfolding putMark
 mark-put mark e i left right w = rw e refl
 
-pub none-put : (mark : ℕ) → isInfix mark ≡ false → (i left right : ℕ) (w : List ℕ) → putMark mark i left right w ≡ w
+none-put : (mark : ℕ) → isInfix mark ≡ false → (i left right : ℕ) (w : List ℕ) → putMark mark i left right w ≡ w
 unfolding putMark
 none-put mark e i left right w = rw e refl
 
@@ -70,12 +70,15 @@ pub root-here : (mark : ℕ) → isInfix mark ≡ false → (root right : ℕ) �
 unfolding wholeRoot
 root-here mark e root right = rw e refl
 
-mark-kept : (mark i left right : ℕ) {w v : List ℕ} → Waits mark i left → v ≡ putMark mark i left right w → Kept w v
-mark-kept mark i left right {w} {v} h e = go (isInfix mark) refl
-  where
-    go : (b : Bool) → isInfix mark ≡ b → Kept w v
-    go true m = node-kept i (typeNode (infixKind mark) left right) (e ∙ mark-put mark m i left right w) (h .few m .0)
-    go false m = subst (Kept w) (sym (e ∙ none-put mark m i left right w)) same
+pub mark-written : (mark i left right : ℕ) {w v : List ℕ} → isInfix mark ≡ true → Waits mark i left → v ≡ putNode w i (typeNode (infixKind mark) left right)
+    → MarkPut mark i left right w v
+mark-written mark i left right {w} m h e = record {
+  words = e ∙ sym (mark-put mark m i left right w);
+  kept = node-kept i (typeNode (infixKind mark) left right) e (h .few m .0);
+}
+
+pub none-written : (mark i left right : ℕ) {w : List ℕ} → isInfix mark ≡ false → MarkPut mark i left right w w
+none-written mark i left right {w} m = record { words = sym (none-put mark m i left right w); kept = same }
 
 -- the words of an infix type, by its mark
 infix-after : (kind : ℕ) (A B : Ty Located) (k : Tally) → afterType (infixOf kind A B) k ≡ afterInfix (afterType A k) (afterType B)
@@ -317,23 +320,20 @@ chain-start room = record {
 -- a turn: the atom, the token after it, the node of the mark that waited, the whole type's root
 module _ {s w₀ w : List ℕ} {c₀ c : Cursor} {k₀ k : Tally} {mark left root : ℕ} (h : Chain s w₀ c₀ k₀ w c k mark left root)
     {v : List ℕ} {q : Out} (a : AtomRead s w c k q v) {d : Cursor} {l : Tally} (e : q ≡ Got d l) {next right root₂ : ℕ} {v₂ : List ℕ}
-    (n : next ≡ kindAt s (d .at)) (z : right ≡ rootBefore next l) (p : v₂ ≡ putMark mark (k .last) left right v)
+    (n : next ≡ kindAt s (d .at)) (z : right ≡ rootBefore next l) (p : MarkPut mark (k .last) left right v v₂)
     (y : root₂ ≡ wholeRoot mark root right) where
   rest : (r : Out) (u : List ℕ) → RestRead root₂ next s v₂ d l r u → TypeRead s w₀ c₀ k₀ r u
   rest r u x =
       h .whole a e next n r u
       (subst (λ g. RestRead g next s (putMark mark (k .last) left (rootBefore next l) v) d l r u) (y ∙ ap (wholeRoot mark root) z)
-      (subst (λ v₃. RestRead root₂ next s v₃ d l r u) (p ∙ ap (λ x. putMark mark (k .last) left x v) z) x))
-
-  pub chain-kept : Kept w₀ v₂
-  chain-kept = mark-kept mark (k .last) left right (h .waits) p upon a .kept upon h .kept
+      (subst (λ v₃. RestRead root₂ next s v₃ d l r u) (p .words ∙ ap (λ x. putMark mark (k .last) left x v) z) x))
 
   pub chain-end : isInfix next ≡ false → {m : Tally} → m ≡ lasting root₂ l → TypeRead s w₀ c₀ k₀ (Got d m) v₂
   chain-end f g = rest _ v₂ (record { none = λ _. (ap (Got d) g, refl); right = λ t. never-both t f; kept = same })
 
   module _ (marked : isInfix next ≡ true) {t : Taken} (u : Stepped s d (width next) 1 0 (typeTerm s next d) t) where
     room₂ : Room s v₂ d l
-    room₂ = let o = a .on d l e in let x = h .room in omega (arith, mark-kept mark (k .last) left right (h .waits) p .long, a .kept .long)
+    room₂ = let o = a .on d l e in let x = h .room in omega (arith, p .kept .long, a .kept .long)
 
     pub chain-no : {r : Out} {m i : ℕ} → t ≡ Refused m i → r ≡ asOut t → TypeRead s w₀ c₀ k₀ r v₂
     chain-no {r} g f = rest r v₂ (turn-no room₂ root₂ next marked (operand-no s v₂ d l room₂ next u (width-pos next) g f) (refused-out g f))
@@ -349,7 +349,7 @@ module _ {s w₀ w : List ℕ} {c₀ c : Cursor} {k₀ k : Tally} {mark left roo
           room = omega arith;
           waits = record { few = λ _. omega arith };
           later = omega arith;
-          kept = chain-kept;
+          kept = p .kept upon a .kept upon h .kept;
           no = λ a₂ g₂. rest _ _ (turn-no room₂ root₂ next marked (operand-atom s v₂ d l room₂ next u wide g a₂) g₂);
           whole = λ {q = q₂} {v = v₃} {d = d₂} {l = m} a₂ e₂ next₂ n₂ r u₂ x₂.
               rest r u₂ (turn-on room₂ root₂ next marked (operand-atom s v₂ d l room₂ next u wide g a₂) e₂ next₂ n₂

@@ -250,6 +250,10 @@ pub record Waits (mark i left : ℕ) : Type 0 where
 unfoldable pub putMark : ℕ → ℕ → ℕ → ℕ → List ℕ → List ℕ
 putMark mark i left right w = cond (isInfix mark) (putNode w i (typeNode (infixKind mark) left right)) w
 
+pub record MarkPut (mark i left right : ℕ) (w v : List ℕ) : Type 0 where
+  pub words : v ≡ putMark mark i left right w
+  pub kept : Kept w v
+
 -- the root of the whole type: the one known so far, or where no mark waits that of what begins here
 unfoldable pub wholeRoot : ℕ → ℕ → ℕ → ℕ
 wholeRoot mark root right = cond (isInfix mark) root right

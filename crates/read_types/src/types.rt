@@ -28,7 +28,7 @@ ghost use mathlib.Core.Path.{_≡_};
 ghost use Prim.Native.Nat.{_+_, _<_, _≤_};
 ghost use Rattle.notation.specs.Limits.{labelLimit, typeTermLimit};
 ghost use Rattle.notation.specs.Tables.{Area};
-ghost use Rattle.read_types.specs.Filling.{Stepped, labelColon, choiceOpening, infixKind, rootBefore, Waits, putMark, wholeRoot, listed, putListed, Put, Room, TypeRead, AtomRead, AlternativesRead, OneRead, NameRead, RoundRead, ChoiceRead};
+ghost use Rattle.read_types.specs.Filling.{Stepped, labelColon, choiceOpening, infixKind, rootBefore, Waits, MarkPut, wholeRoot, listed, putListed, Put, Room, TypeRead, AtomRead, AlternativesRead, OneRead, NameRead, RoundRead, ChoiceRead};
 
 // From the kind of a choice's mark to the kind of its node.
 const CHOICE_SHIFT: usize = Token::PLUS - kinds::PLUS;
@@ -86,7 +86,7 @@ fn root_before(kind: usize, l: Tally) -> usize
 fn put_infix(scratch: &mut [u32], i: usize, mark: usize, left: usize, right: usize)
     requires { ⌜ Area (now scratch) × (right ≤ typeTermLimit) ⌝ }
     requires { ⌜ Waits mark i left ⌝ }
-    ensures { λ r. ⌜ now (scratch .exit) ≡ putMark mark i left right (now (scratch .entry)) ⌝ }
+    ensures { λ r. ⌜ MarkPut mark i left right (now (scratch .entry)) (now (scratch .exit)) ⌝ }
 {
     if is_infix(mark) {
         put_node(

@@ -1,7 +1,7 @@
 use native.Mathlib.Omega.{arith}
 use mathlib.Core.Path.{sym, _∙_}
 use borrow.Author.Needs.{needs}
-use Rattle.read_types.proofs.Chains.{mark-put, none-put}
+use Rattle.read_types.proofs.Chains.{mark-written, none-written}
 use Rattle.read_types.proofs.types.put_infix.Statement.{statement}
 use Rattle.read_types.proofs.types.put_infix.Tie as tie
 use Rattle.read_types.proofs.types.put_infix.Reads as reads
@@ -29,11 +29,11 @@ returns : tie.Need-returns
 returns c =
     let tested = c .before .before .before .before .before in
     let entry = tested .before .before .before in
-    rw (mark-put (entry .args .mark) (sym (tested .before .is-infix .ensures) ∙ tested .if1 .taken), ← c .before .before .before .infix-kind .ensures .0)
-    (c .before .before .put-node .ensures)
+    mark-written _ _ _ _ (sym (tested .before .is-infix .ensures) ∙ tested .if1 .taken) (entry .pre .1)
+    (rw (← c .before .before .before .infix-kind .ensures .0) (c .before .before .put-node .ensures))
 
 returns-2 : tie.Need-returns-2
-returns-2 c = sym (none-put _ (sym (c .before .is-infix .ensures) ∙ c .if1 .left) _ _ _ _)
+returns-2 c = none-written _ _ _ _ (sym (c .before .is-infix .ensures) ∙ c .if1 .left)
 
 pub put-infix-spec : {M : Type 1} → statement M
 put-infix-spec = tie.close (tie.spec is-infix-requires infix-kind-requires put-node-requires same-length returns returns-2)

@@ -5,7 +5,7 @@ use native.Mathlib.Omega.{arith}
 use mathlib.Core.Path.{sym, _∙_}
 use lib.ListN.{length}
 use Rattle.read_types.proofs.Taking.{width-pos}
-use Rattle.read_types.proofs.Chains.{Chain, chain-start, chain-on, chain-no, chain-end, chain-kept, infix-most}
+use Rattle.read_types.proofs.Chains.{Chain, chain-start, chain-on, chain-no, chain-end, infix-most}
 use Rattle.read_types.proofs.steps.is_infix.Reads as is-infix-reads
 use Rattle.read_types.proofs.steps.kind_at.Reads as kind-at-reads
 use Rattle.read_types.proofs.store.lasting.Reads as lasting-reads
@@ -86,13 +86,8 @@ read-type-met t =
     -- refusal-requires
     (λ c κs. search needs)
     -- same-length-2
-    (λ c.
-    let turned = c .before .before .before .before .before .before in
-    let atom = turned .before .before .before .before .before .before .before .before in
-    let loop = atom .before .before .before .before .before .before .loop in
-    let read = atom .before .before .before .before .read-atom in
-    chain-kept (loop .inv) (read .ensures) (atom .atom .given .1) (turned .before .before .before .before .before .before .kind-at .ensures)
-    (turned .before .before .before .before .before .root-before .ensures .0) (turned .before .before .before .put-infix .ensures) (turned .whole-root .ensures) .long)
+    (λ c. c .before .before .before .before .before .before .before .before .before .put-infix .ensures .kept .long ∙ c .before .before .before .before .before .before .before .before .before .before .before .before .before .before .before .before .before .before .read-atom .ensures .kept .long
+    ∙ c .before .before .before .before .before .before .before .before .before .before .before .before .before .before .before .before .before .before .before .before .loop .inv .kept .long)
     -- returns-2
     (λ c.
     let turned = c .before .before .before .before .before .before in
@@ -128,13 +123,8 @@ read-type-met t =
     -- lasting-requires
     (λ c κs. search needs)
     -- same-length-3
-    (λ c.
-    let turned = c .before .before .before in
-    let atom = turned .before .before .before .before .before .before .before .before in
-    let loop = atom .before .before .before .before .before .before .loop in
-    let read = atom .before .before .before .before .read-atom in
-    chain-kept (loop .inv) (read .ensures) (atom .atom .given .1) (turned .before .before .before .before .before .before .kind-at .ensures)
-    (turned .before .before .before .before .before .root-before .ensures .0) (turned .before .before .before .put-infix .ensures) (turned .whole-root .ensures) .long)
+    (λ c. c .before .before .before .before .before .before .put-infix .ensures .kept .long ∙ c .before .before .before .before .before .before .before .before .before .before .before .before .before .before .before .read-atom .ensures .kept .long
+    ∙ c .before .before .before .before .before .before .before .before .before .before .before .before .before .before .before .before .before .loop .inv .kept .long)
     -- returns-3
     (λ c.
     let turned = c .before .before .before in
