@@ -8,7 +8,7 @@ use lib.Dec.{eqb}
 use Rattle.notation.specs.Fine.{SomeAlternative, FineType, FineAlternatives}
 use Rattle.notation.specs.Limits.{textLimit, labelLimit, typeTermLimit, processTermLimit}
 use Rattle.notation.specs.Token.{tokenAt, width, kColon, kRoundClose, kBraceOpen, kStar, kAt, kOne, kName, kPlus, kWith}
-use Rattle.notation.specs.Tree.{Located, Ty, unit, named, tensor, par, lolli, plus, with, Alternatives, alternative}
+use Rattle.notation.specs.Tree.{Located, Ty, unit, named, plus, with, Alternatives}
 use Rattle.notation.specs.Reader.{Result, got, refused, take, fault, expect, opening, typeTerm, closed, thenToken, nameIn}
 use Rattle.notation.specs.Types.{readType, readAtom, readAlternatives, isInfix, labelTerm, roundBy, choiceBy}
 use Rattle.notation.specs.Tables.{afterType, afterAlternatives, writeType, writeAlternatives, putNode, typeNode, alternativesAt, Area, offsetRadix, pointerRadix, tableWords}

@@ -1,5 +1,6 @@
 // The reading of types: "a type is an atom, or an atom, an infix mark and a type". Calls go as deep as brackets are open: a type is a loop over
-// its infix marks, a choice one over its alternatives.
+// its atoms, a choice one over its alternatives. But for read_type, each function of the cycle
+// is called in one place, so that the compiler makes one frame a bracket of them.
 use crate::steps::Out;
 use crate::steps::closing;
 use crate::steps::expect;
@@ -171,7 +172,7 @@ fn name_type(text: &[u8], scratch: &mut [u32], c: Cursor, k: Tally) -> Out
     Out::Got(d, l)
 }
 
-// An atom, by what begins it. Each kind is called in one place, so that all of them share one frame.
+// An atom, by what begins it.
 fn read_atom(text: &[u8], scratch: &mut [u32], c: Cursor, k: Tally) -> Out
     requires { ⌜ Room (now text) (now scratch) c k ⌝ }
     ensures { λ r. ⌜ AtomRead (now (text .entry)) (now (scratch .entry)) c k r (now (scratch .exit)) ⌝ }
@@ -281,8 +282,7 @@ fn read_alternatives(text: &[u8], scratch: &mut [u32], c: Cursor, k: Tally) -> O
     }
 }
 
-// A type: a turn for each atom. The node of the mark before it is written once the root to that mark's right is known. An atom is called in one
-// place, so that a bracket costs one frame.
+// A type: a turn for each atom. The node of the mark before it is written once the root to that mark's right is known.
 pub fn read_type(text: &[u8], scratch: &mut [u32], c: Cursor, k: Tally) -> Out
     requires { ⌜ Room (now text) (now scratch) c k ⌝ }
     ensures { λ r. ⌜ TypeRead (now (text .entry)) (now (scratch .entry)) c k r (now (scratch .exit)) ⌝ }

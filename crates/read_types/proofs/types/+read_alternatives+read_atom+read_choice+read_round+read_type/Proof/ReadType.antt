@@ -4,7 +4,6 @@ use Prim.Native.Nat.{ℕ, _-_}
 use native.Mathlib.Omega.{arith}
 use mathlib.Core.Path.{sym, _∙_}
 use lib.ListN.{length}
-use Rattle.read_types.proofs.Taking.{width-pos}
 use Rattle.read_types.proofs.Chains.{Chain, chain-start, chain-on, chain-no, chain-end, infix-most}
 use Rattle.read_types.proofs.steps.is_infix.Reads as is-infix-reads
 use Rattle.read_types.proofs.steps.kind_at.Reads as kind-at-reads
@@ -72,7 +71,8 @@ read-type-met t =
     (λ c κs.
     let loop = c .before .before .before .before .before .before .before .before .before .before .loop in
     let read = c .before .before .before .before .before .before .before .before .read-atom in
-    (omega (arith, loop .inv .room, read .ensures .kept .long, read .ensures .on _ _ (c .before .before .before .before .atom .given .1), c .before .root-before .ensures .1), loop .inv .waits))
+    let on = read .ensures .on _ _ (c .before .before .before .before .atom .given .1) in
+    (omega (arith, loop .inv .room, read .ensures .kept .long, on, c .before .root-before .ensures .1), loop .inv .waits))
     -- whole-root-requires
     (λ c κs. search needs)
     -- is-infix-requires
@@ -86,8 +86,10 @@ read-type-met t =
     -- refusal-requires
     (λ c κs. search needs)
     -- same-length-2
-    (λ c. c .before .before .before .before .before .before .before .before .before .put-infix .ensures .kept .long ∙ c .before .before .before .before .before .before .before .before .before .before .before .before .before .before .before .before .before .before .read-atom .ensures .kept .long
-    ∙ c .before .before .before .before .before .before .before .before .before .before .before .before .before .before .before .before .before .before .before .before .loop .inv .kept .long)
+    (λ c.
+    let put = c .before .before .before .before .before .before .before .before .before in
+    let read = put .before .before .before .before .before .before .before .before .before in
+    put .put-infix .ensures .kept .long ∙ read .read-atom .ensures .kept .long ∙ read .before .before .loop .inv .kept .long)
     -- returns-2
     (λ c.
     let turned = c .before .before .before .before .before .before in
@@ -96,15 +98,16 @@ read-type-met t =
     let read = atom .before .before .before .before .read-atom in
     chain-no (loop .inv) (read .ensures) (atom .atom .given .1) (turned .before .before .before .before .before .before .kind-at .ensures)
     (turned .before .before .before .before .before .root-before .ensures .0) (turned .before .before .before .put-infix .ensures) (turned .whole-root .ensures)
-    (sym (c .before .before .before .before .before .is-infix .ensures) ∙ c .before .before .before .before .if1 .taken) (c .before .before .before .type-term .ensures) (c .before .enum-told2 .given .1) (c .refusal .ensures))
+    (sym (c .before .before .before .before .before .is-infix .ensures) ∙ c .before .before .before .before .if1 .taken)
+    (c .before .before .before .type-term .ensures) (c .before .enum-told2 .given .1) (c .refusal .ensures))
     -- add-l
     (λ c.
     let atom = c .before .before .before .before .before .before .before .before .before .before .before .before .before .before .before in
-    omega (arith, atom .before .before .before .before .before .before .loop .inv .room, atom .before .before .before .before .read-atom .ensures .on _ _ (atom .atom .given .1)))
+    let loop = atom .before .before .before .before .before .before .loop in
+    omega (arith, loop .inv .room, atom .before .before .before .before .read-atom .ensures .on _ _ (atom .atom .given .1)))
     -- loop-less
     (λ c.
     let atom = c .before .before .before .before .before .before .before .before .before .before .before .before .before .before .before in
-    let wide = width-pos (c .before .before .before .before .before .before .before .before .before .before .before .before .before .kind-at .result) in
     omega (
       arith,
       atom .before .before .before .before .before .before .loop .inv .room,
@@ -119,12 +122,15 @@ read-type-met t =
     let read = atom .before .before .before .before .read-atom in
     chain-on (loop .inv) (read .ensures) (atom .atom .given .1) (turned .before .before .before .before .before .before .kind-at .ensures)
     (turned .before .before .before .before .before .root-before .ensures .0) (turned .before .before .before .put-infix .ensures) (turned .whole-root .ensures)
-    (sym (c .before .before .before .before .before .before .is-infix .ensures) ∙ c .before .before .before .before .before .if1 .taken) (c .before .before .before .before .type-term .ensures) (c .before .before .taken .given .1))
+    (sym (c .before .before .before .before .before .before .is-infix .ensures) ∙ c .before .before .before .before .before .if1 .taken)
+    (c .before .before .before .before .type-term .ensures) (c .before .before .taken .given .1))
     -- lasting-requires
     (λ c κs. search needs)
     -- same-length-3
-    (λ c. c .before .before .before .before .before .before .put-infix .ensures .kept .long ∙ c .before .before .before .before .before .before .before .before .before .before .before .before .before .before .before .read-atom .ensures .kept .long
-    ∙ c .before .before .before .before .before .before .before .before .before .before .before .before .before .before .before .before .before .loop .inv .kept .long)
+    (λ c.
+    let put = c .before .before .before .before .before .before in
+    let read = put .before .before .before .before .before .before .before .before .before in
+    put .put-infix .ensures .kept .long ∙ read .read-atom .ensures .kept .long ∙ read .before .before .loop .inv .kept .long)
     -- returns-3
     (λ c.
     let turned = c .before .before .before in
