@@ -1,5 +1,5 @@
 -- A type is an atom, and a turn for each infix mark after it: the answer from here is the answer of the whole.
-use mathlib.Core.Path.{_≡_, refl, ap, sym, _∙_}
+use mathlib.Core.Path.{_≡_, refl, ap, sym, subst, _∙_}
 use mathlib.Core.List.{List}
 use mathlib.Core.Bool.{Bool, true, false, cond, _||_}
 use Prim.Native.Nat.{ℕ, suc, _+_, _*_, _<_, _≤_}
@@ -8,7 +8,7 @@ use lib.Dec.{eqb}
 use borrow.Author.Tests.{eqb-true}
 use Rattle.notation.specs.Fine.{FineType}
 use Rattle.notation.specs.Limits.{typeTermLimit}
-use Rattle.notation.specs.Token.{kindAt, width, kStar, kAt, kLolli}
+use Rattle.notation.specs.Token.{kindAt, width, kStar, kAt, kLolli, kEnd}
 use Rattle.notation.specs.Tree.{Located, Ty, tensor, par, lolli}
 use Rattle.notation.specs.Reader.{Result, got, take, part, lastly, choose, typeTerm}
 use Rattle.notation.specs.Types.{isInfix, infixOf, rightBy, typeBy, readType, readAtom}
@@ -19,8 +19,9 @@ use Rattle.notation.specs.declared.reading.Taken.{Taken}
 use Rattle.notation.specs.declared.reading.Taken.the-variants.{At, Refused}
 use Rattle.read_types.specs.declared.steps.Out.{Out}
 use Rattle.read_types.specs.declared.steps.Out.the-variants.{Got, Not}
-use Rattle.read_types.specs.Filling.{Kept, Stepped, asOut, Room, Form, Made, Meets, AheadType, typeForm, operandForm, infixKind, rootBefore, unread, TypeRead, AtomRead, OperandRead}
+use Rattle.read_types.specs.Filling.{Kept, Stepped, asOut, Room, Form, Made, Meets, AheadType, typeForm, infixKind, rootBefore, Waits, putMark, MarkPut, wholeRoot, unread, TypeRead, AtomRead}
 use Rattle.read_types.proofs.Filled.{same, _upon_, node-kept, took, refused-out, made-got, made-same, made-lastly, gone-on, stopped, meets-no, at-more, more-no, more-got}
+use Rattle.read_types.proofs.Taking.{width-pos}
 use Rattle.read_types.proofs.Late.{type-put}
 
 never-both : {P : Type 0} {b : Bool} → b ≡ true → b ≡ false → P
@@ -51,6 +52,33 @@ before-most kind l h = go (isInfix kind) refl
     go : (b : Bool) → isInfix kind ≡ b → rootBefore kind l ≤ l .nodes
     go true e = omega (arith, before-mark kind l e)
     go false e = omega (arith, before-other kind l e)
+
+-- the node of a mark that waits, and the root of the whole; and where none waits
+mark-put : (mark : ℕ) → isInfix mark ≡ true → (i left right : ℕ) (w : List ℕ) → putMark mark i left right w ≡ putNode w i (typeNode (infixKind mark) left right)
+unfolding putMark
+mark-put mark e i left right w = rw e refl
+
+none-put : (mark : ℕ) → isInfix mark ≡ false → (i left right : ℕ) (w : List ℕ) → putMark mark i left right w ≡ w
+unfolding putMark
+none-put mark e i left right w = rw e refl
+
+pub root-known : (mark : ℕ) → isInfix mark ≡ true → (root right : ℕ) → wholeRoot mark root right ≡ root
+unfolding wholeRoot
+root-known mark e root right = rw e refl
+
+pub root-here : (mark : ℕ) → isInfix mark ≡ false → (root right : ℕ) → wholeRoot mark root right ≡ right
+unfolding wholeRoot
+root-here mark e root right = rw e refl
+
+pub mark-written : (mark i left right : ℕ) {w v : List ℕ} → isInfix mark ≡ true → Waits mark i left → v ≡ putNode w i (typeNode (infixKind mark) left right)
+    → MarkPut mark i left right w v
+mark-written mark i left right {w} m h e = record {
+  words = e ∙ sym (mark-put mark m i left right w);
+  kept = node-kept i (typeNode (infixKind mark) left right) e (h .few m .0);
+}
+
+pub none-written : (mark i left right : ℕ) {w : List ℕ} → isInfix mark ≡ false → MarkPut mark i left right w w
+none-written mark i left right {w} m = record { words = sym (none-put mark m i left right w); kept = same }
 
 -- the words of an infix type, by its mark
 infix-after : (kind : ℕ) (A B : Ty Located) (k : Tally) → afterType (infixOf kind A B) k ≡ afterInfix (afterType A k) (afterType B)
@@ -192,12 +220,24 @@ module _ {s w v : List ℕ} {c : Cursor} {k : Tally} (room : Room s w c k) {q : 
       ))
 
 -- ── an infix mark and the atom to its right
+-- an atom to the right of an infix mark, whose node is counted and not yet written
+abbrev operandForm : Form (Ty Located)
+operandForm = record {
+  after = λ A k. afterType A (moreNodes k);
+  write = λ A k w. writeType A (moreNodes k) w;
+  Fine = FineType;
+  Ahead = typeForm .Ahead;
+}
+
+abbrev OperandRead : ℕ → List ℕ → List ℕ → Cursor → Tally → Out → List ℕ → Type 0
+OperandRead kind s w c k = Meets operandForm s w c k (3 * unread s c) (λ m. rightBy (λ d. readAtom m s d) s kind c)
+
 module _ (s w : List ℕ) (c : Cursor) (k : Tally) (room : Room s w c k)
     (kind : ℕ) {q : Taken} (u : Stepped s c (width kind) 1 0 (typeTerm s kind c) q) (wide : 1 ≤ width kind) where
-  pub operand-no : {r : Out} {n i : ℕ} → q ≡ Refused n i → r ≡ asOut q → OperandRead kind s w c k r w
+  operand-no : {r : Out} {n i : ℕ} → q ≡ Refused n i → r ≡ asOut q → OperandRead kind s w c k r w
   operand-no g h = meets-no s w c k (refused-out g h) same (λ m _. rw (took u g))
 
-  pub operand-atom : {i : ℕ} {d : Cursor} → q ≡ At i d → {p : Out} {v : List ℕ} → AtomRead s w d (moreNodes k) p v → OperandRead kind s w c k p v
+  operand-atom : {i : ℕ} {d : Cursor} → q ≡ At i d → {p : Out} {v : List ℕ} → AtomRead s w d (moreNodes k) p v → OperandRead kind s w c k p v
   operand-atom {i} {d} e a =
       let o = u .on i d e in
       record {
@@ -255,41 +295,65 @@ module _ {s w v : List ℕ} {c : Cursor} {k : Tally} (room : Room s w c k)
             kept = h .kept upon stays;
           }
 
--- ── the loop: the answer from here is the answer from the first atom on
-pub record Chain (root : ℕ) (s w₀ : List ℕ) (c₀ : Cursor) (k₀ : Tally) (kind₀ : ℕ) (w : List ℕ) (c : Cursor) (k : Tally) (kind : ℕ) : Type 0 where
+-- ── the loop: the answer from here is the answer of the whole type
+pub record Chain (s w₀ : List ℕ) (c₀ : Cursor) (k₀ : Tally) (w : List ℕ) (c : Cursor) (k : Tally) (mark left root : ℕ) : Type 0 where
   pub room : Room s w c k
-  pub rooted : k .last < k .nodes
-  pub next : kind ≡ kindAt s (c .at)
+  pub waits : Waits mark (k .last) left
   pub later : c₀ .at ≤ c .at
   pub kept : Kept w₀ w
-  pub whole : (r : Out) (u : List ℕ) → RestRead root kind s w c k r u → RestRead root kind₀ s w₀ c₀ k₀ r u
+  pub no : {q : Out} {v : List ℕ} {n i : ℕ} → AtomRead s w c k q v → q ≡ Not n i → TypeRead s w₀ c₀ k₀ q v
+  pub whole : {q : Out} {v : List ℕ} {d : Cursor} {l : Tally} → AtomRead s w c k q v → q ≡ Got d l → (next : ℕ) → next ≡ kindAt s (d .at)
+      → (r : Out) (u : List ℕ) → RestRead (wholeRoot mark root (rootBefore next l)) next s (putMark mark (k .last) left (rootBefore next l) v) d l r u
+      → TypeRead s w₀ c₀ k₀ r u
 
-pub chain-start : {root kind : ℕ} {s w v : List ℕ} {c d : Cursor} {k l : Tally} {q : Out} → Room s w c k → AtomRead s w c k q v → q ≡ Got d l
-    → kind ≡ kindAt s (d .at) → Chain root s v d l kind v d l kind
-chain-start {d = d} {l = l} room a e n =
-    let o = a .on d l e in
-    record { room = omega (arith, a .kept .long); rooted = omega arith; next = n; later = omega arith; kept = same; whole = λ r u h. h }
+pub chain-start : {s w : List ℕ} {c : Cursor} {k : Tally} → Room s w c k → Chain s w c k w c k kEnd 0 0
+unfolding isInfix putMark wholeRoot
+chain-start room = record {
+  room = room;
+  waits = record { few = λ e. never-both e refl };
+  later = omega arith;
+  kept = same;
+  no = λ a g. type-no room a g;
+  whole = λ a e next n r u h. type-whole room a e n refl h;
+}
 
-module _ {root kind₀ kind : ℕ} {s w₀ w : List ℕ} {c₀ c : Cursor} {k₀ k : Tally} (h : Chain root s w₀ c₀ k₀ kind₀ w c k kind) where
-  pub chain-end : isInfix kind ≡ false → {l : Tally} → l ≡ lasting root k → RestRead root kind₀ s w₀ c₀ k₀ (Got c l) w
-  chain-end n e = h .whole _ w (record { none = λ _. (ap (Got c) e, refl); right = λ y. never-both y n; kept = same })
+-- a turn: the atom, the token after it, the node of the mark that waited, the whole type's root
+module _ {s w₀ w : List ℕ} {c₀ c : Cursor} {k₀ k : Tally} {mark left root : ℕ} (h : Chain s w₀ c₀ k₀ w c k mark left root)
+    {v : List ℕ} {q : Out} (a : AtomRead s w c k q v) {d : Cursor} {l : Tally} (e : q ≡ Got d l) {next right root₂ : ℕ} {v₂ : List ℕ}
+    (n : next ≡ kindAt s (d .at)) (z : right ≡ rootBefore next l) (p : MarkPut mark (k .last) left right v v₂)
+    (y : root₂ ≡ wholeRoot mark root right) where
+  rest : (r : Out) (u : List ℕ) → RestRead root₂ next s v₂ d l r u → TypeRead s w₀ c₀ k₀ r u
+  rest r u x =
+      h .whole a e next n r u
+      (subst (λ g. RestRead g next s (putMark mark (k .last) left (rootBefore next l) v) d l r u) (y ∙ ap (wholeRoot mark root) z)
+      (subst (λ v₃. RestRead root₂ next s v₃ d l r u) (p .words ∙ ap (λ x. putMark mark (k .last) left x v) z) x))
 
-  module _ (mark : isInfix kind ≡ true) {v : List ℕ} {q : Out} (a : OperandRead kind s w c k q v) where
-    pub chain-no : {n i : ℕ} → q ≡ Not n i → RestRead root kind₀ s w₀ c₀ k₀ q v
-    chain-no g = h .whole q v (turn-no (h .room) root kind mark a g)
+  pub chain-end : isInfix next ≡ false → {m : Tally} → m ≡ lasting root₂ l → TypeRead s w₀ c₀ k₀ (Got d m) v₂
+  chain-end f g = rest _ v₂ (record { none = λ _. (ap (Got d) g, refl); right = λ t. never-both t f; kept = same })
 
-    pub chain-on : {d : Cursor} {l : Tally} {v₂ : List ℕ} → q ≡ Got d l → (next : ℕ) → next ≡ kindAt s (d .at)
-        → v₂ ≡ putNode v (k .nodes) (typeNode (infixKind kind) (k .last) (rootBefore next l)) → Chain root s w₀ c₀ k₀ kind₀ v₂ d l next
-    chain-on {d} {l} e next n p =
+  module _ (marked : isInfix next ≡ true) {t : Taken} (u : Stepped s d (width next) 1 0 (typeTerm s next d) t) where
+    room₂ : Room s v₂ d l
+    room₂ = let o = a .on d l e in let x = h .room in omega (arith, p .kept .long, a .kept .long)
+
+    pub chain-no : {r : Out} {m i : ℕ} → t ≡ Refused m i → r ≡ asOut t → TypeRead s w₀ c₀ k₀ r v₂
+    chain-no {r} g f = rest r v₂ (turn-no room₂ root₂ next marked (operand-no s v₂ d l room₂ next u (width-pos next) g f) (refused-out g f))
+
+    pub chain-on : {i : ℕ} {f : Cursor} → t ≡ At i f → Chain s w₀ c₀ k₀ v₂ f (moreNodes l) next (l .last) root₂
+    chain-on {i} {f} g =
         let o = a .on d l e in
-        let y = h .room in
-        let z = h .later in
-        let stays = node-kept (k .nodes) (typeNode (infixKind kind) (k .last) (rootBefore next l)) p (omega arith) upon a .kept in
+        let o₂ = u .on i f g in
+        let x = room₂ in
+        let wide = width-pos next in
+        let before = h .later in
         record {
-          room = omega (arith, stays .long);
-          rooted = omega arith;
-          next = n;
+          room = omega arith;
+          waits = record { few = λ _. omega arith };
           later = omega arith;
-          kept = stays upon h .kept;
-          whole = λ r u x. h .whole r u (turn-on (h .room) root kind mark a e next n p x);
+          kept = p .kept upon a .kept upon h .kept;
+          no = λ a₂ g₂. rest _ _ (turn-no room₂ root₂ next marked (operand-atom s v₂ d l room₂ next u wide g a₂) g₂);
+          whole = λ {q = q₂} {v = v₃} {d = d₂} {l = m} a₂ e₂ next₂ n₂ r u₂ x₂.
+              rest r u₂ (turn-on room₂ root₂ next marked (operand-atom s v₂ d l room₂ next u wide g a₂) e₂ next₂ n₂
+              (mark-put next marked (l .nodes) (l .last) (rootBefore next₂ m) v₃)
+              (subst (λ g₃. RestRead g₃ next₂ s (putMark next (l .nodes) (l .last) (rootBefore next₂ m) v₃) d₂ m r u₂)
+              (root-known next marked root₂ (rootBefore next₂ m)) x₂));
         }

@@ -21,7 +21,7 @@ use Rattle.notation.specs.declared.reading.TypeNode.{TypeNode}
 use Rattle.notation.specs.declared.reading.Taken.{Taken}
 use Rattle.notation.specs.declared.reading.Taken.the-variants.{At, Refused}
 use Rattle.notation.specs.declared.token.TypeHead.{TypeHead}
-use Rattle.notation.specs.declared.token.TypeHead.the-variants.{One, Name, Round, Plus, With, Other}
+use Rattle.notation.specs.declared.token.TypeHead.the-variants.{Plus, With, Other}
 use Rattle.read_types.specs.declared.steps.Out.{Out}
 use Rattle.read_types.specs.declared.steps.Out.the-variants.{Got, Not}
 use Rattle.read_types.specs.Filling.{Stepped, Closes, not-read, not-closed, read, choiceOpening, isChoice, asOut, misfitOut, Room, Meets, typeForm, choiceOf, unread, TypeRead, AtomRead, AlternativesRead, OneRead, NameRead, RoundRead, ChoiceRead}

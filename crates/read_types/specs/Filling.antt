@@ -2,16 +2,16 @@
 use mathlib.Core.Path.{_≡_}
 use Prim.Native.Nat.{ℕ, zero, suc, _+_, _-_, _*_, _<_, _≤_}
 use mathlib.Core.List.{List}
-use mathlib.Core.Bool.{Bool, cond, _||_}
+use mathlib.Core.Bool.{Bool, true, cond, _||_}
 use lib.ListN.{length, getD, drop, set}
 use lib.Dec.{eqb}
 use Rattle.notation.specs.Fine.{SomeAlternative, FineType, FineAlternatives}
 use Rattle.notation.specs.Limits.{textLimit, labelLimit, typeTermLimit, processTermLimit}
 use Rattle.notation.specs.Token.{tokenAt, width, kColon, kRoundClose, kBraceOpen, kStar, kAt, kOne, kName, kPlus, kWith}
-use Rattle.notation.specs.Tree.{Located, Ty, unit, named, tensor, par, lolli, plus, with, Alternatives, alternative}
+use Rattle.notation.specs.Tree.{Located, Ty, unit, named, plus, with, Alternatives}
 use Rattle.notation.specs.Reader.{Result, got, refused, take, fault, expect, opening, typeTerm, closed, thenToken, nameIn}
-use Rattle.notation.specs.Types.{readType, readAtom, readAlternatives, isInfix, labelTerm, rightBy, roundBy, choiceBy}
-use Rattle.notation.specs.Tables.{afterType, afterAlternatives, writeType, writeAlternatives, moreNodes, alternativesAt, Area, offsetRadix, pointerRadix, tableWords}
+use Rattle.notation.specs.Types.{readType, readAtom, readAlternatives, isInfix, labelTerm, roundBy, choiceBy}
+use Rattle.notation.specs.Tables.{afterType, afterAlternatives, writeType, writeAlternatives, putNode, typeNode, alternativesAt, Area, offsetRadix, pointerRadix, tableWords}
 use Rattle.notation.specs.declared.reading.Tally.{Tally}
 use Rattle.notation.specs.declared.reading.TypeNode.{TypeNode}
 use Rattle.notation.specs.declared.reading.TermNode.{TermNode}
@@ -242,14 +242,18 @@ infixKind k = cond (eqb k kStar) 2 (cond (eqb k kAt) 3 4)
 unfoldable pub rootBefore : ℕ → Tally → ℕ
 rootBefore kind l = cond (isInfix kind) (l .nodes) (l .last)
 
--- an atom to the right of an infix mark, whose node is counted and not yet written
-abbrev pub operandForm : Form (Ty Located)
-operandForm = record {
-  after = λ A k. afterType A (moreNodes k);
-  write = λ A k w. writeType A (moreNodes k) w;
-  Fine = FineType;
-  Ahead = typeForm .Ahead;
-}
+-- a mark of this kind that waits for its right part has the number i, and this root to its left
+pub record Waits (mark i left : ℕ) : Type 0 where
+  pub few : isInfix mark ≡ true → (i < typeTermLimit) × (left < typeTermLimit)
 
-abbrev pub OperandRead : ℕ → List ℕ → List ℕ → Cursor → Tally → Out → List ℕ → Type 0
-OperandRead kind s w c k = Meets operandForm s w c k (3 * unread s c) (λ m. rightBy (λ d. readAtom m s d) s kind c)
+-- its node is written; nothing is where no mark waits
+unfoldable pub putMark : ℕ → ℕ → ℕ → ℕ → List ℕ → List ℕ
+putMark mark i left right w = cond (isInfix mark) (putNode w i (typeNode (infixKind mark) left right)) w
+
+pub record MarkPut (mark i left right : ℕ) (w v : List ℕ) : Type 0 where
+  pub words : v ≡ putMark mark i left right w
+  pub kept : Kept w v
+
+-- the root of the whole type: the one known so far, or where no mark waits that of what begins here
+unfoldable pub wholeRoot : ℕ → ℕ → ℕ → ℕ
+wholeRoot mark root right = cond (isInfix mark) root right

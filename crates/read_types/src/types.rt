@@ -1,5 +1,6 @@
 // The reading of types: "a type is an atom, or an atom, an infix mark and a type". Calls go as deep as brackets are open: a type is a loop over
-// its infix marks, a choice one over its alternatives.
+// its atoms, a choice one over its alternatives. But for read_type, each function of the cycle
+// is called in one place, so that the compiler makes one frame a bracket of them.
 use crate::steps::Out;
 use crate::steps::closing;
 use crate::steps::expect;
@@ -27,8 +28,8 @@ use notation::token::Token;
 ghost use mathlib.Core.Path.{_≡_};
 ghost use Prim.Native.Nat.{_+_, _<_, _≤_};
 ghost use Rattle.notation.specs.Limits.{labelLimit, typeTermLimit};
-ghost use Rattle.notation.specs.Tables.{Area, putNode, typeNode};
-ghost use Rattle.read_types.specs.Filling.{Stepped, labelColon, choiceOpening, infixKind, rootBefore, listed, putListed, Put, Room, TypeRead, AtomRead, OperandRead, AlternativesRead, OneRead, NameRead, RoundRead, ChoiceRead};
+ghost use Rattle.notation.specs.Tables.{Area};
+ghost use Rattle.read_types.specs.Filling.{Stepped, labelColon, choiceOpening, infixKind, rootBefore, Waits, MarkPut, wholeRoot, listed, putListed, Put, Room, TypeRead, AtomRead, AlternativesRead, OneRead, NameRead, RoundRead, ChoiceRead};
 
 // From the kind of a choice's mark to the kind of its node.
 const CHOICE_SHIFT: usize = Token::PLUS - kinds::PLUS;
@@ -82,20 +83,33 @@ fn root_before(kind: usize, l: Tally) -> usize
     l.last
 }
 
-// The node of an infix mark of this kind, to the left of which the tables were filled up to k; `right` is the root to its right.
-fn put_infix(scratch: &mut [u32], k: Tally, kind: usize, right: usize)
-    requires { ⌜ Area (now scratch) × (k .nodes < typeTermLimit) × (k .last < typeTermLimit) × (right ≤ typeTermLimit) ⌝ }
-    ensures { λ r. ⌜ now (scratch .exit) ≡ putNode (now (scratch .entry)) (k .nodes) (typeNode (infixKind kind) (k .last) right) ⌝ }
+// The node i of the mark before an atom: of this kind, between these roots. Where no mark stands before it, nothing is written.
+fn put_infix(scratch: &mut [u32], i: usize, mark: usize, left: usize, right: usize)
+    requires { ⌜ Area (now scratch) × (right ≤ typeTermLimit) ⌝ }
+    requires { ⌜ Waits mark i left ⌝ }
+    ensures { λ r. ⌜ MarkPut mark i left right (now (scratch .entry)) (now (scratch .exit)) ⌝ }
 {
-    put_node(
-        scratch,
-        k.nodes,
-        TypeNode {
-            kind: infix_kind(kind),
-            first: k.last,
-            second: right,
-        },
-    );
+    if is_infix(mark) {
+        put_node(
+            scratch,
+            i,
+            TypeNode {
+                kind: infix_kind(mark),
+                first: left,
+                second: right,
+            },
+        );
+    }
+}
+
+// The root of the whole type, where `right` is the root from the atom on that stands after this mark, or first.
+fn whole_root(mark: usize, root: usize, right: usize) -> usize
+    ensures { λ r. ⌜ r ≡ wholeRoot mark root right ⌝ }
+{
+    if is_infix(mark) {
+        return root;
+    }
+    right
 }
 
 // Appends a list of n alternatives, whose words were kept.
@@ -158,7 +172,7 @@ fn name_type(text: &[u8], scratch: &mut [u32], c: Cursor, k: Tally) -> Out
     Out::Got(d, l)
 }
 
-// An atom, by what begins it. Each kind is called in one place, so that all of them share one frame.
+// An atom, by what begins it.
 fn read_atom(text: &[u8], scratch: &mut [u32], c: Cursor, k: Tally) -> Out
     requires { ⌜ Room (now text) (now scratch) c k ⌝ }
     ensures { λ r. ⌜ AtomRead (now (text .entry)) (now (scratch .entry)) c k r (now (scratch .exit)) ⌝ }
@@ -268,45 +282,38 @@ fn read_alternatives(text: &[u8], scratch: &mut [u32], c: Cursor, k: Tally) -> O
     }
 }
 
-// A type: an atom, and a turn for each infix mark. A mark's node is written once the root to its right is known.
+// A type: a turn for each atom. The node of the mark before it is written once the root to that mark's right is known.
 pub fn read_type(text: &[u8], scratch: &mut [u32], c: Cursor, k: Tally) -> Out
     requires { ⌜ Room (now text) (now scratch) c k ⌝ }
     ensures { λ r. ⌜ TypeRead (now (text .entry)) (now (scratch .entry)) c k r (now (scratch .exit)) ⌝ }
 {
-    let first = read_atom(text, scratch, c, k);
-    let Out::Got(first_end, first_tally) = first else {
-        return first;
-    };
-    let mut d = first_end;
-    let mut l = first_tally;
-    let mut kind = kind_at(text, first_end.at);
-    let root = root_before(kind, l);
-    while is_infix(kind) {
-        let operand = read_operand(text, scratch, d, l, kind);
-        let Out::Got(e, m) = operand else {
-            return operand;
+    let mut d = c;
+    let mut l = k;
+    let mut mark = Token::END;
+    let mut left: usize = 0;
+    let mut root: usize = 0;
+    loop {
+        let atom = read_atom(text, scratch, d, l);
+        let Out::Got(e, m) = atom else {
+            return atom;
         };
         let next = kind_at(text, e.at);
-        put_infix(scratch, l, kind, root_before(next, m));
-        d = e;
-        l = m;
-        kind = next;
+        let right = root_before(next, m);
+        put_infix(scratch, l.last, mark, left, right);
+        root = whole_root(mark, root, right);
+        if is_infix(next) {
+            let taken = type_term(text, e, next);
+            let Taken::At(_, f) = taken else {
+                return refusal(taken);
+            };
+            d = f;
+            l = m;
+            l.nodes = m.nodes + 1;
+            l.last = m.nodes;
+            mark = next;
+            left = m.last;
+        } else {
+            return Out::Got(e, lasting(m, root));
+        }
     }
-    Out::Got(d, lasting(l, root))
-}
-
-// The infix mark of this kind and the atom to its right. The mark's node is counted, not yet written.
-fn read_operand(text: &[u8], scratch: &mut [u32], c: Cursor, k: Tally, kind: usize) -> Out
-    requires { ⌜ Room (now text) (now scratch) c k ⌝ }
-    requires { ⌜ kind ≤ 31 ⌝ }
-    ensures { λ r. ⌜ OperandRead kind (now (text .entry)) (now (scratch .entry)) c k r (now (scratch .exit)) ⌝ }
-{
-    let mark = type_term(text, c, kind);
-    let Taken::At(_, d) = mark else {
-        return refusal(mark);
-    };
-    let mut j = k;
-    j.nodes = k.nodes + 1;
-    j.last = k.nodes;
-    read_atom(text, scratch, d, j)
 }

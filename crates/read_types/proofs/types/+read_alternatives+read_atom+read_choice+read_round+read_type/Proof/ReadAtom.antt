@@ -10,10 +10,10 @@ use Rattle.read_types.proofs.steps.misfit.Reads as misfit-reads
 use Rattle.read_types.proofs.types.name_type.Reads as name-type-reads
 use Rattle.read_types.proofs.types.one_type.Reads as one-type-reads
 use Rattle.read_types.proofs.types.read_atom.Reads as read-atom
-use Rattle.read_types.proofs.types.+read_alternatives+read_atom+read_choice+read_operand+read_round+read_type.Lts-read_atom as read-atom-lts
+use Rattle.read_types.proofs.types.+read_alternatives+read_atom+read_choice+read_round+read_type.Lts-read_atom as read-atom-lts
 use Rattle.read_types.proofs.types.read_choice.Reads as read-choice
 use Rattle.read_types.proofs.types.read_round.Reads as read-round
-use Rattle.read_types.proofs.types.+read_alternatives+read_atom+read_choice+read_operand+read_round+read_type.Proof.Measures.{read-atom-at, read-choice-below, read-round-below}
+use Rattle.read_types.proofs.types.+read_alternatives+read_atom+read_choice+read_round+read_type.Proof.Measures.{read-atom-at, read-choice-below, read-round-below}
 
 abbrev claims : ℕ → read-atom-lts.Claims
 claims t = (

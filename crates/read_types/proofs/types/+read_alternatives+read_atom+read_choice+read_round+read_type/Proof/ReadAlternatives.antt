@@ -12,10 +12,10 @@ use Rattle.read_types.proofs.types.label_colon.Reads as label-colon-rea
 use Rattle.read_types.proofs.store.pair_word.Reads as pair-word-reads
 use Rattle.read_types.proofs.types.put_alternatives.Reads as put-alternatives-reads
 use Rattle.read_types.proofs.types.read_alternatives.Reads as read-alternatives
-use Rattle.read_types.proofs.types.+read_alternatives+read_atom+read_choice+read_operand+read_round+read_type.Lts-read_alternatives as read-alternatives-lts
+use Rattle.read_types.proofs.types.+read_alternatives+read_atom+read_choice+read_round+read_type.Lts-read_alternatives as read-alternatives-lts
 use Rattle.read_types.proofs.types.read_type.Reads as read-type
 use Rattle.read_types.proofs.steps.refusal.Reads as refusal-reads
-use Rattle.read_types.proofs.types.+read_alternatives+read_atom+read_choice+read_operand+read_round+read_type.Proof.Measures.{read-alternatives-at, read-type-below}
+use Rattle.read_types.proofs.types.+read_alternatives+read_atom+read_choice+read_round+read_type.Proof.Measures.{read-alternatives-at, read-type-below}
 
 abbrev read-alternatives-Inv-loop : read-alternatives-lts.InvT-loop
 read-alternatives-Inv-loop text scratch₀ d₀ l₀ n₀ kept₀ scratch d l n kept = Gathered text scratch₀ d₀ l₀ kept scratch d l n

@@ -6,10 +6,10 @@ use Rattle.read_types.proofs.TypePaths.{round-no, round-closed}
 use Rattle.read_types.proofs.steps.closing.Reads as closing-reads
 use Rattle.read_types.proofs.steps.opening.Reads as opening-reads
 use Rattle.read_types.proofs.types.read_round.Reads as read-round
-use Rattle.read_types.proofs.types.+read_alternatives+read_atom+read_choice+read_operand+read_round+read_type.Lts-read_round as read-round-lts
+use Rattle.read_types.proofs.types.+read_alternatives+read_atom+read_choice+read_round+read_type.Lts-read_round as read-round-lts
 use Rattle.read_types.proofs.types.read_type.Reads as read-type
 use Rattle.read_types.proofs.steps.refusal.Reads as refusal-reads
-use Rattle.read_types.proofs.types.+read_alternatives+read_atom+read_choice+read_operand+read_round+read_type.Proof.Measures.{read-round-at, read-type-below}
+use Rattle.read_types.proofs.types.+read_alternatives+read_atom+read_choice+read_round+read_type.Proof.Measures.{read-round-at, read-type-below}
 
 abbrev claims : ℕ → read-round-lts.Claims
 claims t = (

@@ -9,9 +9,9 @@ use Rattle.read_types.proofs.store.lasting.Reads as lasting-reads
 use Rattle.read_types.proofs.store.put_node.Reads as put-node-reads
 use Rattle.read_types.proofs.types.read_alternatives.Reads as read-alternatives
 use Rattle.read_types.proofs.types.read_choice.Reads as read-choice
-use Rattle.read_types.proofs.types.+read_alternatives+read_atom+read_choice+read_operand+read_round+read_type.Lts-read_choice as read-choice-lts
+use Rattle.read_types.proofs.types.+read_alternatives+read_atom+read_choice+read_round+read_type.Lts-read_choice as read-choice-lts
 use Rattle.read_types.proofs.steps.refusal.Reads as refusal-reads
-use Rattle.read_types.proofs.types.+read_alternatives+read_atom+read_choice+read_operand+read_round+read_type.Proof.Measures.{read-alternatives-below, read-choice-at}
+use Rattle.read_types.proofs.types.+read_alternatives+read_atom+read_choice+read_round+read_type.Proof.Measures.{read-alternatives-below, read-choice-at}
 
 abbrev claims : ℕ → read-choice-lts.Claims
 claims t = (

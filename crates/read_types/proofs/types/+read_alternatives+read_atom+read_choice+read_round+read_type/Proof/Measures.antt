@@ -9,8 +9,6 @@ use Rattle.read_types.proofs.types.read_atom.Reads as read-atom
 use Rattle.read_types.proofs.types.read_atom.Kinds as read-atom-kinds
 use Rattle.read_types.proofs.types.read_choice.Reads as read-choice
 use Rattle.read_types.proofs.types.read_choice.Kinds as read-choice-kinds
-use Rattle.read_types.proofs.types.read_operand.Reads as read-operand
-use Rattle.read_types.proofs.types.read_operand.Kinds as read-operand-kinds
 use Rattle.read_types.proofs.types.read_round.Reads as read-round
 use Rattle.read_types.proofs.types.read_round.Kinds as read-round-kinds
 use Rattle.read_types.proofs.types.read_type.Reads as read-type
@@ -24,9 +22,6 @@ abbrev pub μ-read-atom : Measures 2 read-atom-kinds.ps ℕ
 
 abbrev pub μ-read-choice : Measures 2 read-choice-kinds.ps ℕ
 μ-read-choice κs a = 3 * unread (a .0 .now) (a .1 .1 .0)
-
-abbrev pub μ-read-operand : Measures 2 read-operand-kinds.ps ℕ
-μ-read-operand κs a = 3 * unread (a .0 .now) (a .1 .1 .0)
 
 abbrev pub μ-read-round : Measures 2 read-round-kinds.ps ℕ
 μ-read-round κs a = 3 * unread (a .0 .now) (a .1 .1 .0)
@@ -51,12 +46,6 @@ read-choice-at t = and 2 read-choice-kinds.ps (is 2 read-choice-kinds.ps μ-read
 
 abbrev pub read-choice-below : ℕ → In 2 read-choice-kinds.ps
 read-choice-below t = and 2 read-choice-kinds.ps (falls 2 read-choice-kinds.ps _<_ μ-read-choice t) read-choice.Pre
-
-abbrev pub read-operand-at : ℕ → In 2 read-operand-kinds.ps
-read-operand-at t = and 2 read-operand-kinds.ps (is 2 read-operand-kinds.ps μ-read-operand t) read-operand.Pre
-
-abbrev pub read-operand-below : ℕ → In 2 read-operand-kinds.ps
-read-operand-below t = and 2 read-operand-kinds.ps (falls 2 read-operand-kinds.ps _<_ μ-read-operand t) read-operand.Pre
 
 abbrev pub read-round-at : ℕ → In 2 read-round-kinds.ps
 read-round-at t = and 2 read-round-kinds.ps (is 2 read-round-kinds.ps μ-read-round t) read-round.Pre
