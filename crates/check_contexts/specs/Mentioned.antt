@@ -195,7 +195,46 @@ module _ (s w : List ℕ) (A : Proc) (at first second third : ℕ) (none : proce
 
   cases : Handlers (processCases s w (node 0) A) At
   unfolding mentions actsOn bindsAnew innerMentions innerTerms lastPart processTerms
-  cases = (λ e. absurd e, (λ (f, e). goes-on 1 refl refl refl refl (f .1) (ap processTerms e) (λ x. ap (λ P. mentions P x) e ∙ first-then (named first x) (in-part third x)), (λ (f, e). goes-on 2 refl refl refl refl (f .1) (ap processTerms e) (λ x. ap (λ P. mentions P x) e ∙ both-then (named first x) (named second x) (in-part third x)), (λ (f, e). goes-on 3 refl refl refl refl (f .1) (ap processTerms e) (λ x. ap (λ P. mentions P x) e ∙ first-then (named first x) (in-part third x)), (λ (f, e). goes-on 4 refl refl refl refl (f .1) (ap processTerms e) (λ x. ap (λ P. mentions P x) e ∙ first-then (named first x) (in-part third x)), (λ (t, f, (g, e)). divides 5 refl refl refl refl (f .1) (g .1) (ap processTerms e) (λ x. ap (λ P. mentions P x) e), (λ (f, e). goes-on 6 refl refl refl refl (f .1) (ap processTerms e) (λ x. ap (λ P. mentions P x) e ∙ first-then (named first x) (in-part third x)), (λ (l, (f, e)). goes-on 7 refl refl refl refl (f .1) (ap processTerms e) (λ x. ap (λ P. mentions P x) e ∙ first-then (named first x) (not (named second x) && in-part third x)), (λ (l, f, e). ends 8 refl (no-call 8 refl) (record { branches = λ _. f; first = λ d. absurd (false≢true d) }) (ap processTerms e) (λ x. ap (λ P. mentions P x) e ∙ first-then (named first x) (branchesMention (branchesIn s w second third) x)), (λ e. ends 9 refl (no-call 9 refl) (no-inner 9 refl refl) (ap processTerms e) (λ x. ap (λ P. mentions P x) e ∙ or-nothing (named first x || named second x)), (λ (c, e). ends 10 refl (λ _. c) (no-inner 10 refl refl) (ap processTerms e) (λ x. ap (λ P. mentions P x) e ∙ or-nothing (isOneOf x (argumentsAt s second .0) || isOneOf x (argumentsAt s second .1))), (λ (f, e). goes-on 11 refl refl refl refl (f .1) (ap processTerms e) (λ x. ap (λ P. mentions P x) e), (λ (f, (g, e)). divides 12 refl refl refl refl (f .1) (g .1) (ap processTerms e) (λ x. ap (λ P. mentions P x) e), tt)))))))))))))
+  cases = (
+    λ e. absurd e,
+    (
+      λ (f, e). goes-on 1 refl refl refl refl (f .1) (ap processTerms e) (λ x. ap (λ P. mentions P x) e ∙ first-then (named first x) (in-part third x)),
+      (
+        λ (f, e). goes-on 2 refl refl refl refl (f .1) (ap processTerms e) (λ x. ap (λ P. mentions P x) e ∙ both-then (named first x) (named second x) (in-part third x)),
+        (
+          λ (f, e). goes-on 3 refl refl refl refl (f .1) (ap processTerms e) (λ x. ap (λ P. mentions P x) e ∙ first-then (named first x) (in-part third x)),
+          (
+            λ (f, e). goes-on 4 refl refl refl refl (f .1) (ap processTerms e) (λ x. ap (λ P. mentions P x) e ∙ first-then (named first x) (in-part third x)),
+            (
+              λ (t, f, (g, e)). divides 5 refl refl refl refl (f .1) (g .1) (ap processTerms e) (λ x. ap (λ P. mentions P x) e),
+              (
+                λ (f, e). goes-on 6 refl refl refl refl (f .1) (ap processTerms e) (λ x. ap (λ P. mentions P x) e ∙ first-then (named first x) (in-part third x)),
+                (
+                  λ (l, (f, e)). goes-on 7 refl refl refl refl (f .1) (ap processTerms e) (λ x. ap (λ P. mentions P x) e ∙ first-then (named first x) (not (named second x) && in-part third x)),
+                  (
+                    λ (l, f, e). ends 8 refl (no-call 8 refl) (record { branches = λ _. f; first = λ d. absurd (false≢true d) }) (ap processTerms e) (λ x. ap (λ P. mentions P x) e ∙ first-then (named first x) (branchesMention (branchesIn s w second third) x)),
+                    (
+                      λ e. ends 9 refl (no-call 9 refl) (no-inner 9 refl refl) (ap processTerms e) (λ x. ap (λ P. mentions P x) e ∙ or-nothing (named first x || named second x)),
+                      (
+                        λ (c, e). ends 10 refl (λ _. c) (no-inner 10 refl refl) (ap processTerms e) (λ x. ap (λ P. mentions P x) e ∙ or-nothing (isOneOf x (argumentsAt s second .0) || isOneOf x (argumentsAt s second .1))),
+                        (
+                          λ (f, e). goes-on 11 refl refl refl refl (f .1) (ap processTerms e) (λ x. ap (λ P. mentions P x) e),
+                          (
+                            λ (f, (g, e)). divides 12 refl refl refl refl (f .1) (g .1) (ap processTerms e) (λ x. ap (λ P. mentions P x) e),
+                            tt,
+                          ),
+                        ),
+                      ),
+                    ),
+                  ),
+                ),
+              ),
+            ),
+          ),
+        ),
+      ),
+    ),
+  )
 
 pub mentioning : (s w : List ℕ) (n : TermNode) (A : Proc) → processIn s w processTermLimit ≡ empty 0 → atKind (processCases s w n A) (n .kind) → Mentioning s w n A
 mentioning s w n A none h = each-kind (processCases s w n A) (At s w A (n .at) (n .first) (n .second) (n .third) none) (cases s w A (n .at) (n .first) (n .second) (n .third) none) (n .kind) h

@@ -11,7 +11,10 @@ done-requires : tie.Need-done-requires
 done-requires c κs = search needs
 
 returns : tie.Need-returns
-returns c = turned-given (c .done .ensures) (empty-fine (c .before .before .before .before .before .args .text .now) (c .before .before .before .before .before .args .scratch .now) (c .before .before .before .before .before .args .h) (c .before .before .before .before .before .args .link) (c .before .before .before .before .before .args .p) (c .before .before .before .before .before .pre .0) (c .before .before .before .before .before .pre .1) (c .before .before .before .before .before .pre .2) (c .before .if1 .taken))
+returns c =
+    let entry = c .before .before .before .before .before in
+    let e = entry .args in
+    turned-given (c .done .ensures) (empty-fine (e .text .now) (e .scratch .now) (e .h) (e .link) (e .p) (entry .pre .0) (entry .pre .1) (entry .pre .2) (c .before .if1 .taken))
 
 sub-t8 : tie.Need-sub-t8
 sub-t8 c = search needs
@@ -20,7 +23,10 @@ done-requires-2 : tie.Need-done-requires-2
 done-requires-2 c κs = search needs
 
 returns-2 : tie.Need-returns-2
-returns-2 c = turned-given (c .done2 .ensures) (empty-left (c .before .before .before .before .before .args .text .now) (c .before .before .before .before .before .args .scratch .now) (c .before .before .before .before .before .args .h) (c .before .before .before .before .before .args .link) (c .before .before .before .before .before .args .p) (c .before .before .before .before .before .pre .0) (c .before .before .before .before .before .pre .1) (c .before .before .before .before .before .pre .2) (c .before .if1 .left))
+returns-2 c =
+    let entry = c .before .before .before .before .before in
+    let e = entry .args in
+    turned-given (c .done2 .ensures) (empty-left (e .text .now) (e .scratch .now) (e .h) (e .link) (e .p) (entry .pre .0) (entry .pre .1) (entry .pre .2) (c .before .if1 .left))
 
 pub check-empty-spec : {M : Type 1} → statement M
 check-empty-spec = tie.close (tie.spec done-requires returns sub-t8 done-requires-2 returns-2)

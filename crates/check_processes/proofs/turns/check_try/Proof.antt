@@ -56,9 +56,13 @@ returns-2 c =
     let e = entry .args in
     let tries = try-at (e .text .now) (e .scratch .now) (e .p) (e .n) (entry .pre .2) (entry .pre .3) in
     let held = entry .pre .1 in
-    turned-halves (c .before .goes-on .ensures) (c .with-half .ensures) (try-halves (e .text .now) (e .scratch .now) (e .h) (e .link) (e .p) (e .n) (entry .pre .2) (entry .pre .3) (entry .pre .1) (c .before .before .before .before .before .before .before .half-takes .ensures) (c .before .before .before .before .before .before .half-takes2 .ensures) _ (c .before .before .before .before .before .divides .ensures) (not-false _ (c .before .before .before .before .if1 .left)) _ _ (c .before .before .before .keep .ensures) (c .before .before .keep2 .ensures))
-    (keeps-so (c .before .before .before .before .before .before .before .half-takes .ensures) held (c .before .before .before .keep .ensures) .fits, tries .0 .1)
-    (keeps-so (c .before .before .before .before .before .before .half-takes2 .ensures) held (c .before .before .keep2 .ensures) .fits, tries .1 .1) (tries .2)
+    let first = c .before .before .before .before .before .before .before .half-takes .ensures in
+    let second = c .before .before .before .before .before .before .half-takes2 .ensures in
+    turned-halves (c .before .goes-on .ensures) (c .with-half .ensures)
+    (try-halves (e .text .now) (e .scratch .now) (e .h) (e .link) (e .p) (e .n) (entry .pre .2) (entry .pre .3) (entry .pre .1) first second
+    _ (c .before .before .before .before .before .divides .ensures) (not-false _ (c .before .before .before .before .if1 .left)) _ _ (c .before .before .before .keep .ensures) (c .before .before .keep2 .ensures))
+    (keeps-so first held (c .before .before .before .keep .ensures) .fits, tries .0 .1)
+    (keeps-so second held (c .before .before .keep2 .ensures) .fits, tries .1 .1) (tries .2)
 
 pub check-try-spec : {M : Type 1} → statement M
 check-try-spec =

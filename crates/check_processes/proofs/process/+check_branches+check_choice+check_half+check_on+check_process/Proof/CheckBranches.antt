@@ -54,8 +54,10 @@ check-branches-met t =
     let e = entry .args in
     let t = c .before .before .before .before .before .before .before .before .loop .inv .left in
     let l = c .before .before .before .before .before .before .before .loop-test .taken in
-    let o = c .before .before .before .before .before .before .branch .ensures in
-    (omega (arith, entry .pre .0, left-terms t l o), (entry .pre .1 .0, (subst (λ j. Retypes (e .text .now) (e .h) (e .c) j (c .retype-end .result)) (c .before .narrow .ensures) (c .retype-end .ensures)) .fits (e .scratch .now) (c .before .before .before .before .before .labelled .ensures .type (c .before .before .before .f .given .0 .0) (c .before .before .before .f .given .1)) (entry .pre .1 .1), left-first t l o .process)))
+    let o = c .before .before .before .before .before .before .branch .ensures in (
+      omega (arith, entry .pre .0, left-terms t l o),
+      (entry .pre .1 .0, (subst (λ j. Retypes (e .text .now) (e .h) (e .c) j (c .retype-end .result)) (c .before .narrow .ensures) (c .retype-end .ensures)) .fits (e .scratch .now) (c .before .before .before .before .before .labelled .ensures .type (c .before .before .before .f .given .0 .0) (c .before .before .before .f .given .1)) (entry .pre .1 .1), left-first t l o .process),
+    ))
     -- enum-told-2
     (λ c. search needs)
     -- enum-told-3
@@ -65,7 +67,9 @@ check-branches-met t =
     let entry = c .before .before .before .before .before .before .before .before .before .before .before .before .before .before in
     let e = entry .args in
     let retypes = subst (λ j. Retypes (e .text .now) (e .h) (e .c) j (c .before .before .before .retype-end .result)) (c .before .before .before .before .narrow .ensures) (c .before .before .before .retype-end .ensures) in
-    branch-refused (c .before .before .before .before .before .before .before .before .before .before .before .loop .inv) (c .before .before .before .before .before .before .before .before .before .before .loop-test .taken) (c .before .before .before .before .before .before .before .before .before .branch .ensures) (c .before .before .before .before .before .before .before .before .labelled .ensures) (c .before .before .before .before .before .before .f .given .1) retypes _ (c .before .before .check-process .ensures) (c .enum-told3 .given .1))
+    let after = c .before .before .before .before .before .before in
+    branch-refused (after .before .before .before .before .before .loop .inv) (after .before .before .before .before .loop-test .taken)
+    (after .before .before .before .branch .ensures) (after .before .before .labelled .ensures) (after .f .given .1) retypes _ (c .before .before .check-process .ensures) (c .enum-told3 .given .1))
     -- add-i
     (λ c. search needs)
     -- loop-less
@@ -75,6 +79,8 @@ check-branches-met t =
     let entry = c .before .before .before .before .before .before .before .before .before .before .before .before .before .before in
     let e = entry .args in
     let retypes = subst (λ j. Retypes (e .text .now) (e .h) (e .c) j (c .before .before .before .retype-end .result)) (c .before .before .before .before .narrow .ensures) (c .before .before .before .retype-end .ensures) in
-    branch-fine (c .before .before .before .before .before .before .before .before .before .before .before .loop .inv) (c .before .before .before .before .before .before .before .before .before .before .loop-test .taken) (c .before .before .before .before .before .before .before .before .before .branch .ensures) (c .before .before .before .before .before .before .before .before .labelled .ensures) (c .before .before .before .before .before .before .f .given .1) retypes _ (c .before .before .check-process .ensures) (c .enum-told2 .given .1) _ refl)
+    let after = c .before .before .before .before .before .before in
+    branch-fine (after .before .before .before .before .before .loop .inv) (after .before .before .before .before .loop-test .taken)
+    (after .before .before .before .branch .ensures) (after .before .before .labelled .ensures) (after .f .given .1) retypes _ (c .before .before .check-process .ensures) (c .enum-told2 .given .1) _ refl)
     -- returns-3
     (λ c. branches-fine (c .before .loop .inv) (c .loop-test .left))

@@ -33,13 +33,24 @@ check-on-met t =
     -- enum-told-2
     (λ c. search needs)
     -- returns
-    (λ c. let half = c .before .before .check-half in half-refused (c .before .before .before .before .loop .inv) (half .result) (half .ensures) (c .enum-told2 .given .1))
+    (λ c.
+    let after = c .before .before in
+    let half = after .check-half in
+    half-refused (after .before .before .loop .inv) (half .result) (half .ensures) (c .enum-told2 .given .1))
     -- check-turn-requires
     (λ c κs. let goes = c .before .before .before .before .before .before .before .loop .inv .stands .goes (not-false _ (c .before .if1 .left)) in (c .before .before .before .before .before .before .before .before .before .before .pre .1 .0, goes .0, goes .1))
     -- loop-less
-    (λ c. let half = c .before .before .before .before .before .before .check-half in check-less (c .before .before .before .before .before .before .before .before .loop .inv) (half .result) (half .ensures) (c .before .before .before .before .enum-told .given .1) (not-false _ (c .before .before .if1 .left)) (c .check-turn .ensures))
+    (λ c.
+    let after = c .before .before .before .before .before .before in
+    let half = after .check-half in
+    check-less (after .before .before .loop .inv) (half .result) (half .ensures)
+    (c .before .before .before .before .enum-told .given .1) (not-false _ (c .before .before .if1 .left)) (c .check-turn .ensures))
     -- loop-again
-    (λ c. let half = c .before .before .before .before .before .before .check-half in check-next (c .before .before .before .before .before .before .before .before .loop .inv) (half .result) (half .ensures) (c .before .before .before .before .enum-told .given .1) (not-false _ (c .before .before .if1 .left)) (c .check-turn .ensures))
+    (λ c.
+    let after = c .before .before .before .before .before .before in
+    let half = after .check-half in
+    check-next (after .before .before .loop .inv) (half .result) (half .ensures)
+    (c .before .before .before .before .enum-told .given .1) (not-false _ (c .before .before .if1 .left)) (c .check-turn .ensures))
     -- check-choice-requires
     (λ c κs.
     let entry = c .before .before .before .before .before .before .before .before .before .before .before .before in
@@ -49,6 +60,14 @@ check-on-met t =
     let choice = loop .inv .stands .chooses ends (c .before .before .if2 .taken) in
     (omega (arith, entry .pre .0, choice-falls (e .text .now) (e .scratch .now) (e .first) (loop .t) (loop .inv .fewer) ends (c .before .before .if2 .taken)), (entry .pre .1 .0, choice .held, choice .node, choice .kind)))
     -- returns-2
-    (λ c. let half = c .before .before .before .before .before .before .before .before .check-half in choice-is (c .before .before .before .before .before .before .before .before .before .before .loop .inv) (half .result) (half .ensures) (c .before .before .before .before .before .before .enum-told .given .1) (not-true _ (c .before .before .before .before .if1 .taken)) (c .before .before .before .if2 .taken) (c .check-choice .ensures))
+    (λ c.
+    let after = c .before .before .before .before .before .before .before .before in
+    let half = after .check-half in
+    choice-is (after .before .before .loop .inv) (half .result) (half .ensures)
+    (c .before .before .before .before .before .before .enum-told .given .1) (not-true _ (c .before .before .before .before .if1 .taken)) (c .before .before .before .if2 .taken) (c .check-choice .ensures))
     -- returns-3
-    (λ c. let half = c .before .before .before .before .before .check-half in check-done (c .before .before .before .before .before .before .before .loop .inv) (half .result) (half .ensures) (c .before .before .before .enum-told .given .1) (not-true _ (c .before .if1 .taken)) (c .if2 .left))
+    (λ c.
+    let after = c .before .before .before .before .before in
+    let half = after .check-half in
+    check-done (after .before .before .loop .inv) (half .result) (half .ensures)
+    (c .before .before .before .enum-told .given .1) (not-true _ (c .before .if1 .taken)) (c .if2 .left))
