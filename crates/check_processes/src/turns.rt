@@ -17,8 +17,8 @@ use notation::reading::TermNode;
 use notation::script::Script;
 use notation::words::narrow;
 use read_tables::access::term_node;
-use run_words::records::HELD_WORDS;
 use run_words::records::Held;
+use run_words::records::NOTHING;
 ghost use mathlib.Core.Path.{_≡_};
 ghost use Prim.Native.Nat.{_≤_};
 ghost use Rattle.notation.specs.Limits.{processTermLimit};
@@ -39,17 +39,14 @@ pub struct Turn {
     pub held: Held,
     pub link: bool,
     pub rest: usize,
+    // A choice's node.
     pub node: TermNode,
+    // Whether there is a first half; what it holds, whether it has a link, its pointer.
     pub halved: bool,
     pub half: Held,
     pub tied: bool,
     pub from: usize,
 }
-
-const NOTHING: Held = Held {
-    count: 0,
-    words: [0; HELD_WORDS],
-};
 
 const NO_NODE: TermNode = TermNode {
     kind: 0,
@@ -74,6 +71,7 @@ const BLANK: Turn = Turn {
     from: 0,
 };
 
+// The process at `rest` follows.
 pub(crate) fn goes_on(h: Held, link: bool, rest: usize) -> Turn
     ensures { λ r. ⌜ Onward h link rest r ⌝ }
 {
@@ -85,7 +83,7 @@ pub(crate) fn goes_on(h: Held, link: bool, rest: usize) -> Turn
     t
 }
 
-// What is held then is of no account.
+// The verdict is given; what is held then is of no account.
 pub(crate) fn done(v: Verdict) -> Turn
     ensures { λ r. ⌜ Given v r ⌝ }
 {

@@ -6,6 +6,7 @@ use mathlib.Core.Bool.{Bool, true, false, true≢false, false≢true, cond}
 use mathlib.Core.Option.{Option·some-injective}
 use native.Mathlib.Omega.{arith}
 use lib.ListN.{length, length-map}
+use Rattle.theory_ends.specs.Contexts.{context-length}
 use Rattle.notation.specs.Limits.{heldLimit}
 use Rattle.notation.specs.Bytes.{same}
 use Rattle.notation.specs.Token.{nameAt}
@@ -67,10 +68,6 @@ receiver-room (raises a b) e = absurd (false≢true e)
 receiver-room (cancels a b) e = absurd (false≢true e)
 receiver-room (empties a) e = absurd (false≢true e)
 
-context-many : (l : List (Name × End)) → length (contextOf l) ≡ length l
-context-many [] = refl
-context-many (e ∷ l) = ap suc (context-many l)
-
 doing-room : (p : Program) (G : Context) (link : Bool) (d : Doing) → TypedAs p G link d → wantsChannel (turnOf d) ≡ true → length G < heldLimit
 doing-room p G link (running P) (a, t) e = receiver-room t e
 doing-room p G link folding t e = absurd (false≢true e)
@@ -81,7 +78,7 @@ module _ (s w ws : List ℕ) (F : WellFormed (programIn s w) (configIn s w ws)) 
   room-to-hear j r x t u g z =
       let e : wantsChannel (heard (nameAt s x) (turnOf (doingAs s w (r .kind) (r .pointer)))) ≡ true = ap wantsChannel (g .is) ∙ ap (λ k. wantsChannel (turnBy s w t k)) z in
       let l = doing-room (programIn s w) (contextOf (channelsOf s w (r .held))) (isSome (linkOf (r .link))) (doingAs s w (r .kind) (r .pointer)) (F .typed j (processAs s w r) (record { there = u .there })) (heard-wants (nameAt s x) (turnOf (doingAs s w (r .kind) (r .pointer))) e) in
-      omega (arith, l, context-many (channelsOf s w (r .held)), channels-many s w (r .held))
+      omega (arith, l, context-length (channelsOf s w (r .held)), channels-many s w (r .held))
 
   -- ── fewer outside channels than numbers given
   rising-few : (low top : ℕ) (l : List ℕ) → Rising low l → ((n : ℕ) → In n l → n < top) → low ≤ top → length l + low ≤ top

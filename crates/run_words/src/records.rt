@@ -87,7 +87,7 @@ pub struct Doing {
 }
 
 // Nothing is held.
-const NOTHING: Held = Held {
+pub const NOTHING: Held = Held {
     count: 0,
     words: [0; HELD_WORDS],
 };
