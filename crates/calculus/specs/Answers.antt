@@ -12,6 +12,8 @@ use Rattle.calculus.specs.declared.answers.RanOn.{RanOn}
 use Rattle.calculus.specs.declared.answers.RanOn.the-variants as Runs
 use Rattle.calculus.specs.declared.answers.Reported.{Reported}
 use Rattle.calculus.specs.declared.answers.Reported.the-variants as Reports
+use Rattle.calculus.specs.declared.answers.Surveyed.{Surveyed}
+use Rattle.calculus.specs.declared.answers.Surveyed.the-variants as Surveys
 
 pub record Told : Type 0 where
   pub refusal : ℕ
@@ -54,3 +56,7 @@ ranOnAs (Runs.Refused n at) = refusedAs n at
 unfoldable pub reportedAs : Reported → Told
 reportedAs (Reports.Open count) = givenAs (count ∷ [])
 reportedAs (Reports.Refused n at) = refusedAs n at
+
+unfoldable pub surveyedAs : Surveyed → Told
+surveyedAs (Surveys.Processes count) = givenAs (count ∷ [])
+surveyedAs (Surveys.Refused n at) = refusedAs n at

@@ -20,12 +20,13 @@ use Rattle.calculus.specs.Runs.{runOn}
 use Rattle.calculus.specs.Forest.{joints}
 use Rattle.calculus.specs.WellFormed.{WellFormed, In}
 use Rattle.calculus.specs.Reduces.{Reduces, Lacks, Open}
-use Rattle.calculus.specs.Machine.{Call, callStart, callStep, callRunOn, callReport, callExecName, Answer, started, stepped, ranOn, reported, named, reply, Exchange, respond, idle, history}
+use Rattle.calculus.specs.Machine.{Call, callStart, callStep, callRunOn, callReport, callPlaces, callExecName, Answer, started, stepped, ranOn, reported, surveyed, named, reply, Exchange, respond, idle, history}
 use Rattle.calculus.specs.declared.answers.Seen.{Seen}
 use Rattle.calculus.specs.declared.answers.Started.the-variants as Starts
 use Rattle.calculus.specs.declared.answers.Stepped.the-variants as Steps
 use Rattle.calculus.specs.declared.answers.RanOn.the-variants as Runs
 use Rattle.calculus.specs.declared.answers.Reported.the-variants as Reports
+use Rattle.calculus.specs.declared.answers.Surveyed.the-variants as Surveys
 
 -- ── demand 2: "A script is accepted exactly when the typing rules give it a derivation"
 -- the typing rules give every process of the script a derivation
@@ -81,6 +82,8 @@ isRefused (ranOn (Runs.Stopped t)) = false
 isRefused (ranOn (Runs.Refused n i)) = true
 isRefused (reported (Reports.Open n) l) = false
 isRefused (reported (Reports.Refused n i) l) = true
+isRefused (surveyed (Surveys.Processes n) l) = false
+isRefused (surveyed (Surveys.Refused n i) l) = true
 isRefused (named l ℕ.zero i) = false
 isRefused (named l (ℕ.suc n) i) = true
 
@@ -89,14 +92,16 @@ lengths (callStart scratch run line) = Enough scratch run
 lengths (callStep scratch run place) = Enough scratch run
 lengths (callRunOn scratch run budget) = Enough scratch run
 lengths (callReport scratch run) = Enough scratch run
+lengths (callPlaces scratch run) = Enough scratch run
 lengths (callExecName scratch line) = Enough scratch runWords
 
--- with slices of enough words: a start and an exec's name exactly where the line is missing, a run-on and a report never, an open step exactly where it lacks
+-- with slices of enough words: a start and an exec's name exactly where the line is missing, a run-on, a report and a survey of the places never, an open step exactly where it lacks
 abbrev pub RefusedWhere : Program → Config → Call → Answer → Type 0
 RefusedWhere p C (callStart scratch run line) a = (isRefused a ≡ true) ↔ (length (p .execs) ≤ line)
 RefusedWhere p C (callStep scratch run i) a = Open p C i → (isRefused a ≡ true) ↔ Lacks C i
 RefusedWhere p C (callRunOn scratch run budget) a = isRefused a ≡ false
 RefusedWhere p C (callReport scratch run) a = isRefused a ≡ false
+RefusedWhere p C (callPlaces scratch run) a = isRefused a ≡ false
 RefusedWhere p C (callExecName scratch line) a = (isRefused a ≡ true) ↔ (length (p .execs) ≤ line)
 
 -- "between the steps of each run-on": what a run-on with a smaller budget leaves
@@ -105,6 +110,7 @@ SafeBetween p C (callStart scratch run line) = Unit {0}
 SafeBetween p C (callStep scratch run i) = Unit {0}
 SafeBetween p C (callRunOn scratch run budget) = (b : ℕ) → b ≤ budget → Safe p (runOn p C b .config)
 SafeBetween p C (callReport scratch run) = Unit {0}
+SafeBetween p C (callPlaces scratch run) = Unit {0}
 SafeBetween p C (callExecName scratch line) = Unit {0}
 
 -- what demand 3 asks of a call of the plain machine

@@ -10,7 +10,7 @@ use Rattle.calculus.specs.Program.{Program, programOf}
 use Rattle.calculus.specs.Accepted.{Checked, accepted, faulty, checked}
 use Rattle.calculus.specs.Configuration.{Process, Config, config, at}
 use Rattle.calculus.specs.Steps.{Outcome, carried, notOpen, lacking, step}
-use Rattle.calculus.specs.Runs.{startConfig, execOf, runOn, report}
+use Rattle.calculus.specs.Runs.{startConfig, execOf, runOn, report, places}
 use Rattle.calculus.specs.declared.answers.Seen.{Seen}
 use Rattle.calculus.specs.declared.answers.Started.{Started}
 use Rattle.calculus.specs.declared.answers.Started.the-variants as Starts
@@ -20,6 +20,8 @@ use Rattle.calculus.specs.declared.answers.RanOn.{RanOn}
 use Rattle.calculus.specs.declared.answers.RanOn.the-variants as Runs
 use Rattle.calculus.specs.declared.answers.Reported.{Reported}
 use Rattle.calculus.specs.declared.answers.Reported.the-variants as Reports
+use Rattle.calculus.specs.declared.answers.Surveyed.{Surveyed}
+use Rattle.calculus.specs.declared.answers.Surveyed.the-variants as Surveys
 
 -- a call: the lengths of the slices lent, in words, and its number if it takes one
 pub data Call : Type 0 where
@@ -27,14 +29,16 @@ pub data Call : Type 0 where
   callStep : (scratch run place : ℕ) → Call
   callRunOn : (scratch run budget : ℕ) → Call
   callReport : (scratch run : ℕ) → Call
+  callPlaces : (scratch run : ℕ) → Call
   callExecName : (scratch line : ℕ) → Call
 
--- an answer; a report's with the numbers, an exec name's with the part of the text, the refusal's number and its offset
+-- an answer; a report's with the numbers, a survey's with what each place's step is, an exec name's with the part of the text, the refusal's number and its offset
 pub data Answer : Type 0 where
   started : Started → Answer
   stepped : Stepped → Answer
   ranOn : RanOn → Answer
   reported : Reported → List ℕ → Answer
+  surveyed : Surveyed → List ℕ → Answer
   named : List ℕ → ℕ → ℕ → Answer
 
 -- an answer and the configuration afterwards
@@ -79,6 +83,7 @@ refusal C (callStart scratch run line) n i = reply (started (Starts.Refused n i)
 refusal C (callStep scratch run place) n i = reply (stepped (Steps.Refused n i)) C
 refusal C (callRunOn scratch run budget) n i = reply (ranOn (Runs.Refused n i)) C
 refusal C (callReport scratch run) n i = reply (reported (Reports.Refused n i) []) C
+refusal C (callPlaces scratch run) n i = reply (surveyed (Surveys.Refused n i) []) C
 refusal C (callExecName scratch line) n i = reply (named [] n i) C
 
 abbrev pub respondBy : (ℕ → ℕ → Reply) → List ℕ → Config → Call → Reply
@@ -99,6 +104,10 @@ respondBy refuse s C (callReport scratch run) =
     onProgram (textChecked s scratch) refuse λ p.
     onRun run refuse
     (reply (reported (Reports.Open (length (report C))) (report C)) C)
+respondBy refuse s C (callPlaces scratch run) =
+    onProgram (textChecked s scratch) refuse λ p.
+    onRun run refuse
+    (reply (surveyed (Surveys.Processes (length (places p C))) (places p C)) C)
 respondBy refuse s C (callExecName scratch line) =
     onProgram (textChecked s scratch) refuse λ p.
     onLine (getElem? (p .execs) line) refuse λ n. reply (named (n .name) 0 0) C

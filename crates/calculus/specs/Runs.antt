@@ -1,4 +1,4 @@
--- Start, run-on and report.
+-- Start, run-on, report and places.
 use Prim.Native.Nat.{ℕ, zero, suc, _+_}
 use mathlib.Core.List.{List, [], _∷_, map}
 use mathlib.Core.Bool.{Bool, true, false, cond}
@@ -92,3 +92,17 @@ runOn p C budget = runFrom p budget 0 Nothing C
 -- ── "A report gives the outside channels still open, each once"
 unfoldable pub report : Config → List ℕ
 report C = map (λ (o : Outside). o .number) (C .outside)
+
+-- ── "Places gives for each process whether its step is open, and whether it lacks a free place or number"
+-- not open 0, open 1, open but lacking 2
+abbrev pub openness : Outcome → ℕ
+openness notOpen = 0
+openness (carried s D) = 1
+openness lacking = 2
+
+unfoldable pub opennessFrom : Program → Config → ℕ → List Process → List ℕ
+opennessFrom p C i [] = []
+opennessFrom p C i (q ∷ l) = openness (step p C i) ∷ opennessFrom p C (suc i) l
+
+unfoldable pub places : Program → Config → List ℕ
+places p C = opennessFrom p C 0 (C .processes)

@@ -38,3 +38,14 @@ pub struct Report {
     pub answer: Reported,
     pub numbers: [u32; 32],
 }
+
+// How many processes there are; what the step at each of their places is stands beside it in Places: not open 0, open 1, open but lacking 2.
+pub enum Surveyed {
+    Processes(u32),
+    Refused(u32, usize),
+}
+
+pub struct Places {
+    pub answer: Surveyed,
+    pub steps: [u32; 128],
+}

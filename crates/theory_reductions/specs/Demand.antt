@@ -11,7 +11,7 @@ use Rattle.calculus.specs.Program.{programOf}
 use Rattle.calculus.specs.Accepted.{accepted, checked}
 use Rattle.calculus.specs.Configuration.{Process, Config, at}
 use Rattle.calculus.specs.Steps.{Outcome, carried, notOpen, lacking, step}
-use Rattle.calculus.specs.Machine.{callStep, Answer, started, stepped, ranOn, reported, named, Reply, reply, refusal, onPlace, onStep, textChecked, respond}
+use Rattle.calculus.specs.Machine.{callStep, Answer, started, stepped, ranOn, reported, surveyed, named, Reply, reply, refusal, onPlace, onStep, textChecked, respond}
 use Rattle.calculus.specs.Demands.{Enough, Answered, Demand2}
 use Rattle.calculus.specs.Reduces.{Reduces, Lacks, Open}
 use Rattle.calculus.specs.declared.answers.Seen.{Seen}
@@ -27,6 +27,7 @@ seen-in (stepped (Answers.Carried s)) = some s
 seen-in (stepped (Answers.Refused n i)) = none
 seen-in (ranOn a) = none
 seen-in (reported a l) = none
+seen-in (surveyed a l) = none
 seen-in (named l n i) = none
 
 module _ (text : List ℕ) (ds : List Declaration) (e : checked text ≡ accepted ds) (C : Config) (scratch run i : ℕ) (enough : Enough scratch run) where

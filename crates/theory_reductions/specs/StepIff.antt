@@ -7,7 +7,9 @@ use mathlib.Core.Bool.{true, true≢false, false≢true}
 use Rattle.calculus.specs.Program.{Program}
 use Rattle.calculus.specs.Configuration.{Process, Config, at}
 use Rattle.calculus.specs.Steps.{Outcome, carried, notOpen, lacking, stepOf, step, isOpenBy, lacksBy}
+use Rattle.calculus.specs.Runs.{openness}
 use Rattle.calculus.specs.declared.answers.Seen.{Seen}
+use native.Mathlib.Omega.{arith}
 use Rattle.calculus.specs.Reduces.{Reduces, Lacks, Open}
 use Rattle.theory_reductions.specs.CarriedOut.{carried-out, lacks-out}
 use Rattle.theory_reductions.specs.Ruled.{Ruled, ruled-reduces, ruled-shut, ruled-short, step-ruled}
@@ -63,3 +65,20 @@ module _ (p : Program) (C : Config) (i : ℕ) where
 
   pub reduces-or-lacks : {s : Seen} {D : Config} → Reduces p C i s D → Lacks C i → ⊥
   reduces-or-lacks r l = true≢false (ap lacksBy (sym (lacks-out p l) ∙ carried-out p r))
+
+  -- ── what `places` tells of a place, by the rules
+  pub open-told : (openness (step p C i) ≡ 1) ↔ ((seen : Seen) × (D : Config) × Reduces p C i seen D)
+  open-told = (told (step-ruled p C i), λ (s, D, r). ap openness (carried-out p r))
+    where
+      told : {r : Outcome} → Ruled p C i r → openness r ≡ 1 → (seen : Seen) × (D : Config) × Reduces p C i seen D
+      told (ruled-reduces {seen = s} {D = D} r) e = (s, D, r)
+      told ruled-shut e = absurd (omega (arith, e))
+      told (ruled-short l) e = absurd (omega (arith, e))
+
+  pub lacking-told : (openness (step p C i) ≡ 2) ↔ Lacks C i
+  lacking-told = (told (step-ruled p C i), λ l. ap openness (lacks-out p l))
+    where
+      told : {r : Outcome} → Ruled p C i r → openness r ≡ 2 → Lacks C i
+      told (ruled-reduces r) e = absurd (omega (arith, e))
+      told ruled-shut e = absurd (omega (arith, e))
+      told (ruled-short l) e = l

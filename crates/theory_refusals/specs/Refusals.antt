@@ -12,7 +12,7 @@ use Rattle.notation.specs.Limits.{scratchWords, runWords}
 use Rattle.notation.specs.Tree.{Declaration}
 use Rattle.notation.specs.Reader.{Result, got, refused}
 use Rattle.notation.specs.Scripts.{readText}
-use Rattle.calculus.specs.Answers.{startedAs, steppedAs, ranOnAs, reportedAs}
+use Rattle.calculus.specs.Answers.{startedAs, steppedAs, ranOnAs, reportedAs, surveyedAs}
 use Rattle.calculus.specs.Program.{Program}
 use Rattle.calculus.specs.Verdict as verdicts
 use Rattle.calculus.specs.Verdict.{Verdict, fine, andThen}
@@ -22,7 +22,7 @@ use Rattle.calculus.specs.Accepted.{Checked, accepted, faulty, judged, checkedR
 use Rattle.calculus.specs.Configuration.{Process, Config, at}
 use Rattle.calculus.specs.Steps.{Outcome, carried, notOpen, lacking, step}
 use Rattle.calculus.specs.Runs.{execOf, runOn}
-use Rattle.calculus.specs.Machine.{Call, callStart, callStep, callRunOn, callReport, callExecName, Answer, started, stepped, ranOn, reported, named, Reply, textChecked, onProgram, onRun, onLine, onPlace, onStep, refusal, respond}
+use Rattle.calculus.specs.Machine.{Call, callStart, callStep, callRunOn, callReport, callPlaces, callExecName, Answer, started, stepped, ranOn, reported, surveyed, named, Reply, textChecked, onProgram, onRun, onLine, onPlace, onStep, refusal, respond}
 use Rattle.calculus.specs.Demands.{isRefused}
 use Rattle.calculus.specs.declared.answers.Seen.{Seen}
 use Rattle.calculus.specs.declared.answers.RanOn.{RanOn}
@@ -30,6 +30,7 @@ use Rattle.calculus.specs.declared.answers.Started.the-variants as starts
 use Rattle.calculus.specs.declared.answers.Stepped.the-variants as steps
 use Rattle.calculus.specs.declared.answers.RanOn.the-variants as runs
 use Rattle.calculus.specs.declared.answers.Reported.the-variants as reports
+use Rattle.calculus.specs.declared.answers.Surveyed.the-variants as surveys
 use Rattle.theory_progress.specs.RunOn.{Ended, run-on-ends}
 use Rattle.theory_refusals.specs.Verdicts.{Between, Numbered, declared-within, typed-within}
 use Rattle.notation.proofs.ScriptReadings.{read-numbered}
@@ -65,6 +66,7 @@ refusalOf (started a) = startedAs a .refusal
 refusalOf (stepped a) = steppedAs a .refusal
 refusalOf (ranOn a) = ranOnAs a .refusal
 refusalOf (reported a l) = reportedAs a .refusal
+refusalOf (surveyed a l) = surveyedAs a .refusal
 refusalOf (named l n i) = n
 
 abbrev pub offsetOf : Answer → ℕ
@@ -78,7 +80,9 @@ offsetOf (ranOn (runs.Full t)) = 0
 offsetOf (ranOn (runs.Stopped t)) = 0
 offsetOf (ranOn (runs.Refused n i)) = i
 offsetOf (reported (reports.Open n) l) = 0
+offsetOf (surveyed (surveys.Processes n) l) = 0
 offsetOf (reported (reports.Refused n i) l) = i
+offsetOf (surveyed (surveys.Refused n i) l) = i
 offsetOf (named l n i) = i
 
 -- a call can "fail on 16 to 21 only where that argument exists"; the plain machine never on 18
@@ -87,6 +91,7 @@ ByArguments (callStart scratch run line) n = (n ≡ 16) ⊎ (n ≡ 17)
 ByArguments (callStep scratch run place) n = (n ≡ 16) ⊎ Between 19 21 n
 ByArguments (callRunOn scratch run budget) n = n ≡ 16
 ByArguments (callReport scratch run) n = n ≡ 16
+ByArguments (callPlaces scratch run) n = n ≡ 16
 ByArguments (callExecName scratch line) n = n ≡ 17
 
 -- the text's refusal, 2 to 15; or 1, or one by the arguments, with offset 0: "(0 for 1 and from 16 on)"
@@ -110,6 +115,7 @@ some-number (callStep scratch run place) n i (inr (inr (inl e), z)) = omega arit
 some-number (callStep scratch run place) n i (inr (inr (inr e), z)) = omega arith
 some-number (callRunOn scratch run budget) n i (inr (inr e, z)) = omega arith
 some-number (callReport scratch run) n i (inr (inr e, z)) = omega arith
+some-number (callPlaces scratch run) n i (inr (inr e, z)) = omega arith
 some-number (callExecName scratch line) n i (inr (inr e, z)) = omega arith
 
 -- ── a law for each part of the refusal list
@@ -118,11 +124,12 @@ named-refused scratch line zero i h z = absurd (omega arith)
 named-refused scratch line (suc n) i h z = record { holds = h }
 
 refuses : (C : Config) (c : Call) (n i : ℕ) → Refuses c n i → Answers c (refusal C c n i .answer)
-unfolding startedAs steppedAs ranOnAs reportedAs
+unfolding startedAs steppedAs ranOnAs reportedAs surveyedAs
 refuses C (callStart scratch run line) n i h = record { holds = h }
 refuses C (callStep scratch run place) n i h = record { holds = h }
 refuses C (callRunOn scratch run budget) n i h = record { holds = h }
 refuses C (callReport scratch run) n i h = record { holds = h }
+refuses C (callPlaces scratch run) n i h = record { holds = h }
 refuses C (callExecName scratch line) n i h = named-refused scratch line n i h (some-number (callExecName scratch line) n i h .0)
 
 abbrev Replies : Call → Reply → Type 0
@@ -178,7 +185,7 @@ ran-answers p C scratch run budget = go _ (runOn p C budget .answer) _ (run-on-e
 
 -- every call gets an answer or a numbered refusal
 pub respond-answers : (s : List ℕ) (C : Config) (c : Call) → Answers c (respond s C c .answer)
-unfolding respond startedAs steppedAs reportedAs
+unfolding respond startedAs steppedAs reportedAs surveyedAs
 respond-answers s C (callStart scratch run line) =
     let c = callStart scratch run line in
     by-text C c s scratch _ λ p.
@@ -194,6 +201,9 @@ respond-answers s C (callRunOn scratch run budget) =
     by-text C c s scratch _ λ p. by-run C c run _ refl (ran-answers p C scratch run budget)
 respond-answers s C (callReport scratch run) =
     let c = callReport scratch run in
+    by-text C c s scratch _ λ p. by-run C c run _ refl (record { holds = (refl, refl) })
+respond-answers s C (callPlaces scratch run) =
+    let c = callPlaces scratch run in
     by-text C c s scratch _ λ p. by-run C c run _ refl (record { holds = (refl, refl) })
 respond-answers s C (callExecName scratch line) =
     let c = callExecName scratch line in

@@ -10,13 +10,13 @@ use Rattle.calculus.specs.Accepted.{accepted, checked}
 use Rattle.calculus.specs.Configuration.{Config}
 use Rattle.calculus.specs.Runs.{report, runOn}
 use Rattle.calculus.specs.WellFormed.{In, NoneTwice}
-use Rattle.calculus.specs.Machine.{Call, callStart, callStep, callRunOn, callReport, callExecName, Answer, started, stepped, ranOn, reported, named, Reply, refusal, respond, Exchange, history}
+use Rattle.calculus.specs.Machine.{Call, callStart, callStep, callRunOn, callReport, callPlaces, callExecName, Answer, started, stepped, ranOn, reported, surveyed, named, Reply, refusal, respond, Exchange, history}
 use Rattle.calculus.specs.declared.answers.Seen.the-variants.{Nothing}
 use Rattle.calculus.specs.declared.answers.RanOn.{RanOn}
 use Rattle.calculus.specs.declared.answers.Stepped.the-variants as steps
 use Rattle.calculus.specs.declared.answers.RanOn.the-variants as runs
 use Rattle.theory_progress.specs.RunOn.{Ended, run-on-ends, quietlyTo}
-use Rattle.theory_safety.specs.Replies.{Replied, refuses, begins, carries-out, runs as ran, reports as reported-open, names, replied, refusal-config}
+use Rattle.theory_safety.specs.Replies.{Replied, refuses, begins, carries-out, runs as ran, reports as reported-open, surveys-places, names, replied, refusal-config}
 use Rattle.theory_safety.specs.Safety.{has-begun}
 use Rattle.theory_safety.specs.Outward.{counted}
 use Rattle.theory_safety.specs.NeverTwice.{numberOf, InOrder, one-step, order-once, order-new, start-once}
@@ -32,6 +32,7 @@ shownIn (ranOn (runs.Full t)) r = r
 shownIn (ranOn (runs.Stopped t)) r = r
 shownIn (ranOn (runs.Refused n i)) r = r
 shownIn (reported a l) r = r
+shownIn (surveyed a l) r = r
 shownIn (named l n i) r = r
 
 abbrev pub numbersShown : List Exchange → List ℕ
@@ -54,6 +55,7 @@ shows-none C (callStart scratch run line) n i l = refl
 shows-none C (callStep scratch run place) n i l = refl
 shows-none C (callRunOn scratch run budget) n i l = refl
 shows-none C (callReport scratch run) n i l = refl
+shows-none C (callPlaces scratch run) n i l = refl
 shows-none C (callExecName scratch line) n i l = refl
 
 quiet-given : (p : Program) (n : ℕ) (C D : Config) → quietlyTo p n C D → D .given ≡ C .given
@@ -77,6 +79,7 @@ module _ (p : Program) (C : Config) (l : List ℕ) (k : ℕ) where
   reply-shows (carries-out {place = place} seen D h) e o = one-step (C .given) (D .given) k seen l (counted p C place seen h) o
   reply-shows (ran {budget = budget}) e o = ran-shows budget _ (runOn p C budget .answer) (runOn p C budget .config) (run-on-ends p C budget) o
   reply-shows reported-open e o = o
+  reply-shows surveys-places e o = o
   reply-shows (names n) e o = o
 
 start-shows : {p : Program} {C : Config} {scratch run line : ℕ} {r : Reply} → Replied p C (callStart scratch run line) r → has-begun (r .answer) ≡ true

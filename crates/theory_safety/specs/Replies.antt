@@ -14,9 +14,9 @@ use Rattle.calculus.specs.Program.{Signature, Program, programOf}
 use Rattle.calculus.specs.Accepted.{accepted, faulty, checked}
 use Rattle.calculus.specs.Configuration.{Process, Config, at}
 use Rattle.calculus.specs.Steps.{Outcome, carried, notOpen, lacking, step}
-use Rattle.calculus.specs.Runs.{startConfig, lineSignature, execOf, runOn, report}
+use Rattle.calculus.specs.Runs.{startConfig, lineSignature, execOf, runOn, report, places}
 use Rattle.calculus.specs.Reduces.{Lacks, Open}
-use Rattle.calculus.specs.Machine.{Call, callStart, callStep, callRunOn, callReport, callExecName, started, stepped, ranOn, reported, named, Reply, reply, textChecked, onProgram, onRun, onLine, onPlace, onStep, refusal, respond}
+use Rattle.calculus.specs.Machine.{Call, callStart, callStep, callRunOn, callReport, callPlaces, callExecName, started, stepped, ranOn, reported, surveyed, named, Reply, reply, textChecked, onProgram, onRun, onLine, onPlace, onStep, refusal, respond}
 use Rattle.calculus.specs.Demands.{isRefused, lengths, RefusedWhere}
 use Rattle.calculus.specs.declared.answers.Seen.{Seen}
 use Rattle.calculus.specs.declared.answers.RanOn.{RanOn}
@@ -24,6 +24,7 @@ use Rattle.calculus.specs.declared.answers.Started.the-variants as Starts
 use Rattle.calculus.specs.declared.answers.Stepped.the-variants as Steps
 use Rattle.calculus.specs.declared.answers.RanOn.the-variants as Runs
 use Rattle.calculus.specs.declared.answers.Reported.the-variants as Reports
+use Rattle.calculus.specs.declared.answers.Surveyed.the-variants as Surveys
 use Rattle.theory_derivations.specs.Booleans.{leb-iff}
 use Rattle.theory_ends.specs.Lists.{found-in, none-past, found-below}
 use Rattle.theory_reductions.specs.CarriedOut.{carried-out, lacks-out}
@@ -50,6 +51,7 @@ pub data Replied (p : Program) (C : Config) : Call → Reply → Type 0 where
       → Replied p C (callStep scratch run place) (reply (stepped (Steps.Carried seen)) D)
   runs : {scratch run budget : ℕ} → Replied p C (callRunOn scratch run budget) (reply (ranOn (runOn p C budget .answer)) (runOn p C budget .config))
   reports : {scratch run : ℕ} → Replied p C (callReport scratch run) (reply (reported (Reports.Open (length (report C))) (report C)) C)
+  surveys-places : {scratch run : ℕ} → Replied p C (callPlaces scratch run) (reply (surveyed (Surveys.Processes (length (places p C))) (places p C)) C)
   names : {scratch line : ℕ} (n : Located) → Replied p C (callExecName scratch line) (reply (named (n .name) 0 0) C)
 
 module _ {p : Program} {C : Config} {c : Call} where
@@ -80,6 +82,7 @@ refusal-config C (callStart scratch run line) n i = refl
 refusal-config C (callStep scratch run place) n i = refl
 refusal-config C (callRunOn scratch run budget) n i = refl
 refusal-config C (callReport scratch run) n i = refl
+refusal-config C (callPlaces scratch run) n i = refl
 refusal-config C (callExecName scratch line) n i = refl
 
 pub run-never-refused : (p : Program) (C : Config) (budget : ℕ) → isRefused (ranOn (runOn p C budget .answer)) ≡ false
@@ -98,6 +101,7 @@ unchanged-by (begins g h) e = absurd (false≢true e)
 unchanged-by (carries-out seen D h) e = absurd (false≢true e)
 unchanged-by {p} {C} (runs {budget = budget}) e = absurd (false≢true (sym (run-never-refused p C budget) ∙ e))
 unchanged-by reports e = refl
+unchanged-by surveys-places e = refl
 unchanged-by (names n) e = refl
 
 module _ (text : List ℕ) (ds : List Declaration) (ok : checked text ≡ accepted ds) where
@@ -120,6 +124,7 @@ module _ (text : List ℕ) (ds : List Declaration) (ok : checked text ≡ accept
       on-text _ scratch _ (on-run run (on-place (at C place) (on-step (step P C place) (λ seen D e. carries-out seen D e))))
   replied C (callRunOn scratch run budget) = on-text _ scratch _ (on-run run runs)
   replied C (callReport scratch run) = on-text _ scratch _ (on-run run reports)
+  replied C (callPlaces scratch run) = on-text _ scratch _ (on-run run surveys-places)
   replied C (callExecName scratch line) = on-text _ scratch _ (on-line (getElem? (P .execs) line) (λ n e. names n))
 
   -- ── which calls are refused, with slices of enough words
@@ -146,6 +151,7 @@ module _ (text : List ℕ) (ds : List Declaration) (ok : checked text ≡ accept
   refused-where C (callRunOn scratch run budget) h =
       rw (enough-text scratch (h .scratchEnough), leb-iff runWords run .1 (h .runEnough)) (run-never-refused P C budget)
   refused-where C (callReport scratch run) h = rw (enough-text scratch (h .scratchEnough), leb-iff runWords run .1 (h .runEnough)) refl
+  refused-where C (callPlaces scratch run) h = rw (enough-text scratch (h .scratchEnough), leb-iff runWords run .1 (h .runEnough)) refl
   refused-where C (callExecName scratch line) h = rw (enough-text scratch (h .scratchEnough)) (go (getElem? (P .execs) line) refl)
     where
       go : (o : Option Located) → getElem? (P .execs) line ≡ o

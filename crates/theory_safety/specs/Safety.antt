@@ -10,7 +10,7 @@ use Rattle.calculus.specs.Configuration.{Config}
 use Rattle.calculus.specs.Steps.{carried, step}
 use Rattle.calculus.specs.Runs.{runOn}
 use Rattle.calculus.specs.WellFormed.{In, WellFormed}
-use Rattle.calculus.specs.Machine.{Call, callStart, callStep, callRunOn, callReport, callExecName, Answer, started, stepped, ranOn, reported, named, Reply, refusal, respond, idle, Exchange, history}
+use Rattle.calculus.specs.Machine.{Call, callStart, callStep, callRunOn, callReport, callPlaces, callExecName, Answer, started, stepped, ranOn, reported, surveyed, named, Reply, refusal, respond, idle, Exchange, history}
 use Rattle.calculus.specs.Demands.{Safe, SafeBetween, SafeExchange, PlainDemand3}
 use Rattle.calculus.specs.declared.answers.Seen.{Seen}
 use Rattle.calculus.specs.declared.answers.Started.the-variants as Starts
@@ -19,7 +19,7 @@ use Rattle.theory_progress.specs.Progress.{some-open}
 use Rattle.theory_progress.specs.RunOn.{stepsTo, given, run-on-steps}
 use Rattle.theory_preservation.specs.Preserved.{preserved}
 use Rattle.theory_preservation.specs.Accepted.{accepted-bodies, accepted-start}
-use Rattle.theory_safety.specs.Replies.{Replied, refuses, begins, carries-out, runs, reports, names, refusal-config, unchanged-by, replied, refused-where}
+use Rattle.theory_safety.specs.Replies.{Replied, refuses, begins, carries-out, runs, reports, surveys-places, names, refusal-config, unchanged-by, replied, refused-where}
 
 pub safe : {p : Program} {C : Config} → WellFormed p C → Safe p C
 safe {p} {C} v = record { wellFormed = v; fewer = joints-fewer p C v; someOpen = some-open p C v }
@@ -30,6 +30,7 @@ has-begun (started (Starts.Refused n i)) = false
 has-begun (stepped a) = false
 has-begun (ranOn a) = false
 has-begun (reported a l) = false
+has-begun (surveyed a l) = false
 has-begun (named l n i) = false
 
 -- only a start begins a run
@@ -38,6 +39,7 @@ is-start (callStart scratch run line) = true
 is-start (callStep scratch run place) = false
 is-start (callRunOn scratch run budget) = false
 is-start (callReport scratch run) = false
+is-start (callPlaces scratch run) = false
 is-start (callExecName scratch line) = false
 
 pub refusal-begins-none : (C : Config) (c : Call) (n i : ℕ) → has-begun (refusal C c n i .answer) ≡ false
@@ -45,6 +47,7 @@ refusal-begins-none C (callStart scratch run line) n i = refl
 refusal-begins-none C (callStep scratch run place) n i = refl
 refusal-begins-none C (callRunOn scratch run budget) n i = refl
 refusal-begins-none C (callReport scratch run) n i = refl
+refusal-begins-none C (callPlaces scratch run) n i = refl
 refusal-begins-none C (callExecName scratch line) n i = refl
 
 pub begun-start : {p : Program} {C : Config} {c : Call} {r : Reply} → Replied p C c r → has-begun (r .answer) ≡ true → is-start c ≡ true
@@ -53,6 +56,7 @@ begun-start (begins g h) e = refl
 begun-start (carries-out seen D h) e = absurd (false≢true e)
 begun-start runs e = absurd (false≢true e)
 begun-start reports e = absurd (false≢true e)
+begun-start surveys-places e = absurd (false≢true e)
 begun-start (names n) e = absurd (false≢true e)
 
 module _ (text : List ℕ) (ds : List Declaration) (ok : checked text ≡ accepted ds) where
@@ -76,6 +80,7 @@ module _ (text : List ℕ) (ds : List Declaration) (ok : checked text ≡ accept
   reply-keeps {C} v (carries-out {place = i} seen D e) = step-keeps C D i seen v e
   reply-keeps {C} v (runs {budget = budget}) = run-keeps C v budget
   reply-keeps v reports = v
+  reply-keeps v surveys-places = v
   reply-keeps v (names n) = v
 
   pub begun-well-formed : {C : Config} {scratch run line : ℕ} {r : Reply} → Replied p C (callStart scratch run line) r → has-begun (r .answer) ≡ true
@@ -88,6 +93,7 @@ module _ (text : List ℕ) (ds : List Declaration) (ok : checked text ≡ accept
   safe-between C v (callStep scratch run i) = tt
   safe-between C v (callRunOn scratch run budget) = λ b h. safe (run-keeps C v b)
   safe-between C v (callReport scratch run) = tt
+  safe-between C v (callPlaces scratch run) = tt
   safe-between C v (callExecName scratch line) = tt
 
   -- ── every exchange is safe
