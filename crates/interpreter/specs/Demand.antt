@@ -28,7 +28,7 @@ use Rattle.run_words.specs.Decode.{decoded}
 use Rattle.run_words.specs.SliceLaws.{raw-taken, raw-of-taken}
 use Rattle.run_wellformed.specs.Formed.{Formed}
 use Rattle.theory_refusals.specs.Refusals.{refusalOf}
-use Rattle.interpreter.specs.Entries.{Request, toStart, toStep, toRunOn, toReport, toName, EntryCall, callAs, callOf, useOf, configOf, HoldsRun, keepsRun, leftAs, RunAfter, Gives, Reached, plainReply, Answers}
+use Rattle.interpreter.specs.Entries.{Request, toStart, toStep, toRunOn, toReport, toPlaces, toName, EntryCall, callAs, callOf, useOf, configOf, HoldsRun, keepsRun, leftAs, RunAfter, Gives, Reached, plainReply, Answers}
 use Rattle.interpreter.specs.Calls.{Lent, leftBy, leftByAll, Linked, replayed, Agrees, Demand3}
 use Rattle.interpreter.specs.Unread.{unread, BegunAnew, begun-anew}
 use Rattle.interpreter.specs.Numbers.{never-18}
@@ -65,6 +65,7 @@ module _ (s : List ℕ) (ds : List Declaration) (ok : checked s ≡ accepted ds)
   kept-config (toStep place) C n m e = unchanged-by (replied s ds ok C _) e
   kept-config (toRunOn budget) C n m e = unchanged-by (replied s ds ok C _) e
   kept-config toReport C n m e = unchanged-by (replied s ds ok C _) e
+  kept-config toPlaces C n m e = unchanged-by (replied s ds ok C _) e
   kept-config (toName line) C n m e = unread s (toName line) n 0 (omega arith) C C .config
 
   -- what a call comes to, the plain machine being at C: its answer, and what the run then holds
@@ -150,6 +151,7 @@ module _ (s : List ℕ) (ds : List Declaration) (ok : checked s ≡ accepted ds)
   start-asked (toStep place) n m e = absurd (false≢true e)
   start-asked (toRunOn budget) n m e = absurd (false≢true e)
   start-asked toReport n m e = absurd (false≢true e)
+  start-asked toPlaces n m e = absurd (false≢true e)
   start-asked (toName line) n m e = absurd (false≢true e)
 
   begins : (run : List ℕ) (m : EntryCall) → Answers s m → m .answer ≡ started Begun → BegunBy run m (callOf m)

@@ -10,16 +10,19 @@ use Rattle.notation.specs.Limits.{scratchWords, runWords}
 use Rattle.notation.specs.Tables.{tables}
 use Rattle.notation.specs.Tree.{Declaration}
 use Rattle.calculus.specs.Accepted.{accepted, checked}
-use Rattle.calculus.specs.Answers.{Told, refusedAs, givenAs, startedAs, steppedAs, ranOnAs, reportedAs}
+use Rattle.calculus.specs.Answers.{Told, refusedAs, givenAs, startedAs, steppedAs, ranOnAs, reportedAs, surveyedAs}
 use Rattle.calculus.specs.Configuration.{Config}
 use Rattle.calculus.specs.Demands.{isRefused}
-use Rattle.calculus.specs.Machine.{Call, callStart, callStep, callRunOn, callReport, callExecName, Answer, started, stepped, ranOn, reported, named, Reply, refusal, respond, idle}
+use Rattle.calculus.specs.Machine.{Call, callStart, callStep, callRunOn, callReport, callPlaces, callExecName, Answer, started, stepped, ranOn, reported, surveyed, named, Reply, refusal, respond, idle}
 use Rattle.calculus.specs.declared.answers.Started.{Started}
 use Rattle.calculus.specs.declared.answers.Stepped.{Stepped}
 use Rattle.calculus.specs.declared.answers.RanOn.{RanOn}
 use Rattle.calculus.specs.declared.answers.Reported.{Reported}
 use Rattle.calculus.specs.declared.answers.Reported.the-variants.{Open, Refused}
 use Rattle.calculus.specs.declared.answers.Report.{Report}
+use Rattle.calculus.specs.declared.answers.Surveyed.{Surveyed}
+use Rattle.calculus.specs.declared.answers.Surveyed.the-variants as surveys
+use Rattle.calculus.specs.declared.answers.Places.{Places}
 use Rattle.run_words.specs.Raw.{rawIn}
 use Rattle.run_alone.specs.Run.{configIn}
 use Rattle.check_text.specs.Texts.{wordsIn}
@@ -32,6 +35,7 @@ pub data Request : Type 0 where
   toStep : (place : ℕ) → Request
   toRunOn : (budget : ℕ) → Request
   toReport : Request
+  toPlaces : Request
   toName : (line : ℕ) → Request
 
 -- the words of the slices; an entry that is lent no run has none of its words
@@ -55,6 +59,7 @@ callAs (toStart line) scratch run = callStart scratch run line
 callAs (toStep place) scratch run = callStep scratch run place
 callAs (toRunOn budget) scratch run = callRunOn scratch run budget
 callAs toReport scratch run = callReport scratch run
+callAs toPlaces scratch run = callPlaces scratch run
 callAs (toName line) scratch run = callExecName scratch line
 
 abbrev pub callOf : EntryCall → Call
@@ -71,6 +76,7 @@ useOf (toStart line) = anew
 useOf (toStep place) = read
 useOf (toRunOn budget) = read
 useOf toReport = read
+useOf toPlaces = read
 useOf (toName line) = unlent
 
 abbrev pub isRead : RunUse → Bool
@@ -116,7 +122,7 @@ abbrev namedAs : List ℕ → ℕ → ℕ → Told
 namedAs part zero at = givenAs part
 namedAs part (suc n) at = refusedAs (suc n) at
 
--- a report's numbers follow its count
+-- what an entry lists follows its count
 abbrev listedAs : Told → List ℕ → Told
 listedAs t l = record { refusal = t .refusal; values = t .values ++ l }
 
@@ -125,6 +131,7 @@ answerAs (started a) = startedAs a
 answerAs (stepped a) = steppedAs a
 answerAs (ranOn a) = ranOnAs a
 answerAs (reported a l) = listedAs (reportedAs a) l
+answerAs (surveyed a l) = listedAs (surveyedAs a) l
 answerAs (named part n at) = namedAs part n at
 
 -- the very answer of a reply, so the same number and values
@@ -165,6 +172,11 @@ Steps s w ws place r v vs = Answers s (called (toStep place) w ws (stepped r) v 
 abbrev pub RunsOn : List ℕ → List ℕ → List ℕ → ℕ → RanOn → List ℕ → List ℕ → Type 0
 RunsOn s w ws budget r v vs = Answers s (called (toRunOn budget) w ws (ranOn r) v vs)
 
+-- an entry that lists, in an array beside its answer: the list stands first, then zeros; the run is only read
+pub record Lists (s w ws : List ℕ) (q : Request) (a : Answer) (count : ℕ) (words v : List ℕ) : Type 0 where
+  pub answers : Answers s (called q w ws a v ws)
+  pub rest : (k : ℕ) → count ≤ k → getD words k 0 ≡ 0
+
 -- how many numbers a report lists
 abbrev pub counted : Reported → ℕ
 counted (Open n) = n
@@ -173,10 +185,19 @@ counted (Refused n i) = 0
 abbrev pub reportAnswer : Report → Answer
 reportAnswer r = reported (r .answer) (take (counted (r .answer)) (r .numbers))
 
--- a report: its numbers stand first, then zeros; the run is only read
-pub record Reports (s w ws : List ℕ) (r : Report) (v : List ℕ) : Type 0 where
-  pub answers : Answers s (called toReport w ws (reportAnswer r) v ws)
-  pub rest : (k : ℕ) → counted (r .answer) ≤ k → getD (r .numbers) k 0 ≡ 0
+abbrev pub Reports : List ℕ → List ℕ → List ℕ → Report → List ℕ → Type 0
+Reports s w ws r v = Lists s w ws toReport (reportAnswer r) (counted (r .answer)) (r .numbers) v
+
+-- of how many places a survey tells
+abbrev pub placesCounted : Surveyed → ℕ
+placesCounted (surveys.Processes n) = n
+placesCounted (surveys.Refused n i) = 0
+
+abbrev pub placesAnswer : Places → Answer
+placesAnswer r = surveyed (r .answer) (take (placesCounted (r .answer)) (r .steps))
+
+abbrev pub Surveys : List ℕ → List ℕ → List ℕ → Places → List ℕ → Type 0
+Surveys s w ws r v = Lists s w ws toPlaces (placesAnswer r) (placesCounted (r .answer)) (r .steps) v
 
 -- the name of an exec line, "handed back as the part of the lent text that holds it"; the refusal's number and offset "stand in two lent numbers, both 0 otherwise"
 abbrev pub Names : List ℕ → List ℕ → ℕ → List ℕ → ℕ → ℕ → List ℕ → Type 0

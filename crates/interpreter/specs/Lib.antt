@@ -4,7 +4,9 @@ pub mod Inside
 pub mod Runs
 pub mod Stepping
 pub mod RunningOn
+pub mod Listing
 pub mod Reporting
+pub mod Surveying
 pub mod Starting
 pub mod Told
 pub mod Calls

@@ -8,7 +8,7 @@ use native.Mathlib.Omega.{arith}
 use Rattle.calculus.specs.Answers.{startedAs, steppedAs, ranOnAs, reportedAs}
 use Rattle.calculus.specs.Configuration.{Config}
 use Rattle.calculus.specs.Demands.{isRefused}
-use Rattle.calculus.specs.Machine.{Call, callStart, callStep, callRunOn, callReport, callExecName, Answer, refusal, respond, idle}
+use Rattle.calculus.specs.Machine.{Call, callStart, callStep, callRunOn, callReport, callPlaces, callExecName, Answer, refusal, respond, idle}
 use Rattle.theory_refusals.specs.Refusals.{refusalOf, offsetOf, ByArguments, Refuses, refuses-as, respond-numbered, respond-unrefused}
 use Rattle.interpreter.specs.Entries.{EntryCall, callOf, RunUse, anew, read, unlent, useOf, configOf, HoldsRun, keepsRun, leftAs, Reached, plainReply, Answers}
 use Rattle.interpreter.specs.Calls.{Demand1}
@@ -21,6 +21,7 @@ not-by-arguments (callStep scratch run place) n (inl e) z = absurd (omega (arith
 not-by-arguments (callStep scratch run place) n (inr b) z = absurd (omega (arith, b, z))
 not-by-arguments (callRunOn scratch run budget) n e z = absurd (omega (arith, e, z))
 not-by-arguments (callReport scratch run) n e z = absurd (omega (arith, e, z))
+not-by-arguments (callPlaces scratch run) n e z = absurd (omega (arith, e, z))
 not-by-arguments (callExecName scratch line) n e z = absurd (omega (arith, e, z))
 
 not-18 : (c : Call) (n i : ℕ) → Refuses c n i → n ≢ 18
@@ -49,6 +50,7 @@ eighteen (callStart scratch run line) = (omega arith, omega arith)
 eighteen (callStep scratch run place) = (omega arith, omega arith)
 eighteen (callRunOn scratch run budget) = (omega arith, omega arith)
 eighteen (callReport scratch run) = (omega arith, omega arith)
+eighteen (callPlaces scratch run) = (omega arith, omega arith)
 eighteen (callExecName scratch line) = (omega arith, omega arith)
 
 -- a refusal leaves the run

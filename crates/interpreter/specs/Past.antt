@@ -9,14 +9,15 @@ use Rattle.notation.specs.Limits.{scratchWords, runWords}
 use Rattle.notation.specs.Tree.{Declaration}
 use Rattle.calculus.specs.Accepted.{accepted, faulty, checked}
 use Rattle.calculus.specs.Configuration.{Config, at}
-use Rattle.calculus.specs.Machine.{Answer, started, stepped, ranOn, reported, named, Reply, reply, textChecked, onProgram, onRun, onLine, onPlace, onStep, refusal, respond, idle}
+use Rattle.calculus.specs.Machine.{Answer, started, stepped, ranOn, reported, surveyed, named, Reply, reply, textChecked, onProgram, onRun, onLine, onPlace, onStep, refusal, respond, idle}
 use Rattle.calculus.specs.Program.{Program, programOf}
-use Rattle.calculus.specs.Runs.{startConfig, execOf, runOn, report}
+use Rattle.calculus.specs.Runs.{startConfig, execOf, runOn, report, places}
 use Rattle.calculus.specs.Steps.{step}
 use Rattle.calculus.specs.declared.answers.Started.the-variants as starts
 use Rattle.calculus.specs.declared.answers.Stepped.the-variants as steps
 use Rattle.calculus.specs.declared.answers.Reported.the-variants as reports
-use Rattle.interpreter.specs.Entries.{Request, toStart, toStep, toRunOn, toReport, toName, callAs, RunUse, anew, read, unlent, useOf, RunAfter}
+use Rattle.calculus.specs.declared.answers.Surveyed.the-variants as surveys
+use Rattle.interpreter.specs.Entries.{Request, toStart, toStep, toRunOn, toReport, toPlaces, toName, callAs, RunUse, anew, read, unlent, useOf, RunAfter}
 
 -- a refusal as it answers what is asked
 abbrev pub refusalTo : Request → ℕ → ℕ → Answer
@@ -44,6 +45,7 @@ pastRun p (toStep place) C =
     (onStep (step p C place) (refuse (toStep place) C) λ seen D. reply (stepped (steps.Carried seen)) D)
 pastRun p (toRunOn budget) C = reply (ranOn (runOn p C budget .answer)) (runOn p C budget .config)
 pastRun p toReport C = reply (reported (reports.Open (length (report C))) (report C)) C
+pastRun p toPlaces C = reply (surveyed (surveys.Processes (length (places p C))) (places p C)) C
 pastRun p (toName line) C = onLine (getElem? (p .execs) line) (refuse (toName line) C) λ n. reply (named (n .name) 0 0) C
 
 pub refusal-is : (C : Config) (q : Request) (n m k i : ℕ) → refusal C (callAs q n m) k i ≡ refuse q C k i
@@ -51,6 +53,7 @@ refusal-is C (toStart line) n m k i = refl
 refusal-is C (toStep place) n m k i = refl
 refusal-is C (toRunOn budget) n m k i = refl
 refusal-is C toReport n m k i = refl
+refusal-is C toPlaces n m k i = refl
 refusal-is C (toName line) n m k i = refl
 
 module _ (s : List ℕ) where
@@ -61,6 +64,7 @@ module _ (s : List ℕ) where
   reply-by (toStep place) C n m = refl
   reply-by (toRunOn budget) C n m = refl
   reply-by toReport C n m = refl
+  reply-by toPlaces C n m = refl
   reply-by (toName line) C n m = refl
 
   pub reply-refused : (q : Request) (C : Config) (n m k i : ℕ) → textChecked s n ≡ faulty k i → respond s C (callAs q n m) ≡ refuse q C k i
@@ -91,4 +95,5 @@ untouched (toStart line) C k i = record { is = refl }
 untouched (toStep place) C k i = record { is = refl }
 untouched (toRunOn budget) C k i = record { is = refl }
 untouched toReport C k i = record { is = refl }
+untouched toPlaces C k i = record { is = refl }
 untouched (toName line) C k i = record { is = refl }

@@ -8,12 +8,14 @@ use lib.ListN.{length, getElem?}
 use Rattle.notation.specs.Limits.{runWords}
 use Rattle.notation.specs.Tree.{Located}
 use Rattle.calculus.specs.Machine.{started, stepped, ranOn, named}
-use Rattle.calculus.specs.Runs.{execOf, runOn}
+use Rattle.calculus.specs.Runs.{execOf, runOn, places}
 use Rattle.calculus.specs.Steps.{step}
 use Rattle.calculus.specs.WellFormed.{WellFormed}
 use Rattle.calculus.specs.declared.answers.RanOn.{RanOn}
 use Rattle.calculus.specs.declared.answers.Reported.the-variants as reports
 use Rattle.calculus.specs.declared.answers.Report.{Report}
+use Rattle.calculus.specs.declared.answers.Surveyed.the-variants as surveys
+use Rattle.calculus.specs.declared.answers.Places.{Places}
 use Rattle.calculus.specs.declared.answers.Stepped.the-variants as steps
 use Rattle.read_tables.specs.Program.{programIn}
 use Rattle.run_words.specs.Raw.{rawIn}
@@ -24,7 +26,7 @@ use Rattle.run_steps.specs.Dispatch.{SmallSignatures, small-signatures}
 use Rattle.run_steps.specs.Starting.{Begins}
 use Rattle.run_wellformed.specs.Formed.{Formed}
 use Rattle.check_accepted.specs.Texts.{TextIn, over, under, tables-in, everywhere-in, bodies-in}
-use Rattle.interpreter.specs.Entries.{Request, toStart, toStep, toRunOn, toReport, toName, useOf, isRead, HoldsRun}
+use Rattle.interpreter.specs.Entries.{Request, toStart, toStep, toRunOn, toReport, toPlaces, toName, useOf, isRead, HoldsRun}
 use Rattle.interpreter.specs.Past.{refusalTo, isLent}
 use Rattle.interpreter.specs.Inside.{AnswersIn, answers-short, answers-stranger}
 use Rattle.interpreter.specs.Runs as slices
@@ -32,7 +34,10 @@ use Rattle.interpreter.specs.Stepping as stepping
 use Rattle.interpreter.specs.Stepping.{steppedBy}
 use Rattle.interpreter.specs.RunningOn as running
 use Rattle.interpreter.specs.Reporting as reporting
-use Rattle.interpreter.specs.Reporting.{Refuses, Listed, numbersOf, ReportsIn}
+use Rattle.interpreter.specs.Reporting.{Refuses, numbersOf, ReportsIn, report-refused-as}
+use Rattle.interpreter.specs.Listing.{Listed, lists-refused}
+use Rattle.interpreter.specs.Surveying as surveying
+use Rattle.interpreter.specs.Surveying.{NoPlaces, SurveysIn, survey-refused-as}
 use Rattle.interpreter.specs.Starting as starting
 use Rattle.interpreter.specs.Starting.{startedBy}
 
@@ -88,14 +93,26 @@ module _ {s w : List ℕ} (t : TextIn s w) where
   -- ── report
   module _ {ws : List ℕ} where
     pub report-short : {r : Report} → length ws < runWords → Refuses 16 0 r → ReportsIn s ws r
-    report-short {r} l f = reporting.report-refused 16 0 r f (too-short toReport refl l)
+    report-short {r} l f = lists-refused toReport 16 0 (report-refused-as 16 0 r f) (f .rest) (too-short toReport refl l)
 
     pub report-stranger : {r : Report} → runWords ≤ length ws → ¬ HoldsRun s ws → Refuses 18 0 r → ReportsIn s ws r
-    report-stranger {r} l d f = reporting.report-refused 18 0 r f (stranger toReport refl l d)
+    report-stranger {r} l d f = lists-refused toReport 18 0 (report-refused-as 18 0 r f) (f .rest) (stranger toReport refl l d)
 
     pub report-open : {n : ℕ} {numbers : List ℕ} → runWords ≤ length ws → HoldsRun s ws → n ≡ length (rawIn ws .outside) → Listed numbers (numbersOf (rawIn ws))
         → ReportsIn s ws (record { answer = reports.Open n; numbers = numbers })
     report-open {n} {numbers} l h e f = reporting.report-open s (t .script) (t .accepts) (t .fits) ws l h n numbers e f
+
+  -- ── places
+  module _ {ws : List ℕ} where
+    pub survey-short : {r : Places} → length ws < runWords → NoPlaces 16 0 r → SurveysIn s ws r
+    survey-short {r} l f = lists-refused toPlaces 16 0 (survey-refused-as 16 0 r f) (f .rest) (too-short toPlaces refl l)
+
+    pub survey-stranger : {r : Places} → runWords ≤ length ws → ¬ HoldsRun s ws → NoPlaces 18 0 r → SurveysIn s ws r
+    survey-stranger {r} l d f = lists-refused toPlaces 18 0 (survey-refused-as 18 0 r f) (f .rest) (stranger toPlaces refl l d)
+
+    pub survey-told : {n : ℕ} {steps : List ℕ} → runWords ≤ length ws → HoldsRun s ws → n ≡ length (rawIn ws .processes) → Listed steps (places (programIn s w) (configIn s w ws))
+        → SurveysIn s ws (record { answer = surveys.Processes n; steps = steps })
+    survey-told {n} {steps} l h e f = surveying.survey-told s (t .script) (t .accepts) (t .fits) ws l h n steps e (under t (λ x. Listed steps (places (programIn s x) (configIn s x ws))) f)
 
   -- ── the name of an exec line
   pub name-none : {line : ℕ} → length (programIn s w .execs) ≤ line → AnswersIn s (toName line) [] (named [] 17 0) []

@@ -15,7 +15,7 @@ use Rattle.calculus.specs.Machine.{callStart, started, named, Reply, reply, tex
 use Rattle.calculus.specs.Program.{Signature, Program, programOf}
 use Rattle.calculus.specs.Runs.{startConfig, execOf}
 use Rattle.calculus.specs.declared.answers.Started.the-variants as starts
-use Rattle.interpreter.specs.Entries.{Request, toStart, toStep, toRunOn, toReport, toName, callAs, useOf}
+use Rattle.interpreter.specs.Entries.{Request, toStart, toStep, toRunOn, toReport, toPlaces, toName, callAs, useOf}
 use Rattle.interpreter.specs.Past.{refuse, isLent, onLent, pastRun, reply-by, lent-short}
 
 -- one answer, and the configuration stays
@@ -41,6 +41,7 @@ module _ (C D : Config) (m : ℕ) (l : m < runWords) (p : Program) where
   past-unread (toStep place) = short (toStep place) refl
   past-unread (toRunOn budget) = short (toRunOn budget) refl
   past-unread toReport = short toReport refl
+  past-unread toPlaces = short toPlaces refl
   past-unread (toName line) = name-unread line C D (getElem? (p .execs) line)
 
 module _ (s : List ℕ) where

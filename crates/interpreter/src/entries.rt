@@ -1,11 +1,14 @@
 // The entries: each checks the text first, refusals 1 to 15, and then asks what the accepted text comes to.
-ghost use Rattle.interpreter.specs.Entries.{Starts, Steps, RunsOn, Reports, Names};
+ghost use Rattle.interpreter.specs.Entries.{Starts, Steps, RunsOn, Reports, Surveys, Names};
 use crate::inside::name_in;
 use crate::inside::run_on_in;
 use crate::inside::start_in;
 use crate::inside::step_in;
+use crate::places::no_places;
+use crate::places::places_in;
 use crate::reports::no_report;
 use crate::reports::report_in;
+use calculus::answers::Places;
 use calculus::answers::RanOn;
 use calculus::answers::Report;
 use calculus::answers::Started;
@@ -56,6 +59,17 @@ pub fn report(text: &[u8], scratch: &mut [u32], run: &[u32]) -> Report
         return report_in(text, &scratch[0..Script::SCRATCH_WORDS], run);
     };
     no_report(n, at)
+}
+
+// How many processes there are, and whether the step at each of their places is open.
+pub fn places(text: &[u8], scratch: &mut [u32], run: &[u32]) -> Places
+    ensures { λ r. ⌜ Surveys (now (text .entry)) (now (scratch .entry)) (now (run .entry)) r (now (scratch .exit)) ⌝ }
+{
+    let v = check(text, scratch);
+    let Verdict::Refused(n, at) = v else {
+        return places_in(text, &scratch[0..Script::SCRATCH_WORDS], run);
+    };
+    no_places(n, at)
 }
 
 // The name of an exec line's process, as the part of the text that holds it: empty where it is refused, and the refusal stands in the lent numbers.

@@ -1,3 +1,4 @@
 pub mod entries;
 mod inside;
+mod places;
 mod reports;

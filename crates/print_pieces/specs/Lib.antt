@@ -1,5 +1,3 @@
-pub mod Writing
-pub mod Spelling
 pub mod Lines
 pub mod RunLines
 pub mod Pieces

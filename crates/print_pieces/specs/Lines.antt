@@ -10,7 +10,7 @@ use Rattle.notation.specs.Token.{nameEnd, nameAt}
 use Rattle.calculus.specs.Printed.{decimal, line, shows, secondLine, sighting, ending}
 use Rattle.calculus.specs.declared.answers.Seen.{Seen}
 use Rattle.calculus.specs.declared.answers.Seen.the-variants.{Nothing, Label, Close, Passed, Cancelled}
-use Rattle.print_pieces.specs.Writing.{Appended, appended-on, appended-as}
+use Rattle.print_bytes.specs.Writing.{Appended, appended-on, appended-as}
 
 -- a name is no longer than its text
 pub name-within : (s : List ℕ) (at : ℕ) {x : List ℕ} → x ≡ nameAt s at → length x ≤ length s

@@ -45,7 +45,7 @@ use Rattle.run_steps.specs.Starting.{BeginsBy, Begins, execs-many, exec-name}
 use Rattle.run_steps.specs.Dispatch.{SmallSignatures, small-signatures}
 use Rattle.check_accepted.specs.Texts.{TextIn, tables-in, program-in}
 use Rattle.check_accepted.specs.Verdicts.{refused-so, fine-so}
-use Rattle.print_pieces.specs.Writing.{Appended}
+use Rattle.print_bytes.specs.Writing.{Appended}
 use Rattle.print_pieces.specs.Lines.{append-nil}
 use Rattle.print_pieces.specs.RunLines.{given-within, shown-steps, fuel-enough}
 use Rattle.print_pieces.specs.Pieces.{left, leftIn, RunningIn, GoingBy, Going, turns, isLeft, First, Next, Wrote, toldLines, toldStage, Turn, Linked, written, PiecesPrinted}

@@ -1,3 +1,2 @@
 pub mod lines;
 pub mod pieces;
-pub mod writing;

@@ -1,15 +1,15 @@
 // The lines that the program prints, each from the start of the buffer on.
-use crate::writing::put;
-use crate::writing::put_decimal;
 use calculus::answers::Seen;
 use notation::token::name_of;
+use print_bytes::writing::put;
+use print_bytes::writing::put_decimal;
 ghost use mathlib.Core.List.{_++_};
 ghost use Prim.Native.Nat.{_+_, _≤_};
 ghost use lib.ListN.{length};
 ghost use Rattle.notation.specs.Bytes.{bytes};
 ghost use Rattle.notation.specs.Token.{nameAt};
 ghost use Rattle.calculus.specs.Printed.{decimal, line, shows, secondLine, sighting, ending};
-ghost use Rattle.print_pieces.specs.Writing.{Appended};
+ghost use Rattle.print_bytes.specs.Writing.{Appended};
 
 // A channel as the outside knows it: `#` and its number.
 fn put_number(out: &mut [u8], at: usize, n: u32) -> usize

@@ -7,7 +7,8 @@ use lib.ListN.{length, getD}
 use Rattle.notation.specs.Limits.{runWords}
 use Rattle.notation.specs.Token.{nameAt}
 use Rattle.calculus.specs.Named.{isSome}
-use Rattle.calculus.specs.Runs.{choosePlace}
+use Rattle.calculus.specs.Runs.{choosePlace, openness}
+use Rattle.calculus.specs.Steps as calculus
 use Rattle.calculus.specs.WellFormed.{WellFormed}
 use Rattle.read_tables.specs.Decode.{processIn}
 use Rattle.read_tables.specs.Program.{plainIn, programIn}
@@ -17,6 +18,7 @@ use Rattle.run_words.specs.Raw.{RawOutside, RawConfig, rawIn, Bounded}
 use Rattle.run_words.specs.Decode.{decoded}
 use Rattle.run_words.specs.SliceLaws.{raw-same}
 use Rattle.run_alone.specs.declared.outcome.Outcome.{Outcome as OutcomeWords}
+use Rattle.run_alone.specs.declared.outcome.Outcome.the-variants.{Carried, NotOpen, Lacking}
 use Rattle.run_alone.specs.Run.{configIn, Fits, RunOf, Carries}
 use Rattle.run_steps.specs.Choosing.{wasCarried, stepFirst, first-carried, answers-so}
 
@@ -24,6 +26,17 @@ use Rattle.run_steps.specs.Choosing.{wasCarried, stepFirst, first-carrie
 pub record CopyOf (ws copy : List ℕ) : Type 0 where
   pub long : length copy ≡ runWords
   pub same : (k : ℕ) → k < runWords → getD copy k 0 ≡ getD ws k 0
+
+-- what an outcome says of its place: the calculus' own word for it
+abbrev pub opennessBy : OutcomeWords → ℕ
+opennessBy (Carried seen) = 1
+opennessBy NotOpen = 0
+opennessBy Lacking = 2
+
+openness-so : (s w old : List ℕ) {new : List ℕ} {a : OutcomeWords} (o : calculus.Outcome) → Carries s w old new a o → opennessBy a ≡ openness o
+openness-so s w old (calculus.carried seen D) k = ap opennessBy (k .is .0)
+openness-so s w old calculus.notOpen k = ap opennessBy (k .is .0)
+openness-so s w old calculus.lacking k = ap opennessBy (k .is .0)
 
 module _ {s w ws copy : List ℕ} (r : RunOf s w ws) (c : CopyOf ws copy) where
   raw-copied : rawIn copy ≡ rawIn ws
@@ -49,3 +62,6 @@ module _ {s w ws copy : List ℕ} (r : RunOf s w ws) (c : CopyOf ws copy) where
       sym (answers-so s w copy (stepFirst (programIn s w) (configIn s w copy)) k)
       ∙ first-carried (programIn s w) (configIn s w copy)
       ∙ ap (λ C. isSome (choosePlace (programIn s w) C)) config-copied
+
+  pub openness-at-so : {new : List ℕ} {a : OutcomeWords} (i : ℕ) → Carries s w copy new a (calculus.step (programIn s w) (configIn s w copy) i) → opennessBy a ≡ openness (calculus.step (programIn s w) (configIn s w ws) i)
+  openness-at-so i k = openness-so s w copy (calculus.step (programIn s w) (configIn s w copy) i) k ∙ ap (λ C. openness (calculus.step (programIn s w) C i)) config-copied

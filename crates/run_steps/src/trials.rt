@@ -10,9 +10,14 @@ ghost use Rattle.read_tables.specs.Program.{programIn};
 ghost use Rattle.run_alone.specs.Run.{configIn, RunOf};
 ghost use Rattle.run_steps.specs.Dispatch.{SmallSignatures};
 ghost use Rattle.run_steps.specs.Trials.{CopyOf};
+ghost use Rattle.calculus.specs.Runs.{openness};
+ghost use Rattle.calculus.specs.Steps.{step};
+ghost use Rattle.run_steps.specs.Trials.{opennessBy};
 use crate::choosing::step_first;
 use crate::choosing::was_carried;
+use crate::dispatch::step_at;
 use notation::script::Script;
+use run_alone::outcome::Outcome;
 use run_words::words::copy_words;
 
 // The words of a run.
@@ -35,4 +40,27 @@ pub(crate) fn can_go_on(text: &[u8], scratch: &[u32], run: &[u32]) -> bool
     let mut copy = copy_of(run);
     let o = step_first(text, scratch, &mut copy);
     was_carried(o)
+}
+
+// What a step's outcome says of its place: not open 0, open 1, open but lacking 2.
+fn openness(o: Outcome) -> u32
+    ensures { λ r. ⌜ r ≡ opennessBy o ⌝ }
+{
+    match o {
+        Outcome::Carried(seen) => return 1,
+        Outcome::NotOpen => return 0,
+        Outcome::Lacking => return 2,
+    }
+}
+
+// The same of the step at a place.
+pub fn openness_at(text: &[u8], scratch: &[u32], run: &[u32], place: usize) -> u32
+    requires { ⌜ RunOf (now text) (now scratch) (now run) ⌝ }
+    requires { ⌜ WellFormed (programIn (now text) (now scratch)) (configIn (now text) (now scratch) (now run)) ⌝ }
+    requires { ⌜ SmallSignatures (programIn (now text) (now scratch)) ⌝ }
+    ensures { λ r. ⌜ r ≡ openness (step (programIn (now (text .entry)) (now (scratch .entry))) (configIn (now (text .entry)) (now (scratch .entry)) (now (run .entry))) place) ⌝ }
+{
+    let mut copy = copy_of(run);
+    let o = step_at(text, scratch, &mut copy, place);
+    openness(o)
 }

@@ -5,7 +5,8 @@ use lib.ListN.{length}
 use Rattle.check_accepted.specs.Verdicts.{scratch-enough, text-accepted}
 use Rattle.interpreter.specs.Inside.{answers-accepted, answers-refused}
 use Rattle.interpreter.specs.Entries.{toReport}
-use Rattle.interpreter.specs.Reporting.{text-refused-report}
+use Rattle.interpreter.specs.Listing.{text-lists-refused}
+use Rattle.interpreter.specs.Reporting.{report-refused-as}
 use borrow.Author.Needs.{needs}
 use Rattle.notation.specs.Limits.{scratchWords}
 use Rattle.interpreter.proofs.entries.report.Statement.{statement}
@@ -77,7 +78,7 @@ returns-2 c =
     let check = c .before .before .before .before .before .before .check in
     let entry = c .before .before .before .before .before .before .before .before .before .before .before in
     let run = entry .args .run .now in
-    text-refused-report (entry .args .text .now) (entry .args .scratch .now) run (check .last .1 .0) (v .given .0 .0) (v .given .0 .1 .0) _ (c .no-report .ensures)
+    text-lists-refused toReport (v .given .0 .0) (v .given .0 .1 .0) (report-refused-as (v .given .0 .0) (v .given .0 .1 .0) _ (c .no-report .ensures)) (c .no-report .ensures .rest)
     (answers-refused (entry .args .text .now) (entry .args .scratch .now) (check .last .1 .0) _ (check .ensures) toReport run (v .given .0 .0) (v .given .0 .1 .0) (v .given .1))
 
 pub report-spec : {M : Type 1} → statement M

@@ -1,4 +1,6 @@
-use Rattle.interpreter.specs.Reporting.{numbersOf, Listing, listing-start, listing-on, listing-end}
+use Rattle.interpreter.specs.Listing.{Listing, listing-start}
+use Rattle.interpreter.specs.Reporting.{numbersOf, numbered-on, numbered-end}
+use Rattle.notation.specs.Limits.{outsideNumbers}
 use Rattle.run_words.specs.Raw.{rawIn}
 use native.Mathlib.Omega.{arith}
 use borrow.Author.Needs.{needs}
@@ -13,7 +15,7 @@ use Rattle.run_words.proofs.outside.outside_at.Reads as outside-at-reads
 use Rattle.run_words.proofs.outside.outside_count.Reads as outside-count-reads
 
 abbrev Inv-loop : tie.InvT-loop
-Inv-loop run numbers₀ n k₀ numbers k = Listing (numbersOf (rawIn run)) numbers k × (k ≤ n)
+Inv-loop run numbers₀ n k₀ numbers k = Listing outsideNumbers (numbersOf (rawIn run)) numbers k × (k ≤ n)
 
 abbrev μ-loop : tie.MeasureT-loop
 μ-loop run numbers₀ n k₀ numbers k = n - k
@@ -22,7 +24,7 @@ outside-count-requires : tie.Need-outside-count-requires Inv-loop μ-loop
 outside-count-requires c κs = c .before .pre .0
 
 loop-holds : tie.Need-loop-holds Inv-loop μ-loop
-loop-holds c = (listing-start _, omega arith)
+loop-holds c = (listing-start outsideNumbers _, omega arith)
 
 outside-at-requires : tie.Need-outside-at-requires Inv-loop μ-loop
 outside-at-requires c κs = (c .before .before .before .before .pre .0, (c .before .before .before .before .pre .1, omega (arith, c .loop-test .taken, c .before .before .outside-count .ensures)))
@@ -48,13 +50,13 @@ loop-less c = search needs
 loop-again : tie.Need-loop-again Inv-loop μ-loop
 loop-again c =
     let entry = c .before .before .before .before .before in (
-      listing-on (rawIn (entry .args .run .now)) _ _ (c .before .before .loop .inv .0) (omega (arith, c .before .loop-test .taken, c .before .before .before .outside-count .ensures))
+      numbered-on (rawIn (entry .args .run .now)) (c .before .before .loop .inv .0) (omega (arith, c .before .loop-test .taken, c .before .before .before .outside-count .ensures))
           (entry .pre .1 .channels) (c .outside-at .ensures .0) refl,
       omega (arith, c .before .loop-test .taken),
     )
 
 returns : tie.Need-returns Inv-loop μ-loop
-returns c = listing-end (rawIn (c .before .before .before .before .args .run .now)) _ _ (c .before .loop .inv .0) (omega (arith, c .loop-test .left, c .before .before .outside-count .ensures))
+returns c = numbered-end (rawIn (c .before .before .before .before .args .run .now)) (c .before .loop .inv .0) (omega (arith, c .loop-test .left, c .before .before .outside-count .ensures))
     (omega (arith, c .before .loop .inv .1, c .before .before .outside-count .ensures))
 
 pub list-numbers-spec : {M : Type 1} → statement M

@@ -1,4 +1,4 @@
-use Rattle.interpreter.specs.Reporting.{none-listed}
+use Rattle.interpreter.specs.Listing.{none-listed}
 use mathlib.Core.Path.{refl}
 use Rattle.interpreter.proofs.reports.no_report.Statement.{statement}
 use Rattle.interpreter.proofs.reports.no_report.Tie as tie

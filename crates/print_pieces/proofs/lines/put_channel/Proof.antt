@@ -5,7 +5,7 @@ use Rattle.print_pieces.proofs.lines.put_channel.Tie as tie
 use Rattle.print_pieces.proofs.lines.put_channel.Reads as reads
 use Rattle.print_pieces.proofs.lines.put_channel.Lts as lts
 use Rattle.print_pieces.proofs.lines.put_number.Reads as put-number-reads
-use Rattle.print_pieces.proofs.writing.put.Reads as put-reads
+use Rattle.print_bytes.proofs.writing.put.Reads as put-reads
 
 put-number-requires : tie.Need-put-number-requires
 put-number-requires c κs = search needs

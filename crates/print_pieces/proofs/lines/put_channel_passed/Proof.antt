@@ -6,7 +6,7 @@ use Rattle.print_pieces.proofs.lines.put_channel_passed.Reads as reads
 use Rattle.print_pieces.proofs.lines.put_channel_passed.Lts as lts
 use Rattle.print_pieces.proofs.lines.put_channel.Reads as put-channel-reads
 use Rattle.print_pieces.proofs.lines.put_number.Reads as put-number-reads
-use Rattle.print_pieces.proofs.writing.put.Reads as put-reads
+use Rattle.print_bytes.proofs.writing.put.Reads as put-reads
 
 put-channel-requires : tie.Need-put-channel-requires
 put-channel-requires c κs = search needs

@@ -4,8 +4,8 @@ use Rattle.print_pieces.proofs.lines.put_ending.Statement.{statement}
 use Rattle.print_pieces.proofs.lines.put_ending.Tie as tie
 use Rattle.print_pieces.proofs.lines.put_ending.Reads as reads
 use Rattle.print_pieces.proofs.lines.put_ending.Lts as lts
-use Rattle.print_pieces.proofs.writing.put.Reads as put-reads
-use Rattle.print_pieces.proofs.writing.put_decimal.Reads as put-decimal-reads
+use Rattle.print_bytes.proofs.writing.put.Reads as put-reads
+use Rattle.print_bytes.proofs.writing.put_decimal.Reads as put-decimal-reads
 
 put-requires : tie.Need-put-requires
 put-requires c κs = search needs

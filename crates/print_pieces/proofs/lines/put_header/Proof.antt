@@ -6,7 +6,7 @@ use Rattle.print_pieces.proofs.lines.put_header.Tie as tie
 use Rattle.print_pieces.proofs.lines.put_header.Reads as reads
 use Rattle.print_pieces.proofs.lines.put_header.Lts as lts
 use Rattle.notation.proofs.token.name_of.Reads as name-of-reads
-use Rattle.print_pieces.proofs.writing.put.Reads as put-reads
+use Rattle.print_bytes.proofs.writing.put.Reads as put-reads
 
 slice-aggregate-put : tie.Need-slice-aggregate-put
 slice-aggregate-put c = search needs

@@ -7,7 +7,7 @@ use Rattle.print_pieces.proofs.lines.put_label.Reads as reads
 use Rattle.print_pieces.proofs.lines.put_label.Lts as lts
 use Rattle.notation.proofs.token.name_of.Reads as name-of-reads
 use Rattle.print_pieces.proofs.lines.put_channel.Reads as put-channel-reads
-use Rattle.print_pieces.proofs.writing.put.Reads as put-reads
+use Rattle.print_bytes.proofs.writing.put.Reads as put-reads
 
 put-channel-requires : tie.Need-put-channel-requires
 put-channel-requires c κs = search needs

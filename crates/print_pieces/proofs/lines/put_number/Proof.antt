@@ -4,8 +4,8 @@ use Rattle.print_pieces.proofs.lines.put_number.Statement.{statement}
 use Rattle.print_pieces.proofs.lines.put_number.Tie as tie
 use Rattle.print_pieces.proofs.lines.put_number.Reads as reads
 use Rattle.print_pieces.proofs.lines.put_number.Lts as lts
-use Rattle.print_pieces.proofs.writing.put.Reads as put-reads
-use Rattle.print_pieces.proofs.writing.put_decimal.Reads as put-decimal-reads
+use Rattle.print_bytes.proofs.writing.put.Reads as put-reads
+use Rattle.print_bytes.proofs.writing.put_decimal.Reads as put-decimal-reads
 
 slice-aggregate-put : tie.Need-slice-aggregate-put
 slice-aggregate-put c = search needs

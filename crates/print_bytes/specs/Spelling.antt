@@ -8,7 +8,7 @@ use lib.ListN.{length, set, take, drop, length-set, length-drop, drop-of-length-
 use lib.Seq.{drop-cons, drop-set-lt, getD-set-same, take-all}
 use borrow.Author.Tests.{lt-ltb, le-ltb}
 use Rattle.calculus.specs.Printed.{digits, decimal}
-use Rattle.print_pieces.specs.Writing.{Appended, appended-as}
+use Rattle.print_bytes.specs.Writing.{Appended, appended-as}
 
 -- n's digits are those of d from `first` on
 pub record Spelled (n : ℕ) (d : List ℕ) (first : ℕ) : Type 0 where

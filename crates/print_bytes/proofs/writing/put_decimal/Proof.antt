@@ -1,11 +1,11 @@
-use Rattle.print_pieces.specs.Spelling.{spelled-put}
+use Rattle.print_bytes.specs.Spelling.{spelled-put}
 use borrow.Author.Needs.{needs}
-use Rattle.print_pieces.proofs.writing.put_decimal.Statement.{statement}
-use Rattle.print_pieces.proofs.writing.put_decimal.Tie as tie
-use Rattle.print_pieces.proofs.writing.put_decimal.Reads as reads
-use Rattle.print_pieces.proofs.writing.put_decimal.Lts as lts
-use Rattle.print_pieces.proofs.writing.put.Reads as put-reads
-use Rattle.print_pieces.proofs.writing.spell.Reads as spell-reads
+use Rattle.print_bytes.proofs.writing.put_decimal.Statement.{statement}
+use Rattle.print_bytes.proofs.writing.put_decimal.Tie as tie
+use Rattle.print_bytes.proofs.writing.put_decimal.Reads as reads
+use Rattle.print_bytes.proofs.writing.put_decimal.Lts as lts
+use Rattle.print_bytes.proofs.writing.put.Reads as put-reads
+use Rattle.print_bytes.proofs.writing.spell.Reads as spell-reads
 
 slice-aggregate-spell : tie.Need-slice-aggregate-spell
 slice-aggregate-spell c = search needs

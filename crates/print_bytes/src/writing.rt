@@ -3,10 +3,10 @@ ghost use mathlib.Core.Path.{_≡_};
 ghost use Prim.Native.Nat.{_+_, _%_, _≤_};
 ghost use lib.ListN.{length};
 ghost use Rattle.calculus.specs.Printed.{decimal};
-ghost use Rattle.print_pieces.specs.Writing.{Appended};
-ghost use Rattle.print_pieces.specs.Spelling.{Spelled};
+ghost use Rattle.print_bytes.specs.Writing.{Appended};
+ghost use Rattle.print_bytes.specs.Spelling.{Spelled};
 
-pub(crate) fn put(out: &mut [u8], at: usize, what: &[u8]) -> usize
+pub fn put(out: &mut [u8], at: usize, what: &[u8]) -> usize
     requires { ⌜ at + length (now what) ≤ length (now out) ⌝ }
     ensures { λ r. ⌜ Appended (now (out .entry)) (now (out .exit)) at r (now (what .entry)) ⌝ }
 {
@@ -18,7 +18,7 @@ pub(crate) fn put(out: &mut [u8], at: usize, what: &[u8]) -> usize
     at + i
 }
 
-pub(crate) fn put_decimal(out: &mut [u8], at: usize, n: usize) -> usize
+pub fn put_decimal(out: &mut [u8], at: usize, n: usize) -> usize
     requires { ⌜ at + 10 ≤ length (now out) ⌝ }
     ensures { λ r. ⌜ Appended (now (out .entry)) (now (out .exit)) at r (decimal n) ⌝ }
     ensures { λ r. ⌜ r ≤ at + 10 ⌝ }

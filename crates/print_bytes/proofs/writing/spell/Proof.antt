@@ -1,11 +1,11 @@
 use mathlib.Core.Path.{_∙_, sym}
-use Rattle.print_pieces.specs.Spelling.{Spelling, spelling-none, spelling-next, spelling-last, spelling-full}
+use Rattle.print_bytes.specs.Spelling.{Spelling, spelling-none, spelling-next, spelling-last, spelling-full}
 use borrow.Author.Needs.{needs}
-use Rattle.print_pieces.proofs.writing.spell.Statement.{statement}
-use Rattle.print_pieces.proofs.writing.spell.Tie as tie
-use Rattle.print_pieces.proofs.writing.spell.Reads as reads
-use Rattle.print_pieces.proofs.writing.spell.Lts as lts
-use Rattle.print_pieces.proofs.writing.digit.Reads as digit-reads
+use Rattle.print_bytes.proofs.writing.spell.Statement.{statement}
+use Rattle.print_bytes.proofs.writing.spell.Tie as tie
+use Rattle.print_bytes.proofs.writing.spell.Reads as reads
+use Rattle.print_bytes.proofs.writing.spell.Lts as lts
+use Rattle.print_bytes.proofs.writing.digit.Reads as digit-reads
 
 abbrev Inv-loop : tie.InvT-loop
 Inv-loop digits₀ n first₀ left₀ digits first left = Spelling n digits first left

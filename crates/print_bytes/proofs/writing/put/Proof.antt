@@ -1,12 +1,12 @@
 use Prim.Native.Nat.{_-_}
 use native.Mathlib.Omega.{arith}
 use lib.ListN.{length}
-use Rattle.print_pieces.specs.Writing.{Putting, putting-none, putting-next, put-all}
+use Rattle.print_bytes.specs.Writing.{Putting, putting-none, putting-next, put-all}
 use borrow.Author.Needs.{needs}
-use Rattle.print_pieces.proofs.writing.put.Statement.{statement}
-use Rattle.print_pieces.proofs.writing.put.Tie as tie
-use Rattle.print_pieces.proofs.writing.put.Reads as reads
-use Rattle.print_pieces.proofs.writing.put.Lts as lts
+use Rattle.print_bytes.proofs.writing.put.Statement.{statement}
+use Rattle.print_bytes.proofs.writing.put.Tie as tie
+use Rattle.print_bytes.proofs.writing.put.Reads as reads
+use Rattle.print_bytes.proofs.writing.put.Lts as lts
 
 abbrev Inv-loop : tie.InvT-loop
 Inv-loop out₀ at what i₀ out i = Putting out₀ out at what i
