@@ -1,10 +1,10 @@
 -- What the code that works by name promises, from the position that its search found.
-use Prim.Native.Nat.{ℕ, _+_, _≤_, _<_}
+use Prim.Native.Nat.{ℕ, _+_, _*_, _≤_, _<_}
 use mathlib.Core.Path.{_≡_, refl, sym, _∙_, ap, subst}
 use mathlib.Core.List.{List, [], _∷_, _++_, map}
 use mathlib.Core.Option.{some, Option·some-injective}
 use native.Mathlib.Omega.{arith}
-use lib.ListN.{set, getElem?}
+use lib.ListN.{getD, set, getElem?}
 use Rattle.notation.specs.declared.reading.Found.the-variants as found
 use Rattle.notation.specs.Limits.{typeTermLimit}
 use Rattle.calculus.specs.Configuration.{End, end}
@@ -13,13 +13,14 @@ use Rattle.read_tables.specs.Roots.{TypeIn}
 use Rattle.run_words.specs.Lists.{All, removeAt}
 use Rattle.run_words.specs.ListLaws.{all-at, all-set, all-append, all-remove, map-join}
 use Rattle.run_words.specs.Operations.{first}
-use Rattle.run_words.specs.Raw.{RawEnd, BoundedEnd, sideOf}
+use Rattle.run_words.specs.Raw.{RawEnd, BoundedEnd, endBy, endWords}
 use Rattle.run_words.specs.SearchLaws.{first-of, first-at, first-below, first-here, none-from}
 use Rattle.run_words.specs.Values.{endIn, heldIn, held-length}
 use Rattle.run_words.specs.declared.records.End.{End as EndWords}
 use Rattle.run_words.specs.declared.records.Held.{Held}
+use Rattle.run_words.proofs.Ends.{end-here}
 use Rattle.check_contexts.specs.declared.held.Lookup.the-variants as lookups
-use Rattle.check_contexts.specs.Held.{endIs, channelsOf, EndIn, HeldIn, retypedRaw, isNamed, Sees, Drops, Retypes, RetypesAt, Brings}
+use Rattle.check_contexts.specs.Held.{endIs, channelsOf, heldBy, EndIn, HeldIn, retypedRaw, isNamed, Sees, Drops, Retypes, RetypesAt, Brings}
 use Rattle.check_contexts.specs.Named.{there-lookup, there-without, there-changed, absent-lookup, absent-without, absent-changed}
 
 module _ (s : List ℕ) (h : Held) (at k : ℕ) (f : first (isNamed s at) (heldIn h) ≡ found.At k) where
@@ -86,3 +87,8 @@ retypes-at {h} {k = k} {node = node} e g q n b = record {
   count = n;
   type = b;
 }
+
+-- the end at a position, by its words
+pub end-of-words : (n : ℕ) (words : List ℕ) (k : ℕ) → k < n → getElem? (heldIn (heldBy n words)) k ≡ some (endBy (getD words (endWords * k) 0) (getD words (endWords * k + 1) 0))
+unfolding heldIn
+end-of-words n words k l = end-here words n k _ _ l refl refl

@@ -33,6 +33,10 @@ endsIn s w l = map (endIs s w) l
 unfoldable pub channelsOf : List ℕ → List ℕ → Held → List (Name × End)
 channelsOf s w h = endsIn s w (heldIn h)
 
+-- what n ends are that have these words
+abbrev pub heldBy : ℕ → List ℕ → Held
+heldBy n words = record { count = n; words = words }
+
 -- an end whose numbers are those of the text and its tables
 pub record EndIn (s w : List ℕ) (e : RawEnd) : Type 0 where
   pub bounds : BoundedEnd e
