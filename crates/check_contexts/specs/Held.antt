@@ -33,7 +33,7 @@ endsIn s w l = map (endIs s w) l
 unfoldable pub channelsOf : List ℕ → List ℕ → Held → List (Name × End)
 channelsOf s w h = endsIn s w (heldIn h)
 
--- what n ends are that have these words
+-- n ends, by their words
 abbrev pub heldBy : ℕ → List ℕ → Held
 heldBy n words = record { count = n; words = words }
 

@@ -15,6 +15,7 @@ use Rattle.run_words.specs.Raw.{endWords, sideRadix}
 use Rattle.check_contexts.specs.declared.marks.Marks.{Marks}
 use Rattle.check_contexts.specs.Marks.{heldName, isName, Marked, Hidden, marked-apart, hidden-apart}
 
+-- first bytes are told apart by this remainder
 abbrev pub initialRadix : ℕ
 initialRadix = 64
 
@@ -49,7 +50,7 @@ module _ {s ends : List ℕ} {n : ℕ} {f : List Bool} (t : Initials s ends n f)
 pub initials-none : (s ends : List ℕ) (f : List Bool) → Initials s ends 0 f
 initials-none s ends f = record { few = omega arith; apart = λ k l b e. absurd (omega arith) }
 
--- where all are there, nothing is excluded
+-- where every initial is there, no byte is excluded
 pub initials-all : (s ends : List ℕ) (n : ℕ) → n ≤ heldLimit → Initials s ends n (replicate initialRadix true)
 initials-all s ends n h = record {
   few = h;
