@@ -24,7 +24,7 @@ use Rattle.run_words.specs.Raw.{RawEnd, BoundedEnd, sideOf}
 use Rattle.run_words.specs.Values.{endIn, heldIn, held-length}
 use Rattle.run_words.specs.declared.records.End.{End}
 use Rattle.run_words.specs.declared.records.Held.{Held}
-use Rattle.run_words.proofs.Ends.{end-here}
+use Rattle.check_contexts.specs.Found.{end-of-words}
 use Rattle.check_contexts.specs.Held.{endIs, endsIn, channelsOf, EndIn, HeldIn, Brings}
 use Rattle.check_contexts.specs.Marks.{markOf, anyOf, any-none, heldName, isName, Marked, Hidden, NONE, ALL, no-mark, every-mark}
 use Rattle.check_contexts.specs.declared.marks.Marks.{Marks}
@@ -183,11 +183,9 @@ all-picked P f j (e ∷ l) (a, b) = go (f j) (all-picked P f (j + 1) l b)
 
 -- the name of an end, by its words
 held-name : (s : List ℕ) (h : Held) (k : ℕ) {e : RawEnd} → getElem? (heldIn h) k ≡ some e → nameAt s (e .name) ≡ heldName s (h .words) k
-unfolding heldIn
 held-name s h k {e} g =
     let l : k < h .count = omega (arith, below-length (heldIn h) k g, held-length h) in
-    let q = end-here (h .words) (h .count) k _ _ l refl refl in
-    ap (λ (x : RawEnd). nameAt s (x .name)) (Option·some-injective _ _ (sym g ∙ q))
+    ap (λ (x : RawEnd). nameAt s (x .name)) (Option·some-injective _ _ (sym g ∙ end-of-words (h .count) (h .words) k l))
 
 module _ {s w : List ℕ} {h : Held} {half : Half} {m : Marks} (t : Takes s w h half ALL m) (u : HeldIn s w h) where
   -- each held channel is marked if the half takes it

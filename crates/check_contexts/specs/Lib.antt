@@ -1,4 +1,5 @@
 pub mod Marks
+pub mod Initials
 pub mod Held
 pub mod Named
 pub mod Found

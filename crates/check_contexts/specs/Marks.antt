@@ -6,11 +6,13 @@ use mathlib.Core.List.{List}
 use mathlib.Core.Bool.{Bool, true, false, true≢false, not, _||_, _&&_}
 use native.Mathlib.Omega.{arith}
 use native.Mathlib.Nat.{eq-or-lt-of-le}
+use lib.Dec.{T}
 use lib.ListN.{getD, replicate, getD-replicate}
 use Rattle.notation.specs.Limits.{heldLimit}
 use Rattle.notation.specs.Bytes.{same}
 use Rattle.notation.specs.Token.{nameAt}
 use Rattle.notation.specs.Tree.{Name}
+use Rattle.notation.proofs.ByteTables.{same→eq}
 use Rattle.run_words.specs.Raw.{endWords, sideRadix}
 use Rattle.check_contexts.specs.declared.marks.Marks.{Marks}
 
@@ -52,6 +54,15 @@ heldName s ends k = nameAt s (getD ends (endWords * k) 0 / sideRadix)
 -- the test of the name at an offset
 abbrev pub isName : List ℕ → ℕ → Name → Bool
 isName s at x = same x (nameAt s at)
+
+pub same-swap : (xs ys : List ℕ) → same xs ys ≡ same ys xs
+same-swap xs ys = go (same xs ys) refl (same ys xs) refl
+  where
+    go : (a : Bool) → same xs ys ≡ a → (b : Bool) → same ys xs ≡ b → a ≡ b
+    go true p true q = refl
+    go false p false q = refl
+    go true p false q = let e = same→eq xs ys (subst T (sym p) tt) in sym p ∙ (λ i. same (e i) (sym e i)) ∙ q
+    go false p true q = let e = same→eq ys xs (subst T (sym q) tt) in sym p ∙ (λ i. same (sym e i) (e i)) ∙ q
 
 -- of the first n names, those that are sought and pass the test are marked too
 pub record Marked (s ends : List ℕ) (n : ℕ) (sought : Marks) (test : Name → Bool) (m r : Marks) : Type 0 where
@@ -103,11 +114,13 @@ module _ {s ends : List ℕ} {n : ℕ} {sought : Marks} where
   pub marked-as : {t u : Name → Bool} {m r : Marks} → ((x : Name) → t x ≡ u x) → Marked s ends n sought t m r → Marked s ends n sought u m r
   marked-as {m = m} e h = record { at = λ k b. h .at k b ∙ ap (λ c. markOf m k || (markOf sought k && c)) (e (heldName s ends k)) }
 
-  pub marked-none : {t : Name → Bool} {m : Marks} → ((x : Name) → t x ≡ false) → Marked s ends n sought t m m
-  marked-none {t = t} {m = m} e = record {
-    at = λ k b.
-        or-none (markOf m k) ∙ ap (λ c. markOf m k || c) (sym (ap (λ c. markOf sought k && c) (e (heldName s ends k)) ∙ and-none (markOf sought k)));
+  pub marked-apart : {t : Name → Bool} {m : Marks} → ((k : ℕ) → k < n → t (heldName s ends k) ≡ false) → Marked s ends n sought t m m
+  marked-apart {m = m} e = record {
+    at = λ k b. or-none (markOf m k) ∙ ap (λ c. markOf m k || c) (sym (ap (λ c. markOf sought k && c) (e k b) ∙ and-none (markOf sought k)));
   }
+
+  pub marked-none : {t : Name → Bool} {m : Marks} → ((x : Name) → t x ≡ false) → Marked s ends n sought t m m
+  marked-none e = marked-apart (λ k b. e (heldName s ends k))
 
   pub marked-then : {t u : Name → Bool} {m r v : Marks} → Marked s ends n sought t m r → Marked s ends n sought u r v → Marked s ends n sought (λ x. t x || u x) m v
   marked-then {t = t} {u = u} {m = m} f g = record {
@@ -120,8 +133,11 @@ module _ {s ends : List ℕ} {n : ℕ} where
   pub hidden-as : {t u : Name → Bool} {m r : Marks} → ((x : Name) → t x ≡ u x) → Hidden s ends n t m r → Hidden s ends n u m r
   hidden-as {m = m} e h = record { at = λ k b. h .at k b ∙ ap (λ c. markOf m k && not c) (e (heldName s ends k)) }
 
+  pub hidden-apart : {t : Name → Bool} {m : Marks} → ((k : ℕ) → k < n → t (heldName s ends k) ≡ false) → Hidden s ends n t m m
+  hidden-apart {m = m} e = record { at = λ k b. sym (ap (λ c. markOf m k && not c) (e k b) ∙ and-all (markOf m k)) }
+
   pub hidden-none : {t : Name → Bool} {m : Marks} → ((x : Name) → t x ≡ false) → Hidden s ends n t m m
-  hidden-none {m = m} e = record { at = λ k b. sym (ap (λ c. markOf m k && not c) (e (heldName s ends k)) ∙ and-all (markOf m k)) }
+  hidden-none e = hidden-apart (λ k b. e (heldName s ends k))
 
 -- ── as far as a loop over the positions has come: those below k are as g says, the others as before
 pub record Upto (g : ℕ → Bool) (m r : Marks) (k : ℕ) : Type 0 where

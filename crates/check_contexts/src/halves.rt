@@ -1,5 +1,6 @@
 // What each half of a process takes of what is held.
 use crate::held::bring_end;
+use crate::initials::held_initials;
 use crate::marks::Marks;
 use crate::marks::NONE;
 use crate::marks::any_marked;
@@ -51,12 +52,13 @@ pub fn half_takes(text: &[u8], scratch: &[u32], h: Held, half: Half, of: Marks) 
     if !any_marked(of, n) {
         return NONE;
     }
+    let initials = held_initials(text, &ends, n);
     match half {
         Half::OfSpawn(x, p) => {
-            let sought = hide_name(text, &ends, n, x, of);
-            mark_process(text, scratch, &ends, n, p, sought, NONE)
+            let sought = hide_name(text, &ends, &initials, n, x, of);
+            mark_process(text, scratch, &ends, &initials, n, p, sought, NONE)
         }
-        Half::OfTry(p) => mark_process(text, scratch, &ends, n, p, of, NONE),
+        Half::OfTry(p) => mark_process(text, scratch, &ends, &initials, n, p, of, NONE),
     }
 }
 

@@ -1,19 +1,24 @@
 // What a process holds, by name.
 use notation::reading::Found;
-use notation::token::names_equal;
+use notation::token::has_name;
+use notation::token::name_length;
 use notation::words::wide;
 use run_words::held::end_at;
 use run_words::held::replaced;
 use run_words::held::with;
 use run_words::held::without;
+use run_words::records::END_WORDS;
 use run_words::records::End;
+use run_words::records::HELD_WORDS;
 use run_words::records::Held;
+use run_words::records::SIDE_RADIX;
 ghost use Rattle.notation.specs.Limits.{channelPlaces, heldLimit, textLimit, typeTermLimit};
 ghost use mathlib.Core.Path.{_≡_};
-ghost use Prim.Native.Nat.{ℕ, _<_, _≤_};
-ghost use Rattle.check_contexts.specs.Held.{isNamed, Sees, Drops, Retypes, Brings};
+ghost use Prim.Native.Nat.{ℕ, _*_, _/_, _<_, _≤_};
+ghost use lib.ListN.{getD};
+ghost use Rattle.check_contexts.specs.Held.{heldBy, isNamed, Sees, Drops, Retypes, RetypesAt, Brings};
 ghost use Rattle.run_words.specs.Operations.{first};
-ghost use Rattle.run_words.specs.Raw.{BoundedEnd, sideRadix};
+ghost use Rattle.run_words.specs.Raw.{BoundedEnd, endWords, sideRadix};
 ghost use Rattle.run_words.specs.Lists.{All};
 ghost use Rattle.run_words.specs.Values.{heldIn};
 
@@ -23,22 +28,38 @@ pub enum Lookup {
     Nothing,
 }
 
-// The first position that has the name at `at`.
-fn position_named(text: &[u8], h: Held, at: usize) -> Found
-    requires { ⌜ h .count ≤ heldLimit ⌝ }
-    ensures { λ r. ⌜ r ≡ first (isNamed (now (text .entry)) at) (heldIn h) ⌝ }
+// The offset of the name of the end k.
+pub(crate) fn name_at(ends: &[u32; HELD_WORDS], k: usize) -> usize
+    requires { ⌜ k < heldLimit ⌝ }
+    ensures { λ r. ⌜ r ≡ getD (now (ends .entry)) (endWords * k) 0 / sideRadix ⌝ }
 {
-    let n = h.count;
+    wide(ends[END_WORDS * k] / SIDE_RADIX)
+}
+
+// The first of n ends whose name is the one at `at`.
+fn position_in(text: &[u8], ends: &[u32; HELD_WORDS], n: usize, at: usize) -> Found
+    requires { ⌜ n ≤ heldLimit ⌝ }
+    ensures { λ r. ⌜ r ≡ first (isNamed (now (text .entry)) at) (heldIn (heldBy n (now (ends .entry)))) ⌝ }
+{
+    let bytes = name_length(text, at);
     let mut k: usize = 0;
     while k < n {
-        let e = end_at(h, k);
-        let there = wide(e.name);
-        if names_equal(text, at, there) {
+        if has_name(text, at, bytes, name_at(ends, k)) {
             return Found::At(k);
         }
         k += 1;
     }
     Found::Nothing
+}
+
+// The first position that has the name at `at`.
+pub fn position_named(text: &[u8], h: Held, at: usize) -> Found
+    requires { ⌜ h .count ≤ heldLimit ⌝ }
+    ensures { λ r. ⌜ r ≡ first (isNamed (now (text .entry)) at) (heldIn h) ⌝ }
+{
+    let n = h.count;
+    let ends = h.words;
+    position_in(text, &ends, n, at)
 }
 
 // The channel whose name is the one at `at`.
@@ -66,16 +87,12 @@ pub fn drop_end(text: &[u8], h: Held, at: usize) -> Held
     without(h, k)
 }
 
-// With another type for that channel.
-pub fn retype_end(text: &[u8], h: Held, at: usize, node: u32) -> Held
-    requires { ⌜ (h .count ≤ heldLimit) × (node < typeTermLimit) ⌝ }
+// With another type for the channel at a position.
+pub fn retype_at(h: Held, k: usize, node: u32) -> Held
+    requires { ⌜ (h .count ≤ heldLimit) × (k < h .count) × (node < typeTermLimit) ⌝ }
     requires { ⌜ All BoundedEnd (heldIn h) ⌝ }
-    ensures { λ r. ⌜ Retypes (now (text .entry)) h at node r ⌝ }
+    ensures { λ r. ⌜ RetypesAt h k node r ⌝ }
 {
-    let f = position_named(text, h, at);
-    let Found::At(k) = f else {
-        return h;
-    };
     let e = end_at(h, k);
     replaced(
         h,
@@ -87,6 +104,19 @@ pub fn retype_end(text: &[u8], h: Held, at: usize, node: u32) -> Held
             channel: e.channel,
         },
     )
+}
+
+// With another type for the channel whose name is the one at `at`.
+pub fn retype_end(text: &[u8], h: Held, at: usize, node: u32) -> Held
+    requires { ⌜ (h .count ≤ heldLimit) × (node < typeTermLimit) ⌝ }
+    requires { ⌜ All BoundedEnd (heldIn h) ⌝ }
+    ensures { λ r. ⌜ Retypes (now (text .entry)) h at node r ⌝ }
+{
+    let f = position_named(text, h, at);
+    let Found::At(k) = f else {
+        return h;
+    };
+    retype_at(h, k, node)
 }
 
 // With one channel more: its name is the one at `at`.

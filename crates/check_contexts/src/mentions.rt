@@ -1,4 +1,5 @@
 // Which of the names that are held a process mentions, in one walk: "A name bound anew inside a half is no mention of a held one."
+use crate::initials::INITIALS;
 use crate::marks::Marks;
 use crate::names::hide_name;
 use crate::names::mark_call;
@@ -11,11 +12,11 @@ use read_tables::access::term_node;
 use run_words::records::HELD_WORDS;
 ghost use mathlib.Core.Path.{_≡_};
 ghost use Prim.Native.Nat.{ℕ, _≤_, _<_};
-ghost use Rattle.notation.specs.Limits.{heldLimit};
 ghost use Rattle.calculus.specs.Mentions.{mentions, branchesMention};
 ghost use Rattle.read_tables.specs.Decode.{processIn};
 ghost use Rattle.read_tables.specs.Roots.{ProcessIn, BranchesIn, branchesIn};
 ghost use Rattle.read_tables.specs.Whole.{Tables};
+ghost use Rattle.check_contexts.specs.Initials.{Initials};
 ghost use Rattle.check_contexts.specs.Marks.{Marked, Hidden};
 ghost use Rattle.check_contexts.specs.Mentioned.{CallsFine, hasFirstName, hasSecondName, actsFirst, actsSecond, actsOn, bindsAnew, hasHalves, hasLast, lastPart, InnerIn, innerMentions};
 
@@ -45,16 +46,17 @@ fn has_second_name(kind: usize) -> bool
 fn mark_first(
     text: &[u8],
     ends: &[u32; HELD_WORDS],
+    initials: &[bool; INITIALS],
     n: usize,
     node: TermNode,
     sought: Marks,
     m: Marks,
 ) -> Marks
-    requires { ⌜ n ≤ heldLimit ⌝ }
+    requires { ⌜ Initials (now text) (now ends) n (now initials) ⌝ }
     ensures { λ r. ⌜ Marked (now (text .entry)) (now (ends .entry)) n sought (actsFirst (now (text .entry)) node) m r ⌝ }
 {
     if has_first_name(node.kind) {
-        return mark_name(text, ends, n, node.first, sought, m);
+        return mark_name(text, ends, initials, n, node.first, sought, m);
     }
     m
 }
@@ -62,16 +64,17 @@ fn mark_first(
 fn mark_second(
     text: &[u8],
     ends: &[u32; HELD_WORDS],
+    initials: &[bool; INITIALS],
     n: usize,
     node: TermNode,
     sought: Marks,
     m: Marks,
 ) -> Marks
-    requires { ⌜ n ≤ heldLimit ⌝ }
+    requires { ⌜ Initials (now text) (now ends) n (now initials) ⌝ }
     ensures { λ r. ⌜ Marked (now (text .entry)) (now (ends .entry)) n sought (actsSecond (now (text .entry)) node) m r ⌝ }
 {
     if has_second_name(node.kind) {
-        return mark_name(text, ends, n, node.second, sought, m);
+        return mark_name(text, ends, initials, n, node.second, sought, m);
     }
     m
 }
@@ -80,37 +83,39 @@ fn mark_second(
 fn mark_acted(
     text: &[u8],
     ends: &[u32; HELD_WORDS],
+    initials: &[bool; INITIALS],
     n: usize,
     node: TermNode,
     sought: Marks,
     m: Marks,
 ) -> Marks
-    requires { ⌜ CallsFine (now text) node × (n ≤ heldLimit) ⌝ }
+    requires { ⌜ CallsFine (now text) node × Initials (now text) (now ends) n (now initials) ⌝ }
     ensures { λ r. ⌜ Marked (now (text .entry)) (now (ends .entry)) n sought (actsOn (now (text .entry)) node) m r ⌝ }
 {
     if node.kind == kinds::CALL {
-        return mark_call(text, ends, n, node.second, sought, m);
+        return mark_call(text, ends, initials, n, node.second, sought, m);
     }
-    let r = mark_first(text, ends, n, node, sought, m);
-    mark_second(text, ends, n, node, sought, r)
+    let r = mark_first(text, ends, initials, n, node, sought, m);
+    mark_second(text, ends, initials, n, node, sought, r)
 }
 
 // The names that a node binds anew, in all of its parts, are sought no more.
 fn hide_bound(
     text: &[u8],
     ends: &[u32; HELD_WORDS],
+    initials: &[bool; INITIALS],
     n: usize,
     node: TermNode,
     sought: Marks,
 ) -> Marks
-    requires { ⌜ n ≤ heldLimit ⌝ }
+    requires { ⌜ Initials (now text) (now ends) n (now initials) ⌝ }
     ensures { λ r. ⌜ Hidden (now (text .entry)) (now (ends .entry)) n (bindsAnew (now (text .entry)) node) sought r ⌝ }
 {
     if node.kind == kinds::SPAWN {
-        return hide_name(text, ends, n, node.at, sought);
+        return hide_name(text, ends, initials, n, node.at, sought);
     }
     if node.kind == kinds::RECV_CHANNEL {
-        return hide_name(text, ends, n, node.second, sought);
+        return hide_name(text, ends, initials, n, node.second, sought);
     }
     sought
 }
@@ -153,12 +158,13 @@ pub(crate) fn mark_process(
     text: &[u8],
     scratch: &[u32],
     ends: &[u32; HELD_WORDS],
+    initials: &[bool; INITIALS],
     n: usize,
     p: usize,
     sought: Marks,
     m: Marks,
 ) -> Marks
-    requires { ⌜ Tables (now text) (now scratch) × (n ≤ heldLimit) × ProcessIn (now text) (now scratch) p ⌝ }
+    requires { ⌜ Tables (now text) (now scratch) × Initials (now text) (now ends) n (now initials) × ProcessIn (now text) (now scratch) p ⌝ }
     ensures { λ r. ⌜ Marked (now (text .entry)) (now (ends .entry)) n sought (mentions (processIn (now (text .entry)) (now (scratch .entry)) p)) m r ⌝ }
 {
     let mut at = p;
@@ -166,9 +172,9 @@ pub(crate) fn mark_process(
     let mut r = m;
     while at < Script::PROCESS_TERMS {
         let node = term_node(scratch, at);
-        r = mark_acted(text, ends, n, node, left, r);
-        left = hide_bound(text, ends, n, node, left);
-        r = mark_inner(text, scratch, ends, n, node, left, r);
+        r = mark_acted(text, ends, initials, n, node, left, r);
+        left = hide_bound(text, ends, initials, n, node, left);
+        r = mark_inner(text, scratch, ends, initials, n, node, left, r);
         at = last_part(node);
     }
     r
@@ -179,19 +185,30 @@ fn mark_inner(
     text: &[u8],
     scratch: &[u32],
     ends: &[u32; HELD_WORDS],
+    initials: &[bool; INITIALS],
     n: usize,
     node: TermNode,
     sought: Marks,
     m: Marks,
 ) -> Marks
-    requires { ⌜ Tables (now text) (now scratch) × (n ≤ heldLimit) × InnerIn (now text) (now scratch) node ⌝ }
+    requires { ⌜ Tables (now text) (now scratch) × Initials (now text) (now ends) n (now initials) × InnerIn (now text) (now scratch) node ⌝ }
     ensures { λ r. ⌜ Marked (now (text .entry)) (now (ends .entry)) n sought (innerMentions (now (text .entry)) (now (scratch .entry)) node) m r ⌝ }
 {
     if node.kind == kinds::RECV_LABEL {
-        return mark_branches(text, scratch, ends, n, node.second, node.third, sought, m);
+        return mark_branches(
+            text,
+            scratch,
+            ends,
+            initials,
+            n,
+            node.second,
+            node.third,
+            sought,
+            m,
+        );
     }
     if has_halves(node.kind) {
-        return mark_process(text, scratch, ends, n, node.second, sought, m);
+        return mark_process(text, scratch, ends, initials, n, node.second, sought, m);
     }
     m
 }
@@ -201,20 +218,21 @@ fn mark_branches(
     text: &[u8],
     scratch: &[u32],
     ends: &[u32; HELD_WORDS],
+    initials: &[bool; INITIALS],
     n: usize,
     e: usize,
     count: usize,
     sought: Marks,
     m: Marks,
 ) -> Marks
-    requires { ⌜ Tables (now text) (now scratch) × (n ≤ heldLimit) × BranchesIn (now text) (now scratch) e count ⌝ }
+    requires { ⌜ Tables (now text) (now scratch) × Initials (now text) (now ends) n (now initials) × BranchesIn (now text) (now scratch) e count ⌝ }
     ensures { λ r. ⌜ Marked (now (text .entry)) (now (ends .entry)) n sought (branchesMention (branchesIn (now (text .entry)) (now (scratch .entry)) e count)) m r ⌝ }
 {
     let mut r = m;
     let mut k: usize = 0;
     while k < count {
         let b = branch(scratch, e - k);
-        r = mark_process(text, scratch, ends, n, b.number, sought, r);
+        r = mark_process(text, scratch, ends, initials, n, b.number, sought, r);
         k += 1;
     }
     r

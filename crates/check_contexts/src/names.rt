@@ -1,19 +1,20 @@
-// Names that are held, and a call's names.
+// Names that are held, and a call's names. Of n names that are held, `initials` spares the search for most others.
+use crate::held::name_at;
+use crate::initials::INITIALS;
+use crate::initials::may_be_held;
 use crate::marks::Marks;
 use crate::marks::clear_if;
 use crate::marks::is_marked;
 use crate::marks::mark_if;
-use notation::token::names_equal;
-use notation::words::wide;
+use notation::token::has_name;
+use notation::token::name_length;
 use read_tables::arguments::Argument;
 use read_tables::arguments::list_start;
 use read_tables::arguments::next_argument;
-use run_words::records::END_WORDS;
 use run_words::records::HELD_WORDS;
-use run_words::records::SIDE_RADIX;
 ghost use mathlib.Core.Path.{_≡_};
-ghost use Prim.Native.Nat.{ℕ, _*_, _/_, _<_, _≤_};
-ghost use lib.ListN.{getD};
+ghost use Prim.Native.Nat.{ℕ, _<_, _≤_};
+ghost use lib.ListN.{length};
 ghost use mathlib.Core.List.{List};
 ghost use mathlib.Core.Bool.{_&&_};
 ghost use Rattle.notation.specs.Token.{nameAt};
@@ -21,7 +22,7 @@ ghost use Rattle.notation.specs.Tree.{Located};
 ghost use Rattle.calculus.specs.Mentions.{isOneOf};
 ghost use Rattle.read_tables.specs.Names.{NamesFrom};
 ghost use Rattle.notation.specs.Limits.{heldLimit};
-ghost use Rattle.run_words.specs.Raw.{endWords, sideRadix};
+ghost use Rattle.check_contexts.specs.Initials.{Initials};
 ghost use Rattle.check_contexts.specs.Marks.{markOf, heldName, isName, Marked, Hidden};
 ghost use Rattle.check_contexts.specs.Walks.{Ends, Among, MarkedList, MarkedCall};
 
@@ -29,13 +30,14 @@ ghost use Rattle.check_contexts.specs.Walks.{Ends, Among, MarkedList, Ma
 pub fn in_list(text: &[u8], from: usize, at: usize) -> bool
     ensures { λ r. ⌜ Among (now (text .entry)) from (nameAt (now (text .entry)) at) r ⌝ }
 {
+    let bytes = name_length(text, at);
     let mut i = from;
     loop {
         let a = next_argument(text, i);
         let Argument::Name(there, past) = a else {
             return false;
         };
-        if names_equal(text, at, there) {
+        if has_name(text, at, bytes, there) {
             return true;
         }
         i = past;
@@ -60,21 +62,20 @@ pub fn list_end(text: &[u8], from: usize) -> usize
     }
 }
 
-// The offset of the name of the end k.
-fn name_at(ends: &[u32; HELD_WORDS], k: usize) -> usize
-    requires { ⌜ k < heldLimit ⌝ }
-    ensures { λ r. ⌜ r ≡ getD (now (ends .entry)) (endWords * k) 0 / sideRadix ⌝ }
-{
-    wide(ends[END_WORDS * k] / SIDE_RADIX)
-}
-
-// The name of the end k is sought, and it is the name at `at`.
-fn meets(text: &[u8], ends: &[u32; HELD_WORDS], at: usize, sought: Marks, k: usize) -> bool
-    requires { ⌜ k < heldLimit ⌝ }
+// The name of the end k is sought, and it is the name at `at`, which has so many bytes.
+fn meets(
+    text: &[u8],
+    ends: &[u32; HELD_WORDS],
+    at: usize,
+    bytes: usize,
+    sought: Marks,
+    k: usize,
+) -> bool
+    requires { ⌜ (k < heldLimit) × (bytes ≡ length (nameAt (now text) at)) ⌝ }
     ensures { λ r. ⌜ r ≡ markOf sought k && isName (now (text .entry)) at (heldName (now (text .entry)) (now (ends .entry)) k) ⌝ }
 {
     if is_marked(sought, k) {
-        return names_equal(text, name_at(ends, k), at);
+        return has_name(text, at, bytes, name_at(ends, k));
     }
     false
 }
@@ -83,18 +84,23 @@ fn meets(text: &[u8], ends: &[u32; HELD_WORDS], at: usize, sought: Marks, k: usi
 pub(crate) fn mark_name(
     text: &[u8],
     ends: &[u32; HELD_WORDS],
+    initials: &[bool; INITIALS],
     n: usize,
     at: usize,
     sought: Marks,
     m: Marks,
 ) -> Marks
-    requires { ⌜ n ≤ heldLimit ⌝ }
+    requires { ⌜ Initials (now text) (now ends) n (now initials) ⌝ }
     ensures { λ r. ⌜ Marked (now (text .entry)) (now (ends .entry)) n sought (isName (now (text .entry)) at) m r ⌝ }
 {
+    if !may_be_held(text, initials, at) {
+        return m;
+    }
+    let bytes = name_length(text, at);
     let mut r = m;
     let mut k: usize = 0;
     while k < n {
-        let met = meets(text, ends, at, sought, k);
+        let met = meets(text, ends, at, bytes, sought, k);
         r = mark_if(r, k, met);
         k += 1;
     }
@@ -105,17 +111,22 @@ pub(crate) fn mark_name(
 pub(crate) fn hide_name(
     text: &[u8],
     ends: &[u32; HELD_WORDS],
+    initials: &[bool; INITIALS],
     n: usize,
     at: usize,
     sought: Marks,
 ) -> Marks
-    requires { ⌜ n ≤ heldLimit ⌝ }
+    requires { ⌜ Initials (now text) (now ends) n (now initials) ⌝ }
     ensures { λ r. ⌜ Hidden (now (text .entry)) (now (ends .entry)) n (isName (now (text .entry)) at) sought r ⌝ }
 {
+    if !may_be_held(text, initials, at) {
+        return sought;
+    }
+    let bytes = name_length(text, at);
     let mut r = sought;
     let mut k: usize = 0;
     while k < n {
-        let met = meets(text, ends, at, sought, k);
+        let met = meets(text, ends, at, bytes, sought, k);
         r = clear_if(r, k, met);
         k += 1;
     }
@@ -132,12 +143,13 @@ pub struct ListMarks {
 fn mark_list(
     text: &[u8],
     ends: &[u32; HELD_WORDS],
+    initials: &[bool; INITIALS],
     n: usize,
     from: usize,
     sought: Marks,
     m: Marks,
 ) -> ListMarks
-    requires { ⌜ n ≤ heldLimit ⌝ }
+    requires { ⌜ Initials (now text) (now ends) n (now initials) ⌝ }
     ensures { λ r. ⌜ MarkedList (now (text .entry)) (now (ends .entry)) n from sought m r ⌝ }
 {
     let mut i = from;
@@ -146,7 +158,7 @@ fn mark_list(
         let a = next_argument(text, i);
         match a {
             Argument::Name(there, past) => {
-                marks = mark_name(text, ends, n, there, sought, marks);
+                marks = mark_name(text, ends, initials, n, there, sought, marks);
                 i = past;
             }
             Argument::End(past) => {
@@ -160,17 +172,18 @@ fn mark_list(
 pub(crate) fn mark_call(
     text: &[u8],
     ends: &[u32; HELD_WORDS],
+    initials: &[bool; INITIALS],
     n: usize,
     bracket: usize,
     sought: Marks,
     m: Marks,
 ) -> Marks
-    requires { ⌜ n ≤ heldLimit ⌝ }
+    requires { ⌜ Initials (now text) (now ends) n (now initials) ⌝ }
     ensures { λ r. ⌜ MarkedCall (now (text .entry)) (now (ends .entry)) n bracket sought m r ⌝ }
 {
     let provided = list_start(text, bracket);
-    let first = mark_list(text, ends, n, provided, sought, m);
+    let first = mark_list(text, ends, initials, n, provided, sought, m);
     let used = list_start(text, first.past);
-    let second = mark_list(text, ends, n, used, sought, first.marks);
+    let second = mark_list(text, ends, initials, n, used, sought, first.marks);
     second.marks
 }

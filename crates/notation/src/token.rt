@@ -150,7 +150,8 @@ fn is_letter(b: u8) -> bool
     within(b'a', b'z', b)
 }
 
-fn is_name_byte(b: u8) -> bool
+// A byte that a name has: a letter, a digit or _.
+pub fn is_name_byte(b: u8) -> bool
     ensures { λ r. ⌜ r ≡ nameByte b ⌝ }
 {
     if is_letter(b) {
@@ -178,7 +179,7 @@ fn is_blank(b: u8) -> bool
 }
 
 // The byte at i, and 0 past the end.
-fn byte_at(text: &[u8], i: usize) -> u8
+pub fn byte_at(text: &[u8], i: usize) -> u8
     ensures { λ r. ⌜ r ≡ getD (now (text .entry)) i 0 ⌝ }
 {
     if i < text.len() { text[i] } else { 0 }

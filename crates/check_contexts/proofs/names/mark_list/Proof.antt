@@ -12,10 +12,10 @@ use Rattle.check_contexts.proofs.names.mark_name.Reads as mark-name-rea
 use Rattle.read_tables.proofs.arguments.next_argument.Reads as next-argument-reads
 
 abbrev Inv-loop : tie.InvT-loop
-Inv-loop text ends n from sought i₀ marks₀ i marks = Walking text from i (Remaining text ends n sought marks₀ marks)
+Inv-loop text ends initials n from sought i₀ marks₀ i marks = Walking text from i (Remaining text ends n sought marks₀ marks)
 
 abbrev μ-loop : tie.MeasureT-loop
-μ-loop text ends n from sought i₀ marks₀ i marks = length text - i
+μ-loop text ends initials n from sought i₀ marks₀ i marks = length text - i
 
 loop-holds : tie.Need-loop-holds Inv-loop μ-loop
 loop-holds c = remaining-start _ _ _ _ _ _

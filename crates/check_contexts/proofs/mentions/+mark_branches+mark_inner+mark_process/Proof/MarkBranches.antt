@@ -13,10 +13,10 @@ use Rattle.check_contexts.proofs.mentions.+mark_branches+mark_inner+mar
 use Rattle.check_contexts.proofs.mentions.+mark_branches+mark_inner+mark_process.Proof.Measures.{mark-branches-at, mark-process-below}
 
 abbrev Inv-loop : mark-branches-lts.InvT-loop
-Inv-loop text scratch ends n e count sought r₀ k₀ r k = Branched text scratch ends n e count sought r₀ k r
+Inv-loop text scratch ends initials n e count sought r₀ k₀ r k = Branched text scratch ends n e count sought r₀ k r
 
 abbrev μ-loop : mark-branches-lts.MeasureT-loop
-μ-loop text scratch ends n e count sought r₀ k₀ r k = count - k
+μ-loop text scratch ends initials n e count sought r₀ k₀ r k = count - k
 
 pub mark-branches-met : {M : Type 1} (t : ℕ) → mark-branches-lts.Closed (branch-reads.Asked, branch-reads.Learnt, mark-process-below t, mark-process.Post) (mark-branches-at t) mark-branches.Post M
 mark-branches-met t =

@@ -16,10 +16,10 @@ use Rattle.check_contexts.proofs.mentions.+mark_branches+mark_inner+mar
 use Rattle.check_contexts.proofs.mentions.+mark_branches+mark_inner+mark_process.Proof.Measures.{mark-inner-below, mark-process-at}
 
 abbrev Inv-loop : mark-process-lts.InvT-loop
-Inv-loop text scratch ends n p at₀ left₀ r₀ at left r = Walked text scratch ends n p left₀ r₀ at left r
+Inv-loop text scratch ends initials n p at₀ left₀ r₀ at left r = Walked text scratch ends n p left₀ r₀ at left r
 
 abbrev μ-loop : mark-process-lts.MeasureT-loop
-μ-loop text scratch ends n p at₀ left₀ r₀ at left r = processTerms (processIn text scratch at)
+μ-loop text scratch ends initials n p at₀ left₀ r₀ at left r = processTerms (processIn text scratch at)
 
 pub mark-process-met : {M : Type 1} (t : ℕ) → mark-process-lts.Closed (term-node-reads.Asked, term-node-reads.Learnt, mark-acted-reads.Asked, mark-acted-reads.Learnt, hide-bound-reads.Asked, hide-bound-reads.Learnt, mark-inner-below t, mark-inner.Post, last-part-reads.Asked, last-part-reads.Learnt) (mark-process-at t) mark-process.Post M
 mark-process-met t =
