@@ -2,7 +2,7 @@
 use Prim.Native.Nat.{ℕ, _+_, _≤_, _<_}
 use mathlib.Core.Path.{_≡_, refl, sym, _∙_, ap, subst}
 use mathlib.Core.List.{List, [], _∷_, _++_, map}
-use mathlib.Core.Option.{some}
+use mathlib.Core.Option.{some, Option·some-injective}
 use native.Mathlib.Omega.{arith}
 use lib.ListN.{set, getElem?}
 use Rattle.notation.specs.declared.reading.Found.the-variants as found
@@ -14,12 +14,12 @@ use Rattle.run_words.specs.Lists.{All, removeAt}
 use Rattle.run_words.specs.ListLaws.{all-at, all-set, all-append, all-remove, map-join}
 use Rattle.run_words.specs.Operations.{first}
 use Rattle.run_words.specs.Raw.{RawEnd, BoundedEnd, sideOf}
-use Rattle.run_words.specs.SearchLaws.{first-of, first-below, first-here, none-from}
+use Rattle.run_words.specs.SearchLaws.{first-of, first-at, first-below, first-here, none-from}
 use Rattle.run_words.specs.Values.{endIn, heldIn, held-length}
 use Rattle.run_words.specs.declared.records.End.{End as EndWords}
 use Rattle.run_words.specs.declared.records.Held.{Held}
 use Rattle.check_contexts.specs.declared.held.Lookup.the-variants as lookups
-use Rattle.check_contexts.specs.Held.{endIs, channelsOf, EndIn, HeldIn, isNamed, Sees, Drops, Retypes, Brings}
+use Rattle.check_contexts.specs.Held.{endIs, channelsOf, EndIn, HeldIn, retypedRaw, isNamed, Sees, Drops, Retypes, RetypesAt, Brings}
 use Rattle.check_contexts.specs.Named.{there-lookup, there-without, there-changed, absent-lookup, absent-without, absent-changed}
 
 module _ (s : List ℕ) (h : Held) (at k : ℕ) (f : first (isNamed s at) (heldIn h) ≡ found.At k) where
@@ -38,20 +38,22 @@ module _ (s : List ℕ) (h : Held) (at k : ℕ) (f : first (isNamed s at) (heldI
     fits = λ w t. let m = t .many in record { many = omega arith; each = subst (All (EndIn s w)) (sym e) (all-remove (EndIn s w) k (heldIn h) (t .each)) };
   }
 
-  pub retypes-there : (e : EndWords) (node : ℕ) (r : Held) → getElem? (heldIn h) k ≡ some (endIn e)
-      → heldIn r ≡ set (heldIn h) k (record { name = e .name; side = sideOf (e .side); node = node; channel = e .channel })
-      → r .count ≡ h .count → node < typeTermLimit → Retypes s h at node r
+  pub retypes-there : {node : ℕ} {r : Held} → RetypesAt h k node r → Retypes s h at node r
   unfolding channelsOf
-  retypes-there e node r g q n b = record {
-    is = λ w. ap (map (endIs s w)) q ∙ there-changed s w at (λ d. end (d .side) (d .channel) (plainIn s w node)) _ (first-here (isNamed s at) (heldIn h) k f g) refl;
-    fits = λ w u t.
-        let m = t .many in
-        let o = all-at (EndIn s w) (heldIn h) k (t .each) g .bounds in
-        record {
-          many = omega arith;
-          each = subst (All (EndIn s w)) (sym q) (all-set (EndIn s w) (heldIn h) k _ (t .each) (record { bounds = record { name = o .name; node = b; channel = o .channel }; type = u }));
-        };
-  }
+  retypes-there {node} {r} q =
+      let (e, p) = first-of (isNamed s at) (heldIn h) k f in
+      let g : getElem? (heldIn h) k ≡ some e = first-at (isNamed s at) p in
+      let n = q .count in
+      record {
+        is = λ w. ap (map (endIs s w)) (q .is g) ∙ there-changed s w at (λ d. end (d .side) (d .channel) (plainIn s w node)) _ p refl;
+        fits = λ w u t.
+            let m = t .many in
+            let o = all-at (EndIn s w) (heldIn h) k (t .each) g .bounds in
+            record {
+              many = omega arith;
+              each = subst (All (EndIn s w)) (sym (q .is g)) (all-set (EndIn s w) (heldIn h) k _ (t .each) (record { bounds = record { name = o .name; node = q .type; channel = o .channel }; type = u }));
+            };
+      }
 
 module _ (s : List ℕ) (h : Held) (at : ℕ) (f : first (isNamed s at) (heldIn h) ≡ found.Nothing) where
   pub sees-nothing : Sees s h at lookups.Nothing
@@ -75,3 +77,12 @@ brings h r e q n b o = record {
 
 pub position-below : (s : List ℕ) (h : Held) (at k : ℕ) → first (isNamed s at) (heldIn h) ≡ found.At k → k < h .count
 position-below s h at k f = omega (arith, first-below (isNamed s at) (heldIn h) k f, held-length h)
+
+-- what is written over the end that was read is that end with another type
+pub retypes-at : {h r : Held} {k node : ℕ} (e : EndWords) → getElem? (heldIn h) k ≡ some (endIn e)
+    → heldIn r ≡ set (heldIn h) k (retypedRaw node (endIn e)) → r .count ≡ h .count → node < typeTermLimit → RetypesAt h k node r
+retypes-at {h} {k = k} {node = node} e g q n b = record {
+  is = λ o. q ∙ ap (λ x. set (heldIn h) k (retypedRaw node x)) (Option·some-injective _ _ (sym g ∙ o));
+  count = n;
+  type = b;
+}

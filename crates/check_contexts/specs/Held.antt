@@ -4,8 +4,9 @@ use mathlib.Core.Path.{_≡_}
 use mathlib.Core.List.{List, [], _∷_, _++_, map}
 use mathlib.Core.Bool.{Bool}
 use mathlib.Core.Option.{Option, some, none}
+use lib.ListN.{set, getElem?}
 use Rattle.notation.specs.Bytes.{same}
-use Rattle.notation.specs.Limits.{heldLimit}
+use Rattle.notation.specs.Limits.{heldLimit, typeTermLimit}
 use Rattle.notation.specs.Token.{nameAt}
 use Rattle.notation.specs.Tree.{Name, Ty}
 use Rattle.calculus.specs.Named.{lookup, without}
@@ -66,6 +67,15 @@ pub record Drops (s : List ℕ) (h : Held) (at : ℕ) (r : Held) : Type 0 where
 pub record Retypes (s : List ℕ) (h : Held) (at node : ℕ) (r : Held) : Type 0 where
   pub is : (w : List ℕ) → channelsOf s w r ≡ retypedEnd (nameAt s at) (plainIn s w node) (channelsOf s w h)
   pub fits : (w : List ℕ) → TypeIn s w node → HeldIn s w h → HeldIn s w r
+
+-- with the type of a node for the channel at a position
+abbrev pub retypedRaw : ℕ → RawEnd → RawEnd
+retypedRaw node e = record { name = e .name; side = e .side; node = node; channel = e .channel }
+
+pub record RetypesAt (h : Held) (k node : ℕ) (r : Held) : Type 0 where
+  pub is : {e : RawEnd} → getElem? (heldIn h) k ≡ some e → heldIn r ≡ set (heldIn h) k (retypedRaw node e)
+  pub count : r .count ≡ h .count
+  pub type : node < typeTermLimit
 
 -- with one channel more, the youngest
 pub record Brings (h : Held) (at side node channel : ℕ) (r : Held) : Type 0 where

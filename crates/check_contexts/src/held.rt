@@ -11,7 +11,7 @@ use run_words::records::Held;
 ghost use Rattle.notation.specs.Limits.{channelPlaces, heldLimit, textLimit, typeTermLimit};
 ghost use mathlib.Core.Path.{_≡_};
 ghost use Prim.Native.Nat.{ℕ, _<_, _≤_};
-ghost use Rattle.check_contexts.specs.Held.{isNamed, Sees, Drops, Retypes, Brings};
+ghost use Rattle.check_contexts.specs.Held.{isNamed, Sees, Drops, Retypes, RetypesAt, Brings};
 ghost use Rattle.run_words.specs.Operations.{first};
 ghost use Rattle.run_words.specs.Raw.{BoundedEnd, sideRadix};
 ghost use Rattle.run_words.specs.Lists.{All};
@@ -24,7 +24,7 @@ pub enum Lookup {
 }
 
 // The first position that has the name at `at`.
-fn position_named(text: &[u8], h: Held, at: usize) -> Found
+pub fn position_named(text: &[u8], h: Held, at: usize) -> Found
     requires { ⌜ h .count ≤ heldLimit ⌝ }
     ensures { λ r. ⌜ r ≡ first (isNamed (now (text .entry)) at) (heldIn h) ⌝ }
 {
@@ -66,16 +66,12 @@ pub fn drop_end(text: &[u8], h: Held, at: usize) -> Held
     without(h, k)
 }
 
-// With another type for that channel.
-pub fn retype_end(text: &[u8], h: Held, at: usize, node: u32) -> Held
-    requires { ⌜ (h .count ≤ heldLimit) × (node < typeTermLimit) ⌝ }
+// With another type for the channel at a position.
+pub fn retype_at(h: Held, k: usize, node: u32) -> Held
+    requires { ⌜ (h .count ≤ heldLimit) × (k < h .count) × (node < typeTermLimit) ⌝ }
     requires { ⌜ All BoundedEnd (heldIn h) ⌝ }
-    ensures { λ r. ⌜ Retypes (now (text .entry)) h at node r ⌝ }
+    ensures { λ r. ⌜ RetypesAt h k node r ⌝ }
 {
-    let f = position_named(text, h, at);
-    let Found::At(k) = f else {
-        return h;
-    };
     let e = end_at(h, k);
     replaced(
         h,
@@ -87,6 +83,19 @@ pub fn retype_end(text: &[u8], h: Held, at: usize, node: u32) -> Held
             channel: e.channel,
         },
     )
+}
+
+// With another type for the channel whose name is the one at `at`.
+pub fn retype_end(text: &[u8], h: Held, at: usize, node: u32) -> Held
+    requires { ⌜ (h .count ≤ heldLimit) × (node < typeTermLimit) ⌝ }
+    requires { ⌜ All BoundedEnd (heldIn h) ⌝ }
+    ensures { λ r. ⌜ Retypes (now (text .entry)) h at node r ⌝ }
+{
+    let f = position_named(text, h, at);
+    let Found::At(k) = f else {
+        return h;
+    };
+    retype_at(h, k, node)
 }
 
 // With one channel more: its name is the one at `at`.

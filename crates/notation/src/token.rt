@@ -363,6 +363,35 @@ pub fn names_equal(text: &[u8], a: usize, b: usize) -> bool
     !is_name_byte(byte_at(text, y))
 }
 
+// How many bytes the name has that begins at `at`.
+pub fn name_length(text: &[u8], at: usize) -> usize
+    ensures { λ r. ⌜ r ≡ length (nameAt (now (text .entry)) at) ⌝ }
+{
+    name_end(text, at) - at
+}
+
+// The name that begins at `there` is the one of n bytes that begins at `at`: compared from the end, where names mostly differ.
+// Past the end of the text there is the empty name.
+pub fn has_name(text: &[u8], at: usize, n: usize, there: usize) -> bool
+    requires { ⌜ n ≡ length (nameAt (now text) at) ⌝ }
+    ensures { λ r. ⌜ r ≡ same (nameAt (now (text .entry)) at) (nameAt (now (text .entry)) there) ⌝ }
+{
+    if text.len() <= there {
+        return n == 0;
+    }
+    if text.len() - there < n {
+        return false;
+    }
+    let mut k = n;
+    while 0 < k {
+        k -= 1;
+        if text[at + k] != text[there + k] {
+            return false;
+        }
+    }
+    !is_name_byte(byte_at(text, there + n))
+}
+
 // A token of this kind whose name stands from `from` to `end`; a name that is too long is at fault.
 fn named(kind: usize, start: usize, from: usize, end: usize) -> Token
     requires { ⌜ from ≤ end ⌝ }
