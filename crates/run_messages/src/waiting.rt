@@ -16,7 +16,8 @@ use crate::messages::turn_on;
 use check_contexts::held::Lookup;
 use notation::kinds::SEND_LABEL;
 use notation::reading::TermNode;
-use notation::token::names_equal;
+use notation::token::has_name;
+use notation::token::name_length;
 use notation::words::wide;
 use run_words::far::far_end_near;
 use run_words::processes::doing;
@@ -31,11 +32,12 @@ fn end_named(text: &[u8], run: &[u32], i: usize, at: usize) -> Lookup
     ensures { λ r. ⌜ Sees (now (text .entry)) (valueOf (now (run .entry)) i .held) at r ⌝ }
 {
     let n = held_count(run, i);
+    let m = name_length(text, at);
     let mut k: usize = 0;
     while k < n {
         let e = held_end(run, i, k);
         let there = wide(e.name);
-        if names_equal(text, at, there) {
+        if has_name(text, at, m, there) {
             return Lookup::Found(e);
         }
         k += 1;
