@@ -112,6 +112,12 @@ Whatever xs ys = Unit {0}
 pub ends-there : {s : List ℕ} {from i : ℕ} → Walking s from i Whatever → (p : ℕ) → argumentFrom s i ≡ arguments.End p → Ends s from p
 ends-there t p e = record { is = λ xs rest h. walk-end t p e xs rest h .0 }
 
+pub walked : {s : List ℕ} {from i : ℕ} {R : List Located → List Located → Type 0} → Walking s from i R → Walking s from i Whatever
+walked t = record { on = λ xs rest h. let (ys, m, r) = t .on xs rest h in (ys, m, tt) }
+
+pub ends-on : {s : List ℕ} {from i r : ℕ} → Walking s from i Whatever → Ends s i r → Ends s from r
+ends-on t e = record { is = λ xs rest h. let (ys, m, u) = t .on xs rest h in e .is ys rest m }
+
 -- ── marks as far as a walk has come: what is left of the list marks the same of them as the whole list did before
 pub record Remaining (s ends : List ℕ) (n : ℕ) (sought m r : Marks) (xs ys : List Located) : Type 0 where
   pub at : (v : Marks) → Marked s ends n sought (λ x. isOneOf x ys) r v → Marked s ends n sought (λ x. isOneOf x xs) m v

@@ -7,6 +7,7 @@ ghost use Rattle.read_tables.specs.Roots.{TypeIn};
 ghost use Rattle.read_tables.specs.Access.{asEntry};
 ghost use Rattle.read_tables.specs.Whole.{EntriesIn, SignatureIn, Tables};
 ghost use Rattle.check_contexts.specs.Held.{HeldIn};
+ghost use Rattle.check_contexts.specs.Walks.{Walking, Whatever};
 ghost use Rattle.run_alone.specs.Run.{RunOf, StandsAt, Carries};
 ghost use Rattle.run_alone.specs.Calling.{EntersEnd, EntersList, EntersCall, CallIn, callingBy};
 use crate::outcome::Outcome;
@@ -53,6 +54,12 @@ fn enter_end(
     bring_end(r, at, side, node, d.channel)
 }
 
+// What is held after a list was entered, and where its walk stopped.
+struct Entered {
+    held: Held,
+    at: usize,
+}
+
 // With the ends that h holds under the names of the list from `from` on, under those of n signature entries.
 fn enter_list(
     text: &[u8],
@@ -63,11 +70,12 @@ fn enter_list(
     side: u32,
     first: usize,
     n: usize,
-) -> Held
+) -> Entered
     requires { ⌜ Tables (now text) (now scratch) × EntriesIn (now text) (now scratch) first n ⌝ }
     requires { ⌜ HeldIn (now text) (now scratch) h × HeldIn (now text) (now scratch) r ⌝ }
     requires { ⌜ (r .count + n ≤ heldLimit) × (side < sideRadix) ⌝ }
-    ensures { λ q. ⌜ EntersList (now (text .entry)) (now (scratch .entry)) h r from side first n q ⌝ }
+    ensures { λ q. ⌜ EntersList (now (text .entry)) (now (scratch .entry)) h r from side first n (q .held) ⌝ }
+    ensures { λ q. ⌜ Walking (now (text .entry)) from (q .at) Whatever ⌝ }
 {
     let mut q = r;
     let mut at = from;
@@ -76,7 +84,7 @@ fn enter_list(
     while left != 0 {
         let a = next_argument(text, at);
         let Argument::Name(there, past) = a else {
-            return q;
+            return Entered { held: q, at };
         };
         let e = entry(scratch, i);
         q = enter_end(
@@ -93,7 +101,7 @@ fn enter_list(
         i += 1;
         left -= 1;
     }
-    q
+    Entered { held: q, at }
 }
 
 // The place past n entries; no sum that could wrap where there are none.
@@ -117,10 +125,11 @@ fn enter_call(text: &[u8], scratch: &[u32], h: Held, bracket: usize, d: Declared
     let from = list_start(text, bracket);
     let none = no_ends();
     let first = enter_list(text, scratch, h, none, from, PROVIDED, d.first, d.provided);
-    let middle = list_end(text, from);
+    let middle = list_end(text, first.at);
     let used = list_start(text, middle);
     let second = past_entries(d.first, d.provided);
-    enter_list(text, scratch, h, first, used, USED, second, d.used)
+    let both = enter_list(text, scratch, h, first.held, used, USED, second, d.used);
+    both.held
 }
 
 // Call: the process goes on with the body of the process named, and the channels of the lists.

@@ -240,7 +240,21 @@ module _ (s w : List ℕ) (C : Config) (i : ℕ) (q q′ : Process) (h : Holder)
   met-other (suc (suc (suc k))) (suc (suc (suc (suc (suc (suc (suc (suc zero)))))))) a b z = let y : k ≡ 0 = omega arith in absurd (z (omega arith))
   met-other k (suc (suc (suc (suc (suc (suc (suc (suc (suc l))))))))) a b z = refl
 
--- ── what the sender's step comes to, where the far end is at a process that receives
+-- ── what the sender's step comes to, where the far end is at a process: t is the node of its turn
+module _ (s w old : List ℕ) (i : ℕ) (q q′ : Process) (n : TermNode) (e : EndWords) (h : Holder) (t : TermNode) (f : farOf s w old e ≡ calculus.atProcess h) (g : heard (h .name) (turnOf (h .process .doing)) ≡ turnBy s w t (t .kind)) where
+  abbrev overBy : Outcome
+  overBy = sending (programIn s w) (configIn s w old) i q q′ (message s n) (endAs s w e) (farOf s w old e)
+
+  over-as : overBy ≡ metBy (programIn s w) (configIn s w old) i q q′ (message s n) h (turnBy s w t (t .kind))
+  over-as =
+      ap (sending (programIn s w) (configIn s w old) i q q′ (message s n) (endAs s w e)) f
+      ∙ meeting-heard (programIn s w) (configIn s w old) i q q′ (message s n) h (turnOf (h .process .doing))
+      ∙ ap (metBy (programIn s w) (configIn s w old) i q q′ (message s n) h) g
+
+  pub over-other : sendUnitKind ≤ n .kind → n .kind ≤ sendLabelKind → (t .kind ≡ n .kind + recvOver → ⊥) → Carries s w old old NotOpen overBy
+  over-other a b z = subst (Carries s w old old NotOpen) (sym (over-as ∙ met-other s w (configIn s w old) i q q′ h n t (n .kind) (t .kind) a b z)) (record { is = (refl, refl) })
+
+-- where it receives
 module _ (s w old : List ℕ) (sent : Sending) where
   abbrev pub holderBy : Receiver → Holder
   holderBy to = record { place = to .place; process = processAs s w (to .process); name = nameAt s (to .name) }
@@ -253,13 +267,10 @@ module _ (s w old : List ℕ) (sent : Sending) where
 
   module _ (to : Receiver) (f : farOf s w old (sent .over) ≡ calculus.atProcess (holderBy to)) (g : Heard s w (to .name) (doingAs s w (to .process .kind) (to .process .pointer)) (to .term)) where
     meets-as : (sendingBy s w old sent) ≡ heardBy to
-    meets-as =
-        ap (sending (programIn s w) (configIn s w old) (sent .place) (processAs s w (sent .before)) (processAs s w (sent .after)) (message s (sent .term)) (endAs s w (sent .over))) f
-        ∙ meeting-heard (programIn s w) (configIn s w old) (sent .place) (processAs s w (sent .before)) (processAs s w (sent .after)) (message s (sent .term)) (holderBy to) (turnOf (doingAs s w (to .process .kind) (to .process .pointer)))
-        ∙ ap (metBy (programIn s w) (configIn s w old) (sent .place) (processAs s w (sent .before)) (processAs s w (sent .after)) (message s (sent .term)) (holderBy to)) (g .is)
+    meets-as = over-as s w old (sent .place) (processAs s w (sent .before)) (processAs s w (sent .after)) (sent .term) (sent .over) (holderBy to) (to .term) f (g .is)
 
     pub meets-other : SendNode (sent .term) → (to .term .kind ≡ sent .term .kind + recvOver → ⊥) → Carries s w old old NotOpen (sendingBy s w old sent)
-    meets-other a z = subst (Carries s w old old NotOpen) (sym (meets-as ∙ met-other s w (configIn s w old) (sent .place) (processAs s w (sent .before)) (processAs s w (sent .after)) (holderBy to) (sent .term) (to .term) (sent .term .kind) (to .term .kind) (a .low) (a .high) z)) (record { is = (refl, refl) })
+    meets-other a z = over-other s w old (sent .place) (processAs s w (sent .before)) (processAs s w (sent .after)) (sent .term) (sent .over) (holderBy to) (to .term) f (g .is) (a .low) (a .high) z
 
     pub meets : {new : List ℕ} {o : OutcomeWords} → Carries s w old new o (heardBy to) → Carries s w old new o (sendingBy s w old sent)
     meets {new} {o} c = subst (Carries s w old new o) (sym meets-as) c

@@ -1,9 +1,9 @@
 -- A send, whoever is at the far end.
 use Prim.Native.Nat.{_≤_, suc, zero, ℕ}
-use Rattle.calculus.specs.Configuration.{goesOn, replaced}
-use Rattle.calculus.specs.Steps.{Outcome, parting, send, sending, unheard}
+use Rattle.calculus.specs.Configuration.{Process, goesOn, replaced}
+use Rattle.calculus.specs.Steps.{Outcome, afterSend, parting, send, sending, unheard}
 use Rattle.calculus.specs.declared.answers.Seen.the-variants.{Nothing}
-use Rattle.check_contexts.specs.Held.{Sees}
+use Rattle.check_contexts.specs.Held.{Sees, channelsOf}
 use Rattle.check_contexts.specs.declared.held.Lookup.{Lookup}
 use Rattle.notation.specs.Reader.{nameIn}
 use Rattle.notation.specs.Token.{nameAt}
@@ -79,15 +79,25 @@ module _ (s w old : List ℕ) (sent : Sending) where
 abbrev pub sendBy : List ℕ → List ℕ → List ℕ → ℕ → ProcessWords → TermNode → Outcome
 sendBy s w old i p n = send (programIn s w) (configIn s w old) i (processAs s w p) (nameIn s (n .first)) (message s n) (processIn s w (n .third))
 
+-- the process after it
+abbrev pub sentBy : List ℕ → List ℕ → ProcessWords → TermNode → Process
+sentBy s w p n = goesOn (processAs s w p) (processIn s w (n .third)) (afterSend (programIn s w) (nameAt s (n .first)) (message s n) (channelsOf s w (p .held)))
+
 module _ (s w old : List ℕ) (i : ℕ) (p : ProcessWords) (n : TermNode) {f : Lookup} (a : Sees s (p .held) (n .first) f) where
   pub sends-nothing : f ≡ lookups.Nothing → Carries s w old old NotOpen (sendBy s w old i p n)
   unfolding send
   sends-nothing q = held-none a _ q
 
+  -- with the process after it as the calculus has it
+  pub sends-over : {e : EndWords} {new : List ℕ} {o : OutcomeWords} → f ≡ lookups.Found e
+      → Carries s w old new o (sending (programIn s w) (configIn s w old) i (processAs s w p) (sentBy s w p n) (message s n) (endAs s w e) (farOf s w old e)) → Carries s w old new o (sendBy s w old i p n)
+  unfolding send
+  sends-over q c = held-some a _ q c
+
+  -- and as its words are
   pub sends-on : {e : EndWords} {h : Held} {new : List ℕ} {o : OutcomeWords} → f ≡ lookups.Found e → SentHeld s w (p .held) n h
       → Carries s w old new o (sendingBy s w old (record { place = i; before = p; after = values.runningOn (n .third) h p; term = n; over = e })) → Carries s w old new o (sendBy s w old i p n)
-  unfolding send
   sends-on {e} {new = new} {o = o} q g c =
-      held-some a _ q
+      sends-over q
       (subst (λ l. Carries s w old new o (sending (programIn s w) (configIn s w old) i (processAs s w p) (goesOn (processAs s w p) (processIn s w (n .third)) l) (message s n) (endAs s w e) (farOf s w old e)))
       (g .is) c)

@@ -40,7 +40,7 @@ use run_words::records::Process;
 use run_words::records::RUNNING;
 
 // The recv of what a send sends is of a kind so much higher.
-const RECEIVES: usize = RECV_UNIT - SEND_UNIT;
+pub(crate) const RECEIVES: usize = RECV_UNIT - SEND_UNIT;
 
 // The process q at a place, and then r at place j.
 fn store_both(

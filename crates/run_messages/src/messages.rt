@@ -13,10 +13,9 @@ ghost use Rattle.check_contexts.specs.Held.{HeldIn};
 ghost use Rattle.run_messages.specs.Kinds.{sendLabelKind, sendUnitKind};
 ghost use Rattle.run_alone.specs.Run.{doingAs};
 ghost use Rattle.run_messages.specs.Messages.{message, TypeAfter, MovesOn, SentHeld, Heard};
-use check_contexts::held::Lookup;
 use check_contexts::held::drop_end;
-use check_contexts::held::find_end;
-use check_contexts::held::retype_end;
+use check_contexts::held::position_named;
+use check_contexts::held::retype_at;
 use check_types::acting::choosing;
 use check_types::acting::labelled;
 use check_types::acting::passing;
@@ -31,6 +30,7 @@ use notation::reading::TermNode;
 use notation::script::Script;
 use notation::token::names_equal;
 use read_tables::access::term_node;
+use run_words::held::end_at;
 use run_words::records::End;
 use run_words::records::Held;
 use run_words::records::Process;
@@ -122,12 +122,13 @@ pub(crate) fn move_on(text: &[u8], scratch: &[u32], h: Held, n: TermNode, at: us
     requires { ⌜ (sendUnitKind ≤ n .kind) × (n .kind ≤ sendLabelKind) ⌝ }
     ensures { λ r. ⌜ MovesOn (now (text .entry)) (now (scratch .entry)) h n at r ⌝ }
 {
-    let f = find_end(text, h, at);
-    let Lookup::Found(e) = f else {
+    let f = position_named(text, h, at);
+    let Found::At(k) = f else {
         return h;
     };
+    let e = end_at(h, k);
     let node = after_message(text, scratch, n, e.node as usize);
-    retype_end(text, h, at, node as u32)
+    retype_at(h, k, node as u32)
 }
 
 // What the sender holds after the send n.

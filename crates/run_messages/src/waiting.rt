@@ -1,4 +1,4 @@
-// A recv that waits for a send, told from the words of the run: no process is loaded.
+// A recv that waits for a send, or a send for a recv, told from the words of the run: no process is loaded.
 ghost use Prim.Native.Nat.{_≤_, _<_};
 ghost use lib.ListN.{length};
 ghost use Rattle.notation.specs.Limits.{runWords, heldLimit, processPlaces};
@@ -8,12 +8,16 @@ ghost use Rattle.run_words.specs.Raw.{rawIn, heldCount};
 ghost use Rattle.run_words.specs.Values.{valueOf};
 ghost use Rattle.check_contexts.specs.Held.{Sees};
 ghost use Rattle.run_alone.specs.Run.{configIn, RunOf};
-ghost use Rattle.run_messages.specs.Waiting.{NoSend, Awaits};
+ghost use Rattle.run_messages.specs.Kinds.{sendLabelKind, sendUnitKind};
+ghost use Rattle.run_messages.specs.Waiting.{PartnerOf, NoSend, Awaits, AwaitsRecv};
+use crate::meeting::RECEIVES;
 use crate::messages::IDLE;
 use crate::messages::turn_on;
 use check_contexts::held::Lookup;
 use notation::kinds::SEND_LABEL;
-use notation::token::names_equal;
+use notation::reading::TermNode;
+use notation::token::has_name;
+use notation::token::name_length;
 use notation::words::wide;
 use run_words::far::far_end_near;
 use run_words::processes::doing;
@@ -28,16 +32,45 @@ fn end_named(text: &[u8], run: &[u32], i: usize, at: usize) -> Lookup
     ensures { λ r. ⌜ Sees (now (text .entry)) (valueOf (now (run .entry)) i .held) at r ⌝ }
 {
     let n = held_count(run, i);
+    let m = name_length(text, at);
     let mut k: usize = 0;
     while k < n {
         let e = held_end(run, i, k);
         let there = wide(e.name);
-        if names_equal(text, at, there) {
+        if has_name(text, at, m, there) {
             return Lookup::Found(e);
         }
         k += 1;
     }
     Lookup::Nothing
+}
+
+// The process at the far end of a channel, by the kind of its turn on that channel (IDLE if it has none); or no process is there.
+pub(crate) enum Partner {
+    Turns(usize),
+    Nobody,
+}
+
+// The partner on the channel c of the process at a place.
+fn partner_of(text: &[u8], scratch: &[u32], run: &[u32], place: usize, c: usize) -> Partner
+    requires { ⌜ RunOf (now text) (now scratch) (now run) ⌝ }
+    requires { ⌜ WellFormed (programIn (now text) (now scratch)) (configIn (now text) (now scratch) (now run)) ⌝ }
+    requires { ⌜ place < length (rawIn (now run) .processes) ⌝ }
+    ensures { λ r. ⌜ PartnerOf (now (text .entry)) (now (scratch .entry)) (now (run .entry)) place c r ⌝ }
+{
+    let f = end_named(text, run, place, c);
+    let Lookup::Found(e) = f else {
+        return Partner::Nobody;
+    };
+    let g = far_end_near(run, place, e.channel, e.side);
+    let Far::Process(j, k) = g else {
+        return Partner::Nobody;
+    };
+    let y = held_end(run, j, k);
+    let d = doing(run, j);
+    let x = y.name as usize;
+    let t = turn_on(text, scratch, d.kind, d.pointer, x);
+    Partner::Turns(t.kind)
 }
 
 // Whether no send is of this kind.
@@ -54,23 +87,30 @@ fn is_no_send(kind: usize) -> bool
 }
 
 // Whether a recv on the channel c of the process at a place waits for the send of another.
-pub fn awaits(text: &[u8], scratch: &[u32], run: &[u32], place: usize, c: usize) -> bool
+pub fn awaits_send(text: &[u8], scratch: &[u32], run: &[u32], place: usize, c: usize) -> bool
     requires { ⌜ RunOf (now text) (now scratch) (now run) ⌝ }
     requires { ⌜ WellFormed (programIn (now text) (now scratch)) (configIn (now text) (now scratch) (now run)) ⌝ }
     requires { ⌜ place < length (rawIn (now run) .processes) ⌝ }
     ensures { λ r. ⌜ Awaits (now (text .entry)) (now (scratch .entry)) (now (run .entry)) place c r ⌝ }
 {
-    let f = end_named(text, run, place, c);
-    let Lookup::Found(e) = f else {
+    let f = partner_of(text, scratch, run, place, c);
+    let Partner::Turns(kind) = f else {
         return false;
     };
-    let g = far_end_near(run, place, e.channel, e.side);
-    let Far::Process(j, k) = g else {
+    is_no_send(kind)
+}
+
+// Whether the send n of the process at a place waits for the recv of another.
+pub fn awaits_recv(text: &[u8], scratch: &[u32], run: &[u32], place: usize, n: TermNode) -> bool
+    requires { ⌜ RunOf (now text) (now scratch) (now run) ⌝ }
+    requires { ⌜ WellFormed (programIn (now text) (now scratch)) (configIn (now text) (now scratch) (now run)) ⌝ }
+    requires { ⌜ place < length (rawIn (now run) .processes) ⌝ }
+    requires { ⌜ (sendUnitKind ≤ n .kind) × (n .kind ≤ sendLabelKind) ⌝ }
+    ensures { λ r. ⌜ AwaitsRecv (now (text .entry)) (now (scratch .entry)) (now (run .entry)) place n r ⌝ }
+{
+    let f = partner_of(text, scratch, run, place, n.first);
+    let Partner::Turns(kind) = f else {
         return false;
     };
-    let y = held_end(run, j, k);
-    let d = doing(run, j);
-    let x = y.name as usize;
-    let t = turn_on(text, scratch, d.kind, d.pointer, x);
-    is_no_send(t.kind)
+    kind != n.kind + RECEIVES
 }

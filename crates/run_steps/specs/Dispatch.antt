@@ -37,7 +37,7 @@ use Rattle.run_alone.specs.Changes.{places-in}
 use Rattle.run_alone.specs.Spawning.{SpawnIn}
 use Rattle.run_messages.specs.Messages.{messageBy, SendNode, label-small}
 use Rattle.run_messages.specs.Sending.{sendBy}
-use Rattle.run_messages.specs.Waiting.{Awaits, value-stands}
+use Rattle.run_messages.specs.Waiting.{Awaits, AwaitsRecv, value-stands}
 use Rattle.run_alone.specs.Calling.{CallIn, names-many}
 
 -- every process of the program has at most 16 channels, as an accepted text's have
@@ -257,7 +257,7 @@ module _ (s w old : List ℕ) (t : RunOf s w old) (F : WellFormed (programIn s w
   unfolding step
   steps-as {new} {r} k e c = subst (λ o. Carries s w old new r (stepOf (programIn s w) (configIn s w old) i o)) (sym (u .there)) (subst (λ m. Carries s w old new r (doingBy m)) (sym e) c)
 
--- ── a recv that waits, told from the words
+-- ── a recv or a send that waits, told from the words
 -- where the answer is yes, the step is not open
 pub record Waits (s w ws : List ℕ) (i : ℕ) (r : Bool) : Type 0 where
   pub is : r ≡ true → Carries s w ws ws NotOpen (step (programIn s w) (configIn s w ws) i)
@@ -265,17 +265,23 @@ pub record Waits (s w ws : List ℕ) (i : ℕ) (r : Bool) : Type 0 where
 pub waits-not : {s w ws : List ℕ} {i : ℕ} → Waits s w ws i false
 waits-not = record { is = λ z. absurd (false≢true z) }
 
-pub waits-so : {s w ws : List ℕ} {i : ℕ} (t : RunOf s w ws) → WellFormed (programIn s w) (configIn s w ws) → i < length (rawIn ws .processes) → (kind pointer : ℕ) (n : TermNode) {r : Bool} → kind ≡ valueOf ws i .kind
-    → pointer ≡ valueOf ws i .pointer → kind ≡ runningKind → pointer < processTermLimit → TermOf w pointer n → recvUnitKind ≤ n .kind → n .kind ≤ recvLabelKind → Awaits s w ws i (n .first) r → Waits s w ws i r
-waits-so {s} {w} {ws} {i} t F b kind pointer n k p z l o low high a =
-    let q = valueOf ws i in
-    let u = value-stands t i b in
-    let runs : q .kind ≡ runningKind = sym k ∙ z in
-    record {
-      is = λ y.
-          steps-as s w ws t F i q u 0 runs
-          (ruled-receive s w ws i q n (node-rules s w ws t F i q u n runs (omega (arith, l, p)) (subst (λ m. TermOf w m n) p o)) low high (a .is y));
-    }
+-- the node of what the process at a place runs
+module _ {s w ws : List ℕ} {i : ℕ} (t : RunOf s w ws) (F : WellFormed (programIn s w) (configIn s w ws)) (b : i < length (rawIn ws .processes)) (kind pointer : ℕ) (n : TermNode) (k : kind ≡ valueOf ws i .kind) (p : pointer ≡ valueOf ws i .pointer)
+    (z : kind ≡ runningKind) (l : pointer < processTermLimit) (o : TermOf w pointer n) where
+  runs-there : valueOf ws i .kind ≡ runningKind
+  runs-there = sym k ∙ z
+
+  ruled-there : RuledBy s w ws i (valueOf ws i) n
+  ruled-there = node-rules s w ws t F i (valueOf ws i) (value-stands t i b) n runs-there (omega (arith, l, p)) (subst (λ m. TermOf w m n) p o)
+
+  waits-as : {r : Bool} → (r ≡ true → Carries s w ws ws NotOpen (termBy s w ws i (valueOf ws i))) → Waits s w ws i r
+  waits-as a = record { is = λ y. steps-as s w ws t F i (valueOf ws i) (value-stands t i b) 0 runs-there (a y) }
+
+  pub waits-so : {r : Bool} → recvUnitKind ≤ n .kind → n .kind ≤ recvLabelKind → Awaits s w ws i (n .first) r → Waits s w ws i r
+  waits-so low high a = waits-as (λ y. ruled-receive s w ws i (valueOf ws i) n ruled-there low high (a .is y))
+
+  pub send-waits-so : {r : Bool} → sendUnitKind ≤ n .kind → n .kind ≤ sendLabelKind → AwaitsRecv s w ws i n r → Waits s w ws i r
+  send-waits-so low high a = waits-as (λ y. ruled-send s w ws i (valueOf ws i) n ruled-there low high (a .is y))
 
 pub past-end : {A : Type 0} (l : List A) (i : ℕ) → length l ≤ i → getElem? l i ≡ none
 past-end [] i h = refl

@@ -33,7 +33,8 @@ use run_alone::spawning::spawn;
 use run_alone::trying::try_both;
 use run_messages::receiving::receive;
 use run_messages::sending::send;
-use run_messages::waiting::awaits;
+use run_messages::waiting::awaits_recv;
+use run_messages::waiting::awaits_send;
 use run_words::processes::count;
 use run_words::processes::doing;
 use run_words::processes::load;
@@ -125,7 +126,7 @@ fn step_running(text: &[u8], scratch: &[u32], run: &mut [u32], place: usize, p: 
     step_term(text, scratch, run, place, p, n)
 }
 
-// Whether the process at a place runs a recv that waits for a send, told from the words: to load it would copy all that it holds.
+// Whether the process at a place runs a send or a recv that waits for its partner, told from the words: to load it would copy all that it holds.
 fn is_waiting(text: &[u8], scratch: &[u32], run: &[u32], place: usize) -> bool
     requires { ⌜ RunOf (now text) (now scratch) (now run) ⌝ }
     requires { ⌜ WellFormed (programIn (now text) (now scratch)) (configIn (now text) (now scratch) (now run)) ⌝ }
@@ -141,13 +142,12 @@ fn is_waiting(text: &[u8], scratch: &[u32], run: &[u32], place: usize) -> bool
         return false;
     }
     let n = term_node(scratch, at);
-    if n.kind < RECV_UNIT {
-        return false;
+    let kind = n.kind;
+    match kind {
+        SEND_UNIT..=SEND_LABEL => return awaits_recv(text, scratch, run, place, n),
+        RECV_UNIT..=RECV_LABEL => return awaits_send(text, scratch, run, place, n.first),
+        _ => return false,
     }
-    if RECV_LABEL < n.kind {
-        return false;
-    }
-    awaits(text, scratch, run, place, n.first)
 }
 
 // The step at a place, as the calculus has it. Most places that are tried wait, so that is asked first.

@@ -3,6 +3,7 @@ use native.Mathlib.Omega.{arith}
 use Rattle.run_alone.specs.Calling.{EntersList, entries-below, held-nothing, enters-call}
 use Rattle.run_alone.specs.Changes.{none-held}
 use Rattle.read_tables.specs.Whole.{EntriesIn}
+use Rattle.check_contexts.specs.Walks.{ends-on}
 use borrow.Author.Needs.{needs}
 use Rattle.run_alone.proofs.calling.enter_call.Statement.{statement}
 use Rattle.run_alone.proofs.calling.enter_call.Tie as tie
@@ -39,23 +40,26 @@ enter-list-requires-2 c κs =
     let s = c .before .before .before .before .before .before .before .before in (
       (s .pre .0 .0, subst (λ i. EntriesIn (s .args .text .now) (s .args .scratch .now) i (s .args .d .used)) (sym (c .past-entries .ensures)) ((s .pre .0 .1) .uses)),
       (
-        (s .pre .1 .0, c .before .before .before .enter-list .ensures .fits),
-        (omega (arith, c .before .before .before .enter-list .ensures .few, c .before .before .before .before .no-ends .ensures .1, s .pre .1 .1), omega arith),
+        (s .pre .1 .0, c .before .before .before .enter-list .ensures .0 .fits),
+        (omega (arith, c .before .before .before .enter-list .ensures .0 .few, c .before .before .before .before .no-ends .ensures .1, s .pre .1 .1), omega arith),
       ),
     )
 
 returns : tie.Need-returns
 returns c =
-    let enter-list = c .before .before .before .before .enter-list in
-    let after-no-ends = c .before .before .before .before .before in
+    let both = c .before in
+    let enter-list = both .before .before .before .before .enter-list in
+    let after-no-ends = both .before .before .before .before .before in
     let no-ends = after-no-ends .no-ends in
     let entry = after-no-ends .before .before .before .before in
     let text = entry .args .text .now in
     let scratch = entry .args .scratch .now in
-    enters-call text scratch (entry .args .h) (entry .args .bracket) (entry .args .d) _ _ _ (no-ends .result) (enter-list .result) (c .enter-list2 .result)
-    (none-held text scratch _ (no-ends .ensures .1)) (after-no-ends .before .list-start .ensures) (c .before .before .before .list-end .ensures) (c .before .before .list-start2 .ensures)
-    (enter-list .ensures) (subst (λ i. EntersList text scratch (entry .args .h) (enter-list .result) (c .before .before .list-start2 .result) 1 i (entry .args .d .used) (c .enter-list2 .result))
-    (c .before .past-entries .ensures) (c .enter-list2 .ensures))
+    let list-start2 = both .before .before .list-start2 in
+    let middle = ends-on (enter-list .ensures .1) (both .before .before .before .list-end .ensures) in
+    enters-call text scratch (entry .args .h) (entry .args .bracket) (entry .args .d) _ _ _ (no-ends .result) (enter-list .result .held) (both .enter-list2 .result .held)
+    (none-held text scratch _ (no-ends .ensures .1)) (after-no-ends .before .list-start .ensures) middle (list-start2 .ensures) (enter-list .ensures .0)
+    (subst (λ i. EntersList text scratch (entry .args .h) (enter-list .result .held) (list-start2 .result) 1 i (entry .args .d .used) (both .enter-list2 .result .held))
+    (both .before .past-entries .ensures) (both .enter-list2 .ensures .0))
 
 pub enter-call-spec : {M : Type 1} → statement M
 enter-call-spec =

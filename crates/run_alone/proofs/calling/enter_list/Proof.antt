@@ -2,6 +2,7 @@ use mathlib.Core.Path.{sym, _∙_}
 use native.Mathlib.Omega.{arith}
 use Rattle.run_alone.specs.Calling.{Entering, entering-start, entering-done, entering-ended, entering-there, entering-type, entering-on}
 use Rattle.read_tables.specs.Access.{node-there}
+use Rattle.check_contexts.specs.Walks.{walked}
 use borrow.Author.Needs.{needs}
 use Rattle.run_alone.proofs.calling.enter_list.Statement.{statement}
 use Rattle.run_alone.proofs.calling.enter_list.Tie as tie
@@ -30,8 +31,9 @@ returns : tie.Need-returns Inv-loop μ-loop
 returns c =
     let loop = c .before .before .before .before .loop in
     let entry = c .before .before .before .before .before .before .before in
-    entering-ended (entry .args .text .now) (entry .args .scratch .now) (entry .args .h) (entry .args .r) (entry .args .from) (entry .args .side) (entry .args .first) (entry .args .n) (loop .q)
-    (loop .at) (loop .i) (loop .left) (loop .inv) _ (sym (c .before .before .next-argument .ensures .0) ∙ c .enum-told .given .1)
+    let ended = entering-ended (entry .args .text .now) (entry .args .scratch .now) (entry .args .h) (entry .args .r) (entry .args .from) (entry .args .side) (entry .args .first) (entry .args .n) (loop .q)
+    (loop .at) (loop .i) (loop .left) (loop .inv) _ (sym (c .before .before .next-argument .ensures .0) ∙ c .enum-told .given .1) in
+    (ended, walked (loop .inv .walk))
 
 entry-requires : tie.Need-entry-requires Inv-loop μ-loop
 entry-requires c κs =
@@ -107,8 +109,9 @@ loop-again c =
 returns-2 : tie.Need-returns-2 Inv-loop μ-loop
 returns-2 c =
     let s = c .before .before .before .before in
-    entering-done (s .args .text .now) (s .args .scratch .now) (s .args .h) (s .args .r) (s .args .from) (s .args .side) (s .args .first) (s .args .n) (c .before .loop .q) (c .before .loop .at)
-    (c .before .loop .i) (c .before .loop .left) (c .before .loop .inv) (c .loop-test .left)
+    let done = entering-done (s .args .text .now) (s .args .scratch .now) (s .args .h) (s .args .r) (s .args .from) (s .args .side) (s .args .first) (s .args .n) (c .before .loop .q) (c .before .loop .at)
+    (c .before .loop .i) (c .before .loop .left) (c .before .loop .inv) (c .loop-test .left) in
+    (done, walked (c .before .loop .inv .walk))
 
 pub enter-list-spec : {M : Type 1} → statement M
 enter-list-spec =

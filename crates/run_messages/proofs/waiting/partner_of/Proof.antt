@@ -6,9 +6,9 @@ use Rattle.run_words.specs.Values.{valueOf}
 use Rattle.run_alone.specs.Forwarding.{far-place, far-position}
 use Rattle.run_alone.specs.Parting.{end-found}
 use Rattle.run_messages.specs.Room.{held-once}
-use Rattle.run_messages.specs.Waiting.{awaits-not, awaits-so, value-at, value-stands, value-term}
-use Rattle.run_messages.proofs.waiting.awaits.Statement.{statement}
-use Rattle.run_messages.proofs.waiting.awaits.Tie as tie
+use Rattle.run_messages.specs.Waiting.{partner-nobody, partner-turns, value-at, value-stands, value-term}
+use Rattle.run_messages.proofs.waiting.partner_of.Statement.{statement}
+use Rattle.run_messages.proofs.waiting.partner_of.Tie as tie
 
 end-named-requires : tie.Need-end-named-requires
 end-named-requires c κs =
@@ -22,7 +22,7 @@ enum-told : tie.Need-enum-told
 enum-told c = search needs
 
 returns : tie.Need-returns
-returns c = awaits-not
+returns c = partner-nobody
 
 far-end-near-requires : tie.Need-far-end-near-requires
 far-end-near-requires c κs =
@@ -42,7 +42,7 @@ enum-known-g : tie.Need-enum-known-g
 enum-known-g c = search needs
 
 returns-2 : tie.Need-returns-2
-returns-2 c = awaits-not
+returns-2 c = partner-nobody
 
 held-end-requires : tie.Need-held-end-requires
 held-end-requires c κs =
@@ -70,22 +70,19 @@ turn-on-requires c κs =
     let far = sym (sym (c .before .before .before .before .g .given .1) ∙ c .before .before .before .before .before .before .far-end-near .ensures) in
     (s .pre .0 .tables, value-term (s .pre .0) _ (far-place (s .args .text .now) (s .args .scratch .now) (s .args .run .now) (c .before .before .before .before .before .before .before .before .f .given .0 .0) _ _ far) _ _ (doing .ensures .0) (doing .ensures .1))
 
-is-no-send-requires : tie.Need-is-no-send-requires
-is-no-send-requires c κs = search needs
-
 returns-3 : tie.Need-returns-3
 returns-3 c =
-    let held-end = c .before .before .before .before .held-end in
-    let doing = c .before .before .before .doing in
-    let seen = c .before .before .before .before .before .before .before .before in
+    let held-end = c .before .before .before .held-end in
+    let doing = c .before .before .doing in
+    let seen = c .before .before .before .before .before .before .before in
     let s = seen .before .before .before .before .before .before .before .before in
-    let far = sym (sym (c .before .before .before .before .before .before .g .given .1) ∙ seen .far-end-near .ensures) in
+    let far = sym (sym (c .before .before .before .before .before .g .given .1) ∙ seen .far-end-near .ensures) in
     let there = far-place (s .args .text .now) (s .args .scratch .now) (s .args .run .now) (seen .before .before .f .given .0 .0) _ _ far in
-    awaits-so (s .pre .0) (seen .before .before .before .before .end-named .ensures) (seen .before .before .f .given .1) _ _ (held-end .result) (c .before .turn-on .result) _ _ there far
-    (held-end .ensures .0) (doing .ensures .0) (doing .ensures .1) (c .before .turn-on .ensures) (c .is-no-send .ensures)
+    partner-turns (s .pre .0) (seen .before .before .before .before .end-named .ensures) (seen .before .before .f .given .1) _ _ (held-end .result) (c .turn-on .result) _ _ there far
+    (held-end .ensures .0) (doing .ensures .0) (doing .ensures .1) (c .turn-on .ensures)
 
-pub awaits-spec : {M : Type 1} → statement M
-awaits-spec =
+pub partner-of-spec : {M : Type 1} → statement M
+partner-of-spec =
     tie.close
     (tie.spec
     end-named-requires
@@ -99,5 +96,4 @@ awaits-spec =
     doing-requires
     cast-x
     turn-on-requires
-    is-no-send-requires
     returns-3)
