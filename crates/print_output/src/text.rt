@@ -11,7 +11,7 @@ ghost use Prim.Native.Nat.{ℕ, _+_, _≤_};
 ghost use lib.ListN.{length};
 ghost use Rattle.notation.specs.Limits.{runWords};
 ghost use Rattle.print_pieces.specs.Pieces.{pieceBytes, Going};
-ghost use Rattle.print_output.specs.Gathering.{gathered, AtMost};
+ghost use Rattle.print_output.specs.Gathering.{gathered, Few};
 
 // What became of a text: its execs' lines, or its refusal, were written; or what was to be written could not be.
 pub enum Printed {
@@ -34,7 +34,7 @@ pub enum Waiting {
 // Writes the first n bytes, if they are many.
 fn write_many(out: &[u8], n: usize) -> Waiting
     requires { ⌜ n ≤ length (now out) ⌝ }
-    ensures { λ r. ⌜ AtMost r ⌝ }
+    ensures { λ r. ⌜ Few r ⌝ }
 {
     if n <= GATHERED {
         return Waiting::Bytes(n);
@@ -73,15 +73,15 @@ pub fn print_text(text: &[u8]) -> Printed {
     let n = p.length;
     let stage = p.stage;
     if !is_left(stage) {
-        return printed(io::write_all(STDOUT_FILENO, &out[..n]), Printed::Refused);
+        return told(io::write_all(STDOUT_FILENO, &out[..n]), Printed::Refused);
     }
-    printed(
+    told(
         print_rest(text, &scratch, &mut run, &mut out, stage),
         Printed::Run,
     )
 }
 
-fn printed(is_written: bool, what: Printed) -> Printed {
+fn told(is_written: bool, what: Printed) -> Printed {
     if is_written {
         return what;
     }

@@ -1,10 +1,12 @@
 use mathlib.Core.Path.{_≡_, refl, sym}
-use Prim.Native.Nat.{_≤_}
+use Prim.Native.Nat.{_+_, _≤_}
+use native.Mathlib.Omega.{arith}
 use lib.ListN.{length}
 use lib.Seq.{length-take-le}
 use Rattle.read_tables.specs.Program.{programIn}
 use Rattle.print_pieces.specs.Pieces.{pieceBytes, Going, turns}
 use Rattle.print_pieces.specs.Stages.{next-falls}
+use Rattle.print_output.specs.Gathering.{gathered, few-bytes}
 use borrow.Author.Needs.{needs}
 use Rattle.notation.specs.Limits.{runWords}
 use Rattle.print_output.proofs.text.print_rest.Statement.{statement}
@@ -12,36 +14,47 @@ use Rattle.print_output.proofs.text.print_rest.Tie as tie
 use Rattle.print_output.proofs.text.print_rest.Reads as reads
 use Rattle.print_output.proofs.text.print_rest.Lts as lts
 use Rattle.io.proofs.write_all.Reads as write-all-reads
+use Rattle.print_output.proofs.text.write_many.Reads as write-many-reads
 use Rattle.print_pieces.proofs.pieces.is_left.Reads as is-left-reads
 use Rattle.print_pieces.proofs.pieces.next_piece.Reads as next-piece-reads
 
 abbrev Inv-loop : tie.InvT-loop
-Inv-loop text scratch run₀ out₀ stage₀ run out stage = Going text scratch run stage × (length run ≡ length run₀) × (length out ≡ length out₀) × (runWords ≤ length run) × (pieceBytes ≤ length out)
+Inv-loop text scratch run₀ out₀ stage₀ waiting₀ run out stage waiting = Going text scratch run stage × (length run ≡ length run₀) × (length out ≡ length out₀) × (runWords ≤ length run) × (gathered + pieceBytes ≤ length out) × (waiting ≤ gathered)
 
 abbrev μ-loop : tie.MeasureT-loop
-μ-loop text scratch run₀ out₀ stage₀ run out stage = turns (programIn text scratch) stage
+μ-loop text scratch run₀ out₀ stage₀ waiting₀ run out stage waiting = turns (programIn text scratch) stage
 
 loop-holds : tie.Need-loop-holds Inv-loop μ-loop
 loop-holds c =
     let entry = c .before .before .before .before in
-    (entry .pre .0, refl, refl, entry .pre .1 .0, entry .pre .1 .1)
+    (entry .pre .0, refl, refl, entry .pre .1 .0, entry .pre .1 .1, omega arith)
 
 is-left-requires : tie.Need-is-left-requires Inv-loop μ-loop
 is-left-requires c κs = search needs
 
+sub-next-piece : tie.Need-sub-next-piece Inv-loop μ-loop
+sub-next-piece c = search needs
+
+part-next-piece-start : tie.Need-part-next-piece-start Inv-loop μ-loop
+part-next-piece-start c = search needs
+
+part-next-piece-end : tie.Need-part-next-piece-end Inv-loop μ-loop
+part-next-piece-end c = search needs
+
 next-piece-requires : tie.Need-next-piece-requires Inv-loop μ-loop
-next-piece-requires c κs =
-    let loop = c .before .before .before .before .loop in
-    (loop .inv .0, (loop .inv .3, loop .inv .4))
+next-piece-requires c κs = search needs
 
-slice-reshare-prefix-write-all : tie.Need-slice-reshare-prefix-write-all Inv-loop μ-loop
-slice-reshare-prefix-write-all c = search needs
+add-write-many : tie.Need-add-write-many Inv-loop μ-loop
+add-write-many c = search needs
 
-slice-aggregate-write-all : tie.Need-slice-aggregate-write-all Inv-loop μ-loop
-slice-aggregate-write-all c = sym (length-take-le _ _ (c .before .before .before .before .before .next-piece .ensures .within))
+write-many-requires : tie.Need-write-many-requires Inv-loop μ-loop
+write-many-requires c κs = search needs
 
-write-all-requires : tie.Need-write-all-requires Inv-loop μ-loop
-write-all-requires c κs = search needs
+enum-known-w : tie.Need-enum-known-w Inv-loop μ-loop
+enum-known-w c = search needs
+
+enum-told : tie.Need-enum-told Inv-loop μ-loop
+enum-told c = search needs
 
 same-length : tie.Need-same-length Inv-loop μ-loop
 same-length c = search needs
@@ -54,11 +67,23 @@ returns c = search needs
 
 loop-less : tie.Need-loop-less Inv-loop μ-loop
 loop-less c =
-    let after-if1 = c .before .before .before .before .before .before .before .before .before .before in
-    next-falls (c .before .before .before .before .before .before .before .next-piece .ensures) (after-if1 .before .is-left .ensures) (after-if1 .if1 .taken)
+    let after-if1 = c .before .before .before .before .before .before .before .before .before .before .before .before .before in
+    next-falls (c .before .before .before .before .before .before .before .before .before .before .next-piece .ensures) (after-if1 .before .is-left .ensures) (after-if1 .if1 .taken)
 
 loop-again : tie.Need-loop-again Inv-loop μ-loop
-loop-again c = (c .before .before .before .before .before .before .before .next-piece .ensures .going, search needs, search needs, search needs, search needs)
+loop-again c =
+    (c .before .before .before .before .before .before .before .before .before .before .next-piece .ensures .going, search needs, search needs, search needs, search needs, few-bytes (c .before .before .before .write-many .ensures) (c .before .w .given .1))
+
+slice-reshare-prefix-write-all : tie.Need-slice-reshare-prefix-write-all Inv-loop μ-loop
+slice-reshare-prefix-write-all c = search needs
+
+slice-aggregate-write-all : tie.Need-slice-aggregate-write-all Inv-loop μ-loop
+slice-aggregate-write-all c =
+    let inv = c .before .before .before .loop .inv in
+    sym (length-take-le _ _ (omega (arith, inv .4, inv .5)))
+
+write-all-requires : tie.Need-write-all-requires Inv-loop μ-loop
+write-all-requires c κs = search needs
 
 same-length-3 : tie.Need-same-length-3 Inv-loop μ-loop
 same-length-3 c = search needs
@@ -77,15 +102,22 @@ print-rest-spec =
     μ-loop
     loop-holds
     is-left-requires
+    sub-next-piece
+    part-next-piece-start
+    part-next-piece-end
     next-piece-requires
-    slice-reshare-prefix-write-all
-    slice-aggregate-write-all
-    write-all-requires
+    add-write-many
+    write-many-requires
+    enum-known-w
+    enum-told
     same-length
     same-length-2
     returns
     loop-less
     loop-again
+    slice-reshare-prefix-write-all
+    slice-aggregate-write-all
+    write-all-requires
     same-length-3
     same-length-4
     returns-2)
