@@ -1,5 +1,6 @@
 pub mod OfText
 pub mod Typing
+pub mod Alike
 pub mod Outward
 pub mod Kept
 pub mod Entering

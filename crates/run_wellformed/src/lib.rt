@@ -13,6 +13,7 @@ use crate::typing::processes_typed;
 use run_joints::well_joined;
 use run_words::bounded::bounded;
 
+mod alike;
 pub mod fitting;
 pub mod numbers;
 pub mod outwards;

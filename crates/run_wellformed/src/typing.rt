@@ -1,5 +1,6 @@
 // Whether each process is typed: its names are distinct, and the check finds nothing at fault.
 ghost use mathlib.Core.Path.{_≡_};
+ghost use mathlib.Core.Bool.{true};
 ghost use Prim.Native.Nat.{ℕ, _≤_, _<_};
 ghost use lib.ListN.{length};
 ghost use Rattle.notation.specs.Limits.{runWords, heldLimit};
@@ -17,6 +18,7 @@ ghost use Rattle.calculus.specs.Verdict.{verdictOf};
 ghost use Rattle.check_terms.specs.Next.{contextIn};
 ghost use Rattle.run_wellformed.specs.OfText.{ProcessOf, OfText};
 ghost use Rattle.run_wellformed.specs.Typing.{Distinct, typedIn};
+use crate::alike::typed_alike;
 use calculus::verdict::Verdict;
 use check_contexts::held::Lookup;
 use check_contexts::held::find_end;
@@ -28,6 +30,7 @@ use run_words::processes::count;
 use run_words::processes::load;
 use run_words::records::FOLDING;
 use run_words::records::Held;
+use run_words::records::NEW;
 use run_words::records::Process;
 use run_words::records::UNLINKED;
 
@@ -82,6 +85,19 @@ fn process_typed(text: &[u8], scratch: &[u32], p: Process) -> bool
     term_typed(text, scratch, h, p.link, p.pointer)
 }
 
+// Whether the process p is typed, where q before it is: the check is spared where both are typed alike.
+fn typed_after(text: &[u8], scratch: &[u32], q: Process, p: Process) -> bool
+    requires { ⌜ Tables (now text) (now scratch) × Everywhere (now text) (now scratch) ⌝ }
+    requires { ⌜ ProcessOf (now scratch) (runs.processIn p) × ((n : ℕ) × BoundedProcess n (runs.processIn p)) × (p .held .count ≤ heldLimit) ⌝ }
+    requires { ⌜ (q .held .count ≤ heldLimit) × (typedIn (now text) (now scratch) (runs.processIn q) ≡ true) ⌝ }
+    ensures { λ r. ⌜ r ≡ typedIn (now (text .entry)) (now (scratch .entry)) (runs.processIn p) ⌝ }
+{
+    if typed_alike(q, p) {
+        return true;
+    }
+    process_typed(text, scratch, p)
+}
+
 // Whether all are.
 pub(crate) fn processes_typed(text: &[u8], scratch: &[u32], run: &[u32]) -> bool
     requires { ⌜ Tables (now text) (now scratch) × Everywhere (now text) (now scratch) ⌝ }
@@ -91,12 +107,16 @@ pub(crate) fn processes_typed(text: &[u8], scratch: &[u32], run: &[u32]) -> bool
     ensures { λ r. ⌜ r ≡ all (typedIn (now (text .entry)) (now (scratch .entry))) (rawIn (now (run .entry)) .processes) ⌝ }
 {
     let n = count(run);
+    // One that folds up is typed: nothing is before the first.
+    let mut last = NEW;
+    last.kind = FOLDING;
     let mut i: usize = 0;
     while i < n {
         let p = load(run, i);
-        if !process_typed(text, scratch, p) {
+        if !typed_after(text, scratch, last, p) {
             return false;
         }
+        last = p;
         i += 1;
     }
     true
