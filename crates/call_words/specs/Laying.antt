@@ -1,10 +1,10 @@
 -- Lists laid into words that are zero: one law for what was seen, for what is listed and for the answer itself.
 use Prim.Native.Nat.{ℕ, zero, suc, _+_, _-_, _≤_}
-use mathlib.Core.Path.{_≡_, refl, sym, _∙_, ap, subst}
+use mathlib.Core.Path.{_≡_, refl, sym, _∙_, ap}
 use mathlib.Core.List.{List, [], _∷_, _++_, append-assoc}
 use native.Mathlib.Omega.{arith}
 use lib.ListN.{length, getD, take, drop, replicate, length-append, length-replicate, replicate-append-replicate}
-use lib.Seq.{take-all, take-at, drop-at, drop-append-add}
+use lib.Seq.{take-all, take-at, drop-append-add}
 use Rattle.print_bytes.specs.Writing.{Putting}
 use Rattle.call_words.specs.Words.{answerWords, filled, padded}
 

@@ -1,18 +1,17 @@
 -- Where the name of an exec line stands.
-use Prim.Native.Nat.{ℕ, zero, suc, _≤_}
+use Prim.Native.Nat.{ℕ, _≤_}
 use mathlib.Core.Path.{_≡_, refl, sym, _∙_, ap, subst}
 use mathlib.Core.List.{List, [], _∷_}
 use mathlib.Core.Bool.{Bool, true, false, cond}
-use mathlib.Core.Option.{Option, some}
+use mathlib.Core.Option.{some}
 use native.Mathlib.Omega.{arith}
 use lib.Dec.{leb}
 use lib.ListN.{length, getElem?}
 use Rattle.notation.specs.Limits.{scratchWords}
 use Rattle.notation.specs.Reader.{nameIn}
 use Rattle.notation.specs.Token.{nameAt}
-use Rattle.notation.specs.Tree.{Located}
 use Rattle.notation.proofs.Names.{name-fits}
-use Rattle.calculus.specs.Accepted.{Checked, accepted, faulty, checked}
+use Rattle.calculus.specs.Accepted.{accepted, faulty, checked}
 use Rattle.calculus.specs.Machine.{named, textChecked}
 use Rattle.calculus.specs.Program.{Program}
 use Rattle.calculus.specs.declared.verdict.Verdict.{Verdict}

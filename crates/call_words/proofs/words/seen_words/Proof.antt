@@ -1,4 +1,3 @@
-use mathlib.Core.Path.{refl}
 use Rattle.calculus.specs.Answers.{seenValues}
 use Rattle.call_words.specs.Words.{seenWords}
 use borrow.Author.Needs.{needs}
