@@ -9,7 +9,8 @@
  * calls but what the caller keeps: the first EPASS_RUN_WORDS words of the run, which must be lent back with the same text. Scratch and
  * answer need not be kept. The slices must not overlap.
  *
- * The library is freestanding: no heap, no static state, no system call. It is re-entrant; calls with different slices may run at once.
+ * The library is freestanding: no heap, no static state, no system call; of C's library it needs memcpy, memmove and memset. It is
+ * re-entrant; calls with different slices may run at once. A call takes up to 152,000 bytes of stack, which was measured, not proved.
  *
  * A run of zeros, never started, is one without processes: a step at any place is refused (19), run-on answers done, and nothing is open.
  */

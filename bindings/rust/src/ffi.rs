@@ -1,5 +1,8 @@
 //! The functions of the library, each behind a safe one that lends slices as they are. All `unsafe` is here.
 
+#[cfg(test)]
+mod tests;
+
 /// How many words an answer has.
 pub const ANSWER_WORDS: usize = 130;
 

@@ -4,16 +4,19 @@ use mathlib.Core.Path.{_≡_, ap}
 use mathlib.Core.Logic.{_⊎_}
 use mathlib.Core.List.{List, [], _++_}
 use mathlib.Core.Bool.{Bool, true, false, cond}
+use mathlib.Core.Option.{Option, some, none}
 use lib.Dec.{leb}
-use lib.ListN.{length, getD, take, drop}
+use lib.ListN.{length, getD, getElem?, take, drop}
 use Rattle.notation.specs.Limits.{scratchWords, runWords}
 use Rattle.notation.specs.Tables.{tables}
-use Rattle.notation.specs.Tree.{Declaration}
-use Rattle.calculus.specs.Accepted.{accepted, checked}
+use Rattle.notation.specs.Token.{nameAt}
+use Rattle.notation.specs.Tree.{Located, Declaration}
+use Rattle.calculus.specs.Accepted.{Checked, accepted, faulty, checked}
 use Rattle.calculus.specs.Answers.{Told, refusedAs, givenAs, startedAs, steppedAs, ranOnAs, reportedAs, surveyedAs}
 use Rattle.calculus.specs.Configuration.{Config}
 use Rattle.calculus.specs.Demands.{isRefused}
 use Rattle.calculus.specs.Machine.{Call, callStart, callStep, callRunOn, callReport, callPlaces, callExecName, Answer, started, stepped, ranOn, reported, surveyed, named, Reply, refusal, respond, idle}
+use Rattle.calculus.specs.Program.{programOf}
 use Rattle.calculus.specs.declared.answers.Started.{Started}
 use Rattle.calculus.specs.declared.answers.Stepped.{Stepped}
 use Rattle.calculus.specs.declared.answers.RanOn.{RanOn}
@@ -202,3 +205,20 @@ Surveys s w ws r v = Lists s w ws toPlaces (placesAnswer r) (placesCounted (r .a
 -- the name of an exec line, "handed back as the part of the lent text that holds it"; the refusal's number and offset "stand in two lent numbers, both 0 otherwise"
 abbrev pub Names : List ℕ → List ℕ → ℕ → List ℕ → ℕ → ℕ → List ℕ → Type 0
 Names s w line part number at v = Answers s (called (toName line) w [] (named part number at) v [])
+
+-- the exec lines of a text, none of one that is refused, and the offset of one: 0 if there is none
+abbrev pub linesIn : Checked → List Located
+linesIn (accepted ds) = programOf ds .execs
+linesIn (faulty n i) = []
+
+abbrev pub offsetIn : Option Located → ℕ
+offsetIn none = 0
+offsetIn (some n) = n .at
+
+unfoldable pub execOffset : List ℕ → ℕ → ℕ
+execOffset s line = offsetIn (getElem? (linesIn (checked s)) line)
+
+-- the name by its place in the text: that of the line, where it is not refused
+pub record NamesAt (s w : List ℕ) (line place number at : ℕ) (v : List ℕ) : Type 0 where
+  pub names : Names s w line (nameAt s place) number at v
+  pub stands : number ≡ 0 → place ≡ execOffset s line

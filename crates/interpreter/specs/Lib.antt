@@ -9,6 +9,7 @@ pub mod Reporting
 pub mod Surveying
 pub mod Starting
 pub mod Told
+pub mod Naming
 pub mod Calls
 pub mod Unread
 pub mod Numbers

@@ -1,9 +1,9 @@
 // The entries: each checks the text first, refusals 1 to 15, and then asks what the accepted text comes to.
 ghost use Rattle.interpreter.specs.Entries.{Starts, Steps, RunsOn, Reports, Surveys, Names};
-use crate::inside::name_in;
 use crate::inside::run_on_in;
 use crate::inside::start_in;
 use crate::inside::step_in;
+use crate::names::exec_place;
 use crate::places::no_places;
 use crate::places::places_in;
 use crate::reports::no_report;
@@ -16,6 +16,7 @@ use calculus::answers::Stepped;
 use calculus::verdict::Verdict;
 use check_text::check::check;
 use notation::script::Script;
+use notation::token::name_of;
 
 // Begins the run of an exec line anew.
 pub fn start(text: &[u8], scratch: &mut [u32], run: &mut [u32], line: u32) -> Started
@@ -82,11 +83,5 @@ pub fn exec_name<'a>(
 ) -> &'a [u8]
     ensures { λ r. ⌜ Names (now (text .entry)) (now (scratch .entry)) line (now r) (now (number .exit)) (now (at .exit)) (now (scratch .exit)) ⌝ }
 {
-    let v = check(text, scratch);
-    let Verdict::Refused(n, i) = v else {
-        return name_in(text, &scratch[0..Script::SCRATCH_WORDS], line, number, at);
-    };
-    *number = n;
-    *at = i;
-    &text[0..0]
+    name_of(text, exec_place(text, scratch, line, number, at))
 }

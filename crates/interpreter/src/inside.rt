@@ -1,19 +1,15 @@
 // What the entries come to for an accepted text, whose tables are lent: refusals 16 to 21.
 ghost use Prim.Native.Nat.{_≤_};
-ghost use mathlib.Core.List.{[]};
 ghost use lib.ListN.{length};
 ghost use Rattle.notation.specs.Limits.{runWords};
-ghost use Rattle.calculus.specs.Machine.{started, stepped, ranOn, named};
-ghost use Rattle.interpreter.specs.Entries.{toStart, toStep, toRunOn, toName, HoldsRun};
+ghost use Rattle.calculus.specs.Machine.{started, stepped, ranOn};
+ghost use Rattle.interpreter.specs.Entries.{toStart, toStep, toRunOn, HoldsRun};
 ghost use Rattle.check_accepted.specs.Texts.{TextIn};
 ghost use Rattle.interpreter.specs.Inside.{AnswersIn};
 use calculus::answers::RanOn;
 use calculus::answers::Started;
 use calculus::answers::Stepped;
 use notation::script::Script;
-use notation::token::name_of;
-use read_tables::access::exec_at;
-use read_tables::access::exec_count;
 use run_alone::outcome::Outcome;
 use run_steps::dispatch::step_at;
 use run_steps::running::steps_until;
@@ -75,24 +71,4 @@ pub(crate) fn run_on_in(text: &[u8], tables: &[u32], run: &mut [u32], budget: u3
         return steps_until(text, tables, run, budget);
     }
     RanOn::Refused(18, 0)
-}
-
-pub(crate) fn name_in<'a>(
-    text: &'a [u8],
-    tables: &[u32],
-    line: u32,
-    number: &mut u32,
-    at: &mut usize,
-) -> &'a [u8]
-    requires { ⌜ TextIn (now text) (now tables) ⌝ }
-    ensures { λ r. ⌜ AnswersIn (now (text .entry)) (toName line) [] (named (now r) (now (number .exit)) (now (at .exit))) [] ⌝ }
-{
-    *at = 0;
-    let i = line as usize;
-    if exec_count(tables) <= i {
-        *number = 17;
-        return &text[0..0];
-    }
-    *number = 0;
-    name_of(text, exec_at(tables, i))
 }

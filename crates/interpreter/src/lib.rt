@@ -1,4 +1,5 @@
 pub mod entries;
 mod inside;
+pub mod names;
 mod places;
 mod reports;

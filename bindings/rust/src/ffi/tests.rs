@@ -1,0 +1,213 @@
+//! Random calls of the functions themselves, with slices longer and shorter than they must be, on good and damaged texts and runs.
+
+use super::*;
+use std::collections::BTreeSet;
+use std::fs;
+use std::path::Path;
+use std::vec;
+use std::vec::Vec;
+
+const SCRATCH: usize = 8192;
+const RUN: usize = 6144;
+const PAST: usize = 9;
+const MARK: u32 = 0xdead_beef;
+
+/// xorshift64*
+struct Source(u64);
+
+impl Source {
+    fn next(&mut self) -> u64 {
+        self.0 ^= self.0 >> 12;
+        self.0 ^= self.0 << 25;
+        self.0 ^= self.0 >> 27;
+        self.0.wrapping_mul(0x2545_f491_4f6c_dd1d) >> 16
+    }
+
+    fn below(&mut self, n: u64) -> u64 {
+        self.next() % n
+    }
+
+    fn chance(&mut self, n: u64) -> bool {
+        self.below(n) == 0
+    }
+}
+
+#[derive(Clone, Copy, Debug, PartialEq)]
+enum Call {
+    Start(u32),
+    Step(u32),
+    RunOn(u32),
+    Report,
+    Places,
+    ExecName(u32),
+}
+
+/// What a caller lends. Each slice is longer than it must be, unless it is lent short, and what lies past is marked.
+#[derive(Clone, PartialEq)]
+struct Lent {
+    scratch: Vec<u32>,
+    run: Vec<u32>,
+    answer: Vec<u32>,
+}
+
+impl Lent {
+    fn new() -> Lent {
+        Lent {
+            scratch: vec![MARK; SCRATCH + PAST],
+            run: vec![0; RUN + PAST],
+            answer: vec![MARK; ANSWER_WORDS + PAST],
+        }
+    }
+
+    /// Calls, with so many words of each slice.
+    fn call(&mut self, text: &[u8], call: Call, scratch: usize, run: usize, answer: usize) -> u32 {
+        let (s, r, a) = (&mut self.scratch[..scratch], &mut self.run[..run], &mut self.answer[..answer]);
+        let (s, sn, a, an) = (s.as_mut_ptr(), s.len(), a.as_mut_ptr(), a.len());
+        let (t, tn) = (text.as_ptr(), text.len());
+        // SAFETY: each pointer is lent with the length of its slice, and the slices are apart.
+        unsafe {
+            match call {
+                Call::Start(line) => epass_start(t, tn, s, sn, r.as_mut_ptr(), r.len(), line, a, an),
+                Call::Step(place) => epass_step(t, tn, s, sn, r.as_mut_ptr(), r.len(), place, a, an),
+                Call::RunOn(budget) => epass_run_on(t, tn, s, sn, r.as_mut_ptr(), r.len(), budget, a, an),
+                Call::Report => epass_report(t, tn, s, sn, r.as_ptr(), r.len(), a, an),
+                Call::Places => epass_places(t, tn, s, sn, r.as_ptr(), r.len(), a, an),
+                Call::ExecName(line) => epass_exec_name(t, tn, s, sn, line, a, an),
+            }
+        }
+    }
+
+    fn whole(&mut self, text: &[u8], call: Call) -> u32 {
+        let (s, r, a) = (self.scratch.len(), self.run.len(), self.answer.len());
+        self.call(text, call, s, r, a)
+    }
+}
+
+/// What every call keeps to.
+fn keeps(before: &Lent, after: &Lent, call: Call, refusal: u32) {
+    assert_eq!(before.scratch[SCRATCH..], after.scratch[SCRATCH..], "{call:?}: scratch past its words");
+    assert_eq!(before.run[RUN..], after.run[RUN..], "{call:?}: the run past its words");
+    assert_eq!(before.answer[ANSWER_WORDS..], after.answer[ANSWER_WORDS..], "{call:?}: the answer past its words");
+    assert_eq!(after.answer[0], refusal, "{call:?}");
+    if refusal != 0 || !matches!(call, Call::Start(_) | Call::Step(_) | Call::RunOn(_)) {
+        assert!(before.run == after.run, "{call:?}: the run was changed, {refusal}");
+    }
+    let told = match (call, refusal) {
+        (_, 1..) => 2,
+        (Call::Start(_), _) => 1,
+        (Call::Step(_), _) => 5,
+        (Call::RunOn(_), _) => 7,
+        (Call::Report | Call::Places, _) => 2 + after.answer[1] as usize,
+        (Call::ExecName(_), _) => 3,
+    };
+    assert!(after.answer[told..ANSWER_WORDS].iter().all(|&w| w == 0), "{call:?}: {:?}", &after.answer[..told]);
+}
+
+/// Slices under their lengths: 255 and 1 touch none, 16 leaves the run.
+fn short(lent: &Lent, text: &[u8], call: Call, source: &mut Source) {
+    let (mut a, mut s, mut r) = (lent.clone(), lent.clone(), lent.clone());
+    assert_eq!(a.call(text, call, SCRATCH, RUN, source.below(130) as usize), 255);
+    assert!(a == *lent, "{call:?}: touched with a short answer");
+    assert_eq!(s.call(text, call, source.below(8192) as usize, RUN, ANSWER_WORDS), 1);
+    assert!(s.scratch == lent.scratch && s.run == lent.run, "{call:?}: touched with short scratch");
+    let refusal = r.call(text, call, SCRATCH, source.below(6144) as usize, ANSWER_WORDS);
+    assert!(matches!(call, Call::ExecName(_)) || refusal == 16 || (2..=15).contains(&refusal), "{call:?}: {refusal}");
+    assert!(r.run == lent.run, "{call:?}: touched with a short run");
+}
+
+/// A step is carried out exactly where places say that it is open.
+fn step_as_told(lent: &mut Lent, text: &[u8], place: u32) -> u32 {
+    let surveyed = lent.whole(text, Call::Places);
+    let (count, steps) = (lent.answer[1], lent.answer[2..ANSWER_WORDS].to_vec());
+    let refusal = lent.whole(text, Call::Step(place));
+    let told = match steps.get(place as usize) {
+        _ if surveyed != 0 => surveyed,
+        Some(step) if place < count => [20, 0, 21][*step as usize],
+        _ => 19,
+    };
+    assert_eq!(refusal, told, "step at {place} of {count}");
+    refusal
+}
+
+fn some_call(source: &mut Source) -> Call {
+    match source.below(12) {
+        0 => Call::Start(source.below(3) as u32),
+        1..=5 => Call::Step(source.below(8) as u32),
+        6 => Call::Step(source.below(130) as u32),
+        7 => Call::Step(source.next() as u32),
+        8 => Call::RunOn([9, 40, 400][source.below(3) as usize]),
+        9 => Call::Report,
+        10 => Call::Places,
+        _ => Call::ExecName(source.below(3) as u32),
+    }
+}
+
+fn texts() -> Vec<Vec<u8>> {
+    let root = Path::new(env!("CARGO_MANIFEST_DIR")).join("../..");
+    let cases = root.join("crates/cases/data");
+    let names = ["thesis-zip.ep", "thesis-trie.ep", "s-nested-handlers.ep", "s-pass-already-given-up.ep", "s-spawn-forever.ep", "s-numbers-run-out.ep", "doc-yes.ep"];
+    let mut texts: Vec<Vec<u8>> = names.iter().map(|name| fs::read(cases.join(name)).unwrap()).collect();
+    texts.push(fs::read(root.join("examples/knitting.ep")).unwrap());
+    texts
+}
+
+/// Some calls on one text, from a start on; now and then a word of the run or a byte of the text is another. The numbers returned are gathered.
+fn some_calls(text: &[u8], source: &mut Source, calls: u32, returned: &mut BTreeSet<u32>) {
+    let mut lent = Lent::new();
+    lent.run[RUN..].fill(MARK);
+    lent.whole(text, Call::Start(0));
+    // Some runs begin far on, where places and numbers may have run out.
+    for _ in 0..source.below(50) {
+        lent.whole(text, Call::RunOn(400));
+    }
+    for _ in 0..calls {
+        let mut text = text.to_vec();
+        if source.chance(40) {
+            let at = source.below(text.len() as u64) as usize;
+            text[at] = source.next() as u8;
+        }
+        if source.chance(40) {
+            let at = source.below(200) as usize;
+            lent.run[at] = source.below(600) as u32;
+        }
+        let call = some_call(source);
+        if source.chance(10) {
+            short(&lent, &text, call, source);
+        }
+        let before = lent.clone();
+        let refusal = match call {
+            Call::Step(place) => step_as_told(&mut lent, &text, place),
+            _ => lent.whole(&text, call),
+        };
+        keeps(&before, &lent, call, refusal);
+        returned.insert(refusal);
+        if refusal == 18 {
+            lent.whole(&text, Call::Start(0));
+        }
+    }
+}
+
+#[test]
+fn random_calls() {
+    let (mut source, mut returned) = (Source(0x5eed_0001), BTreeSet::new());
+    for text in texts() {
+        for _ in 0..4 {
+            some_calls(&text, &mut source, 300, &mut returned);
+        }
+    }
+    // The calls met each end that they may meet, and some faults of a text.
+    assert!([0, 17, 18, 19, 20, 21].iter().all(|n| returned.contains(n)), "{returned:?}");
+    assert!(returned.range(2..=15).count() > 4, "{returned:?}");
+}
+
+/// A label is told with its length, the apostrophe counted; a name with its place.
+#[test]
+fn labels_and_names() {
+    let text = b"type t = +{'hello : 1}\nproc p (x : t) [] = send x 'hello; send x ()\nexec p\n";
+    let mut lent = Lent::new();
+    assert_eq!(lent.whole(text, Call::ExecName(0)), 0);
+    assert_eq!(lent.answer[..4], [0, 73, 1, 0]);
+    assert_eq!(lent.whole(text, Call::Start(0)), 0);
+    assert_eq!(lent.whole(text, Call::Step(0)), 0);
+    assert_eq!(lent.answer[..6], [0, 1, 0, 50, 6, 0]);
+}

@@ -1,0 +1,70 @@
+//! What is refused, and how an answer is told.
+
+use epass::{Reason, Run, Script, RUN_WORDS, SCRATCH_WORDS};
+
+const TEXT: &[u8] = b"proc m (x : 1) [] = try (send x ()) catch ()\nexec m\n";
+
+fn scratch() -> Vec<u32> {
+    vec![0; SCRATCH_WORDS]
+}
+
+#[test]
+fn short_slices() {
+    let refusal = Script::check(TEXT, vec![0; SCRATCH_WORDS - 1]).unwrap_err();
+    assert_eq!((refusal.reason(), refusal.to_string().as_str()), (Some(Reason::ScratchShort), "refused 1"));
+    let mut script = Script::check(TEXT, scratch()).unwrap();
+    let refusal = Run::start(&mut script, 0, vec![0; RUN_WORDS - 1]).unwrap_err();
+    assert_eq!(refusal.reason(), Some(Reason::RunShort));
+}
+
+#[test]
+fn a_text_at_fault() {
+    let refusal = Script::check(b"type a = 1 *", scratch()).unwrap_err();
+    assert_eq!(refusal.to_string(), "refused 4 at 12");
+    assert_eq!(refusal.sentence(), "the tokens so far continue to no script");
+}
+
+#[test]
+fn lines_and_places() {
+    let mut script = Script::check(TEXT, scratch()).unwrap();
+    assert_eq!(script.exec_name(0).unwrap(), b"m");
+    assert_eq!(script.exec_name(1).unwrap_err().reason(), Some(Reason::NoLine));
+    let mut run = Run::start(&mut script, 0, vec![0; RUN_WORDS]).unwrap();
+    assert_eq!(run.places(&mut script).unwrap().to_string(), "1 processes open");
+    assert_eq!(run.step(&mut script, 1).unwrap_err().reason(), Some(Reason::NoProcess));
+    run.step(&mut script, 0).unwrap();
+    assert_eq!(run.places(&mut script).unwrap().to_string(), "2 processes open waits");
+    assert_eq!(run.step(&mut script, 1).unwrap_err().reason(), Some(Reason::NotOpen));
+    assert_eq!(run.report(&mut script).unwrap().to_string(), "open 0");
+}
+
+#[test]
+fn a_run_that_is_full() {
+    let text = b"proc m (x : 1) [] = c : 1 <- (call m (c) []); recv c (() => send x ())\nexec m\n";
+    let mut script = Script::check(text, scratch()).unwrap();
+    let mut run = Run::start(&mut script, 0, vec![0; RUN_WORDS]).unwrap();
+    assert_eq!(run.run_on(&mut script, 10_000).unwrap().to_string(), "254 steps, full");
+    assert_eq!(run.step(&mut script, 127).unwrap_err().reason(), Some(Reason::Lacking));
+}
+
+#[test]
+fn a_run_that_is_none() {
+    let mut script = Script::check(TEXT, scratch()).unwrap();
+    let mut zeros = Run::resume(vec![0; RUN_WORDS]);
+    assert_eq!(zeros.step(&mut script, 0).unwrap_err().reason(), Some(Reason::NoProcess));
+    assert_eq!(zeros.run_on(&mut script, 9).unwrap().to_string(), "0 steps, done");
+    let mut words = vec![0; RUN_WORDS];
+    words[0] = 129;
+    let stranger = Run::resume(words);
+    assert_eq!(stranger.places(&mut script).unwrap_err().reason(), Some(Reason::NoRun));
+}
+
+#[test]
+fn a_run_that_is_kept() {
+    let mut script = Script::check(TEXT, scratch()).unwrap();
+    let mut run = Run::start(&mut script, 0, vec![0; RUN_WORDS]).unwrap();
+    run.step(&mut script, 0).unwrap();
+    let kept = run.words().to_vec();
+    let mut again = Run::resume(kept);
+    assert_eq!(again.run_on(&mut script, 9).unwrap().to_string(), run.run_on(&mut script, 9).unwrap().to_string());
+}

@@ -1,0 +1,4 @@
+pub mod Words
+pub mod Laying
+pub mod Answered
+pub mod Exported

@@ -1,0 +1,3 @@
+pub mod exports;
+mod laying;
+mod words;
