@@ -1,11 +1,12 @@
 -- Texts put into a buffer, one after another.
-use Prim.Native.Nat.{ℕ, _+_, _≤_, _<_}
+use Prim.Native.Nat.{ℕ, _+_, _-_, _≤_, _<_}
 use mathlib.Core.Path.{_≡_, refl, sym, _∙_, ap, subst}
 use mathlib.Core.List.{List, _++_, append-assoc}
 use native.Mathlib.Numerals.{add-one}
 use native.Mathlib.Omega.{arith}
-use lib.ListN.{length, getD, set, take, length-append, length-set}
+use lib.ListN.{length, getD, set, take, drop, length-append, length-set, length-take, length-drop}
 use lib.Seq.{paste, paste-zero, paste-suc, take-paste, take-all}
+use Rattle.notation.specs.Token.{nameEnd, nameAt}
 
 -- from `at` on the text l was put, up to r; what stood before it is kept
 pub record Appended (old new : List ℕ) (at r : ℕ) (l : List ℕ) : Type 0 where
@@ -24,6 +25,11 @@ appended-on {old} {mid} {new} {at} {i} {r} {l} {m} a b = record {
 -- the text by another name
 pub appended-as : {old new : List ℕ} {at r : ℕ} {l m : List ℕ} → l ≡ m → Appended old new at r l → Appended old new at r m
 appended-as {old} {new} {at} {r} e a = subst (Appended old new at r) e a
+
+-- a name is no longer than its text
+pub name-within : (s : List ℕ) (at : ℕ) {x : List ℕ} → x ≡ nameAt s at → length x ≤ length s
+unfolding nameAt
+name-within s at e = omega (arith, ap length e, length-take (nameEnd s at - at) (drop at s), length-drop at s)
 
 -- ── the loop that puts: i bytes of the text stand
 pub record Putting (old new : List ℕ) (at : ℕ) (l : List ℕ) (i : ℕ) : Type 0 where
