@@ -5,7 +5,7 @@ use mathlib.Core.Logic.{_≢_, _⊎_, inl, inr}
 use mathlib.Core.List.{List}
 use mathlib.Core.Bool.{Bool, true, false}
 use native.Mathlib.Omega.{arith}
-use Rattle.calculus.specs.Answers.{startedAs, steppedAs, ranOnAs, reportedAs}
+use Rattle.calculus.specs.Answers.{startedAs, steppedAs, ranOnAs, reportedAs, surveyedAs}
 use Rattle.calculus.specs.Configuration.{Config}
 use Rattle.calculus.specs.Demands.{isRefused}
 use Rattle.calculus.specs.Machine.{Call, callStart, callStep, callRunOn, callReport, callPlaces, callExecName, Answer, refusal, respond, idle}
@@ -45,7 +45,7 @@ by-reply : (s : List ℕ) (C : Config) (c : Call) {a : Answer} → a ≡ respond
 by-reply s C c e r = subst InList (sym e) (respond-numbered s C c (ap isRefused (sym e) ∙ r))
 
 eighteen : (c : Call) → InList (refusal idle c 18 0 .answer)
-unfolding startedAs steppedAs ranOnAs reportedAs
+unfolding startedAs steppedAs ranOnAs reportedAs surveyedAs
 eighteen (callStart scratch run line) = (omega arith, omega arith)
 eighteen (callStep scratch run place) = (omega arith, omega arith)
 eighteen (callRunOn scratch run budget) = (omega arith, omega arith)

@@ -55,7 +55,7 @@ module _ (p : Program) (C : Config) where
 
   place-at : (k : ℕ) → k < length (C .processes) → getD (places p C) k 0 ≡ openness (step p C k)
   unfolding places
-  place-at k h = from-at 0 k (C .processes) h
+  place-at k h = let e : 0 + k ≡ k = omega arith in from-at 0 k (C .processes) h ∙ ap (λ j. openness (step p C j)) e
 
 module _ (s w ws : List ℕ) where
   abbrev P : Program

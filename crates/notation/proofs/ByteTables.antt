@@ -1,4 +1,4 @@
--- The constant table of the symbols: its rule is a test that is computed over the whole table.
+-- The constant table of the reserved words: its rule is a test that is computed over the whole table.
 use Prim.Native.Nat.{ℕ, zero, suc, _+_, _*_, _≤_, _<_}
 use mathlib.Core.Path.{_≡_, refl, sym, ap, subst}
 use mathlib.Core.List.{List, [], _∷_}
@@ -43,28 +43,30 @@ same→eq (x ∷ xs) (y ∷ ys) t = go (eqb x y) refl (same→eq xs ys) t
         cc
     go false e rest t = absurd t
 
--- ── the symbols' table
-abbrev pub rowLength : ℕ → ℕ
-rowLength k = getD (rows symbols) (k * 7) 0
+-- ── the table of the reserved words
+abbrev words : List ℕ
+words = rows (take 11 symbols)
 
-module _ (k : ℕ) (h : k < 30) where
+abbrev rowLength : ℕ → ℕ
+rowLength k = getD words (k * 7) 0
+
+module _ (k : ℕ) (h : k < 11) where
   row-length : rowLength k ≤ 6
   unfolding symbols
-  row-length = leb→le (rowLength k) 6 (below-at (λ k. leb (rowLength k) 6) 30 tt k h)
+  row-length = leb→le (rowLength k) 6 (below-at (λ k. leb (rowLength k) 6) 11 tt k h)
 
-  row-symbol : take (rowLength k) (drop (k * 7 + 1) (rows symbols)) ≡ getD symbols k []
+  row-word : take (rowLength k) (drop (k * 7 + 1) words) ≡ getD symbols k []
   unfolding symbols same
-  row-symbol =
-      same→eq _ _ (below-at (λ k. same (take (rowLength k) (drop (k * 7 + 1) (rows symbols))) (getD symbols k [])) 30 tt k h)
+  row-word = same→eq _ _ (below-at (λ k. same (take (rowLength k) (drop (k * 7 + 1) words)) (getD symbols k [])) 11 tt k h)
 
 -- the same of any bytes that are the table
-module _ (t : List ℕ) (e : t ≡ rows symbols) where
-  pub table-long : length t ≡ 210
+module _ (t : List ℕ) (e : t ≡ words) where
+  pub table-long : length t ≡ 77
   unfolding symbols
   table-long = ap length e
 
-  pub table-row : (k : ℕ) → k < 30 → getD t (k * 7) 0 ≤ 6
+  pub table-row : (k : ℕ) → k < 11 → getD t (k * 7) 0 ≤ 6
   table-row k h = subst (λ l. getD l (k * 7) 0 ≤ 6) (sym e) (row-length k h)
 
-  pub table-symbol : (k : ℕ) → k < 30 → take (getD t (k * 7) 0) (drop (k * 7 + 1) t) ≡ getD symbols k []
-  table-symbol k h = subst (λ l. take (getD l (k * 7) 0) (drop (k * 7 + 1) l) ≡ getD symbols k []) (sym e) (row-symbol k h)
+  pub table-word : (k : ℕ) → k < 11 → take (getD t (k * 7) 0) (drop (k * 7 + 1) t) ≡ getD symbols k []
+  table-word k h = subst (λ l. take (getD l (k * 7) 0) (drop (k * 7 + 1) l) ≡ getD symbols k []) (sym e) (row-word k h)

@@ -7,3 +7,4 @@ pub mod ProcessReadings
 pub mod ScriptReadings
 pub mod Names
 pub mod Symbols
+pub mod Marks

@@ -64,7 +64,7 @@ module _ (s : List ℕ) (i : ℕ) where
       go (yes l) = let z : i - i ≡ 0 = omega arith in rw (drop-cons s i 0 l, find, e, z)
       go (no n) = rw (drop-of-length-le s {i = i} (omega arith)) (take-nil (i - i))
 
-  name-more : nameByte (getD s i 0) ≡ true → nameAt s i ≡ getD s i 0 ∷ nameAt s (suc i)
+  pub name-more : nameByte (getD s i 0) ≡ true → nameAt s i ≡ getD s i 0 ∷ nameAt s (suc i)
   unfolding nameAt nameEnd find
   name-more e =
       let l = name-in e in

@@ -1,18 +1,21 @@
--- The search among the symbols: from one that begins with a byte to the next that does.
+-- The search among the reserved words: from one that begins with a letter to the next that does.
 use Prim.Native.Nat.{ℕ, suc, _+_, _-_, _≤_, _<_}
 use mathlib.Core.Path.{_≡_, refl, sym, ap, subst, _∙_}
 use mathlib.Core.List.{List, [], _∷_}
-use mathlib.Core.Bool.{Bool, true, false, false≢true, _||_}
+use mathlib.Core.Bool.{Bool, true, false, false≢true, not, _||_}
+use native.Mathlib.Nat.{le-refl}
+use native.Mathlib.Decide.{decLt}
 use native.Mathlib.Omega.{arith}
-use lib.Dec.{T, eqb, eqb→eq}
-use lib.ListN.{getD, drop, length-drop}
+use lib.Dec.{T, leb, eqb, eqb→eq, leb→le}
+use lib.ListN.{length, getD, take, drop, length-drop}
 use lib.Seq.{drop-drop, getD-drop}
-use borrow.Author.Tests.{eq-eqb}
-use Rattle.notation.specs.Bytes.{bytes, find, same}
-use Rattle.notation.specs.Token.{symbols, symbol, beginning}
+use borrow.Author.Tests.{eq-eqb, lt-leb}
+use Rattle.notation.specs.Bytes.{letter, nameByte, bytes, find, same}
+use Rattle.notation.specs.Token.{symbols, symbol, beginning, nameAt}
 use Rattle.notation.proofs.ByteTables.{below, below-at, same→eq}
+use Rattle.notation.proofs.Names.{name-more, name-long}
 use Rattle.notation.proofs.Scans.{Scan, scan-next, scan-hit, scan-end}
-use Rattle.notation.proofs.Tokens.{find-case, find-ge, find-le, find-at}
+use Rattle.notation.proofs.Tokens.{find-case, find-ge, find-le, find-at, symbol-all, symbol-most}
 
 -- ── a search may leap over what fails a weaker test
 module _ {A : Type 0} (p q : A → Bool) (weaker : (x : A) → q x ≡ false → p x ≡ false) where
@@ -80,6 +83,11 @@ pub sought-from : (w : List ℕ) (k : ℕ) → k ≡ beginning (getD w 0 0) 0 �
 unfolding symbols
 sought-from w k e = subst (Sought w) (sym e) (sought w 0 (omega arith) (record { left = refl }))
 
+-- past the reserved words are the marks, which begin with no letter
+past-words : (k : ℕ) → k < 30 → 10 < k → T (not (letter (getD (getD symbols k []) 0 0)))
+unfolding symbols letter
+past-words k l h = rw (lt-leb k 10 h) at (below-at (λ k. leb k 10 || not (letter (getD (getD symbols k []) 0 0))) 30 tt k l)
+
 module _ (w : List ℕ) (k : ℕ) (v : Sought w k) where
   pub sought-next : (j : ℕ) → k < 30 → same w (getD symbols k []) ≡ false → j ≡ beginning (getD (getD symbols k []) 0 0) (k + 1) → Sought w j
   unfolding symbols
@@ -91,28 +99,68 @@ module _ (w : List ℕ) (k : ℕ) (v : Sought w k) where
   unfolding symbols symbol
   sought-hit h e = scan-hit (v .scan) [] h e
 
-  pub sought-end : 30 ≤ k → k ≡ symbol w
-  unfolding symbols symbol
-  sought-end h = scan-end (v .scan) h
+  pub sought-end : letter (getD w 0 0) ≡ true → 10 < k → k ≡ symbol w
+  unfolding symbols symbol letter
+  sought-end e h = go (decLt k 30)
+    where
+      go : Dec (k < 30) → k ≡ symbol w
+      go (yes l) = absurd (subst (λ b. T (not b)) (ap letter (sym (v .begins l)) ∙ e) (past-words k l h))
+      go (no l) = scan-end (v .scan) (omega arith)
 
 -- ── the places in the code: what is so for every number but the listed ones
 abbrev pub among : ℕ → List ℕ → Bool
 among b [] = false
 among b (k ∷ ks) = eqb b k || among b ks
 
-other-than : (f : ℕ → ℕ) (ks : List ℕ) (v n : ℕ) → T (below (λ b. among b ks || eqb v (f b)) n) → (b : ℕ) → b < n → among b ks ≡ false → v ≡ f b
-other-than f ks v n t b h e = eqb→eq v (f b) (subst T (ap (λ a. a || eqb v (f b)) e) (below-at (λ b. among b ks || eqb v (f b)) n t b h))
+other-than : (f : ℕ → ℕ) (p : ℕ → Bool) (v n : ℕ) → T (below (λ b. p b || eqb v (f b)) n) → (b : ℕ) → b < n → p b ≡ false → v ≡ f b
+other-than f p v n t b h e = eqb→eq v (f b) (subst T (ap (λ a. a || eqb v (f b)) e) (below-at (λ b. p b || eqb v (f b)) n t b h))
 
-abbrev pub firstBytes : List ℕ
-firstBytes = bytes "tpesrfc-<=()[]{}:,;|1*@+&"
+abbrev pub firstLetters : List ℕ
+firstLetters = bytes "tpesrfc"
 
-pub begins-none : (b : ℕ) → b < 256 → among b firstBytes ≡ false → 30 ≡ beginning b 0
-unfolding beginning symbols find
-begins-none b h e = other-than (λ b. beginning b 0) firstBytes 30 256 tt b h e
+pub begins-none : (b : ℕ) → b < 256 → letter b ≡ true → among b firstLetters ≡ false → 30 ≡ beginning b 0
+unfolding beginning symbols find letter
+begins-none b h l e = other-than (λ b. beginning b 0) (λ b. not (letter b) || among b firstLetters) 30 256 tt b h (rw (l, e))
 
 abbrev pub followed : List ℕ
-followed = 0 ∷ 4 ∷ 6 ∷ 7 ∷ 13 ∷ []
+followed = 0 ∷ 4 ∷ 6 ∷ 7 ∷ []
 
-pub follows-none : (k : ℕ) → k < 30 → among k followed ≡ false → 30 ≡ beginning (getD (getD symbols k []) 0 0) (k + 1)
+pub follows-none : (k : ℕ) → k < 11 → among k followed ≡ false → 30 ≡ beginning (getD (getD symbols k []) 0 0) (k + 1)
 unfolding beginning symbols find
-follows-none k h e = other-than (λ k. beginning (getD (getD symbols k []) 0 0) (k + 1)) followed 30 30 tt k h e
+follows-none k h e = other-than (λ k. beginning (getD (getD symbols k []) 0 0) (k + 1)) (λ k. among k followed) 30 11 tt k h e
+
+-- ── what is no symbol
+pub no-symbol : (w : List ℕ) → (symbol w < 30 → ⊥) → 30 ≡ symbol w
+no-symbol w n = omega (arith, symbol-most w)
+
+-- what begins with a letter is a reserved word only where it has three to six bytes
+module _ (w : List ℕ) (l : symbol w < 30) where
+  pub word-least : letter (getD w 0 0) ≡ true → 3 ≤ length w
+  unfolding symbols letter
+  word-least e = leb→le 3 (length w) (rw e at (symbol-all (λ _ v. not (letter (getD v 0 0)) || leb 3 (length v)) 30 (le-refl 30) tt w l))
+
+  pub word-most : length w ≤ 6
+  unfolding symbols
+  word-most = leb→le (length w) 6 (symbol-all (λ _ v. leb (length v) 6) 30 (le-refl 30) tt w l)
+
+-- ── the name of n bytes that begins with a letter at i
+module _ (s : List ℕ) (i n : ℕ) (e : letter (getD s i 0) ≡ true) (z : n ≡ length (nameAt s i)) where
+  name-begins : getD (nameAt s i) 0 0 ≡ getD s i 0
+  unfolding nameByte
+  name-begins = ap (λ l. getD l 0 0) (name-more s i (rw e))
+
+  pub word-short : n < 3 → 30 ≡ symbol (nameAt s i)
+  word-short h = no-symbol (nameAt s i) (λ l. omega (arith, word-least (nameAt s i) l (ap letter name-begins ∙ e)))
+
+  pub word-long : 6 < n → 30 ≡ symbol (nameAt s i)
+  word-long h = no-symbol (nameAt s i) (λ l. omega (arith, word-most (nameAt s i) l))
+
+  pub word-bytes : take n (drop i s) ≡ nameAt s i
+  unfolding nameAt
+  word-bytes = ap (λ m. take m (drop i s)) (z ∙ sym (name-long s i))
+
+  -- its bytes, and the first word that begins as they do
+  pub word-begins : (w : List ℕ) (b k : ℕ) → w ≡ nameAt s i → b ≡ getD s i 0 → k ≡ beginning b 0 → (letter (getD w 0 0) ≡ true) × (k ≡ beginning (getD w 0 0) 0)
+  word-begins w b k p q r =
+      let first : getD w 0 0 ≡ getD s i 0 = ap (λ l. getD l 0 0) p ∙ name-begins in
+      (ap letter first ∙ e, r ∙ ap (λ c. beginning c 0) (q ∙ sym first))

@@ -55,26 +55,27 @@ cond-both P false x y f g = g refl
 abbrev Goes : ℕ → ℕ → Token → Type 0
 Goes i n t = (t .start ≡ i) × (t .kind < 32 → (i + width (t .kind) ≤ t .end) × (t .end ≤ n))
 
--- bytes that are one of the first n symbols are as many as f says of their kind, where f says so of the table
-symbol-long : (f : ℕ → ℕ) (n : ℕ) → n ≤ 30 → T (below (λ k. leb (f k) (length (getD symbols k []))) n) → (w : List ℕ) → symbol w < n → f (symbol w) ≤ length w
+-- bytes that are a symbol are that of their kind
+symbol-is : (w : List ℕ) → symbol w < 30 → w ≡ getD symbols (symbol w) []
 unfolding symbol symbols
-symbol-long f n le t w l =
-    let e : T (same w (getD symbols (symbol w - 0) [])) = subst T (sym (find-at (same w) [] symbols 0 (omega arith))) tt in
-    let q : w ≡ getD symbols (symbol w - 0) [] = same→eq _ _ e in
+symbol-is w l =
     let z : symbol w - 0 ≡ symbol w = omega arith in
-    let m : f (symbol w - 0) ≤ length (getD symbols (symbol w - 0) []) =
-    leb→le _ _ (below-at (λ k. leb (f k) (length (getD symbols k []))) n t (symbol w - 0) (omega arith)) in
-    subst (λ k. f k ≤ length w) z (omega (arith, ap length q))
+    rw z at (same→eq w (getD symbols (symbol w - 0) []) (subst T (sym (find-at (same w) [] symbols 0 (omega arith))) tt))
+
+-- what a test says of the first n symbols it says of bytes that are one of them
+pub symbol-all : (p : ℕ → List ℕ → Bool) (n : ℕ) → n ≤ 30 → T (below (λ k. p k (getD symbols k [])) n) → (w : List ℕ) → symbol w < n → T (p (symbol w) w)
+symbol-all p n le t w l =
+    subst (λ v. T (p (symbol w) v)) (sym (symbol-is w (omega arith))) (below-at (λ k. p k (getD symbols k [])) n t (symbol w) l)
 
 symbol-wide : (w : List ℕ) → symbol w < 30 → width (symbol w) ≤ length w
 unfolding symbols
-symbol-wide = symbol-long width 30 (le-refl 30) tt
+symbol-wide w l = leb→le _ _ (symbol-all (λ k v. leb (width k) (length v)) 30 (le-refl 30) tt w l)
 
 symbol-two : (w : List ℕ) → symbol w < 14 → 2 ≤ length w
 unfolding symbols
-symbol-two = symbol-long (λ _. 2) 14 (omega arith) tt
+symbol-two w l = leb→le _ _ (symbol-all (λ _ v. leb 2 (length v)) 14 (omega arith) tt w l)
 
-symbol-most : (w : List ℕ) → symbol w ≤ 30
+pub symbol-most : (w : List ℕ) → symbol w ≤ 30
 unfolding symbol symbols
 symbol-most w = find-le (same w) symbols 0
 

@@ -1,8 +1,9 @@
 // Tokens: what stands at an offset of a text.
 ghost use mathlib.Core.Path.{_≡_};
 ghost use Prim.Native.Nat.{ℕ, _+_, _-_, _≤_, _<_};
-ghost use mathlib.Core.Bool.{not};
-ghost use mathlib.Core.List.{[]};
+ghost use mathlib.Core.Bool.{true, not, cond};
+ghost use mathlib.Core.List.{[], _∷_};
+ghost use lib.Dec.{ltb};
 ghost use lib.ListN.{length, getD, take, drop};
 ghost use Rattle.notation.specs.Bytes.{within, letter, nameByte, blank, same};
 ghost use Rattle.notation.specs.Token.{symbols, rows, symbol, beginning, skip, nameEnd, nameAt, named, wordAt, labelAt, markAt, firstAt, tokenAt, Onward};
@@ -126,9 +127,9 @@ pub enum DeclarationHead {
     Other,
 }
 
-// "The eleven reserved words stand in one table": each with its length, in a row of seven bytes; then the marks.
-const SYMBOLS: [u8; 210] =
-    *b"\x04type\x00\x00\x04proc\x00\x00\x04exec\x00\x00\x04send\x00\x00\x04recv\x00\x00\x03fwd\x00\x00\x00\x04call\x00\x00\x06cancel\x05raise\x00\x03try\x00\x00\x00\x05catch\x00\x02-o\x00\x00\x00\x00\x02<-\x00\x00\x00\x00\x02=>\x00\x00\x00\x00\x01(\x00\x00\x00\x00\x00\x01)\x00\x00\x00\x00\x00\x01[\x00\x00\x00\x00\x00\x01]\x00\x00\x00\x00\x00\x01{\x00\x00\x00\x00\x00\x01}\x00\x00\x00\x00\x00\x01:\x00\x00\x00\x00\x00\x01,\x00\x00\x00\x00\x00\x01;\x00\x00\x00\x00\x00\x01=\x00\x00\x00\x00\x00\x01|\x00\x00\x00\x00\x00\x011\x00\x00\x00\x00\x00\x01*\x00\x00\x00\x00\x00\x01@\x00\x00\x00\x00\x00\x01+\x00\x00\x00\x00\x00\x01&\x00\x00\x00\x00\x00";
+// "The eleven reserved words stand in one table": each with its length, in a row of seven bytes.
+const WORDS: [u8; 77] =
+    *b"\x04type\x00\x00\x04proc\x00\x00\x04exec\x00\x00\x04send\x00\x00\x04recv\x00\x00\x03fwd\x00\x00\x00\x04call\x00\x00\x06cancel\x05raise\x00\x03try\x00\x00\x00\x05catch\x00";
 
 // Tests of bytes are comparisons: a table would be made anew on the stack for each byte.
 fn within(low: u8, high: u8, b: u8) -> bool
@@ -228,9 +229,9 @@ fn same_bytes(a: &[u8], b: &[u8]) -> bool
     true
 }
 
-// The bytes w are the k-th symbol.
-fn is_symbol(w: &[u8], table: &[u8], k: usize) -> bool
-    requires { ⌜ (k < 30) × (now table ≡ rows symbols) ⌝ }
+// The bytes w are the k-th reserved word.
+fn is_word(w: &[u8], table: &[u8], k: usize) -> bool
+    requires { ⌜ (k < 11) × (now table ≡ rows (take 11 symbols)) ⌝ }
     ensures { λ r. ⌜ r ≡ same (now (w .entry)) (getD symbols k []) ⌝ }
 {
     let row = k * 7;
@@ -240,8 +241,9 @@ fn is_symbol(w: &[u8], table: &[u8], k: usize) -> bool
     same_bytes(w, &table[from..to])
 }
 
-// The first symbol that begins with a byte.
-fn first_symbol(b: u8) -> usize
+// The first reserved word that begins with a letter.
+fn first_word(b: u8) -> usize
+    requires { ⌜ letter b ≡ true ⌝ }
     ensures { λ r. ⌜ r ≡ beginning b 0 ⌝ }
 {
     match b {
@@ -252,31 +254,13 @@ fn first_symbol(b: u8) -> usize
         b'r' => Token::RECV,
         b'f' => Token::FWD,
         b'c' => Token::CALL,
-        b'-' => Token::LOLLI,
-        b'<' => Token::FROM,
-        b'=' => Token::THEN,
-        b'(' => Token::ROUND_OPEN,
-        b')' => Token::ROUND_CLOSE,
-        b'[' => Token::SQUARE_OPEN,
-        b']' => Token::SQUARE_CLOSE,
-        b'{' => Token::BRACE_OPEN,
-        b'}' => Token::BRACE_CLOSE,
-        b':' => Token::COLON,
-        b',' => Token::COMMA,
-        b';' => Token::SEMICOLON,
-        b'|' => Token::BAR,
-        b'1' => Token::ONE,
-        b'*' => Token::STAR,
-        b'@' => Token::AT,
-        b'+' => Token::PLUS,
-        b'&' => Token::WITH,
         _ => Token::NAME,
     }
 }
 
-// The next symbol that begins as the k-th does.
-fn next_symbol(k: usize) -> usize
-    requires { ⌜ k < 30 ⌝ }
+// The next reserved word that begins as the k-th does.
+fn next_word(k: usize) -> usize
+    requires { ⌜ k < 11 ⌝ }
     ensures { λ r. ⌜ r ≡ beginning (getD (getD symbols k []) 0 0) (k + 1) ⌝ }
     ensures { λ r. ⌜ k < r ⌝ }
 {
@@ -285,34 +269,22 @@ fn next_symbol(k: usize) -> usize
         Token::RECV => Token::RAISE,
         Token::CALL => Token::CANCEL,
         Token::CANCEL => Token::CATCH,
-        Token::THEN => Token::EQUALS,
         _ => Token::NAME,
     }
 }
 
-// The kind of the bytes w, which begin as the symbol `from` does and are none before it.
-fn symbol_from(w: &[u8], from: usize) -> usize
-    requires { ⌜ from ≡ beginning (getD (now w) 0 0) 0 ⌝ }
+// The kind of the bytes w, which begin with the same letter as the word `from` does and are none before it.
+fn word_from(w: &[u8], from: usize) -> usize
+    requires { ⌜ (letter (getD (now w) 0 0) ≡ true) × (from ≡ beginning (getD (now w) 0 0) 0) ⌝ }
     ensures { λ r. ⌜ r ≡ symbol (now (w .entry)) ⌝ }
 {
-    let table = SYMBOLS;
+    let table = WORDS;
     let mut k = from;
-    while k < Token::NAME {
-        if is_symbol(w, &table, k) {
+    while k <= Token::CATCH {
+        if is_word(w, &table, k) {
             return k;
         }
-        k = next_symbol(k);
-    }
-    k
-}
-
-// The kind of the bytes w: a symbol's place in the table, or a name's kind, which most have for their first byte alone.
-fn symbol(w: &[u8]) -> usize
-    ensures { λ r. ⌜ r ≡ symbol (now (w .entry)) ⌝ }
-{
-    let k = first_symbol(byte_at(w, 0));
-    if k < Token::NAME {
-        return symbol_from(w, k);
+        k = next_word(k);
     }
     k
 }
@@ -408,12 +380,32 @@ fn named(kind: usize, start: usize, from: usize, end: usize) -> Token
     }
 }
 
+// The kind of the name of n bytes that begins with a letter at i: a reserved word's place in the table, or a name's kind.
+// Most names have theirs for their length, which no reserved word has, or for their first byte.
+fn word_kind(text: &[u8], i: usize, n: usize) -> usize
+    requires { ⌜ (letter (getD (now text) i 0) ≡ true) × (n ≡ length (nameAt (now text) i)) ⌝ }
+    ensures { λ r. ⌜ r ≡ symbol (nameAt (now (text .entry)) i) ⌝ }
+{
+    if n < 3 {
+        return Token::NAME;
+    }
+    if 6 < n {
+        return Token::NAME;
+    }
+    let k = first_word(byte_at(text, i));
+    if k <= Token::CATCH {
+        return word_from(part(text, i, n), k);
+    }
+    k
+}
+
 // A letter stands at i.
 fn word_at(text: &[u8], i: usize) -> Token
+    requires { ⌜ letter (getD (now text) i 0) ≡ true ⌝ }
     ensures { λ r. ⌜ r ≡ wordAt (now (text .entry)) i ⌝ }
 {
     let e = name_end(text, i);
-    let k = symbol(part(text, i, e - i));
+    let k = word_kind(text, i, e - i);
     named(k, i, i, e)
 }
 
@@ -434,12 +426,52 @@ fn label_at(text: &[u8], i: usize) -> Token
     }
 }
 
+// The mark that a byte and the one after it begin with, "the longest mark wins"; a name's kind where they begin with none.
+// Marks are told by their bytes, which is quicker than a search.
+fn mark_kind(b: u8, next: u8) -> usize
+    ensures { λ r. ⌜ r ≡ cond (ltb (symbol (b ∷ next ∷ [])) 14) (symbol (b ∷ next ∷ [])) (symbol (b ∷ [])) ⌝ }
+{
+    match b {
+        b'(' => Token::ROUND_OPEN,
+        b')' => Token::ROUND_CLOSE,
+        b'[' => Token::SQUARE_OPEN,
+        b']' => Token::SQUARE_CLOSE,
+        b'{' => Token::BRACE_OPEN,
+        b'}' => Token::BRACE_CLOSE,
+        b':' => Token::COLON,
+        b',' => Token::COMMA,
+        b';' => Token::SEMICOLON,
+        b'|' => Token::BAR,
+        b'1' => Token::ONE,
+        b'*' => Token::STAR,
+        b'@' => Token::AT,
+        b'+' => Token::PLUS,
+        b'&' => Token::WITH,
+        b'=' => if next == b'>' {
+            Token::THEN
+        } else {
+            Token::EQUALS
+        },
+        b'-' => if next == b'o' {
+            Token::LOLLI
+        } else {
+            Token::NAME
+        },
+        b'<' => if next == b'-' {
+            Token::FROM
+        } else {
+            Token::NAME
+        },
+        _ => Token::NAME,
+    }
+}
+
 // Another byte stands at i: a mark of two bytes, else of one, else no token.
 fn mark_at(text: &[u8], i: usize) -> Token
     requires { ⌜ i < length (now text) ⌝ }
     ensures { λ r. ⌜ r ≡ markAt (now (text .entry)) i ⌝ }
 {
-    let k = symbol(part(text, i, 2));
+    let k = mark_kind(text[i], byte_at(text, i + 1));
     if k < Token::ROUND_OPEN {
         return Token {
             kind: k,
@@ -447,10 +479,9 @@ fn mark_at(text: &[u8], i: usize) -> Token
             end: i + 2,
         };
     }
-    let m = symbol(part(text, i, 1));
-    if m < Token::NAME {
+    if k < Token::NAME {
         return Token {
-            kind: m,
+            kind: k,
             start: i,
             end: i + 1,
         };

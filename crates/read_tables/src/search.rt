@@ -4,7 +4,8 @@ use crate::access::declared_type;
 use crate::access::process_count;
 use crate::access::type_count;
 use notation::reading::Found;
-use notation::token::names_equal;
+use notation::token::has_name;
+use notation::token::name_length;
 ghost use Rattle.notation.specs.Token.{nameAt};
 ghost use Rattle.read_tables.specs.Decode.{tallyIn};
 ghost use Rattle.read_tables.specs.Program.{programIn, namedType, namedProcess};
@@ -17,11 +18,12 @@ pub fn find_type(text: &[u8], scratch: &[u32], at: usize) -> Found
     ensures { λ r. ⌜ Sought (nameAt (now (text .entry)) at) (programIn (now (text .entry)) (now (scratch .entry)) .types) (namedType (now (text .entry)) (now (scratch .entry))) (tallyIn (now (scratch .entry)) .types) r ⌝ }
 {
     let n = type_count(scratch);
+    let length = name_length(text, at);
     let mut i: usize = 0;
     while i < n {
         let t = declared_type(scratch, i);
         let there = t.at;
-        if names_equal(text, at, there) {
+        if has_name(text, at, length, there) {
             return Found::At(i);
         }
         i += 1;
@@ -35,11 +37,12 @@ pub fn find_process(text: &[u8], scratch: &[u32], at: usize) -> Found
     ensures { λ r. ⌜ Sought (nameAt (now (text .entry)) at) (programIn (now (text .entry)) (now (scratch .entry)) .processes) (namedProcess (now (text .entry)) (now (scratch .entry))) (tallyIn (now (scratch .entry)) .processes) r ⌝ }
 {
     let n = process_count(scratch);
+    let length = name_length(text, at);
     let mut i: usize = 0;
     while i < n {
         let p = declared_process(scratch, i);
         let there = p.at;
-        if names_equal(text, at, there) {
+        if has_name(text, at, length, there) {
             return Found::At(i);
         }
         i += 1;

@@ -30,7 +30,7 @@ count-requires : tie.Need-count-requires
 count-requires c κs = search needs
 
 cast-t9 : tie.Need-cast-t9
-cast-t9 c = omega (arith, c .count .ensures, c .before .before .before .well-formed .ensures .yes (c .before .before .if2 .taken) .bounded .channels)
+cast-t9 c = omega (arith, c .count .ensures, c .before .before .before .well-formed .ensures .yes (c .before .before .if2 .taken) .bounded .places)
 
 returns-2 : tie.Need-returns-2
 returns-2 c =

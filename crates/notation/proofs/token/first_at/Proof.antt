@@ -1,3 +1,4 @@
+use mathlib.Core.Path.{sym, _∙_}
 use borrow.Author.Tests.{eq-eqb, ne-eqb}
 use Rattle.notation.specs.Token.{firstAt}
 use borrow.Author.Needs.{needs}
@@ -17,7 +18,7 @@ is-letter-requires : tie.Need-is-letter-requires
 is-letter-requires c κs = search needs
 
 word-at-requires : tie.Need-word-at-requires
-word-at-requires c κs = search needs
+word-at-requires c κs = sym (c .before .is-letter .ensures) ∙ c .if1 .taken
 
 returns : tie.Need-returns
 unfolding firstAt

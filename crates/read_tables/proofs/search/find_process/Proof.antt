@@ -8,20 +8,18 @@ use Rattle.read_tables.specs.Program.{programIn, namedProcess, processes
 use Rattle.read_tables.specs.Search.{Searching, seek-start, seek-on, seek-found, seek-end, named-so}
 use Rattle.read_tables.proofs.search.find_process.Statement.{statement}
 use Rattle.read_tables.proofs.search.find_process.Tie as tie
-use Rattle.read_tables.proofs.search.find_process.Reads as reads
-use Rattle.read_tables.proofs.search.find_process.Lts as lts
-use Rattle.notation.proofs.token.names_equal.Reads as names-equal-reads
-use Rattle.read_tables.proofs.access.declared_process.Reads as declared-process-reads
-use Rattle.read_tables.proofs.access.process_count.Reads as process-count-reads
 
 abbrev Inv-loop : tie.InvT-loop
-Inv-loop text scratch at n i₀ i = Searching (nameAt text at) (programIn text scratch .processes) (namedProcess text scratch) (tallyIn scratch .processes) i
+Inv-loop text scratch at n length i₀ i = Searching (nameAt text at) (programIn text scratch .processes) (namedProcess text scratch) (tallyIn scratch .processes) i
 
 abbrev μ-loop : tie.MeasureT-loop
-μ-loop text scratch at n i₀ i = n - i
+μ-loop text scratch at n length i₀ i = n - i
 
 process-count-requires : tie.Need-process-count-requires Inv-loop μ-loop
 process-count-requires c κs = search needs
+
+name-length-requires : tie.Need-name-length-requires Inv-loop μ-loop
+name-length-requires c κs = search needs
 
 loop-holds : tie.Need-loop-holds Inv-loop μ-loop
 loop-holds c = seek-start _ _ _ _ (processes-in _ _)
@@ -29,14 +27,14 @@ loop-holds c = seek-start _ _ _ _ (processes-in _ _)
 declared-process-requires : tie.Need-declared-process-requires Inv-loop μ-loop
 declared-process-requires c κs = search needs
 
-names-equal-requires : tie.Need-names-equal-requires Inv-loop μ-loop
-names-equal-requires c κs = search needs
+has-name-requires : tie.Need-has-name-requires Inv-loop μ-loop
+has-name-requires c κs = search needs
 
 returns : tie.Need-returns Inv-loop μ-loop
 returns c =
     let loop = c .before .before .before .before .loop in
-    seek-found _ _ _ _ (loop .i) (loop .inv) (omega (arith, c .before .before .before .loop-test .taken, c .before .before .before .before .before .process-count .ensures))
-    (named-so _ (c .before .before .declared-process .ensures .is _) (c .before .names-equal .ensures) (c .if1 .taken))
+    seek-found _ _ _ _ (loop .i) (loop .inv) (omega (arith, c .before .before .before .loop-test .taken, c .before .before .before .before .before .before .process-count .ensures))
+    (named-so _ (c .before .before .declared-process .ensures .is _) (c .before .has-name .ensures) (c .if1 .taken))
 
 add-i : tie.Need-add-i Inv-loop μ-loop
 add-i c = search needs
@@ -47,11 +45,11 @@ loop-less c = search needs
 loop-again : tie.Need-loop-again Inv-loop μ-loop
 loop-again c =
     let loop = c .before .before .before .before .loop in
-    seek-on _ _ _ _ (loop .i) _ refl (loop .inv) (omega (arith, c .before .before .before .loop-test .taken, c .before .before .before .before .before .process-count .ensures))
-    (named-so _ (c .before .before .declared-process .ensures .is _) (c .before .names-equal .ensures) (c .if1 .left))
+    seek-on _ _ _ _ (loop .i) _ refl (loop .inv) (omega (arith, c .before .before .before .loop-test .taken, c .before .before .before .before .before .before .process-count .ensures))
+    (named-so _ (c .before .before .declared-process .ensures .is _) (c .before .has-name .ensures) (c .if1 .left))
 
 returns-2 : tie.Need-returns-2 Inv-loop μ-loop
-returns-2 c = let b = c .before .loop in seek-end _ _ _ _ (b .i) (b .inv) (omega (arith, c .loop-test .left, c .before .before .process-count .ensures))
+returns-2 c = let b = c .before .loop in seek-end _ _ _ _ (b .i) (b .inv) (omega (arith, c .loop-test .left, c .before .before .before .process-count .ensures))
 
 pub find-process-spec : {M : Type 1} → statement M
 find-process-spec =
@@ -60,9 +58,10 @@ find-process-spec =
     Inv-loop
     μ-loop
     process-count-requires
+    name-length-requires
     loop-holds
     declared-process-requires
-    names-equal-requires
+    has-name-requires
     returns
     add-i
     loop-less

@@ -1,11 +1,11 @@
 use borrow.Author.Needs.{needs}
 use native.Mathlib.Nat.{add-sub-cancel-left}
 use native.Mathlib.Omega.{arith}
-use Rattle.notation.proofs.ByteTables.{table-long, table-row, table-symbol}
-use Rattle.notation.proofs.token.is_symbol.Statement.{statement}
-use Rattle.notation.proofs.token.is_symbol.Tie as tie
-use Rattle.notation.proofs.token.is_symbol.Reads as reads
-use Rattle.notation.proofs.token.is_symbol.Lts as lts
+use Rattle.notation.proofs.ByteTables.{table-long, table-row, table-word}
+use Rattle.notation.proofs.token.is_word.Statement.{statement}
+use Rattle.notation.proofs.token.is_word.Tie as tie
+use Rattle.notation.proofs.token.is_word.Reads as reads
+use Rattle.notation.proofs.token.is_word.Lts as lts
 use Rattle.notation.proofs.token.same_bytes.Reads as same-bytes-reads
 
 mul-row : tie.Need-mul-row
@@ -46,10 +46,10 @@ same-bytes-requires c κs = search needs
 returns : tie.Need-returns
 returns c =
     let entry = c .before .before .before .before .before in
-    rw (add-sub-cancel-left, table-symbol (entry .args .table .now) (entry .pre .1) (entry .args .k) (entry .pre .0)) at (c .same-bytes .ensures)
+    rw (add-sub-cancel-left, table-word (entry .args .table .now) (entry .pre .1) (entry .args .k) (entry .pre .0)) at (c .same-bytes .ensures)
 
-pub is-symbol-spec : {M : Type 1} → statement M
-is-symbol-spec =
+pub is-word-spec : {M : Type 1} → statement M
+is-word-spec =
     tie.close
     (tie.spec
     mul-row

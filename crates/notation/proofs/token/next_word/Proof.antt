@@ -8,8 +8,8 @@ use lib.ListN.{getD}
 use Rattle.notation.specs.Bytes.{find}
 use Rattle.notation.specs.Token.{symbols, beginning}
 use Rattle.notation.proofs.Symbols.{follows-none}
-use Rattle.notation.proofs.token.next_symbol.Statement.{statement}
-use Rattle.notation.proofs.token.next_symbol.Tie as tie
+use Rattle.notation.proofs.token.next_word.Statement.{statement}
+use Rattle.notation.proofs.token.next_word.Tie as tie
 
 returns : tie.Need-returns
 unfolding beginning symbols find
@@ -28,22 +28,16 @@ unfolding beginning symbols find
 returns-4 c = (ap (λ k. beginning (getD (getD symbols k []) 0 0) (k + 1)) (sym (c .match .keys4)), omega (arith, c .match .keys4))
 
 returns-5 : tie.Need-returns-5
-unfolding beginning symbols find
-returns-5 c = (ap (λ k. beginning (getD (getD symbols k []) 0 0) (k + 1)) (sym (c .match .keys5)), omega (arith, c .match .keys5))
-
-returns-6 : tie.Need-returns-6
-returns-6 c =
-    let entry = c .before in
-    let k = entry .args .k in (
+returns-5 c =
+    let k = c .before .args .k in (
       follows-none k (search needs) (rw (
-        ne-eqb k 0 (c .match .rest .0 .0 .0 .0 .1),
-        ne-eqb k 4 (c .match .rest .0 .0 .0 .1),
-        ne-eqb k 6 (c .match .rest .0 .0 .1),
-        ne-eqb k 7 (c .match .rest .0 .1),
-        ne-eqb k 13 (c .match .rest .1),
+        ne-eqb k 0 (c .match .rest .0 .0 .0 .1),
+        ne-eqb k 4 (c .match .rest .0 .0 .1),
+        ne-eqb k 6 (c .match .rest .0 .1),
+        ne-eqb k 7 (c .match .rest .1),
       )),
       search needs,
     )
 
-pub next-symbol-spec : {M : Type 1} → statement M
-next-symbol-spec = tie.close (tie.spec returns returns-2 returns-3 returns-4 returns-5 returns-6)
+pub next-word-spec : {M : Type 1} → statement M
+next-word-spec = tie.close (tie.spec returns returns-2 returns-3 returns-4 returns-5)

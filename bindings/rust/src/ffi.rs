@@ -1,0 +1,153 @@
+//! The functions of the library, each behind a safe one that lends slices as they are. All `unsafe` is here.
+
+/// How many words an answer has.
+pub const ANSWER_WORDS: usize = 130;
+
+/// The words of an answer.
+pub type Answer = [u32; ANSWER_WORDS];
+
+extern "C" {
+    fn epass_start(
+        text: *const u8,
+        text_length: usize,
+        scratch: *mut u32,
+        scratch_length: usize,
+        run: *mut u32,
+        run_length: usize,
+        line: u32,
+        answer: *mut u32,
+        answer_length: usize,
+    ) -> u32;
+    fn epass_step(
+        text: *const u8,
+        text_length: usize,
+        scratch: *mut u32,
+        scratch_length: usize,
+        run: *mut u32,
+        run_length: usize,
+        place: u32,
+        answer: *mut u32,
+        answer_length: usize,
+    ) -> u32;
+    fn epass_run_on(
+        text: *const u8,
+        text_length: usize,
+        scratch: *mut u32,
+        scratch_length: usize,
+        run: *mut u32,
+        run_length: usize,
+        budget: u32,
+        answer: *mut u32,
+        answer_length: usize,
+    ) -> u32;
+    fn epass_report(
+        text: *const u8,
+        text_length: usize,
+        scratch: *mut u32,
+        scratch_length: usize,
+        run: *const u32,
+        run_length: usize,
+        answer: *mut u32,
+        answer_length: usize,
+    ) -> u32;
+    fn epass_places(
+        text: *const u8,
+        text_length: usize,
+        scratch: *mut u32,
+        scratch_length: usize,
+        run: *const u32,
+        run_length: usize,
+        answer: *mut u32,
+        answer_length: usize,
+    ) -> u32;
+    fn epass_exec_name(
+        text: *const u8,
+        text_length: usize,
+        scratch: *mut u32,
+        scratch_length: usize,
+        line: u32,
+        answer: *mut u32,
+        answer_length: usize,
+    ) -> u32;
+}
+
+/// An entry that is lent a run and takes a number.
+#[derive(Clone, Copy)]
+pub enum Numbered {
+    Start,
+    Step,
+    RunOn,
+}
+
+/// An entry that only reads a run.
+#[derive(Clone, Copy)]
+pub enum Reading {
+    Report,
+    Places,
+}
+
+/// Calls an entry that may change a run.
+pub fn change(entry: Numbered, text: &[u8], scratch: &mut [u32], run: &mut [u32], number: u32) -> Answer {
+    let mut answer = [0; ANSWER_WORDS];
+    let call = match entry {
+        Numbered::Start => epass_start,
+        Numbered::Step => epass_step,
+        Numbered::RunOn => epass_run_on,
+    };
+    // SAFETY: each pointer is lent with the length of its slice, and the borrows keep the slices apart.
+    unsafe {
+        call(
+            text.as_ptr(),
+            text.len(),
+            scratch.as_mut_ptr(),
+            scratch.len(),
+            run.as_mut_ptr(),
+            run.len(),
+            number,
+            answer.as_mut_ptr(),
+            answer.len(),
+        )
+    };
+    answer
+}
+
+/// Calls an entry that reads a run.
+pub fn read(entry: Reading, text: &[u8], scratch: &mut [u32], run: &[u32]) -> Answer {
+    let mut answer = [0; ANSWER_WORDS];
+    let call = match entry {
+        Reading::Report => epass_report,
+        Reading::Places => epass_places,
+    };
+    // SAFETY: as above; the run is only read.
+    unsafe {
+        call(
+            text.as_ptr(),
+            text.len(),
+            scratch.as_mut_ptr(),
+            scratch.len(),
+            run.as_ptr(),
+            run.len(),
+            answer.as_mut_ptr(),
+            answer.len(),
+        )
+    };
+    answer
+}
+
+/// Where the name of an exec line stands.
+pub fn exec_name(text: &[u8], scratch: &mut [u32], line: u32) -> Answer {
+    let mut answer = [0; ANSWER_WORDS];
+    // SAFETY: as above; no run is lent.
+    unsafe {
+        epass_exec_name(
+            text.as_ptr(),
+            text.len(),
+            scratch.as_mut_ptr(),
+            scratch.len(),
+            line,
+            answer.as_mut_ptr(),
+            answer.len(),
+        )
+    };
+    answer
+}
