@@ -1,0 +1,2 @@
+pub mod CallLine
+pub mod Reading

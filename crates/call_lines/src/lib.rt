@@ -1,0 +1,4 @@
+pub mod lines;
+pub mod log;
+mod numbers;
+mod words;
