@@ -1,3 +1,5 @@
+pub mod calls;
+pub mod lending;
 pub mod lines;
 pub mod log;
 mod numbers;

@@ -1,11 +1,13 @@
 -- The laws of the entries over the words w that hold an accepted text's tables, as the code has them.
-use Prim.Native.Nat.{ℕ, _<_, _≤_}
-use mathlib.Core.Path.{_≡_, refl, sym, subst}
+use Prim.Native.Nat.{ℕ, _-_, _<_, _≤_}
+use mathlib.Core.Path.{_≡_, refl, sym, subst, ap}
 use mathlib.Core.List.{List, []}
 use mathlib.Core.Bool.{Bool, true}
 use mathlib.Core.Option.{some}
-use lib.ListN.{length, getElem?}
+use native.Mathlib.Omega.{arith}
+use lib.ListN.{length, getElem?, drop, length-take, length-drop}
 use Rattle.notation.specs.Limits.{runWords}
+use Rattle.notation.specs.Token.{nameEnd, nameAt}
 use Rattle.notation.specs.Tree.{Located}
 use Rattle.calculus.specs.Machine.{started, stepped, ranOn, named}
 use Rattle.calculus.specs.Runs.{execOf, runOn, places}
@@ -122,3 +124,8 @@ module _ {s w : List ℕ} (t : TextIn s w) where
   name-told {line} n e q =
       subst (λ p. AnswersIn s (toName line) [] (named p 0 0) []) (sym q)
       (starting.name-told s (t .script) (t .accepts) (t .fits) line n (under t (λ x. getElem? (programIn s x .execs) line ≡ some n) e))
+
+-- it is no longer than the text
+pub name-short : (s : List ℕ) (at : ℕ) {part : List ℕ} → part ≡ nameAt s at → length part ≤ length s
+unfolding nameAt
+name-short s at e = omega (arith, ap length e, length-take (nameEnd s at - at) (drop at s), length-drop at s)

@@ -86,6 +86,7 @@ pub(crate) fn name_in<'a>(
 ) -> &'a [u8]
     requires { ⌜ TextIn (now text) (now tables) ⌝ }
     ensures { λ r. ⌜ AnswersIn (now (text .entry)) (toName line) [] (named (now r) (now (number .exit)) (now (at .exit))) [] ⌝ }
+    ensures { λ r. ⌜ length (now r) ≤ length (now (text .entry)) ⌝ }
 {
     *at = 0;
     let i = line as usize;

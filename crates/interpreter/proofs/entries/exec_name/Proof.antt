@@ -58,9 +58,11 @@ returns : tie.Need-returns
 returns c =
     let after-check = c .before .before .before .before .before .before .before .before .before in
     let check = after-check .check in
-    let entry = after-check .before .before .before .before in
-    answers-accepted (entry .args .text .now) (entry .args .scratch .now) (check .last .1 .0) _ (check .ensures) (toName (entry .args .line)) []
-    (c .before .before .before .before .before .enum-told .given .1) (c .name-in .ensures)
+    let entry = after-check .before .before .before .before in (
+      answers-accepted (entry .args .text .now) (entry .args .scratch .now) (check .last .1 .0) _ (check .ensures) (toName (entry .args .line)) []
+          (c .before .before .before .before .before .enum-told .given .1) (c .name-in .ensures .0),
+      c .name-in .ensures .1,
+    )
 
 sub-result : tie.Need-sub-result
 sub-result c = search needs
@@ -78,8 +80,11 @@ returns-2 : tie.Need-returns-2
 returns-2 c =
     let v = c .before .before .v in
     let check = c .before .before .before .before .before .before .check in
-    let entry = c .before .before .before .before .before .before .before .before .before .before in
-    answers-refused (entry .args .text .now) (entry .args .scratch .now) (check .last .1 .0) _ (check .ensures) (toName (entry .args .line)) [] (v .given .0 .0) (v .given .0 .1 .0) (v .given .1)
+    let entry = c .before .before .before .before .before .before .before .before .before .before in (
+      answers-refused (entry .args .text .now) (entry .args .scratch .now) (check .last .1 .0) _ (check .ensures) (toName (entry .args .line)) []
+          (v .given .0 .0) (v .given .0 .1 .0) (v .given .1),
+      omega arith,
+    )
 
 pub exec-name-spec : {M : Type 1} → statement M
 exec-name-spec =

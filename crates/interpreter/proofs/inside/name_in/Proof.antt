@@ -1,7 +1,7 @@
 use native.Mathlib.Omega.{arith}
 use Rattle.run_steps.specs.Starting.{execs-many, exec-name}
 use Rattle.check_accepted.specs.Texts.{tables-in}
-use Rattle.interpreter.specs.Told.{name-none, name-told}
+use Rattle.interpreter.specs.Told.{name-none, name-told, name-short}
 use borrow.Author.Needs.{needs}
 use Rattle.interpreter.proofs.inside.name_in.Statement.{statement}
 use Rattle.interpreter.proofs.inside.name_in.Tie as tie
@@ -25,8 +25,10 @@ part-result-end c = search needs
 
 returns : tie.Need-returns
 returns c =
-    let entry = c .before .before .before .before .before in
-    name-none (entry .pre) (omega (arith, execs-many (entry .args .text .now) (entry .args .tables .now), c .before .before .exec-count .ensures, c .before .if1 .taken))
+    let entry = c .before .before .before .before .before in (
+      name-none (entry .pre) (omega (arith, execs-many (entry .args .text .now) (entry .args .tables .now), c .before .before .exec-count .ensures, c .before .if1 .taken)),
+      omega arith,
+    )
 
 exec-at-requires : tie.Need-exec-at-requires
 exec-at-requires c κs = (
@@ -39,9 +41,11 @@ name-of-requires c κs = search needs
 
 returns-2 : tie.Need-returns-2
 returns-2 c =
-    let entry = c .before .before .before .before .before .before in
-    name-told (entry .pre) _ (exec-name (entry .args .text .now) (entry .args .tables .now) (entry .args .line) _
-    (omega (arith, c .before .before .before .exec-count .ensures, c .before .before .if1 .left)) (c .before .exec-at .ensures)) (c .name-of .ensures)
+    let entry = c .before .before .before .before .before .before in (
+      name-told (entry .pre) _ (exec-name (entry .args .text .now) (entry .args .tables .now) (entry .args .line) _
+          (omega (arith, c .before .before .before .exec-count .ensures, c .before .before .if1 .left)) (c .before .exec-at .ensures)) (c .name-of .ensures),
+      name-short (entry .args .text .now) _ (c .name-of .ensures),
+    )
 
 pub name-in-spec : {M : Type 1} → statement M
 name-in-spec =
