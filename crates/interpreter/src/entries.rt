@@ -1,4 +1,6 @@
 // The entries: each checks the text first, refusals 1 to 15, and then asks what the accepted text comes to.
+ghost use Prim.Native.Nat.{_≤_};
+ghost use lib.ListN.{length};
 ghost use Rattle.interpreter.specs.Entries.{Starts, Steps, RunsOn, Reports, Surveys, Names};
 use crate::inside::run_on_in;
 use crate::inside::start_in;
@@ -82,6 +84,7 @@ pub fn exec_name<'a>(
     at: &mut usize,
 ) -> &'a [u8]
     ensures { λ r. ⌜ Names (now (text .entry)) (now (scratch .entry)) line (now r) (now (number .exit)) (now (at .exit)) (now (scratch .exit)) ⌝ }
+    ensures { λ r. ⌜ length (now r) ≤ length (now (text .entry)) ⌝ }
 {
     name_of(text, exec_place(text, scratch, line, number, at))
 }

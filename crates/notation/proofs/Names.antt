@@ -185,3 +185,8 @@ module _ (s : List ℕ) (a b n : ℕ) (e : n ≡ length (nameAt s a)) where
 
   pub alike-all : {k : ℕ} → AlikeFrom s a b n k → k ≤ 0 → not (nameByte (getD s (b + n) 0)) ≡ same (nameAt s a) (nameAt s b)
   alike-all v h = matched-all n (record { left = refl }) e (λ j l. v .bytes j (omega arith) l)
+
+-- a name is no longer than its text
+pub name-within : (s : List ℕ) (at : ℕ) {x : List ℕ} → x ≡ nameAt s at → length x ≤ length s
+unfolding nameAt
+name-within s at e = omega (arith, ap length e, length-take (nameEnd s at - at) (drop at s), length-drop at s)

@@ -66,27 +66,26 @@ ranOnWords s (Runs.Full steps) = stepsWords steps (bytes "full")
 ranOnWords s (Runs.Stopped steps) = stepsWords steps (bytes "stopped")
 ranOnWords s (Runs.Refused n at) = refusedWords n at
 
--- the numbers, each after a blank
-unfoldable pub numberWords : List ℕ → List ℕ
-numberWords [] = []
-numberWords (n ∷ l) = bytes " " ++ (decimal n ++ numberWords l)
+-- the words of each number, one after another
+unfoldable pub eachWords : (ℕ → List ℕ) → List ℕ → List ℕ
+eachWords words [] = []
+eachWords words (n ∷ l) = words n ++ eachWords words l
+
+abbrev pub numberWord : ℕ → List ℕ
+numberWord n = bytes " " ++ decimal n
 
 unfoldable pub reportedWords : Reported → List ℕ → List ℕ
-reportedWords (Reports.Open n) l = bytes "open" ++ numberWords l
+reportedWords (Reports.Open n) l = bytes "open" ++ eachWords numberWord l
 reportedWords (Reports.Refused n at) l = refusedWords n at
 
--- what the step at a place is, each after a blank
+-- what the step at a place is
 abbrev pub placeWord : ℕ → List ℕ
 placeWord zero = bytes " waits"
 placeWord (suc zero) = bytes " open"
 placeWord (suc (suc n)) = bytes " lacks"
 
-unfoldable pub placeWords : List ℕ → List ℕ
-placeWords [] = []
-placeWords (n ∷ l) = placeWord n ++ placeWords l
-
 unfoldable pub surveyedWords : Surveyed → List ℕ → List ℕ
-surveyedWords (Surveys.Processes n) l = decimal n ++ (bytes " processes" ++ placeWords l)
+surveyedWords (Surveys.Processes n) l = decimal n ++ (bytes " processes" ++ eachWords placeWord l)
 surveyedWords (Surveys.Refused n at) l = refusedWords n at
 
 unfoldable pub namedWords : List ℕ → ℕ → ℕ → List ℕ

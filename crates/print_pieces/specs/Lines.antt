@@ -1,21 +1,15 @@
 -- The lines that the program prints, as their parts are put one after another.
-use Prim.Native.Nat.{ℕ, _+_, _-_, _≤_}
+use Prim.Native.Nat.{ℕ, _+_, _≤_}
 use mathlib.Core.Path.{_≡_, refl, sym, _∙_, ap}
-use mathlib.Core.List.{List, [], _∷_, _++_, append-assoc}
+use mathlib.Core.List.{List, [], _∷_, _++_, append-assoc, append-nil}
 use mathlib.Core.Bool.{Bool, true, false}
 use native.Mathlib.Omega.{arith}
-use lib.ListN.{length, drop, length-take, length-drop}
 use Rattle.notation.specs.Bytes.{bytes}
-use Rattle.notation.specs.Token.{nameEnd, nameAt}
+use Rattle.notation.specs.Token.{nameAt}
 use Rattle.calculus.specs.Printed.{decimal, line, shows, secondLine, sighting, ending}
 use Rattle.calculus.specs.declared.answers.Seen.{Seen}
 use Rattle.calculus.specs.declared.answers.Seen.the-variants.{Nothing, Label, Close, Passed, Cancelled}
 use Rattle.print_bytes.specs.Writing.{Appended, appended-on, appended-as}
-
--- a name is no longer than its text
-pub name-within : (s : List ℕ) (at : ℕ) {x : List ℕ} → x ≡ nameAt s at → length x ≤ length s
-unfolding nameAt
-name-within s at e = omega (arith, ap length e, length-take (nameEnd s at - at) (drop at s), length-drop at s)
 
 abbrev pub number : ℕ → List ℕ
 number n = bytes "#" ++ decimal n
@@ -41,10 +35,6 @@ label-put n {name} p q e u v = shows-put n (bytes "'" ++ name) p (appended-on q 
 pub passed-put : (n m : ℕ) {o a b c : List ℕ} {at i j r : ℕ} → Appended o a at i (channel n) × (i ≤ at + 15) → Appended a b i j (number m) × (j ≤ i + 11) → Appended b c j r (10 ∷ [])
     → Appended o c at r (shows n (number m)) × (r ≤ at + 27)
 passed-put n m (p, x) (q, y) u = (shows-put n (number m) p q u, omega (arith, x, y, u .ends))
-
-pub append-nil : (l : List ℕ) → l ++ [] ≡ l
-append-nil [] = refl
-append-nil (x ∷ l) = ap (_∷_ x) (append-nil l)
 
 -- a passed channel, given up already or not
 pub passed-gone : (n m : ℕ) {gone : Bool} → gone ≡ true → {o a b : List ℕ} {i r : ℕ} → Appended o a 0 i (shows n (bytes "#" ++ decimal m)) → Appended a b i r (shows m (bytes "cancelled")) → Appended o b 0 r (shows n (bytes "#" ++ decimal m) ++ secondLine m gone)

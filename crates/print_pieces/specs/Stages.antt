@@ -1,7 +1,7 @@
 -- How each piece follows from what was done for it.
 use Prim.Native.Nat.{ℕ, zero, suc, _+_, _-_, _≤_, _<_}
 use mathlib.Core.Path.{_≡_, refl, sym, _∙_, ap, subst}
-use mathlib.Core.List.{List, [], _∷_, _++_, append-assoc}
+use mathlib.Core.List.{List, [], _∷_, _++_, append-assoc, append-nil}
 use mathlib.Core.Bool.{Bool, true, false, false≢true}
 use mathlib.Core.Option.{Option, some, none, Option·none-ne-some}
 use native.Mathlib.Numerals.{add-one}
@@ -46,7 +46,6 @@ use Rattle.run_steps.specs.Dispatch.{SmallSignatures, small-signatures}
 use Rattle.check_accepted.specs.Texts.{TextIn, tables-in, program-in}
 use Rattle.check_accepted.specs.Verdicts.{refused-so, fine-so}
 use Rattle.print_bytes.specs.Writing.{Appended}
-use Rattle.print_pieces.specs.Lines.{append-nil}
 use Rattle.print_pieces.specs.RunLines.{given-within, shown-steps, fuel-enough}
 use Rattle.print_pieces.specs.Pieces.{left, leftIn, RunningIn, GoingBy, Going, turns, isLeft, First, Next, Wrote, toldLines, toldStage, Turn, Linked, written, PiecesPrinted}
 use Rattle.print_pieces.specs.declared.pieces.Stage.{Stage}

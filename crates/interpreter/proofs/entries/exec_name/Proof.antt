@@ -1,3 +1,4 @@
+use Rattle.notation.proofs.Names.{name-within}
 use Rattle.interpreter.specs.Naming.{part-named}
 use borrow.Author.Needs.{needs}
 use Rattle.interpreter.proofs.entries.exec_name.Statement.{statement}
@@ -17,7 +18,7 @@ same-length : tie.Need-same-length
 same-length c = search needs
 
 returns : tie.Need-returns
-returns c = part-named (c .before .before .before .exec-place .ensures) (c .name-of .ensures)
+returns c = (part-named (c .before .before .before .exec-place .ensures) (c .name-of .ensures), name-within _ _ (c .name-of .ensures))
 
 pub exec-name-spec : {M : Type 1} → statement M
 exec-name-spec = tie.close (tie.spec exec-place-requires name-of-requires same-length returns)

@@ -1,4 +1,5 @@
-use Rattle.print_pieces.specs.Lines.{label-put, name-within}
+use Rattle.print_pieces.specs.Lines.{label-put}
+use Rattle.notation.proofs.Names.{name-within}
 use native.Mathlib.Omega.{arith}
 use borrow.Author.Needs.{needs}
 use Rattle.print_pieces.proofs.lines.put_label.Statement.{statement}

@@ -1,0 +1,4 @@
+pub mod CallLine
+pub mod Reading
+pub mod Lending
+pub mod Answering

@@ -1,0 +1,3 @@
+pub mod answers;
+mod lists;
+mod parts;
