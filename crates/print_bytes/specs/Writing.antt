@@ -1,12 +1,11 @@
 -- Texts put into a buffer, one after another.
-use Prim.Native.Nat.{ℕ, _+_, _-_, _≤_, _<_}
+use Prim.Native.Nat.{ℕ, _+_, _≤_, _<_}
 use mathlib.Core.Path.{_≡_, refl, sym, _∙_, ap, subst}
 use mathlib.Core.List.{List, _++_, append-assoc}
 use native.Mathlib.Numerals.{add-one}
 use native.Mathlib.Omega.{arith}
-use lib.ListN.{length, getD, set, take, drop, length-append, length-set, length-take, length-drop}
+use lib.ListN.{length, getD, set, take, length-append, length-set}
 use lib.Seq.{paste, paste-zero, paste-suc, take-paste, take-all}
-use Rattle.notation.specs.Token.{nameEnd, nameAt}
 
 -- from `at` on the text l was put, up to r; what stood before it is kept
 pub record Appended (old new : List ℕ) (at r : ℕ) (l : List ℕ) : Type 0 where
