@@ -108,6 +108,10 @@ pub append-nil : {A : Type 0} (l : List A) → l ++ [] ≡ l
 append-nil [] = refl
 append-nil (x ∷ l) = ap (_∷_ x) (append-nil l)
 
+pub append-assoc : {A : Type 0} (a b c : List A) → (a ++ b) ++ c ≡ a ++ (b ++ c)
+append-assoc [] b c = refl
+append-assoc (x ∷ a) b c = ap (_∷_ x) (append-assoc a b c)
+
 picked-next : (f : ℕ → Bool) (j : ℕ) (l : List RawEnd) (k : ℕ) {e : RawEnd} → getElem? l k ≡ some e → picked f j (take (suc k) l) ≡ picked f j (take k l) ++ cond (f (j + k)) (e ∷ []) []
 picked-next f j [] k h = absurd (Option·none-ne-some _ h)
 picked-next f j (x ∷ l) zero h = let z : j ≡ j + 0 = omega arith in λ i. cond (f (z i)) (Option·some-injective _ _ h i ∷ []) []

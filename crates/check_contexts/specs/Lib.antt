@@ -7,3 +7,4 @@ pub mod Walks
 pub mod Branches
 pub mod Mentioned
 pub mod Halves
+pub mod Signatures

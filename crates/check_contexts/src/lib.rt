@@ -4,3 +4,4 @@ pub mod initials;
 pub mod marks;
 pub mod mentions;
 pub mod names;
+pub mod signatures;

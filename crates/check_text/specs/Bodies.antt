@@ -7,7 +7,7 @@ use mathlib.Core.Option.{Option, some, none}
 use native.Mathlib.Omega.{arith}
 use lib.Dec.{ltb}
 use borrow.Author.Tests.{ltb-true, ltb-false, lt-ltb, le-ltb}
-use lib.ListN.{length, getElem?, length-append}
+use lib.ListN.{length, getElem?}
 use Rattle.notation.specs.Limits.{heldLimit, typeTermLimit}
 use Rattle.notation.specs.Reader.{nameIn}
 use Rattle.notation.specs.Token.{nameAt}
@@ -15,25 +15,26 @@ use Rattle.notation.specs.Tree.{Name, Located, Entry, Declaration, declareType,
 use Rattle.calculus.specs.Types.{Side, provided, used}
 use Rattle.calculus.specs.Program.{Slot, slot, Context, Signature, Program, onSide, signatureContext, entries, programOf}
 use Rattle.calculus.specs.Declarations.{channels}
-use Rattle.calculus.specs.Typing.{bringing}
 use Rattle.calculus.specs.Checking.{check, unlessNamed, checkDeclaration, checkDeclarations, typed}
 use Rattle.calculus.specs.Verdict.{fine, refused, andThen}
 use Rattle.calculus.specs.Verdict as calculus
-use Rattle.run_words.specs.Raw.{sideOf}
+use Rattle.calculus.specs.WellFormed.{contextOf}
+use Rattle.theory_ends.specs.Contexts.{context-append}
+use Rattle.run_words.specs.Raw.{RawEnd, sideOf}
 use Rattle.run_words.specs.declared.records.Held.{Held}
 use Rattle.read_tables.specs.Access.{EntryOf, SignatureOf, asEntry}
 use Rattle.read_tables.specs.Decode.{tallyIn, entryAt, typeIn, processIn, entriesIn, procDeclaration, procBy, processAt, typeDeclaration, execDeclaration, numbered, scriptIn}
 use Rattle.read_tables.specs.Program.{plainIn, programIn}
-use Rattle.read_tables.specs.Roots.{TypeIn, ProcessIn}
-use Rattle.read_tables.specs.Whole.{EntriesIn, FirstEntry, first-entry, SignatureIn, Tables}
+use Rattle.read_tables.specs.Whole.{SignatureIn, Tables}
 use Rattle.read_tables.specs.declared.access.Labelled.{Labelled}
 use Rattle.read_tables.specs.declared.access.Declared.{Declared}
 use Rattle.notation.specs.declared.reading.ProcessEntry.{ProcessEntry}
-use Rattle.run_words.specs.Lists.{All}
+use Rattle.run_words.specs.Lists.{tab, All}
+use Rattle.run_words.specs.ListLaws.{all-append, map-join}
 use Rattle.run_words.specs.Values.{heldIn}
-use Rattle.check_contexts.specs.Held.{EndIn, HeldIn, Brings}
+use Rattle.check_contexts.specs.Held.{endIs, endsIn, channelsOf, EndIn, HeldIn}
+use Rattle.check_contexts.specs.Signatures.{entryEnd, entryEnds, WithEntries, entries-fit, ends-in}
 use Rattle.check_terms.specs.Next.{contextIn}
-use Rattle.check_terms.specs.Sends.{brought-so, count-so}
 
 -- ── entries side by side
 entries-more : (s w : List ℕ) (i n m : ℕ) → entriesIn s w i (n + m) ≡ entriesIn s w i n ++ entriesIn s w (i + n) m
@@ -47,83 +48,21 @@ entries-more s w i (suc n) m =
     let z : i + 1 + n ≡ i + suc n = omega arith in
     ap (entriesIn s w i) y ∙ ap (_∷_ (record { channel = nameIn s (entryAt w i .0); type = typeIn s w (entryAt w i .1) })) (entries-more s w (i + 1) n m ∙ ap (λ x. entriesIn s w (i + 1) n ++ entriesIn s w x m) z)
 
--- those from the k-th on stand too
-pub entries-past : (s w : List ℕ) (i n k : ℕ) → EntriesIn s w i n → k ≤ n → EntriesIn s w (i + k) (n - k)
-entries-past s w i n zero h l =
-    let y : n ≡ n - 0 = omega arith in
-    let z : i ≡ i + 0 = omega arith in
-    subst (λ x. EntriesIn s w x (n - 0)) z (subst (EntriesIn s w i) y h)
-entries-past s w i zero (suc k) h l = absurd (omega arith)
-entries-past s w i (suc n) (suc k) h l =
-    let y : n - k ≡ suc n - suc k = omega arith in
-    let z : i + 1 + k ≡ i + suc k = omega arith in
-    subst (λ x. EntriesIn s w x (suc n - suc k)) z (subst (EntriesIn s w (i + 1 + k)) y (entries-past s w (i + 1) n k (first-entry s w i n h .rest) (omega arith)))
-
-pub entry-next : (s w : List ℕ) (i n k : ℕ) → EntriesIn s w i n → k < n → EntriesIn s w (i + k) (suc (n - (k + 1)))
-entry-next s w i n k h l = let y : n - k ≡ suc (n - (k + 1)) = omega arith in subst (EntriesIn s w (i + k)) y (entries-past s w i n k h (omega arith))
-
-pub entry-below : (s w : List ℕ) → Tables s w → (i n k : ℕ) → EntriesIn s w i n → k < n → i + k < typeTermLimit
-entry-below s w t i n k h l = omega (arith, t .within, first-entry s w (i + k) (n - (k + 1)) (entry-next s w i n k h l) .within)
-
-append-nil : {A : Type 0} (l : List A) → l ++ [] ≡ l
-append-nil [] = refl
-append-nil (x ∷ l) = ap (_∷_ x) (append-nil l)
-
-append-assoc : {A : Type 0} (x y z : List A) → (x ++ y) ++ z ≡ x ++ (y ++ z)
-append-assoc [] y z = refl
-append-assoc (a ∷ x) y z = ap (_∷_ a) (append-assoc x y z)
-
--- ── with entries more
+-- ── the ends of entries, as typing sees them
 abbrev entriesOn : List ℕ → List ℕ → ℕ → ℕ → Side → Context
 entriesOn s w first n side = onSide side (entries (entriesIn s w first n))
 
-pub record Adds (s w : List ℕ) (h : Held) (first n side : ℕ) (r : Held) : Type 0 where
-  pub is : contextIn s w r ≡ contextIn s w h ++ entriesOn s w first n (sideOf side)
-  pub fits : HeldIn s w r
-  pub count : r .count ≡ h .count + n
-
-on-append : (d : Side) (x y : List Entry) → onSide d (entries (x ++ y)) ≡ onSide d (entries x) ++ onSide d (entries y)
-on-append d [] y = refl
-on-append d (e ∷ x) y = ap (_∷_ (e .channel .name, slot d (plain (e .type)))) (on-append d x y)
-
-module _ (s w : List ℕ) (h : Held) (first n side : ℕ) where
-  pub record Adding (r : Held) (k : ℕ) : Type 0 where
-    pub upto : k ≤ n
-    pub is : contextIn s w r ≡ contextIn s w h ++ entriesOn s w first k (sideOf side)
-    pub fits : HeldIn s w r
-    pub count : r .count ≡ h .count + k
-
-  pub add-start : HeldIn s w h → Adding h 0
+module _ (s w : List ℕ) (side : ℕ) where
+  -- whatever their channels
+  entries-seen : (i n : ℕ) (place channel : ℕ → ℕ) → ((k : ℕ) → place k ≡ i + k) → contextOf (endsIn s w (tab (λ k. entryEnd w side (place k) (channel k)) n)) ≡ entriesOn s w i n (sideOf side)
   unfolding entriesIn
-  add-start t = record { upto = omega arith; is = sym (append-nil (contextIn s w h)); fits = t; count = omega arith }
+  entries-seen i zero place channel h = refl
+  entries-seen i (suc n) place channel h =
+      let z : place 0 ≡ i = omega (arith, h 0) in
+      λ j. (nameAt s (entryAt w (z j) .0), slot (sideOf side) (plainIn s w (entryAt w (z j) .1))) ∷ entries-seen (i + 1) n (λ k. place (suc k)) (λ k. channel (suc k)) (λ k. omega (arith, h (suc k))) j
 
-  one-entry : (i : ℕ) (t : Labelled) → EntryOf w i t → entriesOn s w i 1 (sideOf side) ≡ (nameAt s (t .at), slot (sideOf side) (plainIn s w (t .number))) ∷ []
-  unfolding entriesIn
-  one-entry i t g = λ j. (nameAt s (sym (g .holds .at) j), slot (sideOf side) (plainIn s w (sym (g .holds .number) j))) ∷ []
-
-  brought-count : (r r′ : Held) (at node : ℕ) → Brings r at side node 0 r′ → r′ .count ≡ r .count + 1
-  brought-count r r′ at node b =
-      sym (count-so s w r′)
-      ∙ ap length (sym (brought-so s w r at side node 0 r′ b))
-      ∙ length-append (contextIn s w r) _
-      ∙ ap (λ m. m + 1) (count-so s w r)
-
-  pub add-on : (r : Held) (k : ℕ) → Adding r k → k < n → (t : Labelled) → EntryOf w (first + k) t → TypeIn s w (t .number) → (r′ : Held) → Brings r (t .at) side (t .number) 0 r′ → (j : ℕ) → j ≡ k + 1 → Adding r′ j
-  add-on r k a l t g u r′ b j z = record {
-    upto = omega arith;
-    is =
-        sym (brought-so s w r (t .at) side (t .number) 0 r′ b)
-        ∙ ap (λ H. H ++ ((nameAt s (t .at), slot (sideOf side) (plainIn s w (t .number))) ∷ [])) (a .is)
-        ∙ append-assoc (contextIn s w h) (entriesOn s w first k (sideOf side)) _
-        ∙ ap (λ H. contextIn s w h ++ H) (ap (λ H. entriesOn s w first k (sideOf side) ++ H) (sym (one-entry (first + k) t g)) ∙ sym (on-append (sideOf side) (entriesIn s w first k) (entriesIn s w (first + k) 1)) ∙ ap (λ es. onSide (sideOf side) (entries es)) (sym (entries-more s w first k 1) ∙ ap (entriesIn s w first) (sym z)));
-    fits = b .fits s w u (a .fits);
-    count = omega (arith, a .count, brought-count r r′ (t .at) (t .number) b);
-  }
-
-  pub add-end : (r : Held) (k : ℕ) → Adding r k → n ≤ k → Adds s w h first n side r
-  add-end r k a l =
-      let e : k ≡ n = omega (arith, a .upto) in
-      record { is = a .is ∙ ap (λ m. contextIn s w h ++ entriesOn s w first m (sideOf side)) e; fits = a .fits; count = omega (arith, a .count) }
+  ends-seen : (i n : ℕ) → contextOf (endsIn s w (entryEnds w side i n)) ≡ entriesOn s w i n (sideOf side)
+  ends-seen i n = entries-seen i n (λ k. i + k) (λ k. k) (λ k. refl)
 
 -- ── what a signature has its process hold
 abbrev contextBy : List ℕ → List ℕ → ProcessEntry → Context
@@ -133,18 +72,32 @@ pub record SignatureHeld (s w : List ℕ) (e : ProcessEntry) (r : Held) : Type 0
   pub is : contextIn s w r ≡ contextBy s w e
   pub fits : HeldIn s w r
 
-nothing-held : (s w : List ℕ) (h : Held) → h .count ≡ 0 → contextIn s w h ≡ []
-nothing-held s w h e = go (contextIn s w h) (count-so s w h ∙ e)
-  where
-    go : {A : Type 0} (l : List A) → length l ≡ 0 → l ≡ []
-    go [] e = refl
-    go (x ∷ l) e = absurd (omega arith)
+module _ (s w : List ℕ) (e : ProcessEntry) {o a r : Held} (z : heldIn o ≡ []) (f : WithEntries w o 0 (e .first) (e .provided) a) (g : WithEntries w a 1 (e .first + e .provided) (e .used) r) where
+  abbrev ends-provided : List RawEnd
+  ends-provided = entryEnds w 0 (e .first) (e .provided)
 
-pub nothing-fits : (s w : List ℕ) (h : Held) → heldIn h ≡ [] → h .count ≡ 0 → HeldIn s w h
-nothing-fits s w h e z = record { many = omega arith; each = subst (All (EndIn s w)) (sym e) tt }
+  abbrev ends-used : List RawEnd
+  ends-used = entryEnds w 1 (e .first + e .provided) (e .used)
 
-pub signature-so : (s w : List ℕ) (e : ProcessEntry) (o a r : Held) → o .count ≡ 0 → Adds s w o (e .first) (e .provided) 0 a → Adds s w a (e .first + e .provided) (e .used) 1 r → SignatureHeld s w e r
-signature-so s w e o a r z f g = record { is = g .is ∙ ap (λ H. H ++ entriesOn s w (e .first + e .provided) (e .used) used) (f .is ∙ ap (λ H. H ++ entriesOn s w (e .first) (e .provided) provided) (nothing-held s w o z)); fits = g .fits }
+  ends-are : heldIn r ≡ ends-provided ++ ends-used
+  ends-are = g .is ∙ ap (λ l. l ++ ends-used) (f .is ∙ ap (λ l. l ++ ends-provided) z)
+
+  signature-seen : contextIn s w r ≡ contextBy s w e
+  unfolding channelsOf
+  signature-seen =
+      ap (λ l. contextOf (endsIn s w l)) ends-are
+      ∙ ap contextOf (map-join (endIs s w) ends-provided ends-used)
+      ∙ context-append (endsIn s w ends-provided) (endsIn s w ends-used)
+      ∙ λ j. ends-seen s w 0 (e .first) (e .provided) j ++ ends-seen s w 1 (e .first + e .provided) (e .used) j
+
+  pub signature-so : o .count ≡ 0 → Tables s w → SignatureIn s w e → e .provided ≤ heldLimit → e .used ≤ heldLimit - e .provided → SignatureHeld s w e r
+  signature-so c t h l m = record {
+    is = signature-seen;
+    fits = record {
+      many = omega (arith, f .count, g .count);
+      each = subst (All (EndIn s w)) (sym ends-are) (all-append (EndIn s w) ends-provided ends-used (ends-in w 0 (e .first) s (e .provided) t (h .provides) l) (ends-in w 1 (e .first + e .provided) s (e .used) t (h .uses) (omega arith)));
+    };
+  }
 
 -- ── the 17th name
 channels-append : (x y : List Entry) → channels (x ++ y) ≡ channels x ++ channels y
@@ -263,7 +216,7 @@ pub seventeenth-entry : (s w : List ℕ) (e : ProcessEntry) → SignatureIn s w 
 seventeenth-entry s w e g t l = go (ltb heldLimit (e .provided)) refl
   where
     go : (b : Bool) → ltb heldLimit (e .provided) ≡ b → e .first + heldLimit < typeTermLimit
-    go true q = entry-below s w t (e .first) (e .provided) heldLimit (g .provides) (ltb-true heldLimit (e .provided) q)
+    go true q = entries-fit s w (e .first) (e .provided) t (g .provides) .each heldLimit (ltb-true heldLimit (e .provided) q) .0
     go false q =
         let h : e .provided ≤ heldLimit = ltb-false heldLimit (e .provided) q in
-        omega (arith, entry-below s w t (e .first + e .provided) (e .used) (heldLimit - e .provided) (g .uses) (omega arith))
+        omega (arith, entries-fit s w (e .first + e .provided) (e .used) t (g .uses) .each (heldLimit - e .provided) (omega arith) .0)

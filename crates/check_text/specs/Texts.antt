@@ -18,6 +18,7 @@ use Rattle.calculus.specs.Declarations.{declared}
 use Rattle.calculus.specs.Verdict.{fine, andThen}
 use Rattle.calculus.specs.Verdict as calculus
 use Rattle.calculus.specs.Verdict.{verdictOf}
+use Rattle.check_contexts.specs.Halves.{append-nil}
 use Rattle.check_declarations.specs.Sorted.{declared-sorted, typed-sorted}
 use Rattle.calculus.specs.declared.verdict.Verdict.{Verdict}
 use Rattle.calculus.specs.declared.verdict.Verdict.the-variants as verdict
@@ -62,10 +63,6 @@ pub record TablesOf (s v : List ℕ) : Type 0 where
   pub words : v ≡ tables s
   pub long : length v ≡ scratchWords
   pub fits : FitsTables s
-
-append-nil : {A : Type 0} (l : List A) → l ++ [] ≡ l
-append-nil [] = refl
-append-nil (x ∷ l) = ap (λ m. x ∷ m) (append-nil l)
 
 module _ (s w v : List ℕ) (r : Reading) (n : length w ≡ scratchWords) (kept : length v ≡ scratchWords) (t : TextRead s w r v) where
   enough : (r ≡ answerOf (readText s)) × (v ≡ tables s ++ drop scratchWords w) × FitsTables s

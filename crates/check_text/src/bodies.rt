@@ -1,10 +1,9 @@
 // Refusals 10 to 15 of a script: its processes in text order, in each the signature's 17th name first, then the body.
 use calculus::verdict::Verdict;
-use check_contexts::held::bring_end;
+use check_contexts::signatures::with_entries;
 use check_declarations::verdict::declared_verdict;
 use check_processes::process::check_process;
 use notation::script::Script;
-use notation::words::narrow;
 use read_tables::access::Declared;
 use read_tables::access::declared_process;
 use read_tables::access::entry;
@@ -15,43 +14,26 @@ use run_words::records::PROVIDED;
 use run_words::records::USED;
 ghost use mathlib.Core.Path.{_≡_};
 ghost use Prim.Native.Nat.{ℕ, _+_, _-_, _<_, _≤_};
+ghost use Rattle.notation.specs.Limits.{heldLimit};
 ghost use Rattle.calculus.specs.Checking.{checkDeclaration, typed};
 ghost use Rattle.calculus.specs.Declarations.{declared};
 ghost use Rattle.calculus.specs.Verdict.{andThen};
-ghost use Rattle.check_contexts.specs.Held.{HeldIn};
 ghost use Rattle.calculus.specs.Verdict.{verdictOf};
 ghost use lib.Dec.{ltb};
 ghost use Rattle.read_tables.specs.Access.{asEntry};
 ghost use Rattle.read_tables.specs.Decode.{tallyIn, procDeclaration, scriptIn};
 ghost use Rattle.read_tables.specs.Program.{programIn};
-ghost use Rattle.read_tables.specs.Whole.{Tables, EntriesIn, SignatureIn};
-ghost use Rattle.check_text.specs.Bodies.{Adds, SignatureHeld};
-
-// With n channels more, of this side: the signature entries of the text from the place `first` on.
-fn with_entries(text: &[u8], scratch: &[u32], h: Held, first: usize, n: usize, side: u32) -> Held
-    requires { ⌜ Tables (now text) (now scratch) × HeldIn (now text) (now scratch) h × (h .count + n ≤ 16) × (side < 2) × (first < 8589934592) × EntriesIn (now text) (now scratch) first n ⌝ }
-    ensures { λ r. ⌜ Adds (now (text .entry)) (now (scratch .entry)) h first n side r ⌝ }
-{
-    let mut r = h;
-    let mut k: usize = 0;
-    while k < n {
-        let t = entry(scratch, first + k);
-        let at = narrow(t.at);
-        let node = narrow(t.number);
-        r = bring_end(r, at, side, node, 0);
-        k += 1;
-    }
-    r
-}
+ghost use Rattle.read_tables.specs.Whole.{Tables, SignatureIn};
+ghost use Rattle.check_text.specs.Bodies.{SignatureHeld};
 
 // What a process's signature has it hold: provided channels first.
 fn signature_held(text: &[u8], scratch: &[u32], e: Declared) -> Held
-    requires { ⌜ Tables (now text) (now scratch) × SignatureIn (now text) (now scratch) (asEntry e) × (e .first + e .provided < 8589934592) × (e .provided ≤ 16) × (e .used ≤ 16 - e .provided) ⌝ }
+    requires { ⌜ Tables (now text) (now scratch) × SignatureIn (now text) (now scratch) (asEntry e) × (e .first + e .provided < 8589934592) × (e .provided ≤ heldLimit) × (e .used ≤ heldLimit - e .provided) ⌝ }
     ensures { λ r. ⌜ SignatureHeld (now (text .entry)) (now (scratch .entry)) (asEntry e) r ⌝ }
 {
     let none = no_ends();
-    let provided = with_entries(text, scratch, none, e.first, e.provided, PROVIDED);
-    with_entries(text, scratch, provided, e.first + e.provided, e.used, USED)
+    let provided = with_entries(scratch, none, e.first, e.provided, PROVIDED);
+    with_entries(scratch, provided, e.first + e.provided, e.used, USED)
 }
 
 // The check of the process i of the script.
@@ -70,7 +52,7 @@ fn check_body(text: &[u8], scratch: &[u32], i: usize) -> Verdict
 
 // A signature has more than 16 names.
 fn has_seventeenth(e: Declared) -> bool
-    ensures { λ r. ⌜ r ≡ ltb 16 (e .provided + e .used) ⌝ }
+    ensures { λ r. ⌜ r ≡ ltb heldLimit (e .provided + e .used) ⌝ }
 {
     if Script::HELD < e.provided {
         return true;

@@ -28,7 +28,7 @@ use Rattle.read_types.proofs.Filled.{same, _upon_, took, refused-out, made-got,
 use Rattle.read_text.specs.declared.turns.Turn.{Turn}
 use Rattle.read_text.specs.declared.turns.Turn.the-variants.{Done}
 use Rattle.read_text.specs.Turns.{peek, pointing, processForm, termForm, nodeForm, ProcessRead, TurnRead, RestTurned}
-use Rattle.read_text.specs.Processes.{payloadTaken, payloadThen, nameColon, recvdOf, recvdNode, termBy, partsForm, partsBy, TermRead, TermTurned, HandlerRead, OneRead, LabelsRead, BracketedRead, PartsTurned, BranchesRead}
+use Rattle.read_text.specs.Processes.{payloadTaken, payloadThen, nameColon, payloadNode, recvdOf, recvdNode, NoLabel, termBy, partsForm, partsBy, TermRead, TermTurned, HandlerRead, OneRead, LabelsRead, BracketedRead, PartsTurned, BranchesRead}
 use Rattle.read_text.proofs.Turning.{term-kept, made-as, meets-as, turn-done, turn-under}
 use Rattle.read_text.proofs.Pointers.{pointer-at, pointer-in}
 use Rattle.read_text.proofs.Order.{Inside, process-grown, type-put, process-put, branches-put}
@@ -119,13 +119,13 @@ received-after s Channel at c j P k = refl
 received-after s Label at c j P k = refl
 received-after s Other at c j P k = refl
 
-received-write : (s : List ℕ) (h : Payload) (at i j : ℕ) (P : Proc) (k : Tally) (w : List ℕ)
+received-write : (s : List ℕ) (h : Payload) → NoLabel h → (at i j : ℕ) (P : Proc) (k : Tally) (w : List ℕ)
     → nodeForm (k .terms) (recvdNode h at i j) .write P (moreTerms k) w ≡ writeProcess (recvdOf s h at (nameIn s i) j P) k w
-unfolding recvdOf recvdNode writeProcess
-received-write s UnitPayload at i j P k w = refl
-received-write s Channel at i j P k w = refl
-received-write s Label at i j P k w = refl
-received-write s Other at i j P k w = refl
+unfolding recvdOf payloadNode writeProcess
+received-write s UnitPayload _ at i j P k w = refl
+received-write s Channel _ at i j P k w = refl
+received-write s Label n at i j P k w = absurd n
+received-write s Other _ at i j P k w = refl
 
 received-fine : (s : List ℕ) (h : Payload) (at i j : ℕ) (P : Proc) → at < textLimit → i < textLimit → j < textLimit → FineProcess P
     → FineProcess (recvdOf s h at (nameIn s i) j P)
@@ -140,18 +140,18 @@ module _ (s w : List ℕ) (c : Cursor) (k : Tally) (room : Room s w c (moreTerms
     pub one-no : {r : Out} {n j : ℕ} → q ≡ Refused n j → r ≡ asOut q → OneRead at i h s w c k r w
     one-no g y = meets-no s w c (moreTerms k) (refused-out g y) same (λ m _. rw (took u g))
 
-    pub one-read : {j : ℕ} {d : Cursor} → q ≡ At j d → {node : TermNode} → node ≡ recvdNode h at i j → {v : List ℕ}
+    pub one-read : NoLabel h → {j : ℕ} {d : Cursor} → q ≡ At j d → {node : TermNode} → node ≡ recvdNode h at i j → {v : List ℕ}
         → v ≡ putTerm w (k .terms) (pointing node (peek s (d .at) (k .terms + 1)))
         → {p : Out} {v₂ : List ℕ} → ProcessRead s v d (moreTerms k) p v₂ → OneRead at i h s w c k p v₂
-    one-read {j} {d} e {node} ne x t =
+    one-read n {j} {d} e {node} ne x t =
         let o = u .on j d e in
         meets-as t (recvdOf s h at (nameIn s i) j) w (moreTerms k) (λ m lo. (rw (took u e), omega arith))
         (term-kept w (k .terms) (pointing node (peek s (d .at) (k .terms + 1))) (omega arith) x)
         (λ m P f p fi _. (
           received-after s h at (nameIn s i) j P k,
           ap (writeProcess P (moreTerms k)) (x ∙ ap (λ y. putTerm w (k .terms) (pointing node y)) (sym (pointer-at m s d f P (k .terms + 1) p)))
-              ∙ ap (λ n. nodeForm (k .terms) n .write P (moreTerms k) w) ne
-              ∙ received-write s h at i j P k w,
+              ∙ ap (λ y. nodeForm (k .terms) y .write P (moreTerms k) w) ne
+              ∙ received-write s h n at i j P k w,
           received-fine s h at i j P a b (omega arith) fi,
         ))
         (λ d l p. omega arith)

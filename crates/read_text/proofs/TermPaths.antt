@@ -29,7 +29,7 @@ use Rattle.read_types.proofs.Filled.{same, _upon_, took, refused-out, made-got,
 use Rattle.read_text.specs.declared.turns.Turn.{Turn}
 use Rattle.read_text.specs.declared.turns.Turn.the-variants.{On, Done}
 use Rattle.read_text.specs.Turns.{peek, pointing, nodeForm, ProcessRead, RestTurned}
-use Rattle.read_text.specs.Processes.{payloadTaken, sentOf, sentNode, TermRead, TermTurned, SentTurned}
+use Rattle.read_text.specs.Processes.{payloadTaken, payloadNode, sentOf, sentNode, TermRead, TermTurned, SentTurned}
 use Rattle.read_text.proofs.Turning.{term-kept, made-as, meets-as, lastly-same, turn-done, turn-on, turn-under}
 use Rattle.read_text.proofs.Pointers.{pointer-at}
 
@@ -105,7 +105,7 @@ sent-after s Other at c j P k = refl
 
 sent-write : (s : List ℕ) (h : Payload) (at i j : ℕ) (P : Proc) (k : Tally) (w : List ℕ)
     → nodeForm (k .terms) (sentNode h at i j) .write P (moreTerms k) w ≡ writeProcess (sentOf s h at (nameIn s i) j P) k w
-unfolding sentOf sentNode writeProcess
+unfolding sentOf payloadNode writeProcess
 sent-write s UnitPayload at i j P k w = refl
 sent-write s Channel at i j P k w = refl
 sent-write s Label at i j P k w = refl

@@ -50,18 +50,22 @@ TermRead h s w c k = Meets processForm s w c k (3 * unread s c) (termBy h s c)
 abbrev pub TermTurned : TermHead → List ℕ → List ℕ → Cursor → Tally → Turn → List ℕ → Type 0
 TermTurned h s w c k = Turned processForm s w c k (3 * unread s c) (termBy h s c)
 
--- ── a send by what it sends, and its node before its pointer is known: the channel at i, what is sent at j
+-- ── the node of a send or a recv by the first of its kinds, before its pointer is known: the channel at i, what is sent or taken at j
+unfoldable pub payloadNode : ℕ → Payload → ℕ → ℕ → ℕ → TermNode
+payloadNode unit UnitPayload at i j = termNode unit at i 0 0
+payloadNode unit Channel at i j = termNode (unit + 1) at i j 0
+payloadNode unit Label at i j = termNode (unit + 2) at i j 0
+payloadNode unit Other at i j = termNode unit at i 0 0
+
+-- ── a send by what it sends, and its node
 unfoldable pub sentOf : List ℕ → Payload → ℕ → Located → ℕ → Proc → Proc
 sentOf s UnitPayload at c j P = sendUnit at c P
 sentOf s Channel at c j P = sendChannel at c (nameIn s j) P
 sentOf s Label at c j P = sendLabel at c (labelIn s j) P
 sentOf s Other at c j P = sendUnit at c P
 
-unfoldable pub sentNode : Payload → ℕ → ℕ → ℕ → TermNode
-sentNode UnitPayload at i j = termNode 1 at i 0 0
-sentNode Channel at i j = termNode 2 at i j 0
-sentNode Label at i j = termNode 3 at i j 0
-sentNode Other at i j = termNode 1 at i 0 0
+abbrev pub sentNode : Payload → ℕ → ℕ → ℕ → TermNode
+sentNode = payloadNode 1
 
 -- what follows the channel of a send that began after k
 abbrev pub SentTurned : ℕ → ℕ → Payload → List ℕ → List ℕ → Cursor → Tally → Turn → List ℕ → Type 0
@@ -75,11 +79,15 @@ recvdOf s Channel at c j P = recvChannel at c (nameIn s j) P
 recvdOf s Label at c j P = recvUnit at c P
 recvdOf s Other at c j P = recvUnit at c P
 
-unfoldable pub recvdNode : Payload → ℕ → ℕ → ℕ → TermNode
-recvdNode UnitPayload at i j = termNode 6 at i 0 0
-recvdNode Channel at i j = termNode 7 at i j 0
-recvdNode Label at i j = termNode 6 at i 0 0
-recvdNode Other at i j = termNode 6 at i 0 0
+abbrev pub recvdNode : Payload → ℕ → ℕ → ℕ → TermNode
+recvdNode = payloadNode 6
+
+-- a label is taken by branches
+abbrev pub NoLabel : Payload → Type 0
+NoLabel UnitPayload = Unit
+NoLabel Channel = Unit
+NoLabel Label = ⊥
+NoLabel Other = Unit
 
 abbrev pub OneRead : ℕ → ℕ → Payload → List ℕ → List ℕ → Cursor → Tally → Out → List ℕ → Type 0
 OneRead at i h s w c k =

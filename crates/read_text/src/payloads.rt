@@ -1,5 +1,4 @@
 // What a send sends or a recv takes, and the tokens about it.
-use notation::kinds;
 use notation::reading::Cursor;
 use notation::reading::Taken;
 use notation::reading::TermNode;
@@ -14,13 +13,13 @@ use read_types::steps::payload_head;
 use read_types::steps::process_term;
 use read_types::steps::then_expect;
 ghost use mathlib.Core.Path.{_≡_};
-ghost use Prim.Native.Nat.{_<_};
+ghost use Prim.Native.Nat.{_+_, _<_};
 ghost use Rattle.notation.specs.Limits.{textLimit};
 ghost use Rattle.notation.specs.Tables.{termKindRadix, termNode};
 ghost use Rattle.notation.specs.Token.{kindAt};
 ghost use Rattle.notation.specs.Processes.{payload, unitTaken};
 ghost use Rattle.read_types.specs.Filling.{Stepped, FitsTerm};
-ghost use Rattle.read_text.specs.Processes.{payloadTaken, payloadThen, labelThen, nameColon, sentNode, recvdNode};
+ghost use Rattle.read_text.specs.Processes.{payloadTaken, payloadThen, labelThen, nameColon, payloadNode};
 
 // What stands at an offset where a send or a recv wants something.
 pub(crate) fn payload_at(text: &[u8], at: usize) -> Payload
@@ -100,30 +99,16 @@ fn open_node(kind: usize, at: usize, first: usize, second: usize) -> TermNode
     }
 }
 
-// The node of a send.
-pub(crate) fn sent_node(at: usize, i: usize, j: usize, head: Payload) -> TermNode
-    requires { ⌜ (at < textLimit) × (i < textLimit) × (j < textLimit) ⌝ }
-    ensures { λ r. ⌜ r ≡ sentNode head at i j ⌝ }
+// The node of a send or a recv, by the first of its kinds: of (), of a channel, of a label.
+pub(crate) fn payload_node(unit: usize, at: usize, i: usize, j: usize, head: Payload) -> TermNode
+    requires { ⌜ (unit + 2 < termKindRadix) × (at < textLimit) × (i < textLimit) × (j < textLimit) ⌝ }
+    ensures { λ r. ⌜ r ≡ payloadNode unit head at i j ⌝ }
     ensures { λ r. ⌜ FitsTerm r ⌝ }
 {
     match head {
-        Payload::Unit => open_node(kinds::SEND_UNIT, at, i, 0),
-        Payload::Channel => open_node(kinds::SEND_CHANNEL, at, i, j),
-        Payload::Label => open_node(kinds::SEND_LABEL, at, i, j),
-        Payload::Other => open_node(kinds::SEND_UNIT, at, i, 0),
-    }
-}
-
-// The node of a recv of () or of a channel.
-pub(crate) fn received_node(at: usize, i: usize, j: usize, head: Payload) -> TermNode
-    requires { ⌜ (at < textLimit) × (i < textLimit) × (j < textLimit) ⌝ }
-    ensures { λ r. ⌜ r ≡ recvdNode head at i j ⌝ }
-    ensures { λ r. ⌜ FitsTerm r ⌝ }
-{
-    match head {
-        Payload::Unit => open_node(kinds::RECV_UNIT, at, i, 0),
-        Payload::Channel => open_node(kinds::RECV_CHANNEL, at, i, j),
-        Payload::Label => open_node(kinds::RECV_UNIT, at, i, 0),
-        Payload::Other => open_node(kinds::RECV_UNIT, at, i, 0),
+        Payload::Unit => open_node(unit, at, i, 0),
+        Payload::Channel => open_node(unit + 1, at, i, j),
+        Payload::Label => open_node(unit + 2, at, i, j),
+        Payload::Other => open_node(unit, at, i, 0),
     }
 }

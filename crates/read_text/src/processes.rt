@@ -3,8 +3,8 @@
 use crate::payloads::label_then;
 use crate::payloads::name_colon;
 use crate::payloads::payload_at;
+use crate::payloads::payload_node;
 use crate::payloads::payload_then;
-use crate::payloads::received_node;
 use crate::store::put_term;
 use crate::terms::read_call;
 use crate::terms::read_cancel;
@@ -46,7 +46,7 @@ ghost use Rattle.notation.specs.Limits.{processTermLimit, textLimit, typeTermLi
 ghost use Rattle.notation.specs.Tables.{moreTerms};
 ghost use Rattle.read_types.specs.Filling.{Room};
 ghost use Rattle.read_text.specs.Turns.{ProcessRead, TurnRead};
-ghost use Rattle.read_text.specs.Processes.{TermRead, TermTurned, HandlerRead, OneRead, LabelsRead, BracketedRead, PartsTurned, BranchesRead};
+ghost use Rattle.read_text.specs.Processes.{TermRead, TermTurned, HandlerRead, NoLabel, OneRead, LabelsRead, BracketedRead, PartsTurned, BranchesRead};
 
 // A process: a turn for each term.
 pub(crate) fn read_process(text: &[u8], scratch: &mut [u32], c: Cursor, k: Tally) -> Out
@@ -147,7 +147,7 @@ fn receive_one(
     head: Payload,
 ) -> Out
     requires { ⌜ Room (now text) (now scratch) c (moreTerms k) ⌝ }
-    requires { ⌜ (at < textLimit) × (i < textLimit) ⌝ }
+    requires { ⌜ (at < textLimit) × (i < textLimit) × NoLabel head ⌝ }
     ensures { λ r. ⌜ OneRead at i head (now (text .entry)) (now (scratch .entry)) c k r (now (scratch .exit)) ⌝ }
 {
     let taken = payload_then(text, c, head);
@@ -156,7 +156,7 @@ fn receive_one(
     };
     let mut l = k;
     l.terms = k.terms + 1;
-    let n = received_node(at, i, j, head);
+    let n = payload_node(kinds::RECV_UNIT, at, i, j, head);
     put_before(text, scratch, d.at, l.terms, k.terms, n);
     read_process(text, scratch, d, l)
 }

@@ -1,8 +1,8 @@
 // The terms that have no brackets with processes in them.
 use crate::names::name_list;
 use crate::payloads::payload_at;
+use crate::payloads::payload_node;
 use crate::payloads::payload_token;
-use crate::payloads::sent_node;
 use crate::store::put_term;
 use crate::turns::Turn;
 use crate::turns::follow;
@@ -62,7 +62,14 @@ fn read_sent(
     };
     let mut l = k;
     l.terms = k.terms + 1;
-    follow(text, scratch, d, l, k.terms, sent_node(at, i, j, head))
+    follow(
+        text,
+        scratch,
+        d,
+        l,
+        k.terms,
+        payload_node(kinds::SEND_UNIT, at, i, j, head),
+    )
 }
 
 // cancel c

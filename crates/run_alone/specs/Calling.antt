@@ -5,7 +5,7 @@ use mathlib.Core.List.{List, [], _∷_, _++_}
 use mathlib.Core.Option.{Option, some, none, Option·map}
 use native.Mathlib.Omega.{arith}
 use lib.ListN.{length, length-append}
-use Rattle.notation.specs.Limits.{heldLimit}
+use Rattle.notation.specs.Limits.{heldLimit, typeTermLimit}
 use Rattle.notation.specs.Token.{nameAt, tokenAt}
 use Rattle.notation.specs.Reader.{nameIn}
 use Rattle.notation.specs.Tree.{Name, Located}
@@ -35,17 +35,13 @@ use Rattle.run_words.specs.Lists.{All}
 use Rattle.run_words.specs.Values.{heldIn}
 use Rattle.run_words.specs.Values as values
 use Rattle.check_contexts.specs.Held.{channelsOf, EndIn, HeldIn, endFound, Sees, Brings}
-use Rattle.check_contexts.specs.Halves.{append-nil}
+use Rattle.check_contexts.specs.Halves.{append-nil, append-assoc}
 use Rattle.check_contexts.specs.Walks.{Ends, Walking, walk-start, walk-on, walk-end}
 use Rattle.check_contexts.specs.declared.held.Lookup.{Lookup}
 use Rattle.check_contexts.specs.declared.held.Lookup.the-variants as lookups
 use Rattle.run_alone.specs.declared.outcome.Outcome.the-variants.{Carried, NotOpen}
 use Rattle.run_alone.specs.Run.{configIn, processAs, Becomes, Carries}
 use Rattle.run_alone.specs.Changes.{channels-many}
-
-pub append-assoc : {A : Type 0} (a b c : List A) → (a ++ b) ++ c ≡ a ++ (b ++ c)
-append-assoc [] b c = refl
-append-assoc (x ∷ a) b c = ap (_∷_ x) (append-assoc a b c)
 
 -- ── one name of a list: the end of h under the name at a comes under the name at `at`
 pub record EntersEnd (s w : List ℕ) (h r : Held) (a at side node : ℕ) (q : Held) : Type 0 where
@@ -119,7 +115,7 @@ module _ (s w : List ℕ) (h r₀ : Held) (from side i₀ n₀ : ℕ) where
       still : EntriesIn s w i (suc (n - 1))
       still = subst (EntriesIn s w i) more (t .there)
 
-      pub entering-there : Tables s w → i < 512
+      pub entering-there : Tables s w → i < typeTermLimit
       entering-there g = entry-there s w g i (n - 1) still
 
       module _ (e : Labelled) (o : EntryOf w i e) where
@@ -211,7 +207,7 @@ module _ (s w old : List ℕ) (i : ℕ) (p : ProcessWords) (name bracket : ℕ) 
     unfolding signatureOf
     provided-many = c .fitting _ declared-is .0 ∙ entries-many s w (d .first) (d .provided)
 
-    pub call-few : d .provided + d .used ≤ 16
+    pub call-few : d .provided + d .used ≤ heldLimit
     unfolding signatureOf
     call-few =
         let l = c .fitting _ declared-is .1 in
@@ -224,7 +220,7 @@ module _ (s w old : List ℕ) (i : ℕ) (p : ProcessWords) (name bracket : ℕ) 
         (record { is = (refl, subst (λ l. Becomes s w old new (replaced i (goesOn (processAs s w p) (processIn s w (d .body)) l) (configIn s w old))) (g .is _ _ (c .lists) provided-many) u) })
 
 -- the place past a signature's first entries
-pub entries-below : (s w : List ℕ) (i n : ℕ) → Tables s w → EntriesIn s w i n → (n ≡ 0 → ⊥) → i < 512
+pub entries-below : (s w : List ℕ) (i n : ℕ) → Tables s w → EntriesIn s w i n → (n ≡ 0 → ⊥) → i < typeTermLimit
 entries-below s w i n t a z = let e : n ≡ suc (n - 1) = omega (arith, z) in entry-there s w t i (n - 1) (subst (EntriesIn s w i) e a)
 
 -- nothing held

@@ -6,6 +6,7 @@ use mathlib.Core.Bool.{true, false, true≢false, cond}
 use mathlib.Core.Option.{some}
 use native.Mathlib.Omega.{arith}
 use lib.ListN.{length, set, getElem?, length-set}
+use Rattle.notation.specs.Limits.{channelPlaces}
 use Rattle.notation.specs.Token.{nameAt}
 use Rattle.notation.specs.Reader.{nameIn}
 use Rattle.calculus.specs.Types.{Side, other}
@@ -103,7 +104,7 @@ module _ (s w old : List ℕ) (e : EndWords) where
           unfolding channelsOf
           far-moved = ap (endsIn s w) q ∙ map-set (endIs s w) (heldIn (r .held)) k (endIn (onto channel x)) ∙ moved-there s w (e .channel) (other (sideOf (e .side))) channel far-first
 
-          pub far-held : h .count ≡ r .held .count → HeldIn s w (r .held) → channel < 512 → HeldIn s w h
+          pub far-held : h .count ≡ r .held .count → HeldIn s w (r .held) → channel < channelPlaces → HeldIn s w h
           far-held n t b =
               let o = all-at (EndIn s w) (heldIn (r .held)) k (t .each) a in
               record {

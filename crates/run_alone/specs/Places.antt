@@ -16,8 +16,8 @@ use Rattle.run_alone.specs.Changes.{places-in}
 
 -- ── a free place
 module _ (s w old : List ℕ) (o : Outcome) where
-  pub no-place : 128 ≤ length (rawIn old .processes) → Carries s w old old Lacking (placeFor (configIn s w old) o)
+  pub no-place : processPlaces ≤ length (rawIn old .processes) → Carries s w old old Lacking (placeFor (configIn s w old) o)
   no-place h = subst (λ b. Carries s w old old Lacking (cond b o lacking)) (sym (le-ltb (length (configIn s w old .processes)) processPlaces (omega (arith, places-in s w old)))) (record { is = (refl, refl) })
 
-  pub a-place : {new : List ℕ} {r : OutcomeWords} → length (rawIn old .processes) < 128 → Carries s w old new r o → Carries s w old new r (placeFor (configIn s w old) o)
+  pub a-place : {new : List ℕ} {r : OutcomeWords} → length (rawIn old .processes) < processPlaces → Carries s w old new r o → Carries s w old new r (placeFor (configIn s w old) o)
   a-place {new} {r} h c = subst (λ b. Carries s w old new r (cond b o lacking)) (sym (lt-ltb (length (configIn s w old .processes)) processPlaces (omega (arith, places-in s w old)))) c

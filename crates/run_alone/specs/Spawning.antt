@@ -5,7 +5,7 @@ use mathlib.Core.List.{List, [], _∷_, _++_}
 use mathlib.Core.Bool.{Bool, true, false}
 use mathlib.Core.Option.{Option, some, none}
 use lib.ListN.{length, length-set, set}
-use Rattle.notation.specs.Limits.{textLimit, channelPlaces, heldLimit, typeTermLimit}
+use Rattle.notation.specs.Limits.{textLimit, processPlaces, channelPlaces, heldLimit, typeTermLimit}
 use Rattle.notation.specs.Token.{nameAt}
 use Rattle.notation.specs.Reader.{nameIn}
 use Rattle.notation.specs.declared.reading.Found.{Found}
@@ -125,17 +125,17 @@ module _ (s w : List ℕ) where
           same-found : (o r : Option ℕ) → foundIn o ≡ foundIn r → o ≡ r
           same-found o r z = sym (back o) ∙ ap place z ∙ back r
 
-      pub fresh-small : {k : ℕ} → f ≡ found.At k → k < 512
+      pub fresh-small : {k : ℕ} → f ≡ found.At k → k < channelPlaces
       fresh-small {k} q = fresh-free (configIn s w old) (fresh {o = some k} q) .place
 
-      pub no-channel : length (rawIn old .processes) < 128 → f ≡ found.Nothing → Carries s w old old Lacking spawningBy
+      pub no-channel : length (rawIn old .processes) < processPlaces → f ≡ found.Nothing → Carries s w old old Lacking spawningBy
       unfolding spawning
       no-channel h q = a-place s w old _ h (subst (λ o. Carries s w old old Lacking (spawnedBy o)) (sym (fresh {o = none} q)) (record { is = (refl, refl) }))
 
-      pub a-channel : {k : ℕ} {new : List ℕ} {r : OutcomeWords} → length (rawIn old .processes) < 128 → f ≡ found.At k → Carries s w old new r (spawnedBy (some k)) → Carries s w old new r spawningBy
+      pub a-channel : {k : ℕ} {new : List ℕ} {r : OutcomeWords} → length (rawIn old .processes) < processPlaces → f ≡ found.At k → Carries s w old new r (spawnedBy (some k)) → Carries s w old new r spawningBy
       unfolding spawning
       a-channel {k} {new} {r} h q c = a-place s w old _ h (subst (λ o. Carries s w old new r (spawnedBy o)) (sym (fresh {o = some k} q)) c)
 
-    pub no-room : 128 ≤ length (rawIn old .processes) → Carries s w old old Lacking spawningBy
+    pub no-room : processPlaces ≤ length (rawIn old .processes) → Carries s w old old Lacking spawningBy
     unfolding spawning
     no-room h = no-place s w old _ h

@@ -5,6 +5,7 @@ use mathlib.Core.List.{List, [], _∷_, map}
 use mathlib.Core.Bool.{true}
 use native.Mathlib.Omega.{arith}
 use lib.ListN.{length, length-map, set}
+use Rattle.notation.specs.Limits.{processPlaces}
 use Rattle.calculus.specs.Mentions.{tryTakes}
 use Rattle.calculus.specs.Configuration.{waiting, Process, process, withProcesses, replaced, goesOn, linkedBy, movedUp}
 use Rattle.calculus.specs.Configuration as calculus
@@ -45,7 +46,7 @@ module _ (s w : List ℕ) where
     abbrev handler : ℕ → Held → ProcessWords
     handler link h = values.newProcess waitingKind second link h
 
-    pub tries-nowhere : 128 ≤ length (rawIn old .processes) → Carries s w old old Lacking (trying (configIn s w old) i (processAs s w p) (processIn s w first) (processIn s w second))
+    pub tries-nowhere : processPlaces ≤ length (rawIn old .processes) → Carries s w old old Lacking (trying (configIn s w old) i (processAs s w p) (processIn s w first) (processIn s w second))
     unfolding trying
     tries-nowhere h = no-place s w old _ h
 
@@ -73,7 +74,7 @@ module _ (s w : List ℕ) where
       pub tried-of : (m : ℕ) → m ≡ i + 2 → ProcessOf s w (length (rawIn mid .processes)) (goes m)
       tried-of m z = let y : m ≡ suc (suc i) = omega arith in runs-on (t .tables) (goes m) refl (subst (λ x. linksBelow (length (rawIn mid .processes)) (linkOf x)) (sym y) (omega (arith, one-more, u .below))) a (f .fits)
 
-      pub tries : (new : List ℕ) (m : ℕ) → m ≡ i + 2 → length (rawIn old .processes) < 128 → Changed mid new (raw.onProcesses (λ l. set l i (values.processIn (goes m))) (rawIn mid)) → Bounded (rawIn new)
+      pub tries : (new : List ℕ) (m : ℕ) → m ≡ i + 2 → length (rawIn old .processes) < processPlaces → Changed mid new (raw.onProcesses (λ l. set l i (values.processIn (goes m))) (rawIn mid)) → Bounded (rawIn new)
           → Carries s w old new (Carried Nothing) (trying (configIn s w old) i (processAs s w p) (processIn s w first) (processIn s w second))
       unfolding trying
       tries new m z n d q =

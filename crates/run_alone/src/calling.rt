@@ -106,7 +106,7 @@ fn enter_list(
 
 // The place past n entries; no sum that could wrap where there are none.
 fn past_entries(first: usize, n: usize) -> usize
-    requires { ⌜ (n ≤ heldLimit) × ((n ≡ 0 → ⊥) → first < 512) ⌝ }
+    requires { ⌜ (n ≤ heldLimit) × ((n ≡ 0 → ⊥) → first < typeTermLimit) ⌝ }
     ensures { λ r. ⌜ r ≡ first + n ⌝ }
 {
     if n == 0 {

@@ -6,7 +6,7 @@ use mathlib.Core.Bool.{Bool, true, false}
 use mathlib.Core.Option.{Option, some, none, Option·map}
 use native.Mathlib.Omega.{arith}
 use lib.ListN.{length, length-append, getElem?}
-use Rattle.notation.specs.Limits.{runWords}
+use Rattle.notation.specs.Limits.{heldLimit, runWords}
 use Rattle.notation.specs.Token.{nameAt}
 use Rattle.notation.specs.Reader.{nameIn}
 use Rattle.notation.specs.Tree.{Name}
@@ -18,24 +18,24 @@ use Rattle.calculus.specs.Program.{Signature, entries}
 use Rattle.calculus.specs.Configuration.{End, end, running, process, Outside, config}
 use Rattle.calculus.specs.Runs.{startHeld, startOutside, startConfig, lineSignature, execOf}
 use Rattle.read_tables.specs.Access.{EntryOf, asEntry, SignatureOf, ExecOf}
-use Rattle.read_tables.specs.Decode.{tallyIn, pairOf, entryAt, entriesIn, processIn, numbered}
+use Rattle.read_tables.specs.Decode.{tallyIn, entryAt, entriesIn, processIn, numbered}
 use Rattle.read_tables.specs.Program.{plainIn, signatureOf, programIn, namedProcess, execIn, execs-in}
 use Rattle.read_tables.specs.Roots.{TypeIn}
 use Rattle.read_tables.specs.Search.{placeOf, Sought}
-use Rattle.read_tables.specs.Whole.{EntriesIn, first-entry, SignatureIn, Tables}
+use Rattle.read_tables.specs.Whole.{SignatureIn, Tables}
 use Rattle.read_tables.specs.declared.access.Labelled.{Labelled}
 use Rattle.read_tables.specs.declared.access.Declared.{Declared}
 use Rattle.run_words.specs.Lists.{tab, All}
 use Rattle.run_words.specs.ListLaws.{length-tab, tab-same, tab-append, map-tab}
 use Rattle.run_words.specs.Raw.{RawEnd, RawProcess, RawOutside, RawConfig, BoundedEnd, Bounded, rawIn, runningKind, rawProcess}
 use Rattle.run_words.specs.Operations.{single, withOutside, withGiven, onOutside}
-use Rattle.run_words.specs.Values.{endIn, outsideIn, heldIn, Changed}
+use Rattle.run_words.specs.Values.{outsideIn, heldIn, Changed}
 use Rattle.run_words.specs.Decode.{decodedEnd, decodedOutside, decoded}
 use Rattle.run_words.specs.declared.records.Held.{Held}
-use Rattle.check_contexts.specs.Held.{EndIn}
-use Rattle.check_contexts.specs.Halves.{append-nil}
+use Rattle.check_contexts.specs.Halves.{append-nil, append-assoc}
+use Rattle.check_contexts.specs.Signatures.{entryEnd, entryEnds, EntriesFit, WithEntries, entry-in, all-tab, end-bounded, ends-in}
 use Rattle.run_alone.specs.Run.{Fits, Becomes}
-use Rattle.run_alone.specs.Calling.{contextIn, append-assoc, entries-many, context-many}
+use Rattle.run_alone.specs.Calling.{contextIn, entries-many, context-many}
 use Rattle.run_steps.specs.Dispatch.{SmallSignatures, past-end}
 
 -- ── what start promises, by the line's signature
@@ -47,19 +47,16 @@ pub record Begins (s w old new : List ℕ) (r : Bool) (o : Option Signature) : T
   pub is : BeginsBy s w old new r o
 
 -- ── in numbers: the channel of the k-th signature entry from the place i on is k
-abbrev pub startEnd : List ℕ → ℕ → ℕ → RawEnd
-startEnd w i k = record { name = entryAt w (i + k) .0; side = provided; node = entryAt w (i + k) .1; channel = k }
+-- what the process provides, and what the outside uses
+abbrev pub startEnds : List ℕ → ℕ → ℕ → List RawEnd
+startEnds w i n = entryEnds w 0 i n
 
 abbrev pub startChannel : List ℕ → ℕ → ℕ → RawOutside
 startChannel w i k = record { number = k; node = entryAt w (i + k) .1; channel = k }
 
 -- the run of a body with n entries that it provides
 abbrev pub startRaw : List ℕ → ℕ → ℕ → ℕ → RawConfig
-startRaw w i n body = withGiven (withOutside (single (rawProcess runningKind body (tab (startEnd w i) n) none)) (tab (startChannel w i) n)) n
-
--- n signature entries from the place i on have places in the tables, and so have their types
-pub record EntriesFit (w : List ℕ) (i n : ℕ) : Type 0 where
-  pub each : (k : ℕ) → k < n → (i + k < 512) × (entryAt w (i + k) .1 < 512)
+startRaw w i n body = withGiven (withOutside (single (rawProcess runningKind body (startEnds w i n) none)) (tab (startChannel w i) n)) n
 
 -- ── the execs by number
 module _ {A : Type 0} (f : ℕ → A) where
@@ -89,54 +86,12 @@ module _ (s w : List ℕ) where
   unfolding execOf
   no-line line h = ap (lineSignature (programIn s w)) (past-end (programIn s w .execs) line (omega (arith, h, execs-many)))
 
--- ── the entries of a signature
-module _ (s w : List ℕ) where
-  pub entry-in : (n i k : ℕ) → EntriesIn s w i n → k < n → (i + k < tallyIn w .entries) × TypeIn s w (entryAt w (i + k) .1)
-  entry-in zero i k a h = absurd (omega arith)
-  entry-in (suc n) i zero a h =
-      let e : i ≡ i + 0 = omega arith in
-      let f = first-entry s w i n a in
-      subst (λ j. (j < tallyIn w .entries) × TypeIn s w (entryAt w j .1)) e (f .within, f .type)
-  entry-in (suc n) i (suc k) a h =
-      let e : i + 1 + k ≡ i + suc k = omega arith in
-      subst (λ j. (j < tallyIn w .entries) × TypeIn s w (entryAt w j .1)) e (entry-in n (i + 1) k (first-entry s w i n a .rest) (omega arith))
-
-  pub entries-fit : (i n : ℕ) → Tables s w → EntriesIn s w i n → EntriesFit w i n
-  entries-fit i n t a = record { each = λ k h. let (b, u) = entry-in n i k a h in let c = t .within in let d = u .small in (omega arith, omega arith) }
-
-all-tab : {A : Type 0} (P : A → Type 0) (f : ℕ → A) (n : ℕ) → ((k : ℕ) → k < n → P (f k)) → All P (tab f n)
-all-tab P f zero h = tt
-all-tab P f (suc n) h = (h 0 (omega arith), all-tab P (λ k. f (suc k)) n (λ k l. h (suc k) (omega arith)))
-
-end-bounded : (w : List ℕ) (i n k : ℕ) → EntriesFit w i n → n ≤ 16 → k < n → BoundedEnd (startEnd w i k)
-unfolding entryAt pairOf
-end-bounded w i n k f m h = record { name = omega arith; node = f .each k h .1; channel = omega arith }
-
-pub entry-node : {w : List ℕ} {i n k : ℕ} {e : Labelled} → EntriesFit w i n → k < n → EntryOf w (i + k) e → e .number < 512
-entry-node {k = k} f h o = omega (arith, o .holds .number, f .each k h .1)
-
 -- ── what the process holds
--- as far as the loop has come: k entries of n
-pub record Brought (w : List ℕ) (i n k : ℕ) (q : Held) : Type 0 where
-  pub upto : k ≤ n
-  pub is : heldIn q ≡ tab (startEnd w i) k
-  pub many : q .count ≡ k
+pub start-held : {w : List ℕ} {i n : ℕ} {o q : Held} → heldIn o ≡ [] → WithEntries w o 0 i n q → heldIn q ≡ startEnds w i n
+start-held {w} {i} {n} z b = b .is ∙ ap (λ l. l ++ startEnds w i n) z
 
-pub brought-on : {w : List ℕ} {i n k : ℕ} {q r : Held} {e : Labelled} → Brought w i n k q → k < n → EntryOf w (i + k) e → heldIn r ≡ heldIn q ++ (endIn (record { name = e .at; side = 0; node = e .number; channel = k }) ∷ []) → r .count ≡ q .count + 1 → Brought w i n (k + 1) r
-brought-on {w} {i} {k = k} {e = e} b h o g m =
-    let x : RawEnd = endIn (record { name = e .at; side = 0; node = e .number; channel = k }) in
-    let z : startEnd w i k ≡ x = λ j. record { name = sym (o .holds .at) j; side = provided; node = sym (o .holds .number) j; channel = k } in
-    record {
-      upto = omega arith;
-      is = g ∙ ap (λ l. l ++ (x ∷ [])) (b .is) ∙ sym (tab-append (startEnd w i) (startEnd w i) k (k + 1) x (omega arith) z (λ j l. refl));
-      many = m ∙ ap (λ j. j + 1) (b .many);
-    }
-
-pub brought-all : {w : List ℕ} {i n k : ℕ} {q : Held} → Brought w i n k q → n ≤ k → heldIn q ≡ tab (startEnd w i) n
-brought-all {w} {i} {n} {k} b h = let e : k ≡ n = omega (arith, b .upto) in b .is ∙ ap (tab (startEnd w i)) e
-
-pub ends-bounded : {w : List ℕ} {i n : ℕ} (q : Held) → heldIn q ≡ tab (startEnd w i) n → EntriesFit w i n → n ≤ 16 → (length (heldIn q) ≤ 16) × All BoundedEnd (heldIn q)
-ends-bounded {w} {i} {n} q g f m = (omega (arith, ap length g, length-tab (startEnd w i) n), subst (All BoundedEnd) (sym g) (all-tab BoundedEnd (startEnd w i) n (λ k h. end-bounded w i n k f m h)))
+pub ends-bounded : {w : List ℕ} {i n : ℕ} (q : Held) → heldIn q ≡ startEnds w i n → EntriesFit w i n → n ≤ heldLimit → (length (heldIn q) ≤ heldLimit) × All BoundedEnd (heldIn q)
+ends-bounded {w} {i} {n} q g f m = (omega (arith, ap length g, length-tab (λ k. entryEnd w 0 (i + k) k) n), subst (All BoundedEnd) (sym g) (all-tab BoundedEnd (λ k. entryEnd w 0 (i + k) k) n (λ k h. end-bounded w 0 i n k f m h)))
 
 -- ── what the outside uses
 -- as far as the loop has come: k entries of n
@@ -173,7 +128,7 @@ module _ {w : List ℕ} {i n : ℕ} {old : List ℕ} where
     used-all h = let e : k ≡ n = omega (arith, u .upto) in subst (λ j. Changed old mid (onOutside (λ l. l ++ tab (startChannel w i) j) (rawIn old))) e (u .is)
 
 -- ── the whole run, in numbers
-module _ (w : List ℕ) (i n body : ℕ) (held : Held) (g : heldIn held ≡ tab (startEnd w i) n) where
+module _ (w : List ℕ) (i n body : ℕ) (held : Held) (g : heldIn held ≡ startEnds w i n) where
   abbrev startProcess : List RawEnd → RawProcess
   startProcess l = rawProcess runningKind body l none
 
@@ -215,8 +170,8 @@ module _ (s w : List ℕ) where
   from-zero : {A : Type 0} (g : ℕ → ℕ → A) (i n : ℕ) → tab (λ k. g (i + k) k) n ≡ tab (λ k. g (i + k) (0 + k)) n
   from-zero g i n = tab-same _ _ n (λ k h. let e : k ≡ 0 + k = omega arith in ap (g (i + k)) e)
 
-  started-held : (i n : ℕ) → map (decodedEnd (nameAt s) (plainIn s w) (processIn s w)) (tab (startEnd w i) n) ≡ startHeld 0 (entries (entriesIn s w i n))
-  started-held i n = map-tab (decodedEnd (nameAt s) (plainIn s w) (processIn s w)) (startEnd w i) n ∙ from-zero heldBy i n ∙ held-from i 0 n
+  started-held : (i n : ℕ) → map (decodedEnd (nameAt s) (plainIn s w) (processIn s w)) (startEnds w i n) ≡ startHeld 0 (entries (entriesIn s w i n))
+  started-held i n = map-tab (decodedEnd (nameAt s) (plainIn s w) (processIn s w)) (λ k. entryEnd w 0 (i + k) k) n ∙ from-zero heldBy i n ∙ held-from i 0 n
 
   started-outside : (i n : ℕ) → map (decodedOutside (nameAt s) (plainIn s w) (processIn s w)) (tab (startChannel w i) n) ≡ startOutside 0 (entries (entriesIn s w i n))
   started-outside i n = map-tab (decodedOutside (nameAt s) (plainIn s w) (processIn s w)) (startChannel w i) n ∙ from-zero outsideBy i n ∙ outside-from i 0 n
@@ -229,22 +184,19 @@ module _ (s w : List ℕ) (t : Tables s w) (d : Declared) (a : SignatureIn s w (
   unfolding startConfig signatureOf
   started-is = λ j. config (process (running (processIn s w (d .body))) (started-held s w (d .first) (d .provided) j) none ∷ []) (started-outside s w (d .first) (d .provided) j) (sym (entries-many s w (d .first) (d .provided)) j)
 
-  pub becomes-start : (old new : List ℕ) → d .provided ≤ 16 → runWords ≤ length old → Changed old new raw → Bounded (rawIn new) → Becomes s w old new (startConfig (signatureOf s w (asEntry d)))
+  pub becomes-start : (old new : List ℕ) → d .provided ≤ heldLimit → runWords ≤ length old → Changed old new raw → Bounded (rawIn new) → Becomes s w old new (startConfig (signatureOf s w (asEntry d)))
   becomes-start old new m l c b = record {
     is = ap (decoded (nameAt s) (plainIn s w) (processIn s w)) (c .is) ∙ started-is;
     run = record {
       tables = t;
       wide = omega (arith, l, c .long);
       bounds = b;
-      processes = subst (λ (C : RawConfig). All (Fits s w) (C .processes)) (sym (c .is)) (record { term = λ z. a .body; held = all-tab (EndIn s w) (startEnd w (d .first)) (d .provided) (λ k h. record { bounds = end-bounded w (d .first) (d .provided) k fit m h; type = entry-in s w (d .provided) (d .first) k (a .provides) h .1 }) }, tt);
+      processes = subst (λ (C : RawConfig). All (Fits s w) (C .processes)) (sym (c .is)) (record { term = λ z. a .body; held = ends-in w 0 (d .first) s (d .provided) t (a .provides) m }, tt);
       outside = subst (λ (C : RawConfig). All (λ (o : RawOutside). TypeIn s w (o .node)) (C .outside)) (sym (c .is)) (all-tab (λ (o : RawOutside). TypeIn s w (o .node)) (startChannel w (d .first)) (d .provided) (λ k h. entry-in s w (d .provided) (d .first) k (a .provides) h .1));
     };
     past = c .past;
     long = c .long;
   }
-    where
-      fit : EntriesFit w (d .first) (d .provided)
-      fit = entries-fit s w (d .first) (d .provided) t (a .provides)
 
 -- ── the line
 pub begins-nowhere : (s w run : List ℕ) (line : ℕ) → tallyIn w .execs ≤ line → Begins s w run run false (execOf (programIn s w) line)
@@ -261,7 +213,7 @@ module _ (s w old : List ℕ) (line at : ℕ) (h : line < tallyIn w .execs) (o :
     pub start-signature : SignatureIn s w (asEntry d)
     start-signature = b .stands s t (a .below k e)
 
-    pub start-few : d .provided ≤ 16
+    pub start-few : d .provided ≤ heldLimit
     unfolding signatureOf
     start-few =
         let l = c .small _ _ found-is in

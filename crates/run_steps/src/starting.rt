@@ -11,9 +11,11 @@ ghost use Rattle.read_tables.specs.Whole.{Tables};
 ghost use Rattle.run_words.specs.Lists.{tab};
 ghost use Rattle.run_words.specs.Raw.{rawIn, Bounded, pointerLimit};
 ghost use Rattle.run_words.specs.Operations.{onOutside};
-ghost use Rattle.run_words.specs.Values.{heldIn, Changed};
+ghost use Rattle.run_words.specs.Values.{Changed};
+ghost use Rattle.check_contexts.specs.Signatures.{EntriesFit};
 ghost use Rattle.run_steps.specs.Dispatch.{SmallSignatures};
-ghost use Rattle.run_steps.specs.Starting.{startEnd, startChannel, EntriesFit, startRaw, Begins};
+ghost use Rattle.run_steps.specs.Starting.{startChannel, startRaw, Begins};
+use check_contexts::signatures::with_entries;
 use notation::reading::Found;
 use read_tables::access::Declared;
 use read_tables::access::declared_process;
@@ -22,42 +24,15 @@ use read_tables::access::exec_at;
 use read_tables::access::exec_count;
 use read_tables::search::find_process;
 use run_words::held::no_ends;
-use run_words::held::with;
 use run_words::outside::append_outside;
 use run_words::outside::set_given;
 use run_words::places::begin;
-use run_words::records::End;
-use run_words::records::Held;
 use run_words::records::NEW;
 use run_words::records::Outside;
 use run_words::records::PROVIDED;
 use run_words::records::Process;
 use run_words::records::RUNNING;
 use run_words::records::UNLINKED;
-
-// The ends that a process provides at start: those of n signature entries, on the channels from 0 on.
-fn start_ends(scratch: &[u32], first: usize, n: usize) -> Held
-    requires { ⌜ Area (now scratch) × EntriesFit (now scratch) first n × (n ≤ heldLimit) ⌝ }
-    ensures { λ r. ⌜ heldIn r ≡ tab (startEnd (now (scratch .entry)) first) n ⌝ }
-{
-    let none = no_ends();
-    let mut q = none;
-    let mut k: usize = 0;
-    while k < n {
-        let e = entry(scratch, first + k);
-        q = with(
-            q,
-            End {
-                name: e.at as u32,
-                side: PROVIDED,
-                node: e.number as u32,
-                channel: k as u32,
-            },
-        );
-        k += 1;
-    }
-    q
-}
 
 // "The outside uses these channels, numbered from 0 in list order."
 fn use_channels(scratch: &[u32], run: &mut [u32], first: usize, n: usize)
@@ -88,7 +63,8 @@ fn begin_process(scratch: &[u32], run: &mut [u32], d: Declared)
     ensures { λ r. ⌜ Changed (now (run .entry)) (now (run .exit)) (startRaw (now (scratch .entry)) (d .first) (d .provided) (d .body)) ⌝ }
     ensures { λ r. ⌜ Bounded (rawIn (now (run .exit))) ⌝ }
 {
-    let held = start_ends(scratch, d.first, d.provided);
+    let none = no_ends();
+    let held = with_entries(scratch, none, d.first, d.provided, PROVIDED);
     let mut first = NEW;
     first.kind = RUNNING;
     first.pointer = d.body as u32;

@@ -8,9 +8,10 @@ use native.Mathlib.Omega.{arith}
 use native.Mathlib.Numerals.{add-one}
 use lib.ListN.{length, getElem?, take}
 use lib.Seq.{take-all}
+use Rattle.notation.specs.Limits.{heldLimit, processPlaces, outsideNumbers}
 use Rattle.run_words.specs.Lists.{All}
 use Rattle.run_words.specs.ListLaws.{all-at, length-tab}
-use Rattle.run_words.specs.Raw.{RawConfig, linkOf, linksBelow, endOf, processOf, BoundedEnd, BoundedProcess, BoundedOutside, Bounded}
+use Rattle.run_words.specs.Raw.{RawConfig, linkOf, linksBelow, endOf, processOf, BoundedEnd, BoundedProcess, BoundedOutside, Bounded, pointerLimit}
 use Rattle.run_words.specs.Values.{heldIn, held-length, processIn, Decided}
 use Rattle.run_words.specs.declared.records.Process.{Process}
 use Rattle.run_words.specs.Bounds.{link-word}
@@ -41,7 +42,7 @@ module _ {A : Type 0} (P : A → Type 0) (l : List A) (k : ℕ) where
   refused-at e n = refused (λ a. n (all-at P l k a e))
 
 -- ── a process
-pub many-words : (n : ℕ) (w : ℕ → ℕ) → BoundedProcess n (processOf w) → w 2 ≤ 16
+pub many-words : (n : ℕ) (w : ℕ → ℕ) → BoundedProcess n (processOf w) → w 2 ≤ heldLimit
 many-words n w b = omega (arith, b .many, length-tab (λ k. endOf (λ t. w (3 + 2 * k + t))) (w 2))
 
 below-link : (n l : ℕ) → l ≤ n → linksBelow n (linkOf l)
@@ -55,13 +56,13 @@ module _ (n : ℕ) (w : ℕ → ℕ) (p : Process) (e : processOf w ≡ processI
   pub link-refused : n < p .link → Decided false (BoundedProcess n (processOf w))
   link-refused h = process-refused (λ b. omega (arith, link-word n (p .link) (b .link)))
 
-  pub process-decided : {t : Bool} → p .kind < 3 → p .pointer < 16384 → p .held .count ≤ 16 → p .link ≤ n → Decided t (All BoundedEnd (heldIn (p .held))) → Decided t (BoundedProcess n (processOf w))
+  pub process-decided : {t : Bool} → p .kind < 3 → p .pointer < pointerLimit → p .held .count ≤ heldLimit → p .link ≤ n → Decided t (All BoundedEnd (heldIn (p .held))) → Decided t (BoundedProcess n (processOf w))
   process-decided a b c d =
       decided-by
       (λ h. subst (BoundedProcess n) (sym e) (record { kind = a; pointer = b; many = omega (arith, held-length (p .held)); each = h; link = below-link n (p .link) d }))
       (λ q. (subst (BoundedProcess n) e q) .each)
 
 -- ── the configuration
-pub config-decided : (C : RawConfig) {t : Bool} → length (C .processes) ≤ 128 → C .given ≤ 32 → length (C .outside) ≤ 32 → All (BoundedProcess (length (C .processes))) (C .processes)
+pub config-decided : (C : RawConfig) {t : Bool} → length (C .processes) ≤ processPlaces → C .given ≤ outsideNumbers → length (C .outside) ≤ outsideNumbers → All (BoundedProcess (length (C .processes))) (C .processes)
     → Decided t (All BoundedOutside (C .outside)) → Decided t (Bounded C)
 config-decided C a b c d = decided-by (λ o. record { places = a; processes = d; channels = c; outside = o; given = b }) (λ q. q .outside)

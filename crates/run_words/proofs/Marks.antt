@@ -10,19 +10,20 @@ use native.Mathlib.Decide.{ℕ-discrete}
 use borrow.Author.Tests.{eq-eqb, ne-eqb}
 use lib.ListN.{length, getD, getElem?, set, drop, length-set, replicate, length-replicate, getD-replicate, drop-of-length-le}
 use lib.Seq.{getD-set-same, getD-set-other}
+use Rattle.notation.specs.Limits.{channelPlaces}
 use Rattle.calculus.specs.Configuration.{among, freeFrom}
 use Rattle.run_words.specs.ListLaws.{drop-at}
 use Rattle.run_words.specs.Values.{Marked}
 use Rattle.run_words.specs.Raw.{RawEnd, RawProcess, RawOutside}
 use Rattle.run_words.specs.Operations.{heldChannels, processChannels}
 
-pub unmarked : Marked (replicate 512 0) []
-unmarked = record { long = length-replicate {A = ℕ} 512 0; each = λ k h. getD-replicate {A = ℕ} 512 k 0 0 h }
+pub unmarked : Marked (replicate channelPlaces 0) []
+unmarked = record { long = length-replicate {A = ℕ} channelPlaces 0; each = λ k h. getD-replicate {A = ℕ} channelPlaces k 0 0 h }
 
-pub mark : (m l : List ℕ) (c : ℕ) → c < 512 → Marked m l → Marked (set m c 1) (c ∷ l)
+pub mark : (m l : List ℕ) (c : ℕ) → c < channelPlaces → Marked m l → Marked (set m c 1) (c ∷ l)
 mark m l c h a = record { long = length-set m c 1 ∙ a .long; each = λ k b. at k b (ℕ-discrete k c) }
   where
-    at : (k : ℕ) → k < 512 → Dec (k ≡ c) → getD (set m c 1) k 0 ≡ cond (among k (c ∷ l)) 1 0
+    at : (k : ℕ) → k < channelPlaces → Dec (k ≡ c) → getD (set m c 1) k 0 ≡ cond (among k (c ∷ l)) 1 0
     at k b (yes p) = ap (λ j. getD (set m c 1) j 0) p ∙ getD-set-same m c 1 0 (omega (arith, a .long)) ∙ sym (ap (λ t. cond (cond t true (among k l)) 1 0) (eq-eqb k c p))
     at k b (no p) = getD-set-other m c k 1 0 p ∙ a .each k b ∙ sym (ap (λ t. cond (cond t true (among k l)) 1 0) (ne-eqb k c p))
 
@@ -52,7 +53,7 @@ pub process-turn : (l : List RawProcess) (j k : ℕ) (r : List ℕ) {p : RawProc
 process-turn l j k r g q = ap (λ d. processChannels d r) (sym (drop-turn l j k g q))
 
 -- ── what a mark says
-module _ (m l : List ℕ) (a : Marked m l) (k : ℕ) (h : k < 512) where
+module _ (m l : List ℕ) (a : Marked m l) (k : ℕ) (h : k < channelPlaces) where
   pub mark-free : getD m k 0 ≡ 0 → among k l ≡ false
   mark-free e = go (among k l) (sym (a .each k h) ∙ e)
     where
@@ -67,14 +68,14 @@ module _ (m l : List ℕ) (a : Marked m l) (k : ℕ) (h : k < 512) where
       go true q = refl
       go false q = absurd (e q)
 
-free-turn : (l : List ℕ) (k : ℕ) → k < 512 → freeFrom l k (512 - k) ≡ cond (among k l) (freeFrom l (k + 1) (512 - (k + 1))) (some k)
+free-turn : (l : List ℕ) (k : ℕ) → k < channelPlaces → freeFrom l k (channelPlaces - k) ≡ cond (among k l) (freeFrom l (k + 1) (channelPlaces - (k + 1))) (some k)
 free-turn l k h =
-    let e : 512 - k ≡ suc (512 - (k + 1)) = omega arith in
-    ap (freeFrom l k) e ∙ ap (λ n. cond (among k l) (freeFrom l n (512 - (k + 1))) (some k)) (sym (add-one k))
+    let e : channelPlaces - k ≡ suc (channelPlaces - (k + 1)) = omega arith in
+    ap (freeFrom l k) e ∙ ap (λ n. cond (among k l) (freeFrom l n (channelPlaces - (k + 1))) (some k)) (sym (add-one k))
 
-module _ (m l : List ℕ) (a : Marked m l) (k : ℕ) (h : k < 512) where
-  pub free-here : getD m k 0 ≡ 0 → freeFrom l k (512 - k) ≡ some k
-  free-here e = free-turn l k h ∙ ap (λ t. cond t (freeFrom l (k + 1) (512 - (k + 1))) (some k)) (mark-free m l a k h e)
+module _ (m l : List ℕ) (a : Marked m l) (k : ℕ) (h : k < channelPlaces) where
+  pub free-here : getD m k 0 ≡ 0 → freeFrom l k (channelPlaces - k) ≡ some k
+  free-here e = free-turn l k h ∙ ap (λ t. cond t (freeFrom l (k + 1) (channelPlaces - (k + 1))) (some k)) (mark-free m l a k h e)
 
-  pub free-on : (getD m k 0 ≡ 0 → ⊥) → freeFrom l k (512 - k) ≡ freeFrom l (k + 1) (512 - (k + 1))
-  free-on e = free-turn l k h ∙ ap (λ t. cond t (freeFrom l (k + 1) (512 - (k + 1))) (some k)) (mark-busy m l a k h e)
+  pub free-on : (getD m k 0 ≡ 0 → ⊥) → freeFrom l k (channelPlaces - k) ≡ freeFrom l (k + 1) (channelPlaces - (k + 1))
+  free-on e = free-turn l k h ∙ ap (λ t. cond t (freeFrom l (k + 1) (channelPlaces - (k + 1))) (some k)) (mark-busy m l a k h e)

@@ -9,9 +9,10 @@ use native.Mathlib.Numerals.{add-one}
 use lib.Dec.{eqb}
 use lib.ListN.{length, getD, getElem?, set, take, length-set}
 use lib.Seq.{getD-set-same, getD-set-other, take-all}
+use Rattle.notation.specs.Limits.{outsideNumbers, runWords}
 use Rattle.run_words.specs.ListLaws.{at-tab, all-at}
 use Rattle.run_words.specs.SearchLaws.{First, here, later, first-here, none-from}
-use Rattle.run_words.specs.Raw.{RawOutside, RawConfig, rows, outsideOf, rawIn, BoundedOutside, Bounded}
+use Rattle.run_words.specs.Raw.{RawOutside, RawConfig, rows, outsideOf, rawIn, BoundedOutside, Bounded, outsidesAt, outsideWords, outsideRow}
 use Rattle.run_words.specs.Values.{Changed, Written}
 use Rattle.run_words.specs.Operations.{withOutside, withGiven, onChannel, outsideAt, letGo, changedOutside}
 use Rattle.notation.specs.declared.reading.Found.the-variants as found
@@ -21,9 +22,6 @@ use Rattle.run_words.specs.SliceLaws.{word, counted-outside, numbered}
 use Rattle.run_words.proofs.Slices.{outside-changed}
 use Rattle.run_words.specs.Lists.{All}
 
-abbrev pub outsideRow : List ℕ → ℕ → ℕ → ℕ
-outsideRow ws k t = getD ws (16 + 2 * k + t) 0
-
 pub outside-is : (ws : List ℕ) (k : ℕ) (o : RawOutside) → k < length (rawIn ws .outside) → o ≡ outsideOf (outsideRow ws k) → getElem? (rawIn ws .outside) k ≡ some o
 unfolding rawIn
 outside-is ws k o h e = at-tab _ (getD ws 2 0) k (omega (arith, counted-outside ws)) ∙ ap some (sym e)
@@ -32,37 +30,37 @@ pub outside-here : (ws : List ℕ) (k : ℕ) (o : RawOutside) → Bounded (rawIn
     → (getElem? (rawIn ws .outside) k ≡ some o) × BoundedOutside o
 outside-here ws k o b h e = let at = outside-is ws k o h e in (at, all-at BoundedOutside (rawIn ws .outside) k (b .outside) at)
 
-pub given-set : (ws : List ℕ) (n : ℕ) → 6144 ≤ length ws → Bounded (rawIn ws) → Changed ws (set ws 1 n) (withGiven (rawIn ws) n)
+pub given-set : (ws : List ℕ) (n : ℕ) → runWords ≤ length ws → Bounded (rawIn ws) → Changed ws (set ws 1 n) (withGiven (rawIn ws) n)
 unfolding rawIn
 given-set ws n l b =
     let new = set ws 1 n in
     let other : (k : ℕ) → (k ≡ 1 → ⊥) → getD new k 0 ≡ getD ws k 0 = λ k p. getD-set-other ws 1 k n 0 p in
     outside-changed ws new (length-set ws 1 n) _ n b (λ k _ p _. other k p) (getD-set-same ws 1 n 0 (omega arith)) (λ k p. other k (omega arith))
-    (ap (λ m. rows outsideOf 2 16 m (word new)) (other 2 (λ z. omega arith))
-    ∙ rows-same outsideOf 2 16 (word ws) (word new) (getD ws 2 0) (λ j h. outside-local _) (λ k p q. other k (omega arith)))
+    (ap (λ m. rows outsideOf outsideWords outsidesAt m (word new)) (other 2 (λ z. omega arith))
+    ∙ rows-same outsideOf outsideWords outsidesAt (word ws) (word new) (getD ws 2 0) (λ j h. outside-local _) (λ k p q. other k (omega arith)))
 
-module _ (old new : List ℕ) (k : ℕ) (o : RawOutside) (b : Bounded (rawIn old)) (w : Written outsideOf 2 old new (16 + 2 * k) o) where
+module _ (old new : List ℕ) (k : ℕ) (o : RawOutside) (b : Bounded (rawIn old)) (w : Written outsideOf outsideWords old new (outsidesAt + outsideWords * k) o) where
   pub outside-set : k < length (rawIn old .outside) → Changed old new (withOutside (rawIn old) (set (rawIn old .outside) k o))
   unfolding rawIn
   outside-set h =
       let n = counted-outside old in
       outside-changed old new (w .long) _ _ b (λ k l _ _. w .below k (omega arith)) (w .below 1 (omega arith)) (λ j p. w .above j (omega (arith, b .channels)))
-      (ap (λ m. rows outsideOf 2 16 m (word new)) (w .below 2 (omega arith))
-      ∙ rows-set outsideOf 2 16 (word old) (word new) (getD old 2 0) (λ j h. outside-local _) k (λ j p q. w .below j q) o (omega arith) (w .row) (λ j p q. w .above j p))
+      (ap (λ m. rows outsideOf outsideWords outsidesAt m (word new)) (w .below 2 (omega arith))
+      ∙ rows-set outsideOf outsideWords outsidesAt (word old) (word new) (getD old 2 0) (λ j h. outside-local _) k (λ j p q. w .below j q) o (omega arith) (w .row) (λ j p q. w .above j p))
 
-  pub outside-append : 6144 ≤ length old → k ≡ length (rawIn old .outside) → k < 32 → Changed old (set new 2 (k + 1)) (withOutside (rawIn old) (rawIn old .outside ++ (o ∷ [])))
+  pub outside-append : runWords ≤ length old → k ≡ length (rawIn old .outside) → k < outsideNumbers → Changed old (set new 2 (k + 1)) (withOutside (rawIn old) (rawIn old .outside ++ (o ∷ [])))
   unfolding rawIn
   outside-append l e f =
       let n = counted-outside old in
       let last = set new 2 (k + 1) in
       let other : (j : ℕ) → (j ≡ 2 → ⊥) → getD last j 0 ≡ getD new j 0 = λ j p. getD-set-other new 2 j (k + 1) 0 p in
       let z : k ≡ getD old 2 0 = omega arith in
-      let row : (t : ℕ) → getD last (16 + 2 * getD old 2 0 + t) 0 ≡ getD new (16 + 2 * k + t) 0 =
-      λ t. let q : 16 + 2 * getD old 2 0 + t ≡ 16 + 2 * k + t = omega arith in other _ (omega arith) ∙ ap (word new) q in
+      let row : (t : ℕ) → getD last (outsidesAt + outsideWords * getD old 2 0 + t) 0 ≡ getD new (outsidesAt + outsideWords * k + t) 0 =
+      λ t. let q : outsidesAt + outsideWords * getD old 2 0 + t ≡ outsidesAt + outsideWords * k + t = omega arith in other _ (omega arith) ∙ ap (word new) q in
       outside-changed old last (length-set new 2 (k + 1) ∙ w .long) _ _ b (λ k l _ q. other k q ∙ w .below k (omega arith)) (other 1 (λ z. omega arith) ∙ w .below 1 (omega arith))
       (λ j p. other j (omega arith) ∙ w .above j (omega arith))
-      (ap (λ m. rows outsideOf 2 16 m (word last)) (getD-set-same new 2 (k + 1) 0 (omega (arith, w .long)))
-      ∙ rows-append outsideOf 2 16 (word old) (word last) (getD old 2 0) (λ j h. outside-local _) k (λ j p q. other j (omega arith) ∙ w .below j q) (k + 1) o z (omega arith)
+      (ap (λ m. rows outsideOf outsideWords outsidesAt m (word last)) (getD-set-same new 2 (k + 1) 0 (omega (arith, w .long)))
+      ∙ rows-append outsideOf outsideWords outsidesAt (word old) (word last) (getD old 2 0) (λ j h. outside-local _) k (λ j p q. other j (omega arith) ∙ w .below j q) (k + 1) o z (omega arith)
       (ap outsideOf (λ i t. row t i) ∙ w .row))
 
 -- ── the channel that is changed, by its position
@@ -104,9 +102,9 @@ letGo-step c (x ∷ l) (suc k) {o} e = go (eqb c (x .channel)) (eqb c (o .channe
 pub record Letting (old new : List ℕ) (c j k : ℕ) : Type 0 where
   pub order : j ≤ k
   pub long : length new ≡ length old
-  pub low : (x : ℕ) → x < 16 → getD new x 0 ≡ getD old x 0
-  pub high : (x : ℕ) → 16 + 2 * k ≤ x → getD new x 0 ≡ getD old x 0
-  pub kept : rows outsideOf 2 16 j (word new) ≡ letGo c (take k (rawIn old .outside))
+  pub low : (x : ℕ) → x < outsidesAt → getD new x 0 ≡ getD old x 0
+  pub high : (x : ℕ) → outsidesAt + outsideWords * k ≤ x → getD new x 0 ≡ getD old x 0
+  pub kept : rows outsideOf outsideWords outsidesAt j (word new) ≡ letGo c (take k (rawIn old .outside))
 
 pub letting-none : (old : List ℕ) (c : ℕ) → Letting old old c 0 0
 unfolding letGo
@@ -114,7 +112,7 @@ letting-none old c = record { order = omega arith; long = refl; low = λ x _. re
 
 module _ (old new : List ℕ) (c j k : ℕ) (h : Letting old new c j k) (b : Bounded (rawIn old)) (l : k < length (rawIn old .outside)) where
   pub letting-row : (o : RawOutside) → o ≡ outsideOf (outsideRow new k) → (getElem? (rawIn old .outside) k ≡ some o) × BoundedOutside o
-  letting-row o e = outside-here old k o b l (e ∙ outside-local (outsideRow old k) .same (outsideRow new k) (λ t p. h .high (16 + 2 * k + t) (omega arith)))
+  letting-row o e = outside-here old k o b l (e ∙ outside-local (outsideRow old k) .same (outsideRow new k) (λ t p. h .high (outsidesAt + outsideWords * k + t) (omega arith)))
 
   pub letting-gone : (o : RawOutside) → getElem? (rawIn old .outside) k ≡ some o → eqb c (o .channel) ≡ true → Letting old new c j (k + 1)
   letting-gone o g t = record {
@@ -126,7 +124,7 @@ module _ (old new : List ℕ) (c j k : ℕ) (h : Letting old new c j k) (b : Bou
         ap (λ v. cond v (letGo c (take k (rawIn old .outside))) (letGo c (take k (rawIn old .outside)) ++ (o ∷ []))) t);
   }
 
-  pub letting-kept : (next : List ℕ) (o : RawOutside) → getElem? (rawIn old .outside) k ≡ some o → eqb c (o .channel) ≡ false → Written outsideOf 2 new next (16 + 2 * j) o → Letting old next c
+  pub letting-kept : (next : List ℕ) (o : RawOutside) → getElem? (rawIn old .outside) k ≡ some o → eqb c (o .channel) ≡ false → Written outsideOf outsideWords new next (outsidesAt + outsideWords * j) o → Letting old next c
       (j + 1) (k + 1)
   letting-kept next o g t w = record {
     order = omega (arith, h .order);
@@ -134,13 +132,13 @@ module _ (old new : List ℕ) (c j k : ℕ) (h : Letting old new c j k) (b : Bou
     low = λ x p. w .below x (omega arith) ∙ h .low x p;
     high = λ x p. w .above x (omega (arith, h .order)) ∙ h .high x (omega arith);
     kept =
-        rows-append outsideOf 2 16 (word new) (word next) j (λ i q. outside-local _) j (λ i p q. w .below i q) (j + 1) o refl (omega arith) (w .row)
+        rows-append outsideOf outsideWords outsidesAt (word new) (word next) j (λ i q. outside-local _) j (λ i p q. w .below i q) (j + 1) o refl (omega arith) (w .row)
         ∙ ap (λ (m : List RawOutside). m ++ (o ∷ [])) (h .kept)
         ∙ sym (ap (λ m. letGo c (take m (rawIn old .outside))) (add-one k) ∙ letGo-step c (rawIn old .outside) k g ∙
         ap (λ v. cond v (letGo c (take k (rawIn old .outside))) (letGo c (take k (rawIn old .outside)) ++ (o ∷ []))) t);
   }
 
-pub letting-done : (old new : List ℕ) (c j k : ℕ) → Letting old new c j k → 6144 ≤ length old → Bounded (rawIn old) → k ≡ length (rawIn old .outside) → Changed old (set new 2 j)
+pub letting-done : (old new : List ℕ) (c j k : ℕ) → Letting old new c j k → runWords ≤ length old → Bounded (rawIn old) → k ≡ length (rawIn old .outside) → Changed old (set new 2 j)
     (withOutside (rawIn old) (letGo c (rawIn old .outside)))
 letting-done old new c j k h l b e =
     let last = set new 2 j in
@@ -148,8 +146,8 @@ letting-done old new c j k h l b e =
     let g : getD last 1 0 ≡ rawIn old .given = other 1 (λ z. omega arith) ∙ h .low 1 (omega arith) ∙ sym (numbered old) in
     outside-changed old last (length-set new 2 j ∙ h .long) _ _ b (λ k l _ q. other k q ∙ h .low k l) g
     (λ x p. other x (omega arith) ∙ h .high x (omega (arith, b .channels)))
-    (ap (λ m. rows outsideOf 2 16 m (word last)) (getD-set-same new 2 j 0 (omega (arith, h .long)))
-    ∙ rows-same outsideOf 2 16 (word new) (word last) j (λ i q. outside-local _) (λ x p q. other x (omega arith))
+    (ap (λ m. rows outsideOf outsideWords outsidesAt m (word last)) (getD-set-same new 2 j 0 (omega (arith, h .long)))
+    ∙ rows-same outsideOf outsideWords outsidesAt (word new) (word last) j (λ i q. outside-local _) (λ x p q. other x (omega arith))
     ∙ h .kept ∙ ap (letGo c) (take-all k (rawIn old .outside) (omega arith)))
 
 pub letting-at : (old new run : List ℕ) (c j i k : ℕ) → run ≡ new → i ≡ j → Letting old new c j k → Letting old run c i k

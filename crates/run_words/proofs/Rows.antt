@@ -6,7 +6,7 @@ use native.Mathlib.Omega.{arith}
 use native.Mathlib.Decide.{decLt, ℕ-discrete}
 use lib.ListN.{length, getD, set, drop, length-set, length-drop}
 use lib.Seq.{getD-set-same, getD-set-other, getD-drop, ext-getD}
-use Rattle.run_words.specs.Raw.{sideOf, endOf, outsideOf}
+use Rattle.run_words.specs.Raw.{sideOf, endOf, outsideOf, channelRadix}
 use Rattle.run_words.specs.Values.{Moved, Written}
 use Rattle.run_words.specs.RowLaws.{end-of, outside-of}
 
@@ -78,18 +78,18 @@ pair-written read old b x y v h r =
       above = λ k a. other k (omega arith) (omega arith);
     }
 
-pub end-packed : (name side node channel : ℕ) → side < 2 → channel < 512 → (w : ℕ → ℕ) → w 0 ≡ name * 2 + side → w 1 ≡ node * 512 + channel
+pub end-packed : (name side node channel : ℕ) → side < 2 → channel < channelRadix → (w : ℕ → ℕ) → w 0 ≡ name * 2 + side → w 1 ≡ node * channelRadix + channel
     → endOf w ≡ record { name = name; side = sideOf side; node = node; channel = channel }
 end-packed name side node channel a b w p q =
     let n : (name * 2 + side) / 2 ≡ name = omega arith in
     let s : (name * 2 + side) % 2 ≡ side = omega arith in
-    let t : (node * 512 + channel) / 512 ≡ node = omega arith in
-    let c : (node * 512 + channel) % 512 ≡ channel = omega arith in
+    let t : (node * channelRadix + channel) / channelRadix ≡ node = omega arith in
+    let c : (node * channelRadix + channel) % channelRadix ≡ channel = omega arith in
     end-of w p q ∙ λ i. record { name = n i; side = sideOf (s i); node = t i; channel = c i }
 
-pub outside-packed : (number node channel : ℕ) → channel < 512 → (w : ℕ → ℕ) → w 0 ≡ number → w 1 ≡ node * 512 + channel
+pub outside-packed : (number node channel : ℕ) → channel < channelRadix → (w : ℕ → ℕ) → w 0 ≡ number → w 1 ≡ node * channelRadix + channel
     → outsideOf w ≡ record { number = number; node = node; channel = channel }
 outside-packed number node channel b w p q =
-    let t : (node * 512 + channel) / 512 ≡ node = omega arith in
-    let c : (node * 512 + channel) % 512 ≡ channel = omega arith in
+    let t : (node * channelRadix + channel) / channelRadix ≡ node = omega arith in
+    let c : (node * channelRadix + channel) % channelRadix ≡ channel = omega arith in
     outside-of w p q ∙ λ i. record { number = number; node = t i; channel = c i }

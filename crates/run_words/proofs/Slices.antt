@@ -6,9 +6,9 @@ use mathlib.Core.Option.{some}
 use native.Mathlib.Omega.{arith}
 use lib.ListN.{length, getD, getElem?, set, drop, length-set}
 use lib.Seq.{getD-set-same, getD-set-other, getD-drop}
-use Rattle.notation.specs.Limits.{heldLimit}
+use Rattle.notation.specs.Limits.{heldLimit, processPlaces, outsideNumbers, runWords}
 use Rattle.run_words.specs.ListLaws.{all-at}
-use Rattle.run_words.specs.Raw.{RawProcess, RawOutside, linkOf, rows, endOf, processOf, outsideOf, rawIn, BoundedProcess, Bounded, processRow, heldCount}
+use Rattle.run_words.specs.Raw.{RawProcess, RawOutside, linkOf, rows, endOf, processOf, outsideOf, rawIn, BoundedProcess, Bounded, processRow, heldCount, outsidesAt, outsideWords, placesAt, placeWords, heldWords}
 use Rattle.run_words.specs.Values.{heldIn, processIn, valueOf, Changed, Moved, Written}
 use Rattle.run_words.specs.Operations.{single, withProcesses, withOutside, withGiven}
 use Rattle.run_words.specs.RowLaws.{outside-local, rows-same, rows-set}
@@ -17,7 +17,7 @@ use Rattle.run_words.proofs.Rows.{drop-same}
 use Rattle.run_words.proofs.Ends.{ends}
 
 -- ── a process from its words
-pub process-of : (w : ℕ → ℕ) (doing link n : ℕ) (hs : List ℕ) → w 0 ≡ doing → w 1 ≡ link → w 2 ≡ n → n ≤ 16 → ((k : ℕ) → k < 32 → w (3 + k) ≡ getD hs k 0)
+pub process-of : (w : ℕ → ℕ) (doing link n : ℕ) (hs : List ℕ) → w 0 ≡ doing → w 1 ≡ link → w 2 ≡ n → n ≤ heldLimit → ((k : ℕ) → k < heldWords → w (3 + k) ≡ getD hs k 0)
     → processOf w ≡ record { kind = doing % 4; pointer = doing / 4; held = ends hs n; link = linkOf link }
 process-of w doing link n hs p q r h e =
     let held : rows endOf 2 3 (w 2) w ≡ ends hs n =
@@ -27,15 +27,15 @@ process-of w doing link n hs p q r h e =
 pub value-is : (ws : List ℕ) (i : ℕ) → heldCount ws i ≤ heldLimit → processOf (processRow ws i) ≡ processIn (valueOf ws i)
 unfolding heldIn
 value-is ws i h =
-    let b = 80 + 40 * i in
+    let b = placesAt + placeWords * i in
     process-of (processRow ws i) (processRow ws i 0) (processRow ws i 1) (processRow ws i 2) (drop (b + 3) ws) refl refl refl h (λ k l.
     let e : b + (3 + k) ≡ b + 3 + k = omega arith in
     ap (word ws) e ∙ sym (getD-drop (b + 3) ws k 0))
 
 -- ── the words of a process, stored
-pub written : (old : List ℕ) (b kind pointer link n : ℕ) (hs new : List ℕ) → b + 40 ≤ length old → kind < 4 → n ≤ 16
-    → Moved (set (set (set old b (pointer * 4 + kind)) (b + 1) link) (b + 2) n) new (b + 3) (b + 3 + 32) (λ k. getD hs (k - (b + 3)) 0)
-    → Written processOf 40 old new b (record { kind = kind; pointer = pointer; held = ends hs n; link = linkOf link })
+pub written : (old : List ℕ) (b kind pointer link n : ℕ) (hs new : List ℕ) → b + placeWords ≤ length old → kind < 4 → n ≤ heldLimit
+    → Moved (set (set (set old b (pointer * 4 + kind)) (b + 1) link) (b + 2) n) new (b + 3) (b + 3 + heldWords) (λ k. getD hs (k - (b + 3)) 0)
+    → Written processOf placeWords old new b (record { kind = kind; pointer = pointer; held = ends hs n; link = linkOf link })
 written old b kind pointer link n hs new h d s m =
     let doing = pointer * 4 + kind in
     let o1 = set old b doing in
@@ -65,33 +65,33 @@ written old b kind pointer link n hs new h d s m =
 
 -- ── one part of the configuration changed
 module _ (old new : List ℕ) (long : length new ≡ length old) where
-  pub processes-changed : (l : List RawProcess) → length (rawIn old .outside) ≤ 32 → ((k : ℕ) → 1 ≤ k → k < 80 → getD new k 0 ≡ getD old k 0) → ((k : ℕ) → 5200 ≤ k → getD new k 0 ≡ getD old k 0)
-      → rows processOf 40 80 (getD new 0 0) (word new) ≡ l → Changed old new (withProcesses (rawIn old) l)
+  pub processes-changed : (l : List RawProcess) → length (rawIn old .outside) ≤ outsideNumbers → ((k : ℕ) → 1 ≤ k → k < placesAt → getD new k 0 ≡ getD old k 0) → ((k : ℕ) → placesAt + placeWords * processPlaces ≤ k → getD new k 0 ≡ getD old k 0)
+      → rows processOf placeWords placesAt (getD new 0 0) (word new) ≡ l → Changed old new (withProcesses (rawIn old) l)
   unfolding rawIn
   processes-changed l c below above e =
-      let o : rows outsideOf 2 16 (getD new 2 0) (word new) ≡ rows outsideOf 2 16 (getD old 2 0) (word old) =
-      ap (λ n. rows outsideOf 2 16 n (word new)) (below 2 (omega arith) (omega arith))
-      ∙ rows-same outsideOf 2 16 (word old) (word new) (getD old 2 0) (λ j l. outside-local _) (λ k p q. below k (omega arith) (omega (arith, counted-outside old))) in
+      let o : rows outsideOf outsideWords outsidesAt (getD new 2 0) (word new) ≡ rows outsideOf outsideWords outsidesAt (getD old 2 0) (word old) =
+      ap (λ n. rows outsideOf outsideWords outsidesAt n (word new)) (below 2 (omega arith) (omega arith))
+      ∙ rows-same outsideOf outsideWords outsidesAt (word old) (word new) (getD old 2 0) (λ j l. outside-local _) (λ k p q. below k (omega arith) (omega (arith, counted-outside old))) in
       let g : getD new 1 0 ≡ getD old 1 0 = below 1 (omega arith) (omega arith) in
-      record { is = λ i. record { processes = e i; outside = o i; given = g i }; past = drop-same 6144 new old long (λ k p. above k (omega arith)); long = long }
+      record { is = λ i. record { processes = e i; outside = o i; given = g i }; past = drop-same runWords new old long (λ k p. above k (omega arith)); long = long }
 
-  pub outside-changed : (l : List RawOutside) (n : ℕ) → Bounded (rawIn old) → ((k : ℕ) → k < 16 → (k ≡ 1 → ⊥) → (k ≡ 2 → ⊥) → getD new k 0 ≡ getD old k 0) → getD new 1 0 ≡ n → ((k : ℕ) → 80 ≤ k → getD new k 0 ≡ getD old k 0)
-      → rows outsideOf 2 16 (getD new 2 0) (word new) ≡ l → Changed old new (withGiven (withOutside (rawIn old) l) n)
+  pub outside-changed : (l : List RawOutside) (n : ℕ) → Bounded (rawIn old) → ((k : ℕ) → k < outsidesAt → (k ≡ 1 → ⊥) → (k ≡ 2 → ⊥) → getD new k 0 ≡ getD old k 0) → getD new 1 0 ≡ n → ((k : ℕ) → placesAt ≤ k → getD new k 0 ≡ getD old k 0)
+      → rows outsideOf outsideWords outsidesAt (getD new 2 0) (word new) ≡ l → Changed old new (withGiven (withOutside (rawIn old) l) n)
   unfolding rawIn
   outside-changed l n b header first above e =
-      let p : rows processOf 40 80 (getD new 0 0) (word new) ≡ rows processOf 40 80 (getD old 0 0) (word old) =
-      ap (λ n. rows processOf 40 80 n (word new)) (header 0 (omega arith) (λ z. omega arith) (λ z. omega arith))
-      ∙ rows-same processOf 40 80 (word old) (word new) (getD old 0 0) (processes-local old (sixteen old b)) (λ k p q. above k p) in
-      record { is = λ i. record { processes = p i; outside = e i; given = first i }; past = drop-same 6144 new old long (λ k q. above k (omega arith)); long = long }
+      let p : rows processOf placeWords placesAt (getD new 0 0) (word new) ≡ rows processOf placeWords placesAt (getD old 0 0) (word old) =
+      ap (λ n. rows processOf placeWords placesAt n (word new)) (header 0 (omega arith) (λ z. omega arith) (λ z. omega arith))
+      ∙ rows-same processOf placeWords placesAt (word old) (word new) (getD old 0 0) (processes-local old (sixteen old b)) (λ k p q. above k p) in
+      record { is = λ i. record { processes = p i; outside = e i; given = first i }; past = drop-same runWords new old long (λ k q. above k (omega arith)); long = long }
 
-pub stored : (old new : List ℕ) (i : ℕ) (p : RawProcess) → 6144 ≤ length old → Bounded (rawIn old) → i < length (rawIn old .processes) → Written processOf 40 old new (80 + 40 * i) p
+pub stored : (old new : List ℕ) (i : ℕ) (p : RawProcess) → runWords ≤ length old → Bounded (rawIn old) → i < length (rawIn old .processes) → Written processOf placeWords old new (placesAt + placeWords * i) p
     → Changed old new (withProcesses (rawIn old) (set (rawIn old .processes) i p))
 unfolding rawIn
 stored old new i p l b h w =
     let n = counted old in
     processes-changed old new (w .long) _ (b .channels) (λ k p q. w .below k (omega arith)) (λ k q. w .above k (omega (arith, b .places)))
-    (ap (λ m. rows processOf 40 80 m (word new)) (w .below 0 (omega arith))
-    ∙ rows-set processOf 40 80 (word old) (word new) (getD old 0 0) (processes-local old (sixteen old b)) i (λ k a c. w .below k c) p (omega arith) (w .row) (λ k a c. w .above k a))
+    (ap (λ m. rows processOf placeWords placesAt m (word new)) (w .below 0 (omega arith))
+    ∙ rows-set processOf placeWords placesAt (word old) (word new) (getD old 0 0) (processes-local old (sixteen old b)) i (λ k a c. w .below k c) p (omega arith) (w .row) (λ k a c. w .above k a))
 
 pub loaded : (ws : List ℕ) (i : ℕ) (p : RawProcess) → Bounded (rawIn ws) → i < length (rawIn ws .processes) → processOf (processRow ws i) ≡ p
     → (getElem? (rawIn ws .processes) i ≡ some p) × BoundedProcess (length (rawIn ws .processes)) p
@@ -99,7 +99,7 @@ loaded ws i p b h e =
     let at : getElem? (rawIn ws .processes) i ≡ some p = process-at ws i h ∙ ap some e in
     (at, all-at _ (rawIn ws .processes) i (b .processes) at)
 
-pub begun : (old new : List ℕ) (p : RawProcess) → 6144 ≤ length old → Written processOf 40 (set (set (set old 0 1) 1 0) 2 0) new 80 p → Changed old new (single p)
+pub begun : (old new : List ℕ) (p : RawProcess) → runWords ≤ length old → Written processOf placeWords (set (set (set old 0 1) 1 0) 2 0) new placesAt p → Changed old new (single p)
 unfolding rawIn
 begun old new p l w =
     let o1 = set old 0 1 in
@@ -110,12 +110,12 @@ begun old new p l w =
     let zeroth : getD new 0 0 ≡ 1 = w .below 0 (omega arith) ∙ getD-set-other o2 2 0 0 0 (λ z. omega arith) ∙ getD-set-other o1 1 0 0 0 (λ z. omega arith) ∙ getD-set-same old 0 1 0 (omega arith) in
     let first : getD new 1 0 ≡ 0 = w .below 1 (omega arith) ∙ getD-set-other o2 2 1 0 0 (λ z. omega arith) ∙ getD-set-same o1 1 0 0 (omega arith) in
     let second : getD new 2 0 ≡ 0 = w .below 2 (omega arith) ∙ getD-set-same o2 2 0 0 (omega arith) in
-    let ps : rows processOf 40 80 (getD new 0 0) (word new) ≡ p ∷ [] = ap (λ n. rows processOf 40 80 n (word new)) zeroth ∙ ap (λ (q : RawProcess). q ∷ []) (w .row) in
-    let os : rows outsideOf 2 16 (getD new 2 0) (word new) ≡ [] = ap (λ n. rows outsideOf 2 16 n (word new)) second in
+    let ps : rows processOf placeWords placesAt (getD new 0 0) (word new) ≡ p ∷ [] = ap (λ n. rows processOf placeWords placesAt n (word new)) zeroth ∙ ap (λ (q : RawProcess). q ∷ []) (w .row) in
+    let os : rows outsideOf outsideWords outsidesAt (getD new 2 0) (word new) ≡ [] = ap (λ n. rows outsideOf outsideWords outsidesAt n (word new)) second in
     let long : length new ≡ length old = w .long ∙ length-set o2 2 0 ∙ l2 ∙ l1 in
     record {
       is = λ i. record { processes = ps i; outside = os i; given = first i };
-      past = drop-same 6144 new old long (λ k a. w .above k (omega arith) ∙ getD-set-other o2 2 k 0 0 (omega arith) ∙ getD-set-other o1 1 k 0 0 (omega arith) ∙ getD-set-other old 0 k 1 0
+      past = drop-same runWords new old long (λ k a. w .above k (omega arith) ∙ getD-set-other o2 2 k 0 0 (omega arith) ∙ getD-set-other o1 1 k 0 0 (omega arith) ∙ getD-set-other old 0 k 1 0
           (omega arith));
       long = long;
     }

@@ -7,6 +7,7 @@ use mathlib.Core.Option.{Option, some, none}
 use native.Mathlib.Omega.{arith}
 use lib.Dec.{eqb}
 use lib.ListN.{set, getElem?}
+use Rattle.notation.specs.Limits.{channelPlaces}
 use Rattle.notation.specs.Tree.{Name, Ty, Proc}
 use Rattle.calculus.specs.Types.{Side, provided, used, other}
 use Rattle.calculus.specs.Configuration.{End, end, Process, process, Outside, Config, movedUp, movedDown}
@@ -102,7 +103,7 @@ module _ (nameOf : ℕ → Name) (typeOf : ℕ → Ty Name) (termOf : ℕ → Pr
 
   pub decoded-fresh : (C : RawConfig) → calculus.freshChannel (decoded C) ≡ raw.freshChannel C
   unfolding calculus.freshChannel raw.freshChannel
-  decoded-fresh C = ap (λ l. calculus.freeFrom l 0 512) (decoded-channels C)
+  decoded-fresh C = ap (λ l. calculus.freeFrom l 0 channelPlaces) (decoded-channels C)
 
   -- ── what a process holds, by position
   module _ (l : List RawEnd) (j : ℕ) where

@@ -8,7 +8,7 @@ use native.Mathlib.Decide.{decLt}
 use lib.ListN.{set}
 use Rattle.run_words.specs.Lists.{insertAt, removeAt}
 use Rattle.run_words.specs.ListLaws.{tab-same, tab-set, tab-insert, tab-remove, tab-append}
-use Rattle.run_words.specs.Raw.{rows, endOf, outsideOf, endBy}
+use Rattle.run_words.specs.Raw.{rows, endOf, outsideOf, endBy, channelRadix}
 
 -- a row is read from its own words alone
 pub record Local {A : Type 0} (read : (ℕ → ℕ) → A) (width : ℕ) (w : ℕ → ℕ) : Type 0 where
@@ -17,8 +17,8 @@ pub record Local {A : Type 0} (read : (ℕ → ℕ) → A) (width : ℕ) (w : �
 pub end-of : (v : ℕ → ℕ) {a b : ℕ} → v 0 ≡ a → v 1 ≡ b → endOf v ≡ endBy a b
 end-of v p q = λ i. endBy (p i) (q i)
 
-pub outside-of : (v : ℕ → ℕ) {a b : ℕ} → v 0 ≡ a → v 1 ≡ b → outsideOf v ≡ record { number = a; node = b / 512; channel = b % 512 }
-outside-of v p q = λ i. record { number = p i; node = q i / 512; channel = q i % 512 }
+pub outside-of : (v : ℕ → ℕ) {a b : ℕ} → v 0 ≡ a → v 1 ≡ b → outsideOf v ≡ record { number = a; node = b / channelRadix; channel = b % channelRadix }
+outside-of v p q = λ i. record { number = p i; node = q i / channelRadix; channel = q i % channelRadix }
 
 pub end-local : (w : ℕ → ℕ) → Local endOf 2 w
 end-local w = record { same = λ v e. end-of v (e 0 (omega arith)) (e 1 (omega arith)) }

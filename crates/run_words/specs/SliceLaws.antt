@@ -64,13 +64,13 @@ pub record Sixteen (ws : List ℕ) : Type 0 where
   pub each : All (λ p. length (p .held) ≤ heldLimit) (rawIn ws .processes)
 
 pub processes-local : (ws : List ℕ) → Sixteen ws → (j : ℕ) → j < getD ws 0 0 → Local processOf placeWords (processRow ws j)
-processes-local ws s j h = process-local (processRow ws j) (held-count ws j 16 (s .each) h)
+processes-local ws s j h = process-local (processRow ws j) (held-count ws j heldLimit (s .each) h)
 
 pub sixteen : (ws : List ℕ) → Bounded (rawIn ws) → Sixteen ws
 sixteen ws b = record { each = all-weaken _ _ (λ p q. q .many) (rawIn ws .processes) (b .processes) }
 
 pub held-few : (ws : List ℕ) (i : ℕ) → Bounded (rawIn ws) → i < length (rawIn ws .processes) → heldCount ws i ≤ heldLimit
-held-few ws i b h = held-count ws i 16 (sixteen ws b .each) (omega (arith, counted ws))
+held-few ws i b h = held-count ws i heldLimit (sixteen ws b .each) (omega (arith, counted ws))
 
 -- ── words that agree of a run
 pub raw-same : (old new : List ℕ) → Bounded (rawIn old) → ((k : ℕ) → k < runWords → getD new k 0 ≡ getD old k 0) → rawIn new ≡ rawIn old
@@ -78,10 +78,10 @@ unfolding rawIn
 raw-same old new b e =
     let p : rows processOf placeWords placesAt (getD new 0 0) (word new) ≡ rows processOf placeWords placesAt (getD old 0 0) (word old) =
     ap (λ n. rows processOf placeWords placesAt n (word new)) (e 0 (omega arith))
-    ∙ rows-same processOf placeWords 80 (word old) (word new) (getD old 0 0) (processes-local old (sixteen old b)) (λ k x y. e k (omega (arith, b .places, counted old))) in
+    ∙ rows-same processOf placeWords placesAt (word old) (word new) (getD old 0 0) (processes-local old (sixteen old b)) (λ k x y. e k (omega (arith, b .places, counted old))) in
     let o : rows outsideOf outsideWords outsidesAt (getD new 2 0) (word new) ≡ rows outsideOf outsideWords outsidesAt (getD old 2 0) (word old) =
     ap (λ n. rows outsideOf outsideWords outsidesAt n (word new)) (e 2 (omega arith))
-    ∙ rows-same outsideOf 2 16 (word old) (word new) (getD old 2 0) (λ j l. outside-local _) (λ k x y. e k (omega (arith, b .channels, counted-outside old))) in
+    ∙ rows-same outsideOf outsideWords outsidesAt (word old) (word new) (getD old 2 0) (λ j l. outside-local _) (λ k x y. e k (omega (arith, b .channels, counted-outside old))) in
     let g : getD new 1 0 ≡ getD old 1 0 = e 1 (omega arith) in
     λ i. record { processes = p i; outside = o i; given = g i }
 

@@ -4,11 +4,12 @@ use mathlib.Core.Path.{_≡_, refl, sym, _∙_, ap, subst}
 use mathlib.Core.Logic.{_↔_, _≢_, _⊎_, ⊎-elim, ⊎-map}
 use mathlib.Core.List.{List, [], _∷_}
 use mathlib.Core.Bool.{Bool, true, false, So, true≢false, cond, _&&_, and-eq-true-iff}
-use lib.Dec.{eqb}
+use lib.Dec.{T, eqb}
+use Rattle.notation.proofs.ByteTables.{same→eq}
 use Rattle.notation.specs.Bytes.{same}
 use Rattle.notation.specs.Tree.{Name, Ty, unit, named, tensor, par, lolli, plus, with, Alternatives, alternative}
 use Rattle.calculus.specs.Types.{Side, provided, used, sameSide, Shape, leaf, word, pair, choice, shape, atLeaf, atWord, atPair, atChoice, atAlternative, atNone, sameType, sameAlternatives}
-use Rattle.theory_derivations.specs.Booleans.{never, bool-cases, bool-ext, itself, _and_, eqb-iff}
+use Rattle.theory_derivations.specs.Booleans.{never, bool-cases, bool-ext, eqb-iff}
 
 -- ── a test that passes exactly for equal things
 pub record Decides {A : Type 0} (test : A → A → Bool) : Type 0 where
@@ -45,13 +46,7 @@ same-cons x y xs ys = go (eqb x y)
     go false = refl
 
 same-sound : (a b : List ℕ) → So (same a b) → a ≡ b
-unfolding same
-same-sound [] [] e = refl
-same-sound [] (y ∷ ys) e = never e
-same-sound (x ∷ xs) [] e = never e
-same-sound (x ∷ xs) (y ∷ ys) e =
-    let h = (eqb-iff x y and itself (same xs ys)) .0 (sym (same-cons x y xs ys) ∙ e) in
-    λ i. h .0 i ∷ same-sound xs ys (h .1) i
+same-sound a b e = same→eq a b (subst T (sym e) tt)
 
 pub same-refl : (a : List ℕ) → So (same a a)
 unfolding same
@@ -66,9 +61,6 @@ same-iff = decides-iff same-decides
 
 pub same-cases : (a b : List ℕ) → (So (same a b) × (a ≡ b)) ⊎ ((same a b ≡ false) × (a ≢ b))
 same-cases = decides-cases same-decides
-
-pub same-sym : (a b : List ℕ) → same a b ≡ same b a
-same-sym = decides-sym same-decides
 
 -- ── sides
 sameSide-sound : (s r : Side) → So (sameSide s r) → s ≡ r

@@ -4,6 +4,7 @@ use borrow.Author.Needs.{needs}
 use Prim.Native.Nat.{ℕ, _+_, _-_}
 use mathlib.Core.Bool.{true, false}
 use borrow.Author.Tests.{ltb-true, ltb-false}
+use Rattle.notation.specs.Limits.{heldLimit}
 use Rattle.read_tables.specs.Access.{asEntry}
 use Rattle.check_text.specs.Bodies.{seventeenth-entry, body-named, body-checked}
 use Rattle.check_text.proofs.bodies.check_body.Statement.{statement}
@@ -30,7 +31,7 @@ add-entry c =
       arith,
       (seventeenth-entry (entry .args .text .now) (entry .args .scratch .now) (asEntry (declared-process .result))
           (declared-process .ensures .stands (entry .args .text .now) (entry .pre .0) (entry .pre .1)) (entry .pre .0)
-          (ltb-true 16 (declared-process .result .provided + declared-process .result .used) (sym (c .before .before .has-seventeenth .ensures) ∙ c .before .if1 .taken))),
+          (ltb-true heldLimit (declared-process .result .provided + declared-process .result .used) (sym (c .before .before .has-seventeenth .ensures) ∙ c .before .if1 .taken))),
     )
 
 entry-requires : tie.Need-entry-requires
@@ -40,7 +41,7 @@ entry-requires c κs =
       entry .pre .0 .area,
       (seventeenth-entry (entry .args .text .now) (entry .args .scratch .now) (asEntry (declared-process .result))
           (declared-process .ensures .stands (entry .args .text .now) (entry .pre .0) (entry .pre .1)) (entry .pre .0)
-          (ltb-true 16 (declared-process .result .provided + declared-process .result .used) (sym (c .before .before .has-seventeenth .ensures) ∙ c .before .if1 .taken))),
+          (ltb-true heldLimit (declared-process .result .provided + declared-process .result .used) (sym (c .before .before .has-seventeenth .ensures) ∙ c .before .if1 .taken))),
     )
 
 returns : tie.Need-returns
@@ -48,13 +49,13 @@ returns c =
     let declared-process = c .before .before .before .before .declared-process in
     let entry = c .before .before .before .before .before .before .before in
     body-named (entry .args .text .now) (entry .args .scratch .now) (entry .args .i) (declared-process .result) (declared-process .ensures) _ (c .entry .ensures)
-    (ltb-true 16 (declared-process .result .provided + declared-process .result .used) (sym (c .before .before .before .has-seventeenth .ensures) ∙ c .before .before .if1 .taken))
+    (ltb-true heldLimit (declared-process .result .provided + declared-process .result .used) (sym (c .before .before .before .has-seventeenth .ensures) ∙ c .before .before .if1 .taken))
 
 signature-held-requires : tie.Need-signature-held-requires
 signature-held-requires c κs =
     let declared-process = c .before .before .declared-process in
     let entry = c .before .before .before .before .before in
-    let ltb-false′ = ltb-false 16 (declared-process .result .provided + declared-process .result .used) (sym (c .before .has-seventeenth .ensures) ∙ c .if1 .left) in (
+    let ltb-false′ = ltb-false heldLimit (declared-process .result .provided + declared-process .result .used) (sym (c .before .has-seventeenth .ensures) ∙ c .if1 .left) in (
       entry .pre .0,
       (declared-process .ensures .stands (entry .args .text .now) (entry .pre .0) (entry .pre .1)),
       declared-process .ensures .small,
@@ -72,7 +73,7 @@ returns-2 c =
     let declared-process = c .before .before .before .before .declared-process in
     let entry = c .before .before .before .before .before .before .before in
     body-checked (entry .args .text .now) (entry .args .scratch .now) (entry .args .i) (declared-process .result) (declared-process .ensures) _
-    (ltb-false 16 (declared-process .result .provided + declared-process .result .used) (sym (c .before .before .before .has-seventeenth .ensures) ∙ c .before .before .if1 .left))
+    (ltb-false heldLimit (declared-process .result .provided + declared-process .result .used) (sym (c .before .before .before .has-seventeenth .ensures) ∙ c .before .before .if1 .left))
     (c .before .signature-held .ensures) (c .check-process .ensures)
 
 pub check-body-spec : {M : Type 1} → statement M

@@ -3,6 +3,7 @@ use native.Mathlib.Omega.{arith}
 use borrow.Author.Needs.{needs}
 use Prim.Native.Nat.{ℕ, _+_, _-_}
 use borrow.Author.Tests.{lt-ltb}
+use Rattle.notation.specs.Limits.{heldLimit}
 use Rattle.check_text.specs.Bodies.{seventeenth}
 use Rattle.check_text.proofs.bodies.has_seventeenth.Statement.{statement}
 use Rattle.check_text.proofs.bodies.has_seventeenth.Tie as tie
@@ -10,7 +11,7 @@ use Rattle.check_text.proofs.bodies.has_seventeenth.Reads as reads
 use Rattle.check_text.proofs.bodies.has_seventeenth.Lts as lts
 
 returns : tie.Need-returns
-returns c = sym (lt-ltb 16 (c .before .before .args .e .provided + c .before .before .args .e .used) (omega (arith, c .if1 .taken)))
+returns c = sym (lt-ltb heldLimit (c .before .before .args .e .provided + c .before .before .args .e .used) (omega (arith, c .if1 .taken)))
 
 returns-2 : tie.Need-returns-2
 returns-2 c = seventeenth _ _ (c .before .before .if1 .left)

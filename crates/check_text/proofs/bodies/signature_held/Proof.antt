@@ -2,14 +2,13 @@ use mathlib.Core.Path.{_≡_, refl, sym, _∙_, ap, subst}
 use native.Mathlib.Omega.{arith}
 use borrow.Author.Needs.{needs}
 use Prim.Native.Nat.{ℕ, _+_, _-_}
-use Rattle.check_contexts.specs.Held.{HeldIn}
-use Rattle.run_words.specs.Values.{heldIn}
-use Rattle.check_text.specs.Bodies.{nothing-fits, signature-so}
+use Rattle.check_contexts.specs.Signatures.{entries-fit}
+use Rattle.check_text.specs.Bodies.{signature-so}
 use Rattle.check_text.proofs.bodies.signature_held.Statement.{statement}
 use Rattle.check_text.proofs.bodies.signature_held.Tie as tie
 use Rattle.check_text.proofs.bodies.signature_held.Reads as reads
 use Rattle.check_text.proofs.bodies.signature_held.Lts as lts
-use Rattle.check_text.proofs.bodies.with_entries.Reads as with-entries-reads
+use Rattle.check_contexts.proofs.signatures.with_entries.Reads as with-entries-reads
 use Rattle.run_words.proofs.held.no_ends.Reads as no-ends-reads
 
 no-ends-requires : tie.Need-no-ends-requires
@@ -18,12 +17,10 @@ no-ends-requires c κs = search needs
 with-entries-requires : tie.Need-with-entries-requires
 with-entries-requires c κs =
     let entry = c .before .before .before in (
-      entry .pre .0,
-      nothing-fits (entry .args .text .now) (entry .args .scratch .now) _ (c .no-ends .ensures .0) (c .no-ends .ensures .1),
+      entry .pre .0 .area,
+      entries-fit (entry .args .text .now) (entry .args .scratch .now) _ _ (entry .pre .0) (entry .pre .1 .provides),
       omega (arith, c .no-ends .ensures .1, entry .pre .3),
       omega arith,
-      omega (arith, entry .pre .2),
-      entry .pre .1 .provides,
     )
 
 add-with-entries : tie.Need-add-with-entries
@@ -32,18 +29,17 @@ add-with-entries c = omega (arith, c .before .before .before .before .before .pr
 with-entries-requires-2 : tie.Need-with-entries-requires-2
 with-entries-requires-2 c κs =
     let entry = c .before .before .before .before .before in (
-      entry .pre .0,
-      c .before .with-entries .ensures .fits,
+      entry .pre .0 .area,
+      entries-fit (entry .args .text .now) (entry .args .scratch .now) _ _ (entry .pre .0) (entry .pre .1 .uses),
       omega (arith, c .before .with-entries .ensures .count, c .before .before .no-ends .ensures .1, entry .pre .3, entry .pre .4),
       omega arith,
-      entry .pre .2,
-      entry .pre .1 .uses,
     )
 
 returns : tie.Need-returns
 returns c =
     let entry = c .before .before .before .before .before .before in
-    signature-so (entry .args .text .now) (entry .args .scratch .now) _ _ _ _ (c .before .before .before .no-ends .ensures .1) (c .before .before .with-entries .ensures) (c .with-entries2 .ensures)
+    let none = c .before .before .before .no-ends .ensures in
+    signature-so (entry .args .text .now) (entry .args .scratch .now) _ (none .0) (c .before .before .with-entries .ensures) (c .with-entries2 .ensures) (none .1) (entry .pre .0) (entry .pre .1) (entry .pre .3) (entry .pre .4)
 
 pub signature-held-spec : {M : Type 1} → statement M
 signature-held-spec =

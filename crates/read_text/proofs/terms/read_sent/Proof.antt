@@ -25,8 +25,8 @@ returns c =
 add-l : tie.Need-add-l
 add-l c = omega (arith, c .before .before .before .before .before .before .before .pre)
 
-sent-node-requires : tie.Need-sent-node-requires
-sent-node-requires c κs = omega (
+payload-node-requires : tie.Need-payload-node-requires
+payload-node-requires c κs = omega (
   arith,
   c .before .before .before .before .before .before .before .before .pre,
   c .before .before .before .before .before .payload-token .ensures .on _ _ (c .before .before .before .sent .given .1),
@@ -39,7 +39,7 @@ follow-requires c κs = (
     c .before .before .before .before .before .before .before .before .before .pre,
     c .before .before .before .before .before .before .payload-token .ensures .on _ _ (c .before .before .before .before .sent .given .1),
   ),
-  c .sent-node .ensures .1,
+  c .payload-node .ensures .1,
 )
 
 same-length : tie.Need-same-length
@@ -50,7 +50,7 @@ returns-2 c =
     let after-sent = c .before .before .before .before .before .before .before in
     let entry = after-sent .before .before .before .before .before in
     sent-on _ _ _ _ (entry .pre .0) _ _ (entry .pre .1 .0) (entry .pre .1 .1) _ (after-sent .before .before .payload-token .ensures)
-    (after-sent .sent .given .1) (c .before .before .before .sent-node .ensures .0) (c .before .before .follow .ensures)
+    (after-sent .sent .given .1) (c .before .before .before .payload-node .ensures .0) (c .before .before .follow .ensures)
 
 pub read-sent-spec : {M : Type 1} → statement M
 read-sent-spec =
@@ -62,7 +62,7 @@ read-sent-spec =
     refusal-requires
     returns
     add-l
-    sent-node-requires
+    payload-node-requires
     follow-requires
     same-length
     returns-2)

@@ -1,6 +1,7 @@
 use native.Mathlib.Omega.{arith}
 use Rattle.run_alone.specs.Changes.{pointer-small}
-use Rattle.run_steps.specs.Starting.{entries-fit, begins-nowhere, begins-nothing, start-signature, start-few, begins-on}
+use Rattle.check_contexts.specs.Signatures.{entries-fit}
+use Rattle.run_steps.specs.Starting.{begins-nowhere, begins-nothing, start-signature, start-few, begins-on}
 use borrow.Author.Needs.{needs}
 use Rattle.run_steps.proofs.starting.begin_line.Statement.{statement}
 use Rattle.run_steps.proofs.starting.begin_line.Tie as tie

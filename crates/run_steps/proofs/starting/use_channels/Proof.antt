@@ -1,6 +1,7 @@
 use native.Mathlib.Omega.{arith}
 use Prim.Native.Nat.{_-_}
-use Rattle.run_steps.specs.Starting.{Used, entry-node, used-none, used-many, used-on, used-all}
+use Rattle.check_contexts.specs.Signatures.{entry-node}
+use Rattle.run_steps.specs.Starting.{Used, used-none, used-many, used-on, used-all}
 use borrow.Author.Needs.{needs}
 use Rattle.run_steps.proofs.starting.use_channels.Statement.{statement}
 use Rattle.run_steps.proofs.starting.use_channels.Tie as tie

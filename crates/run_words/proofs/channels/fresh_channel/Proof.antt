@@ -2,6 +2,7 @@ use borrow.Author.Needs.{needs}
 use native.Mathlib.Omega.{arith}
 use Prim.Native.Nat.{_-_, _≤_}
 use mathlib.Core.Path.{_≡_, refl, sym, ap, _∙_}
+use Rattle.notation.specs.Limits.{channelPlaces}
 use Rattle.calculus.specs.Configuration.{freeFrom}
 use Rattle.run_words.specs.Raw.{rawIn}
 use Rattle.run_words.specs.Values.{Marked}
@@ -11,10 +12,10 @@ use Rattle.run_words.proofs.channels.fresh_channel.Statement.{statement
 use Rattle.run_words.proofs.channels.fresh_channel.Tie as tie
 
 abbrev Inv-loop : tie.InvT-loop
-Inv-loop run marks k₀ k = (k ≤ 512) × (freshChannel (rawIn run) ≡ freeFrom (channelsHeld (rawIn run)) k (512 - k)) × Marked marks (channelsHeld (rawIn run))
+Inv-loop run marks k₀ k = (k ≤ channelPlaces) × (freshChannel (rawIn run) ≡ freeFrom (channelsHeld (rawIn run)) k (channelPlaces - k)) × Marked marks (channelsHeld (rawIn run))
 
 abbrev μ-loop : tie.MeasureT-loop
-μ-loop run marks k₀ k = 512 - k
+μ-loop run marks k₀ k = channelPlaces - k
 
 marked-requires : tie.Need-marked-requires Inv-loop μ-loop
 marked-requires c κs = search needs
@@ -48,7 +49,7 @@ loop-again c =
 returns-2 : tie.Need-returns-2 Inv-loop μ-loop
 returns-2 c =
     let b = c .before .loop in
-    let e : 512 - b .k ≡ 0 = omega arith in
+    let e : channelPlaces - b .k ≡ 0 = omega arith in
     sym (ap foundIn (b .inv .1 ∙ ap (freeFrom (channelsHeld (rawIn (c .before .before .before .before .args .run .now))) (b .k)) e))
 
 pub fresh-channel-spec : {M : Type 1} → statement M

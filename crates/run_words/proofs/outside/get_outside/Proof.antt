@@ -3,8 +3,8 @@ use native.Mathlib.Omega.{arith}
 use Prim.Native.Nat.{_+_, _*_}
 use mathlib.Core.Path.{_≡_, refl, sym, ap}
 use lib.ListN.{getD}
+use Rattle.run_words.specs.Raw.{outsidesAt, outsideWords, outsideRow}
 use Rattle.run_words.specs.RowLaws.{outside-of}
-use Rattle.run_words.proofs.Outsides.{outsideRow}
 use Rattle.run_words.proofs.outside.get_outside.Statement.{statement}
 use Rattle.run_words.proofs.outside.get_outside.Tie as tie
 
@@ -33,7 +33,7 @@ returns : tie.Need-returns
 returns c =
     let a = c .before .before .args in
     let ws = a .run .now in
-    let e : 16 + 2 * a .k + 0 ≡ 16 + 2 * a .k = omega arith in
+    let e : outsidesAt + outsideWords * a .k + 0 ≡ outsidesAt + outsideWords * a .k = omega arith in
     (sym (outside-of (outsideRow ws (a .k)) (ap (λ m. getD ws m 0) e) refl), omega arith)
 
 pub get-outside-spec : {M : Type 1} → statement M

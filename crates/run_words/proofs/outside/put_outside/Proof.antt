@@ -2,7 +2,7 @@ use borrow.Author.Needs.{needs}
 use native.Mathlib.Omega.{arith}
 use Prim.Native.Nat.{_+_, _*_}
 use lib.ListN.{length-set}
-use Rattle.run_words.specs.Raw.{outsideOf}
+use Rattle.run_words.specs.Raw.{outsideOf, outsidesAt, outsideWords}
 use Rattle.run_words.proofs.Rows.{pair-written, outside-packed}
 use Rattle.run_words.proofs.outside.put_outside.Statement.{statement}
 use Rattle.run_words.proofs.outside.put_outside.Tie as tie
@@ -40,7 +40,7 @@ same-length c = search needs
 returns : tie.Need-returns
 returns c =
     let a = c .before .before .args in
-    pair-written outsideOf (a .run .now) (16 + 2 * a .k) _ _ _ (omega arith) (outside-packed (a .o .number) (a .o .node) (a .o .channel) (omega arith))
+    pair-written outsideOf (a .run .now) (outsidesAt + outsideWords * a .k) _ _ _ (omega arith) (outside-packed (a .o .number) (a .o .node) (a .o .channel) (omega arith))
 
 pub put-outside-spec : {M : Type 1} → statement M
 put-outside-spec =

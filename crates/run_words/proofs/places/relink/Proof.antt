@@ -3,7 +3,7 @@ use native.Mathlib.Omega.{arith}
 use Prim.Native.Nat.{_+_, _-_, _*_, _≤_}
 use mathlib.Core.Path.{_≡_, refl, sym, ap, _∙_}
 use lib.ListN.{length, getD}
-use Rattle.run_words.specs.Raw.{rawIn}
+use Rattle.run_words.specs.Raw.{rawIn, placesAt, placeWords}
 use Rattle.run_words.specs.Values.{Moved}
 use Rattle.run_words.specs.Operations.{movedWord}
 use Rattle.run_words.proofs.Rows.{moved-none, moved-store, moved-at}
@@ -13,7 +13,7 @@ use Rattle.run_words.proofs.places.relink.Statement.{statement}
 use Rattle.run_words.proofs.places.relink.Tie as tie
 
 abbrev Inv-loop : tie.InvT-loop
-Inv-loop run₀ i up n k₀ run k = (n ≡ length (rawIn run₀ .processes)) × (k ≤ n) × Moved run₀ run 80 (80 + 40 * k) (relinkedWord up i run₀)
+Inv-loop run₀ i up n k₀ run k = (n ≡ length (rawIn run₀ .processes)) × (k ≤ n) × Moved run₀ run placesAt (placesAt + placeWords * k) (relinkedWord up i run₀)
 
 abbrev μ-loop : tie.MeasureT-loop
 μ-loop run₀ i up n k₀ run k = n - k
@@ -40,9 +40,9 @@ moved-link-requires : tie.Need-moved-link-requires Inv-loop μ-loop
 moved-link-requires c κs =
     let s = c .before .before .before .before .before .before in
     let b = c .before .before .loop in
-    let e : 80 + 40 * b .k + 1 ≡ 81 + 40 * b .k = omega arith in
+    let e : placesAt + placeWords * b .k + 1 ≡ placesAt + 1 + placeWords * b .k = omega arith in
     let l = link-few (s .args .run .now) (b .k) (s .pre .1) (omega arith) in
-    let w : getD (b .run) (81 + 40 * b .k) 0 ≡ getD (s .args .run .now) (80 + 40 * b .k + 1) 0 = b .inv .2 .above (81 + 40 * b .k) (omega arith) ∙ ap (λ m. getD (s .args .run .now) m 0) (sym e) in
+    let w : getD (b .run) (placesAt + 1 + placeWords * b .k) 0 ≡ getD (s .args .run .now) (placesAt + placeWords * b .k + 1) 0 = b .inv .2 .above (placesAt + 1 + placeWords * b .k) (omega arith) ∙ ap (λ m. getD (s .args .run .now) m 0) (sym e) in
     (omega arith, omega arith)
 
 mul-run : tie.Need-mul-run Inv-loop μ-loop
@@ -62,10 +62,10 @@ loop-again c =
     let s = c .before .before .before .before .before .before .before in
     let b = c .before .before .before .loop in
     let ws = s .args .run .now in
-    let at = 81 + 40 * b .k in (
+    let at = placesAt + 1 + placeWords * b .k in (
       b .inv .0,
       omega arith,
-      moved-store ws (relinkedWord (s .args .up) (s .args .i) ws) (b .run) 80 (80 + 40 * b .k) (80 + 40 * (b .k + 1)) at _ (b .inv .2) (omega arith) (omega arith) (omega arith) (omega arith)
+      moved-store ws (relinkedWord (s .args .up) (s .args .i) ws) (b .run) placesAt (placesAt + placeWords * b .k) (placesAt + placeWords * (b .k + 1)) at _ (b .inv .2) (omega arith) (omega arith) (omega arith) (omega arith)
           (c .moved-link .ensures ∙ ap (movedWord (s .args .up) (s .args .i)) (b .inv .2 .above at (omega arith)) ∙ link-turned (s .args .up) (s .args .i) (b .k) at ws refl)
           (λ j p q r. link-kept (s .args .up) (s .args .i) (b .k) j ws p q r),
     )

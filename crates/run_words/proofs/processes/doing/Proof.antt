@@ -3,6 +3,7 @@ use native.Mathlib.Omega.{arith}
 use Prim.Native.Nat.{_+_, _*_, _/_, _%_}
 use mathlib.Core.Path.{_≡_, ap}
 use lib.ListN.{getD}
+use Rattle.run_words.specs.Raw.{placesAt, placeWords}
 use Rattle.run_words.proofs.processes.doing.Statement.{statement}
 use Rattle.run_words.proofs.processes.doing.Tie as tie
 
@@ -21,7 +22,7 @@ shared-slice-read-word c = search needs
 returns : tie.Need-returns
 returns c =
     let a = c .before .args in
-    let first : 80 + 40 * a .i ≡ 80 + 40 * a .i + 0 = omega arith in
+    let first : placesAt + placeWords * a .i ≡ placesAt + placeWords * a .i + 0 = omega arith in
     (ap (λ m. getD (a .run .now) m 0 % 4) first, ap (λ m. getD (a .run .now) m 0 / 4) first)
 
 pub doing-spec : {M : Type 1} → statement M

@@ -3,6 +3,8 @@ use native.Mathlib.Omega.{arith}
 use Prim.Native.Nat.{ℕ, _+_, _*_, _<_, _≤_}
 use mathlib.Core.Path.{_≡_, refl, sym, ap, _∙_}
 use lib.ListN.{getD}
+use Rattle.run_words.specs.Raw.{placesAt, placeWords}
+use Rattle.notation.specs.Limits.{heldLimit}
 use Rattle.run_words.specs.Values.{heldIn}
 use Rattle.run_words.proofs.Slices.{process-of}
 use Rattle.run_words.proofs.processes.get.Statement.{statement}
@@ -52,9 +54,9 @@ unfolding heldIn
 returns c =
     let s = c .before .before .before .before .before .before in
     let ws = s .args .run .now in
-    let b = 80 + 40 * s .args .i in
+    let b = placesAt + placeWords * s .args .i in
     let n = c .before .wide in
-    let few : n .result ≤ 16 = omega (arith, n .ensures .0, s .pre .1) in
+    let few : n .result ≤ heldLimit = omega (arith, n .ensures .0, s .pre .1) in
     let first : b + 0 ≡ b = omega arith in
     let held : (k : ℕ) → k < 32 → getD ws (b + (3 + k)) 0 ≡ getD (c .copy-out .result) k 0 =
     λ k l. let e : b + (3 + k) ≡ b + 3 + k = omega arith in ap (λ m. getD ws m 0) e ∙ sym (c .copy-out .ensures k l) in

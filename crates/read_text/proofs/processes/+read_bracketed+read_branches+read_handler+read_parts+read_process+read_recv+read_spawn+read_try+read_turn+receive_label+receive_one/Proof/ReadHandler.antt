@@ -2,7 +2,8 @@
 use borrow.Author.Needs.{needs}
 use Prim.Native.Nat.{ℕ}
 use native.Mathlib.Omega.{arith}
-use mathlib.Core.Path.{sym, _∙_}
+use mathlib.Core.Path.{sym, _∙_, subst}
+use Rattle.read_text.specs.Processes.{NoLabel}
 use Rattle.read_text.proofs.ProcessPaths.{handler-unit, handler-channel, handler-label, handler-other}
 use Rattle.read_types.proofs.steps.misfit.Reads as misfit-reads
 use Rattle.read_text.proofs.payloads.payload_at.Reads as payload-at-reads
@@ -34,13 +35,13 @@ read-handler-met t =
     -- receive-one-requires
     (λ c κs.
     let entry = c .before .before .before .before .before .before in
-    (omega (arith, entry .pre .0), entry .pre .1))
+    (omega (arith, entry .pre .0), (entry .pre .1 .0, (entry .pre .1 .1 .0, entry .pre .1 .1 .1, subst NoLabel (sym (c .before .enum-told .given .1)) tt))))
     -- enum-told-2
     (λ c. search needs)
     -- receive-one-requires-2
     (λ c κs.
     let entry = c .before .before .before .before .before .before in
-    (omega (arith, entry .pre .0), entry .pre .1))
+    (omega (arith, entry .pre .0), (entry .pre .1 .0, (entry .pre .1 .1 .0, entry .pre .1 .1 .1, subst NoLabel (sym (c .before .enum-told2 .given .1)) tt))))
     -- enum-told-3
     (λ c. search needs)
     -- receive-label-requires

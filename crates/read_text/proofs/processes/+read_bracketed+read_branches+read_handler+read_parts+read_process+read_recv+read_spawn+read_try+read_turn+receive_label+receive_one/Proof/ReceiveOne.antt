@@ -7,7 +7,7 @@ use Rattle.read_text.proofs.Turning.{term-long}
 use Rattle.read_text.proofs.ProcessPaths.{one-no, one-read}
 use Rattle.read_text.proofs.payloads.payload_then.Reads as payload-then-reads
 use Rattle.read_text.proofs.turns.put_before.Reads as put-before-reads
-use Rattle.read_text.proofs.payloads.received_node.Reads as received-node-reads
+use Rattle.read_text.proofs.payloads.payload_node.Reads as payload-node-reads
 use Rattle.read_types.proofs.steps.refusal.Reads as refusal-reads
 use Rattle.read_text.proofs.processes.read_process.Reads as read-process
 use Rattle.read_text.proofs.processes.receive_one.Reads as receive-one
@@ -20,8 +20,8 @@ claims t = (
   payload-then-reads.Learnt,
   refusal-reads.Asked,
   refusal-reads.Learnt,
-  received-node-reads.Asked,
-  received-node-reads.Learnt,
+  payload-node-reads.Asked,
+  payload-node-reads.Learnt,
   put-before-reads.Asked,
   put-before-reads.Learnt,
   read-process-below t,
@@ -46,7 +46,7 @@ receive-one-met t =
     (c .before .enum-told .given .1) (c .refusal .ensures))
     -- add-l
     (λ c. omega (arith, c .before .before .before .before .before .before .before .pre .1 .0))
-    -- received-node-requires
+    -- payload-node-requires
     (λ c κs.
     let entry = c .before .before .before .before .before .before .before in
     omega (arith, entry .pre .1 .0, entry .pre .1 .1, c .before .before .before .before .payload-then .ensures .on _ _ (c .before .before .taken .given .1)))
@@ -57,7 +57,7 @@ receive-one-met t =
         c .before .before .before .before .before .before .before .before .before .pre .1 .0,
         c .before .before .before .before .before .before .payload-then .ensures .on _ _ (c .before .before .before .before .taken .given .1),
       ),
-      c .before .received-node .ensures .1,
+      c .before .payload-node .ensures .1,
     ))
     -- read-process-requires
     (λ c κs.
@@ -77,6 +77,6 @@ receive-one-met t =
     let after-put-before = c .before .before .before .before .before .before in
     let after-taken = after-put-before .before .before .before .before .before in
     let entry = after-taken .before .before .before .before .before in
-    one-read _ _ _ _ (entry .pre .1 .0) _ _ (entry .pre .1 .1 .0) (entry .pre .1 .1 .1) _ (after-taken .before .before .payload-then .ensures)
-    (after-taken .taken .given .1) (after-put-before .before .before .received-node .ensures .0) (after-put-before .put-before .ensures)
+    one-read _ _ _ _ (entry .pre .1 .0) _ _ (entry .pre .1 .1 .0) (entry .pre .1 .1 .1) _ (after-taken .before .before .payload-then .ensures) (entry .pre .1 .1 .2)
+    (after-taken .taken .given .1) (after-put-before .before .before .payload-node .ensures .0) (after-put-before .put-before .ensures)
     (c .before .before .read-process .ensures))
