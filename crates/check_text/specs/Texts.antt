@@ -1,7 +1,7 @@
 -- What the check of a text promises: the verdict is the calculus' own, and the words are decided by the text.
 use Prim.Native.Nat.{ℕ, _<_, _≤_}
 use mathlib.Core.Path.{_≡_, refl, sym, _∙_, ap, subst}
-use mathlib.Core.List.{List, [], _∷_, _++_}
+use mathlib.Core.List.{List, _++_}
 use native.Mathlib.Omega.{arith}
 use lib.ListN.{length, drop, take, drop-of-length-le}
 use lib.Seq.{take-all}

@@ -20,7 +20,7 @@ ghost use Rattle.calculus.specs.Declarations.{declared};
 ghost use Rattle.calculus.specs.Verdict.{andThen};
 ghost use Rattle.calculus.specs.Verdict.{verdictOf};
 ghost use lib.Dec.{ltb};
-ghost use Rattle.read_tables.specs.Access.{asEntry};
+ghost use Rattle.read_tables.specs.Access.{asEntry, sumLimit};
 ghost use Rattle.read_tables.specs.Decode.{tallyIn, procDeclaration, scriptIn};
 ghost use Rattle.read_tables.specs.Program.{programIn};
 ghost use Rattle.read_tables.specs.Whole.{Tables, SignatureIn};
@@ -28,7 +28,7 @@ ghost use Rattle.check_text.specs.Bodies.{SignatureHeld};
 
 // What a process's signature has it hold: provided channels first.
 fn signature_held(text: &[u8], scratch: &[u32], e: Declared) -> Held
-    requires { ⌜ Tables (now text) (now scratch) × SignatureIn (now text) (now scratch) (asEntry e) × (e .first + e .provided < 8589934592) × (e .provided ≤ heldLimit) × (e .used ≤ heldLimit - e .provided) ⌝ }
+    requires { ⌜ Tables (now text) (now scratch) × SignatureIn (now text) (now scratch) (asEntry e) × (e .first + e .provided < sumLimit) × (e .provided ≤ heldLimit) × (e .used ≤ heldLimit - e .provided) ⌝ }
     ensures { λ r. ⌜ SignatureHeld (now (text .entry)) (now (scratch .entry)) (asEntry e) r ⌝ }
 {
     let none = no_ends();

@@ -58,12 +58,16 @@ pub record TypeOf (w : List ℕ) (i : ℕ) (r : Labelled) : Type 0 where
   pub stands : (s : List ℕ) → Tables s w → i < tallyIn w .types → TypeIn s w (r .number)
   pub holds : Holds r (typeAt w i)
 
+-- two words add up to less
+abbrev pub sumLimit : ℕ
+sumLimit = 8589934592
+
 -- r is the process i of the program
 pub record SignatureOf (w : List ℕ) (i : ℕ) (r : Declared) : Type 0 where
   pub is : (s : List ℕ) → namedProcess s w i ≡ (nameAt s (r .at), signatureOf s w (asEntry r))
   pub stands : (s : List ℕ) → Tables s w → i < tallyIn w .processes → SignatureIn s w (asEntry r)
   -- its entries have places that can be counted
-  pub small : r .first + r .provided < 8589934592
+  pub small : r .first + r .provided < sumLimit
   pub holds : asEntry r ≡ processAt w i
 
 -- r is where the name of the exec i stands
@@ -105,7 +109,7 @@ module _ (w : List ℕ) where
   unfolding namedType
   type-of i r h = record { is = λ s j. (nameAt s (sym (h .at) j), plainIn s w (sym (h .number) j)); stands = λ s t b. back (h .number) (TypeIn s w) (t .types i b); holds = h }
 
-  pub signature-of : (i : ℕ) (r : Declared) → asEntry r ≡ processAt w i → r .first + r .provided < 8589934592 → SignatureOf w i r
+  pub signature-of : (i : ℕ) (r : Declared) → asEntry r ≡ processAt w i → r .first + r .provided < sumLimit → SignatureOf w i r
   unfolding namedProcess
   signature-of i r h b = record {
     is = λ s j. (nameAt s (sym h j .at), signatureOf s w (sym h j));
