@@ -89,9 +89,8 @@ pub enum Reading {
     Places,
 }
 
-/// Calls an entry that may change a run.
-pub fn change(entry: Numbered, text: &[u8], scratch: &mut [u32], run: &mut [u32], number: u32) -> Answer {
-    let mut answer = [0; ANSWER_WORDS];
+/// Calls an entry that may change a run, and has its answer written to the lent words.
+fn change_into(entry: Numbered, text: &[u8], scratch: &mut [u32], run: &mut [u32], number: u32, answer: &mut [u32]) -> u32 {
     let call = match entry {
         Numbered::Start => epass_start,
         Numbered::Step => epass_step,
@@ -110,13 +109,11 @@ pub fn change(entry: Numbered, text: &[u8], scratch: &mut [u32], run: &mut [u32]
             answer.as_mut_ptr(),
             answer.len(),
         )
-    };
-    answer
+    }
 }
 
-/// Calls an entry that reads a run.
-pub fn read(entry: Reading, text: &[u8], scratch: &mut [u32], run: &[u32]) -> Answer {
-    let mut answer = [0; ANSWER_WORDS];
+/// Calls an entry that reads a run, likewise.
+fn read_into(entry: Reading, text: &[u8], scratch: &mut [u32], run: &[u32], answer: &mut [u32]) -> u32 {
     let call = match entry {
         Reading::Report => epass_report,
         Reading::Places => epass_places,
@@ -133,13 +130,11 @@ pub fn read(entry: Reading, text: &[u8], scratch: &mut [u32], run: &[u32]) -> An
             answer.as_mut_ptr(),
             answer.len(),
         )
-    };
-    answer
+    }
 }
 
-/// Where the name of an exec line stands.
-pub fn exec_name(text: &[u8], scratch: &mut [u32], line: u32) -> Answer {
-    let mut answer = [0; ANSWER_WORDS];
+/// Asks where the name of an exec line stands, likewise.
+fn exec_name_into(text: &[u8], scratch: &mut [u32], line: u32, answer: &mut [u32]) -> u32 {
     // SAFETY: as above; no run is lent.
     unsafe {
         epass_exec_name(
@@ -151,6 +146,26 @@ pub fn exec_name(text: &[u8], scratch: &mut [u32], line: u32) -> Answer {
             answer.as_mut_ptr(),
             answer.len(),
         )
-    };
+    }
+}
+
+/// The answer of an entry that may change a run.
+pub fn change(entry: Numbered, text: &[u8], scratch: &mut [u32], run: &mut [u32], number: u32) -> Answer {
+    let mut answer = [0; ANSWER_WORDS];
+    change_into(entry, text, scratch, run, number, &mut answer);
+    answer
+}
+
+/// The answer of an entry that reads a run.
+pub fn read(entry: Reading, text: &[u8], scratch: &mut [u32], run: &[u32]) -> Answer {
+    let mut answer = [0; ANSWER_WORDS];
+    read_into(entry, text, scratch, run, &mut answer);
+    answer
+}
+
+/// The answer to where the name of an exec line stands.
+pub fn exec_name(text: &[u8], scratch: &mut [u32], line: u32) -> Answer {
+    let mut answer = [0; ANSWER_WORDS];
+    exec_name_into(text, scratch, line, &mut answer);
     answer
 }

@@ -62,18 +62,13 @@ impl Lent {
     /// Calls, with so many words of each slice.
     fn call(&mut self, text: &[u8], call: Call, scratch: usize, run: usize, answer: usize) -> u32 {
         let (s, r, a) = (&mut self.scratch[..scratch], &mut self.run[..run], &mut self.answer[..answer]);
-        let (s, sn, a, an) = (s.as_mut_ptr(), s.len(), a.as_mut_ptr(), a.len());
-        let (t, tn) = (text.as_ptr(), text.len());
-        // SAFETY: each pointer is lent with the length of its slice, and the slices are apart.
-        unsafe {
-            match call {
-                Call::Start(line) => epass_start(t, tn, s, sn, r.as_mut_ptr(), r.len(), line, a, an),
-                Call::Step(place) => epass_step(t, tn, s, sn, r.as_mut_ptr(), r.len(), place, a, an),
-                Call::RunOn(budget) => epass_run_on(t, tn, s, sn, r.as_mut_ptr(), r.len(), budget, a, an),
-                Call::Report => epass_report(t, tn, s, sn, r.as_ptr(), r.len(), a, an),
-                Call::Places => epass_places(t, tn, s, sn, r.as_ptr(), r.len(), a, an),
-                Call::ExecName(line) => epass_exec_name(t, tn, s, sn, line, a, an),
-            }
+        match call {
+            Call::Start(line) => change_into(Numbered::Start, text, s, r, line, a),
+            Call::Step(place) => change_into(Numbered::Step, text, s, r, place, a),
+            Call::RunOn(budget) => change_into(Numbered::RunOn, text, s, r, budget, a),
+            Call::Report => read_into(Reading::Report, text, s, r, a),
+            Call::Places => read_into(Reading::Places, text, s, r, a),
+            Call::ExecName(line) => exec_name_into(text, s, line, a),
         }
     }
 
