@@ -1,6 +1,4 @@
 // Places: whether the step at each is open.
-ghost use Prim.Native.Nat.{_≤_};
-ghost use lib.ListN.{length};
 ghost use Rattle.calculus.specs.Runs.{places};
 ghost use Rattle.calculus.specs.WellFormed.{WellFormed};
 ghost use Rattle.read_tables.specs.Program.{programIn};

@@ -1,7 +1,6 @@
 // Reports: the numbers of the outside channels still open.
-ghost use mathlib.Core.Path.{_≡_};
-ghost use Prim.Native.Nat.{ℕ, _≤_};
-ghost use lib.ListN.{length, getD, take};
+ghost use Prim.Native.Nat.{_≤_};
+ghost use lib.ListN.{length};
 ghost use Rattle.notation.specs.Limits.{runWords};
 ghost use Rattle.run_words.specs.Raw.{rawIn, Bounded};
 ghost use Rattle.check_accepted.specs.Texts.{TextIn};

@@ -1,5 +1,4 @@
 // Processes that are typed alike: of many that wait before one body, the body is checked once.
-use notation::words::wide;
 use run_words::held::end_at;
 use run_words::records::End;
 use run_words::records::Held;
@@ -7,7 +6,7 @@ use run_words::records::Process;
 use run_words::records::UNLINKED;
 ghost use mathlib.Core.Path.{_≡_};
 ghost use mathlib.Core.Bool.{true};
-ghost use Prim.Native.Nat.{ℕ, _≤_};
+ghost use Prim.Native.Nat.{_≤_};
 ghost use Rattle.notation.specs.Limits.{heldLimit};
 ghost use Rattle.run_words.specs.Values.{endIn, heldIn, processIn};
 ghost use Rattle.run_wellformed.specs.Alike.{EndsMatch, HeldMatch, LinksMatch, TypedAlike};
