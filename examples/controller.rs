@@ -1,7 +1,8 @@
 //! A controller for a machine whose script is read from a file: `controller SCRIPT SEED`.
 //!
 //! It asks which steps are open and has one of them carried out, over and over. A pseudo-random source stands for the relays, whose
-//! order no controller knows: with another seed the steps come in another order, and each outside channel shows the same.
+//! order no controller knows: with another seed the steps come in another order. For every seed that
+//! was tried each outside channel showed the same.
 use epass::{Reason, Refusal, Run, Script, RUN_WORDS, SCRATCH_WORDS};
 use std::process::ExitCode;
 use std::{env, fs};
