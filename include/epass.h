@@ -79,7 +79,7 @@ enum epass_answer {
     EPASS_RUN_END = 1,
     EPASS_RUN_STEPS = 2,
     EPASS_RUN_SEEN = 3,
-    /* Of a report: how many outside channels are open, and their numbers, from here on. */
+    /* Of a report: how many outside channels are open, and their numbers, rising, from here on. */
     EPASS_REPORT_COUNT = 1,
     EPASS_REPORT_NUMBERS = 2,
     /* Of places: how many processes there are, and what the step at each place is, from here on (enum epass_place). */

@@ -145,7 +145,7 @@ impl fmt::Display for RanOn<'_> {
     }
 }
 
-/// The numbers of the outside channels still open.
+/// The numbers of the outside channels still open, rising.
 #[derive(Clone, Copy, Debug, PartialEq, Eq)]
 pub struct Report {
     count: usize,
@@ -162,7 +162,7 @@ impl Report {
         }
     }
 
-    /// The numbers.
+    /// The numbers, each below the next.
     pub fn numbers(&self) -> &[u32] {
         &self.numbers[..self.count]
     }

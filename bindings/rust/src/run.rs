@@ -54,7 +54,7 @@ impl<W: AsMut<[u32]> + AsRef<[u32]>> Run<W> {
         Ok(RanOn::told(text, &answer))
     }
 
-    /// The outside channels still open.
+    /// The numbers of the outside channels still open, rising.
     pub fn report<S: AsMut<[u32]>>(&self, script: &mut Script<'_, S>) -> Result<Report, Refusal> {
         let (text, scratch) = script.lent();
         let answer = ffi::read(Reading::Report, text, scratch, self.words.as_ref());

@@ -62,7 +62,7 @@ impl Lent {
         Ok(match word {
             "step" => said(run.step(&mut script, number)),
             "run" => said(run.run_on(&mut script, number)),
-            "report" => said(run.report(&mut script)),
+            "report" => said(run.report(&mut script).inspect(|report| assert!(report.numbers().is_sorted_by(|a, b| a < b), "{report}"))),
             "places" => said(run.places(&mut script)),
             "name" => said(script.exec_name(number).map(String::from_utf8_lossy)),
             _ => panic!("{word} is no call"),

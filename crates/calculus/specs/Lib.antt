@@ -15,6 +15,7 @@ pub mod Printed
 pub mod Machine
 pub mod Forest
 pub mod WellFormed
+pub mod Reports
 pub mod Reduces
 pub mod Demands
 pub mod Starred

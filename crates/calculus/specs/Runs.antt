@@ -89,7 +89,8 @@ runFrom p (suc budget) taken seen C =
 unfoldable pub runOn : Program → Config → ℕ → Ran
 runOn p C budget = runFrom p budget 0 Nothing C
 
--- ── "A report gives the outside channels still open, each once"
+-- ── "A report gives the numbers of the outside channels still open, rising, each once."
+-- A well-formed configuration has them in rising order already; no other list rises and has exactly these numbers: `report-iff` (Reports.antt).
 unfoldable pub report : Config → List ℕ
 report C = map (λ (o : Outside). o .number) (C .outside)
 

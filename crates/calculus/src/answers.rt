@@ -28,7 +28,7 @@ pub enum RanOn {
     Refused(u32, usize),
 }
 
-// How many outside channels are open; their numbers stand beside it in Report.
+// How many outside channels are open; their numbers stand beside it in Report, rising.
 pub enum Reported {
     Open(u32),
     Refused(u32, usize),

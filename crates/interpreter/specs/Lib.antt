@@ -6,6 +6,7 @@ pub mod Stepping
 pub mod RunningOn
 pub mod Listing
 pub mod Reporting
+pub mod Rising
 pub mod Surveying
 pub mod Starting
 pub mod Told

@@ -3,7 +3,9 @@ use Prim.Native.Nat.{ℕ, _<_, _≤_}
 use mathlib.Core.Path.{_≡_, refl, _∙_, ap}
 use mathlib.Core.List.{List}
 use mathlib.Core.Bool.{Bool, true, false, cond, false≢true}
-use borrow.Author.Tests.{le-leb, lt-leb}
+use native.Mathlib.Omega.{arith}
+use borrow.Author.Tests.{le-leb, lt-leb, leb-true}
+use lib.Dec.{leb}
 use lib.ListN.{length, getElem?}
 use Rattle.notation.specs.Limits.{scratchWords, runWords}
 use Rattle.notation.specs.Tree.{Declaration}
@@ -57,6 +59,15 @@ refusal-is C toPlaces n m k i = refl
 refusal-is C (toName line) n m k i = refl
 
 module _ (s : List ℕ) where
+  -- past the refusals of the text there are scratch words enough
+  pub text-accepted : (ds : List Declaration) (n : ℕ) → textChecked s n ≡ accepted ds → (checked s ≡ accepted ds) × (scratchWords ≤ n)
+  unfolding textChecked
+  text-accepted ds n = go (leb scratchWords n) refl
+    where
+      go : (b : Bool) → leb scratchWords n ≡ b → cond b (checked s) (faulty 1 0) ≡ accepted ds → (checked s ≡ accepted ds) × (scratchWords ≤ n)
+      go true e a = (a, leb-true scratchWords n e)
+      go false e a = absurd (let z : _≡_ {A = ℕ} 0 1 = cc in omega arith)
+
   -- the reply to each request, by the text's own verdict
   pub reply-by : (q : Request) (C : Config) (n m : ℕ) → respond s C (callAs q n m) ≡ onProgram (textChecked s n) (refuse q C) (λ p. onLent (useOf q) m (refuse q C) (pastRun p q C))
   unfolding respond

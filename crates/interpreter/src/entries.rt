@@ -53,7 +53,7 @@ pub fn run_on(text: &[u8], scratch: &mut [u32], run: &mut [u32], budget: u32) ->
     RanOn::Refused(n, at)
 }
 
-// The numbers of the outside channels still open.
+// The numbers of the outside channels still open, rising.
 pub fn report(text: &[u8], scratch: &mut [u32], run: &[u32]) -> Report
     ensures { λ r. ⌜ Reports (now (text .entry)) (now (scratch .entry)) (now (run .entry)) r (now (scratch .exit)) ⌝ }
 {

@@ -1,4 +1,4 @@
-// Reports: the numbers of the outside channels still open.
+// Reports: the numbers of the outside channels still open, rising.
 ghost use Prim.Native.Nat.{_≤_};
 ghost use lib.ListN.{length};
 ghost use Rattle.notation.specs.Limits.{runWords};
@@ -13,7 +13,7 @@ use run_wellformed::well_formed;
 use run_words::outside::outside_at;
 use run_words::outside::outside_count;
 
-// The numbers, in the order of the run; zeros after them.
+// The numbers, in the order of the run, in which they rise; zeros after them.
 fn list_numbers(run: &[u32]) -> [u32; Script::OUTSIDE_NUMBERS]
     requires { ⌜ (runWords ≤ length (now run)) × Bounded (rawIn (now run)) ⌝ }
     ensures { λ r. ⌜ Listed r (numbersOf (rawIn (now (run .entry)))) ⌝ }

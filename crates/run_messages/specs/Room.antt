@@ -17,6 +17,7 @@ use Rattle.calculus.specs.Program.{Context, Program}
 use Rattle.calculus.specs.Typing.{Typed, sends-unit, recvs-unit, sends-channel, recvs-channel, sends-label, recvs-label, forwards, calls, spawns, tries, raises, cancels, empties}
 use Rattle.calculus.specs.Configuration.{End, Doing, running, folding, waiting, Process, Outside}
 use Rattle.calculus.specs.Steps.{onClose, onChannel, onLabel, Turn, sends, receives, alone, turn, turnOf}
+use Rattle.calculus.specs.Reports.{number-borne}
 use Rattle.calculus.specs.WellFormed.{In, Rising, contextOf, isWaiting, TypedAs, WellFormed}
 use Rattle.read_tables.specs.Program.{programIn}
 use Rattle.run_words.specs.ListLaws.{all-of, map-at}
@@ -88,14 +89,10 @@ module _ (s w ws : List ℕ) (F : WellFormed (programIn s w) (configIn s w ws)) 
       let k = rising-few (suc n) top l r (λ x i. b x (List·Memᴰ·tail i)) (omega arith) in
       omega arith
 
-  numbers-in : (l : List Outside) (n : ℕ) → In n (map (λ (o : Outside). o .number) l) → (o : Outside) × In o l × (o .number ≡ n)
-  numbers-in (o ∷ l) n (List·Memᴰ·head e) = (o, List·Memᴰ·head refl, sym e)
-  numbers-in (o ∷ l) n (List·Memᴰ·tail i) = let (x, j, e) = numbers-in l n i in (x, List·Memᴰ·tail j, e)
-
   pub outside-few : length (rawIn ws .outside) ≤ rawIn ws .given
   outside-few =
       let l = configIn s w ws .outside in
-      let b : (n : ℕ) → In n (map (λ (o : Outside). o .number) l) → n < rawIn ws .given = λ n i. let (o, j, e) = numbers-in l n i in let k = F .outside o j .1 in omega arith in
+      let b : (n : ℕ) → In n (map (λ (o : Outside). o .number) l) → n < rawIn ws .given = λ n i. let o = number-borne l n i in omega (arith, F .outside (o .channel) (o .among) .1, o .number) in
       let k = rising-few 0 (rawIn ws .given) (map (λ (o : Outside). o .number) l) (F .numbers) b (omega arith) in
       let z : length l ≡ length (rawIn ws .outside) = length-map (rawIn ws .outside) _ in
       omega (arith, k, z, length-map l (λ (o : Outside). o .number))
