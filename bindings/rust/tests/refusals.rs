@@ -59,6 +59,22 @@ fn a_run_that_is_none() {
     assert_eq!(stranger.places(&mut script).unwrap_err().reason(), Some(Reason::NoRun));
 }
 
+/// A report rises since no run has the outside's channels in another order: one that has is refused.
+#[test]
+fn a_run_out_of_order() {
+    const OUTSIDE: usize = 16;
+    let mut script = Script::check(b"proc m (x : 1, y : 1) [] = send x (); send y ()\nexec m\n", scratch()).unwrap();
+    let words = Run::start(&mut script, 0, vec![0; RUN_WORDS]).unwrap().words().to_vec();
+    assert_eq!(Run::resume(words.clone()).report(&mut script).unwrap().numbers(), [0, 1]);
+    let mut exchanged = words.clone();
+    exchanged[OUTSIDE..OUTSIDE + 4].rotate_left(2);
+    let mut twice = words;
+    twice[OUTSIDE + 2] = 0;
+    for words in [exchanged, twice] {
+        assert_eq!(Run::resume(words).report(&mut script).unwrap_err().reason(), Some(Reason::NoRun));
+    }
+}
+
 #[test]
 fn a_run_that_is_kept() {
     let mut script = Script::check(TEXT, scratch()).unwrap();
