@@ -131,7 +131,7 @@ uint32_t epass_step(const uint8_t *EPASS_RESTRICT text, size_t text_length, uint
 uint32_t epass_run_on(const uint8_t *EPASS_RESTRICT text, size_t text_length, uint32_t *EPASS_RESTRICT scratch, size_t scratch_length,
                       uint32_t *EPASS_RESTRICT run, size_t run_length, uint32_t budget, uint32_t *EPASS_RESTRICT answer, size_t answer_length);
 
-/* The numbers of the outside channels still open. */
+/* The numbers of the outside channels still open, rising. */
 uint32_t epass_report(const uint8_t *EPASS_RESTRICT text, size_t text_length, uint32_t *EPASS_RESTRICT scratch, size_t scratch_length,
                       const uint32_t *EPASS_RESTRICT run, size_t run_length, uint32_t *EPASS_RESTRICT answer, size_t answer_length);
 

@@ -59,9 +59,10 @@ fn a_run_that_is_none() {
     assert_eq!(stranger.places(&mut script).unwrap_err().reason(), Some(Reason::NoRun));
 }
 
-/// A report rises since no run has the outside's channels in another order: one that has is refused.
+/// A report rises, since words that have the outside's channels in another order, or two of one number, are no run.
 #[test]
 fn a_run_out_of_order() {
+    // where the outside's channels stand in a run, two words each: its number first
     const OUTSIDE: usize = 16;
     let mut script = Script::check(b"proc m (x : 1, y : 1) [] = send x (); send y ()\nexec m\n", scratch()).unwrap();
     let words = Run::start(&mut script, 0, vec![0; RUN_WORDS]).unwrap().words().to_vec();

@@ -17,12 +17,13 @@ use Rattle.calculus.specs.Machine.{Answer, Reply, refusal, respond, idle}
 use Rattle.calculus.specs.Program.{programOf}
 use Rattle.calculus.specs.declared.verdict.Verdict.{Verdict}
 use Rattle.calculus.specs.declared.verdict.Verdict.the-variants as verdict
+use Rattle.theory_safety.specs.Replies.{enough-text}
 use Rattle.read_tables.specs.Program.{programIn}
 use Rattle.check_text.specs.Texts.{wordsIn, TextChecked}
 use Rattle.check_accepted.specs.Texts.{program-is}
 use Rattle.check_accepted.specs.Verdicts.{text-refused, scratch-enough, script-of}
 use Rattle.interpreter.specs.Entries.{Request, called, callAs, useOf, isRead, scratchAfter, HoldsRun, configOf, RunAfter, by-answer, Reached, Answers}
-use Rattle.interpreter.specs.Past.{refusalTo, refuse, isLent, onLent, pastRun, refusal-is, reply-refused, enough-text, reply-accepted, lent-short, lent-past, untouched}
+use Rattle.interpreter.specs.Past.{refusalTo, refuse, isLent, onLent, pastRun, refusal-is, reply-refused, reply-accepted, lent-short, lent-past, untouched}
 
 -- ── the scratch words, as the check leaves them
 scratch-is : (s w x : List ℕ) (r : Verdict) → TextChecked s w r x → x ≡ scratchAfter s w

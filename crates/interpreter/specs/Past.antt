@@ -19,6 +19,7 @@ use Rattle.calculus.specs.declared.answers.Started.the-variants as starts
 use Rattle.calculus.specs.declared.answers.Stepped.the-variants as steps
 use Rattle.calculus.specs.declared.answers.Reported.the-variants as reports
 use Rattle.calculus.specs.declared.answers.Surveyed.the-variants as surveys
+use Rattle.theory_safety.specs.Replies.{enough-text}
 use Rattle.interpreter.specs.Entries.{Request, toStart, toStep, toRunOn, toReport, toPlaces, toName, callAs, RunUse, anew, read, unlent, useOf, RunAfter}
 
 -- a refusal as it answers what is asked
@@ -82,12 +83,8 @@ module _ (s : List ℕ) where
   reply-refused q C n m k i e = reply-by q C n m ∙ ap (λ t. onProgram t (refuse q C) (λ p. onLent (useOf q) m (refuse q C) (pastRun p q C))) e
 
   module _ (ds : List Declaration) (ok : checked s ≡ accepted ds) where
-    pub enough-text : (n : ℕ) → scratchWords ≤ n → textChecked s n ≡ accepted ds
-    unfolding textChecked
-    enough-text n h = rw (le-leb scratchWords n h) ok
-
     pub reply-accepted : (q : Request) (C : Config) (n m : ℕ) → scratchWords ≤ n → respond s C (callAs q n m) ≡ onLent (useOf q) m (refuse q C) (pastRun (programOf ds) q C)
-    reply-accepted q C n m h = reply-by q C n m ∙ ap (λ t. onProgram t (refuse q C) (λ p. onLent (useOf q) m (refuse q C) (pastRun p q C))) (enough-text n h)
+    reply-accepted q C n m h = reply-by q C n m ∙ ap (λ t. onProgram t (refuse q C) (λ p. onLent (useOf q) m (refuse q C) (pastRun p q C))) (enough-text s ds ok n h)
 
 -- 16, and past it
 pub lent-short : (u : RunUse) (m : ℕ) (f : ℕ → ℕ → Reply) (y : Reply) → isLent u ≡ true → m < runWords → onLent u m f y ≡ f 16 0

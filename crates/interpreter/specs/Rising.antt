@@ -31,6 +31,7 @@ module _ (s w ws : List ℕ) (r : Report) (v : List ℕ) (R : Reports s w ws r v
   abbrev numbers : List ℕ
   numbers = take n (r .numbers)
 
+  -- its answer, which is no refusal's
   told : reportAnswer r ≡ reported (Open n) numbers
   told = λ j. reported (e j) (take (counted (e j)) (r .numbers))
 
@@ -38,6 +39,7 @@ module _ (s w ws : List ℕ) (r : Report) (v : List ℕ) (R : Reports s w ws r v
   unrefused z f = true≢false (sym f ∙ ap isRefused (sym z))
 
   module _ (known : Reached s m → HoldsRun s ws) where
+    -- past 16 the run holds a configuration, and the reply is its report
     by-run : (ds : List Declaration) → textChecked s (length w) ≡ accepted ds → (b : Bool) → leb runWords (length ws) ≡ b
         → reported (Open n) numbers ≡ cond b (pastRun (programOf ds) toReport C) (refuse toReport C 16 0) .answer → ReportOf C numbers
     by-run ds a true b z =
@@ -46,6 +48,7 @@ module _ (s w ws : List ℕ) (r : Report) (v : List ℕ) (R : Reports s w ws r v
         report-iff (known (record { reads = refl; script = ds; accepts = script; scratch = wide; run = leb-true runWords (length ws) b }) .is) numbers .0 x
     by-run ds a false b z = absurd (unrefused z refl)
 
+    -- past the refusals of the text
     by-text : (t : Checked) → textChecked s (length w) ≡ t
         → reported (Open n) numbers ≡ onProgram t (refuse toReport C) (λ p. onLent (useOf toReport) (length ws) (refuse toReport C) (pastRun p toReport C)) .answer → ReportOf C numbers
     by-text (accepted ds) a z = by-run ds a (leb runWords (length ws)) refl z

@@ -15,7 +15,7 @@ use Rattle.notation.specs.declared.reading.TermNode.{TermNode}
 use Rattle.calculus.specs.Named.{isSome}
 use Rattle.calculus.specs.Program.{Context, Program}
 use Rattle.calculus.specs.Typing.{Typed, sends-unit, recvs-unit, sends-channel, recvs-channel, sends-label, recvs-label, forwards, calls, spawns, tries, raises, cancels, empties}
-use Rattle.calculus.specs.Configuration.{End, Doing, running, folding, waiting, Process, Outside}
+use Rattle.calculus.specs.Configuration.{Doing, running, folding, waiting, Process, Outside}
 use Rattle.calculus.specs.Steps.{onClose, onChannel, onLabel, Turn, sends, receives, alone, turn, turnOf}
 use Rattle.calculus.specs.Reports.{number-borne}
 use Rattle.calculus.specs.WellFormed.{In, Rising, contextOf, isWaiting, TypedAs, WellFormed}

@@ -128,7 +128,7 @@ module _ (text : List ℕ) (ds : List Declaration) (ok : checked text ≡ accept
   replied C (callExecName scratch line) = on-text _ scratch _ (on-line (getElem? (P .execs) line) (λ n e. names n))
 
   -- ── which calls are refused, with slices of enough words
-  enough-text : (scratch : ℕ) → scratchWords ≤ scratch → textChecked text scratch ≡ accepted ds
+  pub enough-text : (scratch : ℕ) → scratchWords ≤ scratch → textChecked text scratch ≡ accepted ds
   unfolding textChecked
   enough-text scratch h = rw (leb-iff scratchWords scratch .1 h) ok
 
