@@ -61,9 +61,9 @@ refusal-is C (toName line) n m k i = refl
 
 module _ (s : List ℕ) where
   -- past the refusals of the text there are scratch words enough
-  pub text-accepted : (ds : List Declaration) (n : ℕ) → textChecked s n ≡ accepted ds → (checked s ≡ accepted ds) × (scratchWords ≤ n)
+  pub past-text : (ds : List Declaration) (n : ℕ) → textChecked s n ≡ accepted ds → (checked s ≡ accepted ds) × (scratchWords ≤ n)
   unfolding textChecked
-  text-accepted ds n = go (leb scratchWords n) refl
+  past-text ds n = go (leb scratchWords n) refl
     where
       go : (b : Bool) → leb scratchWords n ≡ b → cond b (checked s) (faulty 1 0) ≡ accepted ds → (checked s ≡ accepted ds) × (scratchWords ≤ n)
       go true e a = (a, leb-true scratchWords n e)

@@ -19,7 +19,7 @@ use Rattle.calculus.specs.Runs.{report}
 use Rattle.calculus.specs.declared.answers.Reported.the-variants.{Open}
 use Rattle.calculus.specs.declared.answers.Report.{Report}
 use Rattle.interpreter.specs.Entries.{toReport, EntryCall, called, useOf, HoldsRun, configOf, Reached, Reports, counted, reportAnswer}
-use Rattle.interpreter.specs.Past.{refuse, pastRun, onLent, reply-by, text-accepted}
+use Rattle.interpreter.specs.Past.{refuse, pastRun, onLent, reply-by, past-text}
 
 module _ (s w ws : List ℕ) (r : Report) (v : List ℕ) (R : Reports s w ws r v) (n : ℕ) (e : r .answer ≡ Open n) where
   abbrev C : Config
@@ -44,7 +44,7 @@ module _ (s w ws : List ℕ) (r : Report) (v : List ℕ) (R : Reports s w ws r v
         → reported (Open n) numbers ≡ cond b (pastRun (programOf ds) toReport C) (refuse toReport C 16 0) .answer → ReportOf C numbers
     by-run ds a true b z =
         let x : numbers ≡ report C = cc in
-        let (script, wide) = text-accepted s ds (length w) a in
+        let (script, wide) = past-text s ds (length w) a in
         report-iff (known (record { reads = refl; script = ds; accepts = script; scratch = wide; run = leb-true runWords (length ws) b }) .is) numbers .0 x
     by-run ds a false b z = absurd (unrefused z refl)
 
