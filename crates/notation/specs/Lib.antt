@@ -12,3 +12,4 @@ pub mod From
 pub mod Tables
 pub mod Computed
 pub mod Examples
+pub mod Brackets

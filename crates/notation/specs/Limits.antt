@@ -27,7 +27,7 @@ processTermLimit = 1024
 
 -- open brackets of all kinds, labels of a choice or branch list, channels held
 abbrev pub bracketLimit : ℕ
-bracketLimit = 64
+bracketLimit = 24
 
 abbrev pub labelLimit : ℕ
 labelLimit = 16

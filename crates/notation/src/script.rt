@@ -21,7 +21,7 @@ impl Script {
 
     pub const PROCESS_TERMS: usize = 1024;
 
-    pub const BRACKETS: usize = 64;
+    pub const BRACKETS: usize = 24;
 
     pub const LABELS: usize = 16;
 
