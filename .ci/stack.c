@@ -72,7 +72,8 @@ static void measure(int which, uint32_t with)
         most[which] = STACK - untouched;
 }
 
-/* A run of the text's first exec line: a few steps, one at a time and at each place in turn, then all the others at once. */
+/* A run of the text's first exec line: a few steps, one at a time and at each place in turn, then all the others at once. Run-on without
+ * a budget is tried before each, since its test of the run goes deepest where the most is left to do. */
 static void measure_text(void)
 {
     uint32_t step, count = 1;
@@ -80,6 +81,7 @@ static void measure_text(void)
     measure(START, 0);
     for (step = 0; step < STEPS && count != 0; step++) {
         measure(REPORT, 0);
+        measure(RUN_ON, 0);
         measure(PLACES, 0);
         count = refusal == 0 ? answer[EPASS_PLACES_COUNT] : 0;
         measure(STEP, count == 0 ? 0 : step % count);
