@@ -1,4 +1,4 @@
--- How many brackets may be open, computed: a type in as many round brackets as the limit has passes, and one more is itself at fault. Both hold of the limit by its name.
+-- Computed: a type in as many round brackets as may be open is read, and where there is one more, that one is at fault. Both speak of the limit by its name.
 use Prim.Native.Nat.{ℕ, _+_, _*_}
 use mathlib.Core.Path.{_≡_, refl}
 use mathlib.Core.List.{List, [], _∷_, _++_}
@@ -10,7 +10,7 @@ use Rattle.notation.specs.Reader.{got, refused}
 use Rattle.notation.specs.Scripts.{readText}
 use Rattle.notation.specs.Computed.{readNow}
 
--- a unit in n round brackets, the first of which stands at 9
+-- a unit in n round brackets (the bytes 40 and 41), the first of which stands at 9
 abbrev pub inBrackets : ℕ → List ℕ
 inBrackets n = bytes "type a = " ++ (replicate n 40 ++ (bytes "1" ++ replicate n 41))
 
