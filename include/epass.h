@@ -28,7 +28,7 @@ extern "C" {
 #endif
 
 /* What must be lent, at least: words have 32 bits. More may be lent; what lies past these is never written. */
-#define EPASS_SCRATCH_WORDS 8192
+#define EPASS_SCRATCH_WORDS 6144
 #define EPASS_RUN_WORDS 6144
 #define EPASS_ANSWER_WORDS 130
 

@@ -46,7 +46,7 @@ pub use run::Run;
 pub use script::Script;
 
 /// How many words of scratch a script needs.
-pub const SCRATCH_WORDS: usize = 8192;
+pub const SCRATCH_WORDS: usize = 6144;
 
 /// How many words a run has.
 pub const RUN_WORDS: usize = 6144;

@@ -23,6 +23,10 @@ fn said(answer: Result<impl Display, Refusal>) -> String {
     answer.map_or_else(|refusal| refusal.to_string(), |answer| answer.to_string())
 }
 
+/// The most that a log may lend.
+const MOST_SCRATCH: usize = 16384;
+const MOST_RUN: usize = 8192;
+
 /// What is lent, and how much of it.
 struct Lent {
     scratch: Vec<u32>,
@@ -34,8 +38,8 @@ struct Lent {
 impl Lent {
     fn new() -> Lent {
         Lent {
-            scratch: vec![0; 2 * SCRATCH_WORDS],
-            run: vec![0; SCRATCH_WORDS],
+            scratch: vec![0; MOST_SCRATCH],
+            run: vec![0; MOST_RUN],
             scratch_words: SCRATCH_WORDS,
             run_words: RUN_WORDS,
         }
@@ -127,8 +131,8 @@ impl Source {
             1 => "report".into(),
             2 => "places".into(),
             3 => format!("name {}", self.below(3)),
-            4 => format!("scratch {}", [8191, 8192, 16384][self.below(3) as usize]),
-            5 => format!("run words {}", [6143, 6144, 8192][self.below(3) as usize]),
+            4 => format!("scratch {}", [SCRATCH_WORDS - 1, SCRATCH_WORDS, MOST_SCRATCH][self.below(3) as usize]),
+            5 => format!("run words {}", [RUN_WORDS - 1, RUN_WORDS, MOST_RUN][self.below(3) as usize]),
             6 | 7 => format!("run {}", self.below(40)),
             _ => format!("step {}", self.below(5)),
         }

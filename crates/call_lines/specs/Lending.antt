@@ -7,6 +7,7 @@ use native.Mathlib.Omega.{arith}
 use lib.Dec.{leb}
 use lib.ListN.{take, drop}
 use borrow.Author.Tests.{leb-true}
+use Rattle.notation.specs.Limits.{scratchWords, runWords}
 use Rattle.call_lines.specs.CallLine.{mostScratch, mostRun, numbered, alone, made, wordIn, wordLength, numberIn, askedLength, lineIn}
 use Rattle.call_lines.specs.declared.lines.CallLine.{CallLine}
 use Rattle.call_lines.specs.declared.lines.CallLine.the-variants as Calls
@@ -17,7 +18,7 @@ use Rattle.call_lines.specs.declared.numbers.Number.the-variants.{Of, Mi
 use Rattle.call_lines.specs.declared.lending.Lent.{Lent}
 
 abbrev pub lentAtFirst : Lent
-lentAtFirst = record { scratch = 8192; run = 6144 }
+lentAtFirst = record { scratch = scratchWords; run = runWords }
 
 unfoldable pub lentAfter : CallLine → Lent → Lent
 lentAfter (Calls.Start n) k = k

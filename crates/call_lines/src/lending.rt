@@ -1,5 +1,6 @@
 // How much of its slices a caller lends, in words.
 use crate::lines::CallLine;
+use notation::script::Script;
 ghost use mathlib.Core.Path.{_≡_};
 ghost use Rattle.call_lines.specs.Lending.{lentAtFirst, lentAfter};
 
@@ -12,8 +13,8 @@ pub fn lent_at_first() -> Lent
     ensures { λ r. ⌜ r ≡ lentAtFirst ⌝ }
 {
     Lent {
-        scratch: 8192,
-        run: 6144,
+        scratch: Script::SCRATCH_WORDS,
+        run: Script::RUN_WORDS,
     }
 }
 

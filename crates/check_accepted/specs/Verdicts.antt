@@ -6,7 +6,7 @@ use mathlib.Core.Bool.{Bool, true, false, cond}
 use native.Mathlib.Omega.{arith}
 use borrow.Author.Tests.{leb-true, leb-false, le-leb}
 use lib.Dec.{leb}
-use lib.ListN.{length, take, drop, length-append, length-drop}
+use lib.ListN.{length, take, drop}
 use lib.Seq.{take-at}
 use Rattle.notation.specs.Limits.{scratchWords}
 use Rattle.notation.specs.Tables.{tables}
@@ -18,6 +18,7 @@ use Rattle.calculus.specs.Verdict as calculus
 use Rattle.calculus.specs.Verdict.{verdictOf}
 use Rattle.calculus.specs.declared.verdict.Verdict.{Verdict}
 use Rattle.calculus.specs.declared.verdict.Verdict.the-variants as verdict
+use Rattle.read_tables.specs.Whole.{tables-length}
 use Rattle.check_text.specs.Texts.{verdictIn, wordsIn, TextChecked}
 use Rattle.check_accepted.specs.Texts.{TextIn}
 
@@ -70,13 +71,10 @@ module _ (s w x : List ℕ) (r : Verdict) (t : TextChecked s w r x) where
     words-are : x ≡ tables s ++ drop scratchWords w
     words-are = t .enough scratch-enough .1 ∙ ap (λ c. wordsIn s c ++ drop scratchWords w) (script-of .1)
 
-    pub text-accepted : length x ≡ length w → TextIn s (take scratchWords x)
-    text-accepted kept = record {
+    pub text-accepted : TextIn s (take scratchWords x)
+    text-accepted = record {
       script = script-of .0;
       accepts = script-of .1;
-      words = ap (take scratchWords) words-are ∙ take-at (tables s) (drop scratchWords w) scratchWords long;
+      words = ap (take scratchWords) words-are ∙ take-at (tables s) (drop scratchWords w) scratchWords (tables-length s);
       fits = t .enough scratch-enough .2;
     }
-      where
-        long : length (tables s) ≡ scratchWords
-        long = omega (arith, scratch-enough, kept, ap length words-are, length-append (tables s) (drop scratchWords w), length-drop scratchWords w)

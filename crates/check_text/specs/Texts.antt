@@ -9,6 +9,7 @@ use Rattle.notation.specs.Limits.{scratchWords}
 use Rattle.notation.specs.Reader.{Result, got, refused}
 use Rattle.notation.specs.Scripts.{readText}
 use Rattle.notation.specs.Tables.{tables, tablesRead, zeros, FitsTables}
+use Rattle.notation.specs.Layout.{zeros-length}
 use Rattle.notation.specs.Tree.{Declaration}
 use Rattle.notation.specs.declared.reading.Cursor.{Cursor}
 use Rattle.notation.specs.declared.script.Script.{Script}
@@ -27,7 +28,7 @@ use Rattle.read_text.specs.declared.reading.Reading.{Reading}
 use Rattle.read_text.specs.declared.reading.Reading.the-variants as reading
 use Rattle.read_tables.specs.Decode.{scriptIn}
 use Rattle.read_tables.specs.Scripts.{sorted}
-use Rattle.read_tables.specs.Whole.{Tables, text-decoded}
+use Rattle.read_tables.specs.Whole.{Tables, tables-length, text-decoded}
 
 -- what a text comes to, as a verdict, and the words that it decides
 abbrev pub verdictIn : Checked → calculus.Verdict
@@ -38,12 +39,16 @@ abbrev pub wordsIn : List ℕ → Checked → List ℕ
 wordsIn s (accepted ds) = tables s
 wordsIn s (faulty n i) = zeros
 
+pub words-length : (s : List ℕ) (c : Checked) → length (wordsIn s c) ≡ scratchWords
+words-length s (accepted ds) = tables-length s
+words-length s (faulty n i) = zeros-length
+
 pub record PartChecked (s : List ℕ) (r : Verdict) (v : List ℕ) : Type 0 where
   pub is : verdictOf r ≡ verdictIn (checked s)
   pub words : v ≡ wordsIn s (checked s)
   pub fits : FitsTables s
 
--- "After 1 no lent slice is touched; after 2 to 15 the first 8,192 scratch words are zero; otherwise they hold the checked tables"
+-- "After 1 no lent slice is touched; after 2 to 15 the first 6,144 scratch words are zero; otherwise they hold the checked tables"
 pub record TextChecked (s w : List ℕ) (r : Verdict) (v : List ℕ) : Type 0 where
   pub short : length w < scratchWords → (r ≡ verdict.Refused 1 0) × (v ≡ w)
   pub enough : scratchWords ≤ length w → (verdictOf r ≡ verdictIn (checked s)) × (v ≡ wordsIn s (checked s) ++ drop scratchWords w) × FitsTables s

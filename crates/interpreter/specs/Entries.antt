@@ -88,7 +88,7 @@ isRead read = true
 isRead unlent = false
 
 -- ── the slices
--- "After 1 no lent slice is touched; after 2 to 15 the first 8,192 scratch words are zero; otherwise they hold the checked tables"
+-- "After 1 no lent slice is touched; after 2 to 15 the first 6,144 scratch words are zero; otherwise they hold the checked tables"
 abbrev pub scratchAfter : List ℕ → List ℕ → List ℕ
 scratchAfter s w = cond (leb scratchWords (length w)) (wordsIn s (checked s) ++ drop scratchWords w) w
 

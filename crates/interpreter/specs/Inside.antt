@@ -1,4 +1,4 @@
--- What an entry comes to once the text is accepted, whatever number of scratch words from 8,192 on was lent; and with the text's own verdict.
+-- What an entry comes to once the text is accepted, however many words of scratch were lent past those that it takes; and with the text's own verdict.
 use Prim.Native.Nat.{ℕ, _<_, _≤_}
 use mathlib.Core.Path.{_≡_, refl, sym, _∙_, ap, subst}
 use mathlib.Core.Logic.{_⊎_, inl, inr}

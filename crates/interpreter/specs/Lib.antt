@@ -14,4 +14,5 @@ pub mod Naming
 pub mod Calls
 pub mod Unread
 pub mod Numbers
+pub mod Scratch
 pub mod Demand

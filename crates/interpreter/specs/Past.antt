@@ -1,6 +1,6 @@
 -- The plain machine's replies, by what is asked: past the refusals of the text, and past 16.
 use Prim.Native.Nat.{ℕ, _<_, _≤_}
-use mathlib.Core.Path.{_≡_, refl, _∙_, ap}
+use mathlib.Core.Path.{_≡_, refl, sym, _∙_, ap}
 use mathlib.Core.List.{List}
 use mathlib.Core.Bool.{Bool, true, false, cond, false≢true}
 use native.Mathlib.Omega.{arith}
@@ -9,7 +9,7 @@ use lib.Dec.{leb}
 use lib.ListN.{length, getElem?}
 use Rattle.notation.specs.Limits.{scratchWords, runWords}
 use Rattle.notation.specs.Tree.{Declaration}
-use Rattle.calculus.specs.Accepted.{accepted, faulty, checked}
+use Rattle.calculus.specs.Accepted.{Checked, accepted, faulty, checked}
 use Rattle.calculus.specs.Configuration.{Config, at}
 use Rattle.calculus.specs.Machine.{Answer, started, stepped, ranOn, reported, surveyed, named, Reply, reply, textChecked, onProgram, onRun, onLine, onPlace, onStep, refusal, respond, idle}
 use Rattle.calculus.specs.Program.{Program, programOf}
@@ -19,7 +19,7 @@ use Rattle.calculus.specs.declared.answers.Started.the-variants as starts
 use Rattle.calculus.specs.declared.answers.Stepped.the-variants as steps
 use Rattle.calculus.specs.declared.answers.Reported.the-variants as reports
 use Rattle.calculus.specs.declared.answers.Surveyed.the-variants as surveys
-use Rattle.theory_safety.specs.Replies.{enough-text}
+use Rattle.theory_safety.specs.Replies.{textChecked-enough, enough-text}
 use Rattle.interpreter.specs.Entries.{Request, toStart, toStep, toRunOn, toReport, toPlaces, toName, callAs, RunUse, anew, read, unlent, useOf, RunAfter}
 
 -- a refusal as it answers what is asked
@@ -79,12 +79,19 @@ module _ (s : List ℕ) where
   reply-by toPlaces C n m = refl
   reply-by (toName line) C n m = refl
 
+  -- the same, where the verdict is known
+  reply-on : (q : Request) (C : Config) (n m : ℕ) {t : Checked} → textChecked s n ≡ t → respond s C (callAs q n m) ≡ onProgram t (refuse q C) (λ p. onLent (useOf q) m (refuse q C) (pastRun p q C))
+  reply-on q C n m e = reply-by q C n m ∙ ap (λ t. onProgram t (refuse q C) (λ p. onLent (useOf q) m (refuse q C) (pastRun p q C))) e
+
   pub reply-refused : (q : Request) (C : Config) (n m k i : ℕ) → textChecked s n ≡ faulty k i → respond s C (callAs q n m) ≡ refuse q C k i
-  reply-refused q C n m k i e = reply-by q C n m ∙ ap (λ t. onProgram t (refuse q C) (λ p. onLent (useOf q) m (refuse q C) (pastRun p q C))) e
+  reply-refused q C n m k i e = reply-on q C n m e
+
+  pub replies-alike : (q : Request) (C : Config) (n n′ m : ℕ) → scratchWords ≤ n → scratchWords ≤ n′ → respond s C (callAs q n m) ≡ respond s C (callAs q n′ m)
+  replies-alike q C n n′ m h h′ = reply-on q C n m (textChecked-enough s n h) ∙ sym (reply-on q C n′ m (textChecked-enough s n′ h′))
 
   module _ (ds : List Declaration) (ok : checked s ≡ accepted ds) where
     pub reply-accepted : (q : Request) (C : Config) (n m : ℕ) → scratchWords ≤ n → respond s C (callAs q n m) ≡ onLent (useOf q) m (refuse q C) (pastRun (programOf ds) q C)
-    reply-accepted q C n m h = reply-by q C n m ∙ ap (λ t. onProgram t (refuse q C) (λ p. onLent (useOf q) m (refuse q C) (pastRun p q C))) (enough-text s ds ok n h)
+    reply-accepted q C n m h = reply-on q C n m (enough-text s ds ok n h)
 
 -- 16, and past it
 pub lent-short : (u : RunUse) (m : ℕ) (f : ℕ → ℕ → Reply) (y : Reply) → isLent u ≡ true → m < runWords → onLent u m f y ≡ f 16 0

@@ -10,6 +10,7 @@ pub mod Processes
 pub mod Scripts
 pub mod From
 pub mod Tables
+pub mod Layout
 pub mod Computed
 pub mod Examples
 pub mod Brackets

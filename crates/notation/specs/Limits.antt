@@ -47,7 +47,7 @@ outsideNumbers = 32
 
 -- words of scratch and of a run that the caller lends at least
 abbrev pub scratchWords : ℕ
-scratchWords = 8192
+scratchWords = 6144
 
 abbrev pub runWords : ℕ
 runWords = 6144

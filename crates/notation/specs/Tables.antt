@@ -324,7 +324,7 @@ abbrev pub tablesRead : Result (List Declaration) → List ℕ
 tablesRead (got ds c) = tablesOf ds
 tablesRead (refused n i) = zeros
 
--- the first 8,192 words of scratch for a text that is not refused
+-- the words of scratch for a text that is not refused
 unfoldable pub tables : List ℕ → List ℕ
 tables s = tablesRead (readText s)
 

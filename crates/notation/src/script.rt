@@ -35,7 +35,7 @@ impl Script {
     pub const OUTSIDE_NUMBERS: usize = 32;
 
     // What the caller lends, in words.
-    pub const SCRATCH_WORDS: usize = 8192;
+    pub const SCRATCH_WORDS: usize = 6144;
 
     pub const RUN_WORDS: usize = 6144;
 }

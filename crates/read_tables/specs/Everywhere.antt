@@ -16,6 +16,7 @@ use Rattle.notation.specs.declared.reading.Tally.{Tally}
 use Rattle.notation.specs.declared.reading.TypeNode.{TypeNode}
 use Rattle.notation.specs.declared.reading.TermNode.{TermNode}
 use Rattle.notation.specs.Tables.{Area}
+use Rattle.notation.specs.Layout.{zeros-area}
 use Rattle.notation.proofs.ScriptReadings.{text-read}
 use Rattle.read_tables.specs.Decode.{tallyIn}
 use Rattle.read_tables.specs.Growth.{Grown, grown-none, grown-then, grown-lasting, grown-node, grown-alternative, grown-term, grown-branch, grown-exec}
@@ -24,7 +25,7 @@ use Rattle.read_tables.specs.Types.{whole-written}
 use Rattle.read_tables.specs.Processes.{process-counts, process-kept, process-written}
 use Rattle.read_tables.specs.Declarations.{entry-after, type-after, process-after}
 use Rattle.read_tables.specs.Roots.{TypeIn, type-in, ProcessIn}
-use Rattle.read_tables.specs.Whole.{wide, tables-counted, tables-grown}
+use Rattle.read_tables.specs.Whole.{tables-counted, tables-grown}
 
 -- all numbers of type nodes and of process nodes stand
 pub record Everywhere (s w : List ℕ) : Type 0 where
@@ -171,7 +172,7 @@ module _ (s v : List ℕ) (h : Within (tallyIn v)) where
 pub script-everywhere : (ds : List Declaration) (s : List ℕ) → ScriptFrom s ds → FineScript ds → Within (afterScript ds nothing) → Everywhere s (tablesOf ds)
 script-everywhere ds s t f h =
     let c = tables-counted ds in
-    let b = script-fill s (tablesOf ds) (subst Within (sym c) h) ds nothing zeros t f .stands wide (tables-grown ds) in
+    let b = script-fill s (tablesOf ds) (subst Within (sym c) h) ds nothing zeros t f .stands zeros-area (tables-grown ds) in
     record {
       nodes = λ i l. b .nodes i (omega arith) (subst (λ (m : Tally). i < m .nodes) c l);
       terms = λ p l. b .terms p (omega arith) (subst (λ (m : Tally). p < m .terms) c l);

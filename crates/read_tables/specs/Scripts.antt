@@ -3,14 +3,15 @@ use Prim.Native.Nat.{ℕ, zero, suc, _+_}
 use mathlib.Core.Path.{_≡_, refl, sym, _∙_, ap}
 use mathlib.Core.List.{List, [], _∷_, _++_}
 use native.Mathlib.Omega.{arith}
-use lib.ListN.{length, getD, length-append, length-replicate}
+use lib.ListN.{length, getD, length-append}
 use Rattle.notation.specs.Fine.{FineScript}
-use Rattle.notation.specs.Limits.{typeTermLimit, processTermLimit, scratchWords}
+use Rattle.notation.specs.Limits.{typeTermLimit, processTermLimit}
 use Rattle.notation.specs.Tree.{Entry, Declaration, declareType, declareProc, declareExec}
 use Rattle.notation.specs.Reader.{nameIn}
 use Rattle.notation.specs.Tables.{lasting, afterEntries, afterDeclaration, afterScript, writeScript, writeCounts, nothing, zeros, tablesOf, Within}
 use Rattle.notation.specs.declared.reading.Tally.{Tally}
 use Rattle.notation.specs.Tables.{Area}
+use Rattle.notation.specs.Layout.{zeros-area}
 use Rattle.read_tables.specs.Decode.{tallyIn, typeIn, entriesIn, typeDeclaration, procBy, procDeclaration, execDeclaration, numbered, scriptIn}
 use Rattle.read_tables.specs.Growth.{grown-counts}
 use Rattle.notation.specs.From.{EntriesFrom, DeclarationFrom, ScriptFrom}
@@ -137,9 +138,8 @@ script-decoded ds s t f h =
     let k = afterScript ds nothing in
     let w = writeScript ds nothing zeros in
     let v = writeCounts k w in
-    let area : Area zeros = omega (arith, length-replicate {A = ℕ} scratchWords 0) in
-    let e : ScriptAt v k nothing ds = script-kept (grown-counts k w) h ds nothing (script-written ds nothing zeros f area h) in
-    let c = counted k w (omega (arith, length-replicate {A = ℕ} scratchWords 0, script-grown ds nothing zeros .long)) in
+    let e : ScriptAt v k nothing ds = script-kept (grown-counts k w) h ds nothing (script-written ds nothing zeros f zeros-area h) in
+    let c = counted k w (omega (arith, zeros-area, script-grown ds nothing zeros .long)) in
     let x : getD v 0 0 ≡ length (gather ownType ds) = omega (arith, ap (λ (l : Tally). l .types) c, gathered-count ownType (λ j. j .types) (λ a j. grows-by a j .0) ds nothing) in
     let y : getD v 1 0 ≡ length (gather ownProc ds) = omega (arith, ap (λ (l : Tally). l .processes) c, gathered-count ownProc (λ j. j .processes) (λ a j. grows-by a j .1) ds nothing) in
     let z : getD v 2 0 ≡ length (gather ownExec ds) = omega (arith, ap (λ (l : Tally). l .execs) c, gathered-count ownExec (λ j. j .execs) (λ a j. grows-by a j .2) ds nothing) in

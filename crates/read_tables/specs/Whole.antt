@@ -1,21 +1,22 @@
 -- The tables as a whole: at each number of the tables of declarations stand trees and signatures, so that code may begin its walk there.
 use Prim.Native.Nat.{ℕ, suc, _+_, _-_, _<_, _≤_}
-use mathlib.Core.Path.{_≡_, refl, sym, subst}
+use mathlib.Core.Path.{_≡_, refl, sym, _∙_, subst}
 use mathlib.Core.Logic.{_⊎_, inl, inr}
 use mathlib.Core.List.{List, [], _∷_}
 use native.Mathlib.Nat.{eq-or-lt-of-le}
 use native.Mathlib.Omega.{arith}
-use lib.ListN.{length, length-replicate}
+use lib.ListN.{length}
 use Rattle.notation.specs.Fine.{FineScript}
 use Rattle.notation.specs.Limits.{scratchWords}
 use Rattle.notation.specs.Tree.{Entry, Declaration, declareType, declareProc, declareExec}
-use Rattle.notation.specs.Reader.{got, nameIn}
+use Rattle.notation.specs.Reader.{Result, got, refused, nameIn}
 use Rattle.notation.specs.Scripts.{readText}
 use Rattle.notation.specs.Tables.{lasting, afterDeclaration, afterScript, writeScript, nothing, zeros, tablesOf, tables, processEntry, Within}
 use Rattle.notation.specs.declared.reading.Cursor.{Cursor}
 use Rattle.notation.specs.declared.reading.Tally.{Tally}
 use Rattle.notation.specs.declared.reading.ProcessEntry.{ProcessEntry}
-use Rattle.notation.specs.Tables.{Area}
+use Rattle.notation.specs.Tables.{tablesRead, Area}
+use Rattle.notation.specs.Layout.{zeros-length, zeros-area}
 use Rattle.read_tables.specs.Decode.{tallyIn, entryAt, typeAt, processAt, entriesIn, typeIn, scriptIn}
 use Rattle.read_tables.specs.Growth.{Grown, grown-then, grown-lasting, grown-counts}
 use Rattle.notation.specs.From.{EntriesFrom, DeclarationFrom, ScriptFrom}
@@ -106,13 +107,10 @@ pub record Tables (s w : List ℕ) : Type 0 where
   pub types : (i : ℕ) → i < tallyIn w .types → TypeIn s w (typeAt w i .1)
   pub processes : (i : ℕ) → i < tallyIn w .processes → SignatureIn s w (processAt w i)
 
-pub wide : Area zeros
-wide = omega (arith, length-replicate {A = ℕ} scratchWords 0)
-
 -- the counts are written last, over the words of a script
 module _ (ds : List Declaration) where
   filled : Area (writeScript ds nothing zeros)
-  filled = omega (arith, wide, script-grown ds nothing zeros .long)
+  filled = omega (arith, zeros-area, script-grown ds nothing zeros .long)
 
   pub tables-counted : tallyIn (tablesOf ds) ≡ lasting 0 (afterScript ds nothing)
   unfolding tablesOf
@@ -125,6 +123,15 @@ module _ (ds : List Declaration) where
       let w = writeScript ds nothing zeros in
       subst (λ (l : Tally). Grown k l w (tablesOf ds)) (sym tables-counted) (grown-then (grown-counts k w) (grown-lasting 0 k (tablesOf ds)))
 
+-- the words that a text decides are as many as are lent at least
+pub tables-length : (s : List ℕ) → length (tables s) ≡ scratchWords
+unfolding tables
+tables-length s = go (readText s)
+  where
+    go : (r : Result (List Declaration)) → length (tablesRead r) ≡ scratchWords
+    go (got ds d) = tables-grown ds .long ∙ script-grown ds nothing zeros .long ∙ zeros-length
+    go (refused n i) = zeros-length
+
 -- the tables of a script that was read are such
 pub tables-in : (ds : List Declaration) (s : List ℕ) → ScriptFrom s ds → FineScript ds → Within (afterScript ds nothing) → Tables s (tablesOf ds)
 tables-in ds s t f h =
@@ -132,7 +139,7 @@ tables-in ds s t f h =
     let c = tables-counted ds in
     let g = tables-grown ds in
     let within : Within (tallyIn v) = subst Within (sym c) h in
-    let e : ScriptAt v (tallyIn v) nothing ds = script-kept g within ds nothing (script-written ds nothing zeros f wide h) in
+    let e : ScriptAt v (tallyIn v) nothing ds = script-kept g within ds nothing (script-written ds nothing zeros f zeros-area h) in
     record {
       area = omega (arith, filled ds, g .long);
       within = within;

@@ -5,13 +5,14 @@ use Prim.Native.Nat.{ℕ, _+_, _<_, _≤_}
 use native.Mathlib.Omega.{arith}
 use borrow.Author.Tests.{lt-leb, le-leb}
 use native.Mathlib.Decide.{ℕ-discrete}
-use lib.ListN.{length, getD, set, drop, replicate, length-replicate, getD-replicate}
+use lib.ListN.{length, getD, set, drop, getD-replicate}
 use lib.Seq.{ext-getD, getD-set-same, getD-set-other}
 use Rattle.notation.specs.Limits.{textLimit, scratchWords}
 use Rattle.notation.specs.Tree.{Declaration}
 use Rattle.notation.specs.Reader.{got, refused}
 use Rattle.notation.specs.Scripts.{readText, readScript, start, fuel}
 use Rattle.notation.specs.Tables.{afterScript, writeScript, writeCounts, nothing, zeros, tables, tablesOf, Within}
+use Rattle.notation.specs.Layout.{zeros-length}
 use Rattle.notation.specs.declared.reading.Cursor.{Cursor}
 use Rattle.notation.specs.declared.reading.Tally.{Tally}
 use Rattle.read_types.specs.declared.steps.Out.{Out}
@@ -23,11 +24,11 @@ use Rattle.read_text.specs.Reading.{Filled, TextRead}
 use Rattle.read_types.proofs.Filled.{gone-on, stopped}
 
 pub all-zero : (p : List ℕ) → length p ≡ scratchWords → ((j : ℕ) → j < scratchWords → getD p j 0 ≡ 0) → p ≡ zeros
-all-zero p l h = ext-getD 0 p (replicate scratchWords 0) (l ∙ sym (length-replicate {A = ℕ} scratchWords 0))
+all-zero p l h = ext-getD 0 p zeros (l ∙ sym zeros-length)
     (λ i m. h i (omega arith) ∙ sym (getD-replicate {A = ℕ} scratchWords i 0 0 (omega arith)))
 
 pub zeros-long : (v : List ℕ) → v ≡ zeros → length v ≡ scratchWords
-zeros-long v e = ap length e ∙ length-replicate {A = ℕ} scratchWords 0
+zeros-long v e = ap length e ∙ zeros-length
 
 pub zero-more : (p : List ℕ) (k : ℕ) → k < length p → ((j : ℕ) → j < k → getD p j 0 ≡ 0) → (j : ℕ) → j < k + 1 → getD (set p k 0) j 0 ≡ 0
 zero-more p k l h j m = at (ℕ-discrete j k)

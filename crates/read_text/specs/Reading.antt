@@ -27,7 +27,7 @@ pub record Filled (s : List ℕ) (r : Reading) (v : List ℕ) : Type 0 where
   pub words : v ≡ tables s
   pub fits : FitsTables s
 
--- for texts and slices of any length: refusal 1 touches nothing, and past the first 8,192 words nothing changes
+-- for texts and slices of any length: refusal 1 touches nothing, and past `scratchWords` nothing changes
 pub record TextRead (s w : List ℕ) (r : Reading) (v : List ℕ) : Type 0 where
   pub short : length w < scratchWords → (r ≡ Refused 1 0) × (v ≡ w)
   pub enough : scratchWords ≤ length w → (r ≡ answerOf (readText s)) × (v ≡ tables s ++ drop scratchWords w) × FitsTables s

@@ -89,7 +89,7 @@ fn fill(text: &[u8], part: &mut [u32]) -> Reading
     }
 }
 
-// Refusals 1 to 5 of a text, or its tables in the first 8,192 words.
+// Refusals 1 to 5 of a text, or its tables in the first words of scratch.
 pub fn read(text: &[u8], scratch: &mut [u32]) -> Reading
     ensures { λ r. ⌜ TextRead (now (text .entry)) (now (scratch .entry)) r (now (scratch .exit)) ⌝ }
 {

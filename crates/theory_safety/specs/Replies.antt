@@ -1,5 +1,5 @@
 -- The replies to a call, by the refusal list: which calls are refused, and that a refusal changes nothing.
-use Prim.Native.Nat.{ℕ, _≤_}
+use Prim.Native.Nat.{ℕ, _<_, _≤_}
 use native.Mathlib.Omega.{arith}
 use mathlib.Core.Path.{_≡_, refl, sym, _∙_}
 use mathlib.Core.Logic.{_↔_, inl, inr}
@@ -8,6 +8,7 @@ use mathlib.Core.Option.{Option, some, none}
 use mathlib.Core.Bool.{Bool, true, false, cond, true≢false, false≢true}
 use lib.ListN.{length, getElem?}
 use lib.Dec.{leb}
+use borrow.Author.Tests.{le-leb, lt-leb}
 use Rattle.notation.specs.Limits.{scratchWords, runWords}
 use Rattle.notation.specs.Tree.{Located, Declaration}
 use Rattle.calculus.specs.Program.{Signature, Program, programOf}
@@ -104,6 +105,15 @@ unchanged-by reports e = refl
 unchanged-by surveys-places e = refl
 unchanged-by (names n) e = refl
 
+-- ── how many words of scratch are lent: with too few refusal 1, otherwise the text's own verdict, whatever their number
+pub textChecked-short : (text : List ℕ) (scratch : ℕ) → scratch < scratchWords → textChecked text scratch ≡ faulty 1 0
+unfolding textChecked
+textChecked-short text scratch h = rw (lt-leb scratchWords scratch h)
+
+pub textChecked-enough : (text : List ℕ) (scratch : ℕ) → scratchWords ≤ scratch → textChecked text scratch ≡ checked text
+unfolding textChecked
+textChecked-enough text scratch h = rw (le-leb scratchWords scratch h)
+
 module _ (text : List ℕ) (ds : List Declaration) (ok : checked text ≡ accepted ds) where
   abbrev pub P : Program
   P = programOf ds
@@ -129,8 +139,7 @@ module _ (text : List ℕ) (ds : List Declaration) (ok : checked text ≡ accept
 
   -- ── which calls are refused, with slices of enough words
   pub enough-text : (scratch : ℕ) → scratchWords ≤ scratch → textChecked text scratch ≡ accepted ds
-  unfolding textChecked
-  enough-text scratch h = rw (leb-iff scratchWords scratch .1 h) ok
+  enough-text scratch h = textChecked-enough text scratch h ∙ ok
 
   pub refused-where : (C : Config) (c : Call) → lengths c → RefusedWhere P C c (respond text C c .answer)
   unfolding respond execOf

@@ -1,14 +1,13 @@
 //! Random calls of the functions themselves, with slices longer and shorter than they must be, on good and damaged texts and runs.
 
 use super::*;
+use crate::{RUN_WORDS as RUN, SCRATCH_WORDS as SCRATCH};
 use std::collections::BTreeSet;
 use std::fs;
 use std::path::Path;
 use std::vec;
 use std::vec::Vec;
 
-const SCRATCH: usize = 8192;
-const RUN: usize = 6144;
 const PAST: usize = 9;
 const MARK: u32 = 0xdead_beef;
 
@@ -84,6 +83,9 @@ fn keeps(before: &Lent, after: &Lent, call: Call, refusal: u32) {
     assert_eq!(before.run[RUN..], after.run[RUN..], "{call:?}: the run past its words");
     assert_eq!(before.answer[ANSWER_WORDS..], after.answer[ANSWER_WORDS..], "{call:?}: the answer past its words");
     assert_eq!(after.answer[0], refusal, "{call:?}");
+    if (2..=15).contains(&refusal) {
+        assert!(after.scratch[..SCRATCH].iter().all(|&w| w == 0), "{call:?}: scratch after {refusal}");
+    }
     if refusal != 0 || !matches!(call, Call::Start(_) | Call::Step(_) | Call::RunOn(_)) {
         assert!(before.run == after.run, "{call:?}: the run was changed, {refusal}");
     }
@@ -101,11 +103,11 @@ fn keeps(before: &Lent, after: &Lent, call: Call, refusal: u32) {
 /// Slices under their lengths: 255 and 1 touch none, 16 leaves the run.
 fn short(lent: &Lent, text: &[u8], call: Call, source: &mut Source) {
     let (mut a, mut s, mut r) = (lent.clone(), lent.clone(), lent.clone());
-    assert_eq!(a.call(text, call, SCRATCH, RUN, source.below(130) as usize), 255);
+    assert_eq!(a.call(text, call, SCRATCH, RUN, source.below(ANSWER_WORDS as u64) as usize), 255);
     assert!(a == *lent, "{call:?}: touched with a short answer");
-    assert_eq!(s.call(text, call, source.below(8192) as usize, RUN, ANSWER_WORDS), 1);
+    assert_eq!(s.call(text, call, source.below(SCRATCH as u64) as usize, RUN, ANSWER_WORDS), 1);
     assert!(s.scratch == lent.scratch && s.run == lent.run, "{call:?}: touched with short scratch");
-    let refusal = r.call(text, call, SCRATCH, source.below(6144) as usize, ANSWER_WORDS);
+    let refusal = r.call(text, call, SCRATCH, source.below(RUN as u64) as usize, ANSWER_WORDS);
     assert!(matches!(call, Call::ExecName(_)) || refusal == 16 || (2..=15).contains(&refusal), "{call:?}: {refusal}");
     assert!(r.run == lent.run, "{call:?}: touched with a short run");
 }
@@ -193,6 +195,25 @@ fn random_calls() {
     // The calls met each end that they may meet, and some faults of a text.
     assert!([0, 17, 18, 19, 20, 21].iter().all(|n| returned.contains(n)), "{returned:?}");
     assert!(returned.range(2..=15).count() > 4, "{returned:?}");
+}
+
+/// With a word of scratch too few each call is refused by 1 and touches nothing. With enough it is answered as with more, and no word past them is written.
+#[test]
+fn scratch_at_its_limit() {
+    let refused: &[u8] = b"type a = 1 *";
+    for text in texts().iter().map(Vec::as_slice).chain([refused]) {
+        for call in [Call::Start(0), Call::Step(0), Call::RunOn(9), Call::Report, Call::Places, Call::ExecName(0)] {
+            let before = Lent::new();
+            let (mut short, mut enough, mut more) = (before.clone(), before.clone(), before.clone());
+            assert_eq!(short.call(text, call, SCRATCH - 1, RUN, ANSWER_WORDS), 1, "{call:?}");
+            assert!(short.scratch == before.scratch && short.run == before.run, "{call:?}: touched with short scratch");
+            let refusal = enough.call(text, call, SCRATCH, RUN, ANSWER_WORDS);
+            assert_ne!(refusal, 1, "{call:?}");
+            keeps(&before, &enough, call, refusal);
+            assert_eq!(more.call(text, call, SCRATCH + PAST, RUN, ANSWER_WORDS), refusal, "{call:?}");
+            assert!(more == enough, "{call:?}: more scratch, another answer");
+        }
+    }
 }
 
 /// A label is told with its length, the apostrophe counted; a name with its place.

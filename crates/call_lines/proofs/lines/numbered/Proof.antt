@@ -1,4 +1,4 @@
-use Rattle.call_lines.specs.CallLine.{numbered}
+use Rattle.call_lines.specs.CallLine.{mostScratch, mostRun, numbered}
 use borrow.Author.Tests.{le-leb, lt-leb}
 use borrow.Author.Needs.{needs}
 use Rattle.call_lines.proofs.lines.numbered.Statement.{statement}
@@ -25,11 +25,11 @@ enum-told-3 c = search needs
 
 returns-3 : tie.Need-returns-3
 unfolding numbered
-returns-3 c = rw (c .before .enum-told3 .given .1, le-leb _ 8192 (c .if1 .taken))
+returns-3 c = rw (c .before .enum-told3 .given .1, le-leb _ mostRun (c .if1 .taken))
 
 returns-4 : tie.Need-returns-4
 unfolding numbered
-returns-4 c = rw (c .before .enum-told3 .given .1, lt-leb _ 8192 (c .if1 .left))
+returns-4 c = rw (c .before .enum-told3 .given .1, lt-leb _ mostRun (c .if1 .left))
 
 enum-told-4 : tie.Need-enum-told-4
 enum-told-4 c = search needs
@@ -50,11 +50,11 @@ enum-told-6 c = search needs
 
 returns-7 : tie.Need-returns-7
 unfolding numbered
-returns-7 c = rw (c .before .enum-told6 .given .1, le-leb _ 16384 (c .if2 .taken))
+returns-7 c = rw (c .before .enum-told6 .given .1, le-leb _ mostScratch (c .if2 .taken))
 
 returns-8 : tie.Need-returns-8
 unfolding numbered
-returns-8 c = rw (c .before .enum-told6 .given .1, lt-leb _ 16384 (c .if2 .left))
+returns-8 c = rw (c .before .enum-told6 .given .1, lt-leb _ mostScratch (c .if2 .left))
 
 enum-told-7 : tie.Need-enum-told-7
 enum-told-7 c = search needs

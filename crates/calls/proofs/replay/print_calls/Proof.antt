@@ -1,6 +1,7 @@
 use mathlib.Core.Path.{_≡_, sym}
 use Prim.Native.Nat.{_-_}
 use lib.ListN.{length, drop, length-take, length-drop}
+use Rattle.call_lines.specs.CallLine.{mostScratch, mostRun}
 use Rattle.call_lines.specs.Lending.{Lendable, lendable-first}
 use native.Mathlib.Omega.{arith}
 use borrow.Author.Needs.{needs}
@@ -13,7 +14,7 @@ use Rattle.call_lines.proofs.log.line_length.Reads as line-length-reads
 use Rattle.calls.proofs.replay.print_answered.Reads as print-answered-reads
 
 abbrev Inv-loop : tie.InvT-loop
-Inv-loop text calls scratch₀ run₀ out₀ lent₀ at₀ scratch run out lent at = Lendable lent × (length scratch ≡ 16384) × (length run ≡ 8192) × (length out ≡ 66336)
+Inv-loop text calls scratch₀ run₀ out₀ lent₀ at₀ scratch run out lent at = Lendable lent × (length scratch ≡ mostScratch) × (length run ≡ mostRun) × (length out ≡ 66336)
 
 abbrev μ-loop : tie.MeasureT-loop
 μ-loop text calls scratch₀ run₀ out₀ lent₀ at₀ scratch run out lent at = length calls - at

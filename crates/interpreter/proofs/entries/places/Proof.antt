@@ -49,8 +49,7 @@ places-in-requires : tie.Need-places-in-requires
 places-in-requires c κs =
     let check = c .before .before .before .before .before .before .check in
     let entry = c .before .before .before .before .before .before .before .before .before .before .before in
-    let l : length (check .last .1 .0) ≡ length (entry .args .scratch .now) = search needs in
-    text-accepted (entry .args .text .now) (entry .args .scratch .now) (check .last .1 .0) _ (check .ensures) (c .before .before .enum-told .given .1) l
+    text-accepted (entry .args .text .now) (entry .args .scratch .now) (check .last .1 .0) _ (check .ensures) (c .before .before .enum-told .given .1)
 
 same-length : tie.Need-same-length
 same-length c = search needs
