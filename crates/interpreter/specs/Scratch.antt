@@ -16,7 +16,6 @@ use Rattle.theory_safety.specs.Replies.{textChecked-short}
 use Rattle.check_text.specs.Texts.{wordsIn, words-length}
 use Rattle.interpreter.specs.Entries.{Request, toStart, toStep, toRunOn, toReport, toPlaces, toName, EntryCall, called, configOf, HoldsRun, Reached, Answers}
 use Rattle.interpreter.specs.Past.{refusalTo, refusal-is, reply-refused, replies-alike}
-use Rattle.interpreter.specs.Calls.{Demand1}
 use Rattle.interpreter.specs.Numbers.{demand1}
 
 refuses : (q : Request) (k i : ℕ) → isRefused (refusalTo q (suc k) i) ≡ true
@@ -31,19 +30,25 @@ abbrev answerIn : Reply → Answer
 answerIn y = y .answer
 
 -- ── one call of an entry
+-- 1: "Scratch has under 6,144 words."; "After 1 no lent slice is touched"
+pub record RefusedUntouched (m : EntryCall) : Type 0 where
+  pub answer : m .answer ≡ refusalTo (m .request) 1 0
+  pub scratch : m .left .scratch ≡ m .lent .scratch
+  pub run : m .left .run ≡ m .lent .run
+
 module _ (s : List ℕ) (m : EntryCall) (A : Answers s m) where
   abbrev lent : List ℕ
   lent = m .lent .scratch
 
-  -- 1: "Scratch has under 6,144 words."; "After 1 no lent slice is touched"
-  pub short-refused : length lent < scratchWords → (m .answer ≡ refusalTo (m .request) 1 0) × (m .left .scratch ≡ lent) × (m .left .run ≡ m .lent .run)
+  pub short-refused : length lent < scratchWords → RefusedUntouched m
   short-refused l =
       let reply = reply-refused s (m .request) (configOf s (m .lent .run)) (length lent) (length (m .lent .run)) 1 0 (textChecked-short s (length lent) l) in
-      let answer = A .known (λ h. absurd (omega (arith, l, h .scratch))) .0 .is ∙ ap answerIn reply in (
-        answer,
-        A .scratch ∙ rw (lt-leb scratchWords (length lent) l),
-        demand1 .unchanged s m A (ap isRefused answer ∙ refuses (m .request) 0 0),
-      )
+      let answer = A .known (λ h. absurd (omega (arith, l, h .scratch))) .0 .is ∙ ap answerIn reply in
+      record {
+        answer = answer;
+        scratch = A .scratch ∙ rw (lt-leb scratchWords (length lent) l);
+        run = demand1 .unchanged s m A (ap isRefused answer ∙ refuses (m .request) 0 0);
+      }
 
   -- "Words past 6,144 of scratch .. are never written, for an accepted text either."
   pub past-unwritten : scratchWords ≤ length lent → drop scratchWords (m .left .scratch) ≡ drop scratchWords lent
