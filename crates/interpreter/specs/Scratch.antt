@@ -6,8 +6,8 @@ use mathlib.Core.List.{List, _++_}
 use mathlib.Core.Bool.{true}
 use native.Mathlib.Omega.{arith}
 use borrow.Author.Tests.{le-leb, lt-leb}
-use lib.ListN.{length, drop}
-use lib.Seq.{drop-at}
+use lib.ListN.{length, take, drop}
+use lib.Seq.{take-at, drop-at}
 use Rattle.notation.specs.Limits.{scratchWords}
 use Rattle.calculus.specs.Accepted.{checked}
 use Rattle.calculus.specs.Demands.{isRefused}
@@ -18,6 +18,7 @@ use Rattle.interpreter.specs.Entries.{Request, toStart, toStep, toRunOn,
 use Rattle.interpreter.specs.Past.{refusalTo, refusal-is, reply-refused, replies-alike}
 use Rattle.interpreter.specs.Numbers.{demand1}
 
+-- a refusal's answer tells that it is one
 refuses : (q : Request) (k i : ℕ) → isRefused (refusalTo q (suc k) i) ≡ true
 refuses (toStart line) k i = refl
 refuses (toStep place) k i = refl
@@ -50,24 +51,29 @@ module _ (s : List ℕ) (m : EntryCall) (A : Answers s m) where
         run = demand1 .unchanged s m A (ap isRefused answer ∙ refuses (m .request) 0 0);
       }
 
-  -- "Words past 6,144 of scratch .. are never written, for an accepted text either."
-  pub past-unwritten : scratchWords ≤ length lent → drop scratchWords (m .left .scratch) ≡ drop scratchWords lent
-  past-unwritten h =
-      let words : m .left .scratch ≡ wordsIn s (checked s) ++ drop scratchWords lent = A .scratch ∙ rw (le-leb scratchWords (length lent) h) in
-      ap (drop scratchWords) words ∙ drop-at (wordsIn s (checked s)) (drop scratchWords lent) scratchWords (words-length s (checked s))
+  module _ (enough : scratchWords ≤ length lent) where
+    words-left : m .left .scratch ≡ wordsIn s (checked s) ++ drop scratchWords lent
+    words-left = A .scratch ∙ rw (le-leb scratchWords (length lent) enough)
 
--- ── two calls of one text that differ in their scratch alone, of which both are lent enough: their answers are the same
-module _ (s ws : List ℕ) (q : Request) (w w′ : List ℕ) (enough : scratchWords ≤ length w) (enough′ : scratchWords ≤ length w′) where
-  module _ (a a′ : Answer) (v v′ vs vs′ : List ℕ) where
+    -- "after 2 to 15 the first 6,144 scratch words are zero; otherwise they hold the checked tables"
+    pub first-decided : take scratchWords (m .left .scratch) ≡ wordsIn s (checked s)
+    first-decided = ap (take scratchWords) words-left ∙ take-at (wordsIn s (checked s)) (drop scratchWords lent) scratchWords (words-length s (checked s))
+
+    -- "Words past 6,144 of scratch .. are never written, for an accepted text either."
+    pub past-unwritten : drop scratchWords (m .left .scratch) ≡ drop scratchWords lent
+    past-unwritten = ap (drop scratchWords) words-left ∙ drop-at (wordsIn s (checked s)) (drop scratchWords lent) scratchWords (words-length s (checked s))
+
+-- ── two calls of one text that differ in their scratch alone, of which both are lent enough
+module _ (s ws : List ℕ) (q : Request) where
+  -- 18 is tested in both or in neither
+  reached-alike : {w w′ : List ℕ} {a a′ : Answer} {v v′ vs vs′ : List ℕ} → scratchWords ≤ length w′ → Reached s (called q w ws a v vs) → Reached s (called q w′ ws a′ v′ vs′)
+  reached-alike enough r = record { reads = r .reads; script = r .script; accepts = r .accepts; scratch = enough; run = r .run }
+
+  module _ (w w′ : List ℕ) (enough : scratchWords ≤ length w) (enough′ : scratchWords ≤ length w′) (a a′ : Answer) (v v′ vs vs′ : List ℕ) where
+    -- their answers are the same
     pub answers-alike : Answers s (called q w ws a v vs) → Answers s (called q w′ ws a′ v′ vs′) → a ≡ a′
     answers-alike A A′ = go (A .either)
       where
-        there : Reached s (called q w ws a v vs) → Reached s (called q w′ ws a′ v′ vs′)
-        there r = record { reads = r .reads; script = r .script; accepts = r .accepts; scratch = enough′; run = r .run }
-
-        back : Reached s (called q w′ ws a′ v′ vs′) → Reached s (called q w ws a v vs)
-        back r = record { reads = r .reads; script = r .script; accepts = r .accepts; scratch = enough; run = r .run }
-
         go : (Reached s (called q w ws a v vs) × (¬ HoldsRun s ws)) ⊎ (Reached s (called q w ws a v vs) → HoldsRun s ws) → a ≡ a′
-        go (inl (r, d)) = A .stranger r d .0 .is ∙ ap answerIn (refusal-is idle q (length w) (length ws) 18 0 ∙ sym (refusal-is idle q (length w′) (length ws) 18 0)) ∙ sym (A′ .stranger (there r) d .0 .is)
-        go (inr k) = A .known k .0 .is ∙ ap answerIn (replies-alike s q (configOf s ws) (length w) (length w′) (length ws) enough enough′) ∙ sym (A′ .known (λ r. k (back r)) .0 .is)
+        go (inl (r, d)) = A .stranger r d .0 .is ∙ ap answerIn (refusal-is idle q (length w) (length ws) 18 0 ∙ sym (refusal-is idle q (length w′) (length ws) 18 0)) ∙ sym (A′ .stranger (reached-alike enough′ r) d .0 .is)
+        go (inr k) = A .known k .0 .is ∙ ap answerIn (replies-alike s q (configOf s ws) (length w) (length w′) (length ws) enough enough′) ∙ sym (A′ .known (λ r. k (reached-alike enough r)) .0 .is)

@@ -7,6 +7,8 @@ use Rattle.notation.specs.Limits.{typeLimit, processLimit, execLimit, ty
 use Rattle.notation.specs.Tables.{typesAt, processesAt, execsAt, entriesAt, nodesAt, alternativesAt, termsAt, branchesAt, branchRoom, tableWords, zeros, Area}
 
 pub record Layout : Type 0 where
+  -- the eight counts stand before them
+  pub counts : 8 ≤ typesAt
   pub types : typesAt + 2 * typeLimit ≡ processesAt
   pub processes : processesAt + 4 * processLimit ≡ execsAt
   pub execs : execsAt + execLimit ≡ entriesAt
@@ -15,10 +17,11 @@ pub record Layout : Type 0 where
   pub alternatives : alternativesAt + typeTermLimit ≡ termsAt
   pub terms : termsAt + 2 * processTermLimit ≡ branchesAt
   pub branches : branchesAt + branchRoom ≡ tableWords
-  pub all : tableWords ≤ scratchWords
+  pub fits : tableWords ≤ scratchWords
 
 pub layout : Layout
 layout = record {
+  counts = omega arith;
   types = refl;
   processes = refl;
   execs = refl;
@@ -27,11 +30,11 @@ layout = record {
   alternatives = refl;
   terms = refl;
   branches = refl;
-  all = omega arith;
+  fits = omega arith;
 }
 
 pub zeros-length : length zeros ≡ scratchWords
 zeros-length = length-replicate {A = ℕ} scratchWords 0
 
 pub zeros-area : Area zeros
-zeros-area = omega (arith, layout .all, zeros-length)
+zeros-area = omega (arith, layout .fits, zeros-length)
