@@ -24,6 +24,27 @@ fn a_text_at_fault() {
     assert_eq!(refusal.sentence(), "the tokens so far continue to no script");
 }
 
+/// Offsets have sixteen bits inside the reading: each is told as it is, up to the end of a full text, and a text whose length has more is refused.
+#[test]
+fn offsets_of_a_text() {
+    let said = |text: &[u8]| Script::check(text, scratch()).unwrap_err().to_string();
+    for n in [1, 255, 256, 257, 4096, 8190, 8191, 8192] {
+        let mut text = vec![b' '; n];
+        text[n - 1] = b'$';
+        assert_eq!(said(&text), format!("refused 3 at {}", n - 1));
+        text[n - 1] = b'1';
+        assert_eq!(said(&text), format!("refused 4 at {}", n - 1));
+    }
+    for n in [4, 252, 256, 8191, 8192] {
+        let mut text = vec![b' '; n];
+        text[n - 4..].copy_from_slice(b"exec");
+        assert_eq!(said(&text), format!("refused 4 at {n}"));
+    }
+    for n in [8193, 65_535, 65_536, 65_537, 65_536 + 8192, 2 * 65_536] {
+        assert_eq!(said(&vec![b' '; n]), "refused 2 at 8192");
+    }
+}
+
 #[test]
 fn lines_and_places() {
     let mut script = Script::check(TEXT, scratch()).unwrap();

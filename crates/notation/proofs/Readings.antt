@@ -1,4 +1,4 @@
--- What a reading comes to: what was read has what it must and ends within the text, or it is refused by a number from 3 to 5.
+-- What a reading comes to: what was read has what it must and ends within the text, or it is refused within the text by a number from 3 to 5.
 -- A law for each part that readings are made of.
 use Prim.Native.Nat.{ℕ, _+_, _≤_, _<_}
 use native.Mathlib.Omega.{arith}
@@ -18,9 +18,9 @@ use Rattle.notation.specs.declared.reading.Taken.{Taken}
 use Rattle.notation.specs.declared.reading.Taken.the-variants.{At, Refused}
 use Rattle.notation.proofs.Tokens.{cond-both, token-onward}
 
--- the numbers by which a reading is refused
-abbrev pub ReadRefusal : ℕ → Type 0
-ReadRefusal n = (3 ≤ n) × (n ≤ 5)
+-- the numbers by which a reading is refused, and where
+abbrev pub ReadRefusal : List ℕ → ℕ → ℕ → Type 0
+ReadRefusal s n i = (3 ≤ n) × (n ≤ 5) × (i ≤ length s)
 
 -- a cursor from an offset on, within the text
 abbrev pub Ahead : List ℕ → ℕ → Cursor → Type 0
@@ -32,14 +32,14 @@ Past s c i d = (c .at + 1 ≤ d .at) × (d .at ≤ length s) × (i < length s) �
 
 abbrev TakesOf : List ℕ → Cursor → Taken → Type 0
 TakesOf s c (At i d) = Past s c i d
-TakesOf s c (Refused n i) = ReadRefusal n
+TakesOf s c (Refused n i) = ReadRefusal s n i
 
 pub record Takes (s : List ℕ) (c : Cursor) (t : Taken) : Type 0 where
   pub holds : TakesOf s c t
 
 abbrev ReadsOf : {A : Type 0} → List ℕ → ℕ → (A → Type 0) → Result A → Type 0
 ReadsOf s low P (got a d) = Ahead s low d × P a
-ReadsOf s low P (refused n i) = ReadRefusal n
+ReadsOf s low P (refused n i) = ReadRefusal s n i
 
 pub record Reads {A : Type 0} (s : List ℕ) (low : ℕ) (P : A → Type 0) (r : Result A) : Type 0 where
   pub holds : ReadsOf s low P r
@@ -53,7 +53,7 @@ module _ {A : Type 0} {s : List ℕ} {low : ℕ} {P : A → Type 0} where
   pub reads-got : (a : A) (d : Cursor) → Ahead s low d → P a → Reads s low P (got a d)
   reads-got a d h p = record { holds = (h, p) }
 
-  pub reads-no : (n i : ℕ) → ReadRefusal n → Reads {A = A} s low P (refused n i)
+  pub reads-no : (n i : ℕ) → ReadRefusal s n i → Reads {A = A} s low P (refused n i)
   reads-no n i h = record { holds = h }
 
   pub reads-take : {c : Cursor} {t : Taken} (f : ℕ → Cursor → Result A) → Takes s c t → ((i : ℕ) (d : Cursor) → Past s c i d → Reads s low P (f i d)) → Reads s low P (take t f)
@@ -80,12 +80,15 @@ module _ {A : Type 0} {s : List ℕ} {low : ℕ} {P : A → Type 0} where
   reads-choose true f g c x y = x refl
   reads-choose false f g c x y = y refl
 
-fault-number : (t : Token) → ReadRefusal (fault t)
-fault-number t = cond-both ReadRefusal (eqb (t .kind) kFault) 3 4 (λ _. omega arith) (λ _. omega arith)
+refused-here : (s : List ℕ) (c : Cursor) → ReadRefusal s (fault (tokenAt s (c .at))) (tokenAt s (c .at) .start)
+refused-here s c =
+    let t = tokenAt s (c .at) in
+    let o = token-onward s (c .at) in
+    cond-both (λ n. ReadRefusal s n (t .start)) (eqb (t .kind) kFault) 3 4 (λ _. omega (arith, o .starts)) (λ _. omega (arith, o .starts))
 
 pub reads-misfit : {A : Type 0} {P : A → Type 0} (s : List ℕ) (low : ℕ) (c : Cursor) → Reads {A = A} s low P (misfit s c)
 unfolding misfit
-reads-misfit s low c = reads-no _ _ (fault-number (tokenAt s (c .at)))
+reads-misfit s low c = reads-no _ _ (refused-here s c)
 
 -- ── tokens: each has a byte at least
 width-some : (k : ℕ) → 1 ≤ width k
@@ -93,7 +96,7 @@ width-some k = cond-both (λ w. 1 ≤ w) (eqb k kThen || eqb k kLabel) 2 1 (λ _
 
 pub takes-limited : {s : List ℕ} {c : Cursor} (t : Taken) (fits : Cursor → Bool) (more : Cursor → Cursor) → ((d : Cursor) → more d .at ≡ d .at) → Takes s c t → Takes s c (limited t fits more)
 takes-limited {s = s} {c} (At i d) fits more e h =
-    cond-both (Takes s c) (fits d) _ _ (λ _. let g = h .holds in record { holds = omega (arith, e d) }) (λ _. record { holds = omega arith })
+    cond-both (Takes s c) (fits d) _ _ (λ _. let g = h .holds in record { holds = omega (arith, e d) }) (λ _. let g = h .holds in record { holds = omega arith })
 takes-limited (Refused n i) fits more e h = record { holds = h .holds }
 
 module _ (s : List ℕ) (k : ℕ) (c : Cursor) (l : k < kFault) where
@@ -103,9 +106,10 @@ module _ (s : List ℕ) (k : ℕ) (c : Cursor) (l : k < kFault) where
       cond-both (Takes s c) (eqb (tokenAt s (c .at) .kind) k) _ _
       (λ e.
       let z = eqb-true (tokenAt s (c .at) .kind) k e in
-      let o = token-onward s (c .at) .goes (omega arith) in
-      record { holds = omega (arith, width-some (tokenAt s (c .at) .kind)) })
-      (λ _. record { holds = fault-number (tokenAt s (c .at)) })
+      let o = token-onward s (c .at) in
+      let g = o .goes (omega arith) in
+      record { holds = omega (arith, o .ends, width-some (tokenAt s (c .at) .kind)) })
+      (λ _. record { holds = refused-here s c })
 
   pub takes-opening : Takes s c (opening s k c)
   unfolding opening

@@ -5,7 +5,7 @@ use mathlib.Core.Path.{_≡_, refl, subst}
 use mathlib.Core.List.{List, []}
 use lib.ListN.{length}
 use lib.Dec.{leb, ltb, eqb}
-use borrow.Author.Tests.{leb-true}
+use borrow.Author.Tests.{leb-true, leb-false}
 use Rattle.notation.specs.Fine.{FineDeclaration, FineEntries, FineScript}
 use Rattle.notation.specs.From.{EntriesFrom, DeclarationFrom, ScriptFrom}
 use Rattle.notation.specs.Limits.{textLimit, typeLimit, processLimit, execLimit}
@@ -99,28 +99,32 @@ module _ (s : List ℕ) (short : length s ≤ textLimit) where
   script-read (suc n) k c l b m =
       script-reads (λ j d. readScript n s j d) c (λ j d h. script-read n j d (h .1) (omega arith) (omega arith)) n l (omega arith) (omega arith) k (declarationHead (kindAt s (c .at)))
 
--- ── a text: 2 where it is too long, else 3 to 5
+-- ── a text: 2 where it is too long, else 3 to 5; at an offset within the text and the limit
 abbrev TextOf : List ℕ → Result (List Declaration) → Type 0
 TextOf s (got ds d) = ReadScript s ds
-TextOf s (refused n i) = (2 ≤ n) × (n ≤ 5)
+TextOf s (refused n i) = (2 ≤ n) × (n ≤ 5) × (i ≤ length s) × (i ≤ textLimit)
 
 record Text (s : List ℕ) (r : Result (List Declaration)) : Type 0 where
   holds : TextOf s r
 
-by-reading : (s : List ℕ) (low : ℕ) (r : Result (List Declaration)) → Reads s low (ReadScript s) r → Text s r
-by-reading s low (got ds d) h = record { holds = h .holds .1 }
-by-reading s low (refused n i) h = let g = h .holds in record { holds = omega arith }
+by-reading : (s : List ℕ) (low : ℕ) (r : Result (List Declaration)) → length s ≤ textLimit → Reads s low (ReadScript s) r → Text s r
+by-reading s low (got ds d) l h = record { holds = h .holds .1 }
+by-reading s low (refused n i) l h = let g = h .holds in record { holds = omega arith }
 
 text-reads : (s : List ℕ) → Text s (readText s)
 unfolding readText
 text-reads s =
     cond-both (Text s) (leb (length s) textLimit) _ _
-    (λ e. by-reading s 0 _ (script-read s (leb-true (length s) textLimit e) (fuel s) _ start (omega arith) (omega arith) (omega arith)))
-    (λ _. record { holds = omega arith })
+    (λ e. let l = leb-true (length s) textLimit e in by-reading s 0 _ l (script-read s l (fuel s) _ start (omega arith) (omega arith) (omega arith)))
+    (λ e. record { holds = omega (arith, leb-false (length s) textLimit e) })
 
--- what is known of the script that was read, and of the number of a refusal
+-- what is known of the script that was read, and of the number and the offset of a refusal
 pub text-read : (s : List ℕ) (ds : List Declaration) (d : Cursor) → readText s ≡ got ds d → ReadScript s ds
 text-read s ds d e = subst (Text s) e (text-reads s) .holds
 
 pub read-numbered : (s : List ℕ) (n i : ℕ) → readText s ≡ refused n i → (2 ≤ n) × (n ≤ 5)
-read-numbered s n i e = subst (Text s) e (text-reads s) .holds
+read-numbered s n i e = let h = subst (Text s) e (text-reads s) .holds in (h .0, h .1)
+
+-- "No offset passes 8,192": the end of a full text is the last
+pub read-offset : (s : List ℕ) (n i : ℕ) → readText s ≡ refused n i → (i ≤ length s) × (i ≤ textLimit)
+read-offset s n i e = let h = subst (Text s) e (text-reads s) .holds in (h .2, h .3)

@@ -53,7 +53,7 @@ cond-both P false x y f g = g refl
 
 -- a token whose first byte stands at i lies within the text
 abbrev Goes : ℕ → ℕ → Token → Type 0
-Goes i n t = (t .start ≡ i) × (t .kind < 32 → (i + width (t .kind) ≤ t .end) × (t .end ≤ n))
+Goes i n t = (t .start ≡ i) × (t .end ≤ n) × (t .kind < 32 → i + width (t .kind) ≤ t .end)
 
 -- bytes that are a symbol are that of their kind
 symbol-is : (w : List ℕ) → symbol w < 30 → w ≡ getD symbols (symbol w) []
@@ -83,9 +83,9 @@ module _ (s : List ℕ) (i : ℕ) (h : i < length s) where
   named-goes : (k f e : ℕ) → i + width k ≤ e → e ≤ length s → Goes i (length s) (named k i f e)
   unfolding named
   named-goes k f e l m =
-      cond-both (λ j. (i ≡ i) × (j < 32 → (i + width j ≤ e) × (e ≤ length s))) (leb (e - f) 32) k 32
-      (λ _. (refl, λ _. (l, m)))
-      (λ _. (refl, λ z. absurd (omega arith)))
+      cond-both (λ j. (i ≡ i) × (e ≤ length s) × (j < 32 → i + width j ≤ e)) (leb (e - f) 32) k 32
+      (λ _. (refl, m, λ _. l))
+      (λ _. (refl, m, λ z. absurd (omega arith)))
 
   end-ge : (j : ℕ) → j ≤ nameEnd s j
   unfolding nameEnd
@@ -126,16 +126,16 @@ module _ (s : List ℕ) (i : ℕ) (h : i < length s) where
       (λ _. cond-both (Goes i (length s)) (eqb (getD s i 0) 39) _ _
       (λ _. cond-both (Goes i (length s)) (letter (getD s (i + 1) 0)) _ _
       (λ e. let l = letter-in (i + 1) e in named-goes _ _ (nameEnd s (i + 1)) (omega (arith, letter-goes (i + 1) l e)) (end-le (i + 1) (omega arith)))
-      (λ _. (refl, λ z. absurd (omega arith))))
+      (λ _. (refl, omega arith, λ z. absurd (omega arith))))
       (λ _. cond-both (Goes i (length s)) (ltb (symbol (take 2 (drop i s))) 14) _ _
       (λ e.
       let l = ltb-true _ _ e in
       let w = mark-in 2 (omega arith) in
       let t = symbol-two (take 2 (drop i s)) l in
-      (refl, λ _. omega (arith, length-take 2 (drop i s), length-drop i s)))
+      (refl, omega (arith, length-take 2 (drop i s), length-drop i s), λ _. omega arith))
       (λ _. cond-both (Goes i (length s)) (ltb (symbol (take 1 (drop i s))) 30) _ _
-      (λ e. let w = mark-in 1 (ltb-true _ _ e) in (refl, λ _. omega arith))
-      (λ _. (refl, λ z. absurd (omega arith))))))
+      (λ e. let w = mark-in 1 (ltb-true _ _ e) in (refl, omega arith, λ _. omega arith))
+      (λ _. (refl, omega arith, λ z. absurd (omega arith))))))
 
 -- a token begins where its first byte stands
 pub first-start : (s : List ℕ) (i : ℕ) → i < length s → firstAt s i .start ≡ i
@@ -153,8 +153,8 @@ token-onward s at =
     let l = ltb-true _ _ e in
     let r = first-goes s (skip s at) l in
     let m = skip-ge s at in
-    record { starts = omega (arith, r .0); goes = λ k. let g = r .1 k in (omega arith, g .1, omega (arith, r .0)) })
-    (λ _. record { starts = le-refl _; goes = λ k. absurd (omega arith) })
+    record { starts = omega (arith, r .0); ends = r .1; goes = λ k. (omega (arith, r .2 k), omega (arith, r .0)) })
+    (λ _. record { starts = le-refl _; ends = le-refl _; goes = λ k. absurd (omega arith) })
 
 -- what is the token lies so
 pub lies-onward : (s : List ℕ) (at : ℕ) (t : Token) → t ≡ tokenAt s at → (t ≡ tokenAt s at) × Onward s at t

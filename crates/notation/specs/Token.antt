@@ -7,6 +7,7 @@ use lib.Dec.{leb, ltb, eqb}
 use Rattle.notation.specs.Limits.{nameLimit}
 use Rattle.notation.specs.Bytes.{letter, nameByte, blank, bytes, find, same}
 use Rattle.notation.specs.declared.token.Token.{Token}
+use Rattle.notation.specs.declared.token.Lexeme.{Lexeme}
 
 -- "The eleven reserved words stand in one table", and the marks after them, those of two bytes first: kinds 0 to 29.
 unfoldable pub symbols : List (List ℕ)
@@ -181,6 +182,10 @@ nameAt s at = take (nameEnd s at - at) (drop at s)
 abbrev pub token : ℕ → ℕ → ℕ → Token
 token k a e = record { kind = k; start = a; end = e }
 
+-- a token that the code found in any text
+abbrev pub asToken : Lexeme → Token
+asToken t = token (t .kind) (t .start) (t .end)
+
 -- a token of kind k from a, whose name stands from i to e: at fault where the name is too long
 unfoldable pub named : ℕ → ℕ → ℕ → ℕ → Token
 named k a i e = token (cond (leb (e - i) nameLimit) k kFault) a e
@@ -219,7 +224,8 @@ kindAt s at = tokenAt s at .kind
 abbrev pub width : ℕ → ℕ
 width k = cond (eqb k kThen || eqb k kLabel) 2 1
 
--- a token that is neither a fault nor the end lies past its offset, within the text: what a reading goes on by
+-- a token lies within the text, and one that is neither a fault nor the end past its offset: what a reading goes on by
 pub record Onward (s : List ℕ) (at : ℕ) (t : Token) : Type 0 where
   pub starts : t .start ≤ length s
-  pub goes : t .kind < kFault → (at + width (t .kind) ≤ t .end) × (t .end ≤ length s) × (t .start < length s)
+  pub ends : t .end ≤ length s
+  pub goes : t .kind < kFault → (at + width (t .kind) ≤ t .end) × (t .start < length s)

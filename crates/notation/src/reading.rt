@@ -1,6 +1,6 @@
 // Where the reading stands, and what counts against the limits: type terms, process terms, open brackets.
 pub struct Cursor {
-    pub at: usize,
+    pub at: u16,
     pub types: usize,
     pub terms: usize,
     pub depth: usize,
@@ -8,8 +8,8 @@ pub struct Cursor {
 
 // A token that was wanted: where it stands and the cursor past it; or the refusal's number and offset.
 pub enum Taken {
-    At(usize, Cursor),
-    Refused(u32, usize),
+    At(u16, Cursor),
+    Refused(u32, u16),
 }
 
 // How far each table is filled, and what was read last: the number of a type or the length of a list.

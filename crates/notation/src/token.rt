@@ -6,15 +6,17 @@ ghost use mathlib.Core.List.{[], _∷_};
 ghost use lib.Dec.{ltb};
 ghost use lib.ListN.{length, getD, take, drop};
 ghost use Rattle.notation.specs.Bytes.{within, letter, nameByte, blank, same};
-ghost use Rattle.notation.specs.Token.{symbols, rows, symbol, beginning, skip, nameEnd, nameAt, named, wordAt, labelAt, markAt, firstAt, tokenAt, Onward};
+ghost use Rattle.notation.specs.Token.{symbols, rows, symbol, beginning, skip, nameEnd, nameAt, named, wordAt, labelAt, markAt, firstAt, tokenAt, asToken, Onward};
+ghost use Rattle.notation.specs.Limits.{textLimit};
 use crate::script::Script;
 
-// A token: its kind, where its first byte stands, and where the byte after its last one stands.
+// A token as the reading carries it: its kind, where its first byte stands, and where the byte after its last one stands.
+// "No offset passes 8,192", the end of a full text: sixteen bits hold each.
 // Kinds 0 to 10 are the reserved words, 11 to 29 the marks, in the order of the definition's table.
 pub struct Token {
     pub kind: usize,
-    pub start: usize,
-    pub end: usize,
+    pub start: u16,
+    pub end: u16,
 }
 
 impl Token {
@@ -85,6 +87,13 @@ impl Token {
     pub const FAULT: usize = 32;
 
     pub const END: usize = 33;
+}
+
+// A token of any text, however long: the check and the run read a call's names again in texts that they have not measured.
+pub struct Lexeme {
+    pub kind: usize,
+    pub start: usize,
+    pub end: usize,
 }
 
 // What begins a type.
@@ -366,14 +375,14 @@ pub fn has_name(text: &[u8], at: usize, n: usize, there: usize) -> bool
 }
 
 // A token of this kind whose name stands from `from` to `end`; a name that is too long is at fault.
-fn named(kind: usize, start: usize, from: usize, end: usize) -> Token
+fn named(kind: usize, start: usize, from: usize, end: usize) -> Lexeme
     requires { ⌜ from ≤ end ⌝ }
-    ensures { λ r. ⌜ r ≡ named kind start from end ⌝ }
+    ensures { λ r. ⌜ asToken r ≡ named kind start from end ⌝ }
 {
     if end - from <= Script::NAME {
-        Token { kind, start, end }
+        Lexeme { kind, start, end }
     } else {
-        Token {
+        Lexeme {
             kind: Token::FAULT,
             start,
             end,
@@ -401,9 +410,9 @@ fn word_kind(text: &[u8], i: usize, n: usize) -> usize
 }
 
 // A letter stands at i.
-fn word_at(text: &[u8], i: usize) -> Token
+fn word_at(text: &[u8], i: usize) -> Lexeme
     requires { ⌜ letter (getD (now text) i 0) ≡ true ⌝ }
-    ensures { λ r. ⌜ r ≡ wordAt (now (text .entry)) i ⌝ }
+    ensures { λ r. ⌜ asToken r ≡ wordAt (now (text .entry)) i ⌝ }
 {
     let e = name_end(text, i);
     let k = word_kind(text, i, e - i);
@@ -411,16 +420,16 @@ fn word_at(text: &[u8], i: usize) -> Token
 }
 
 // An apostrophe stands at i.
-fn label_at(text: &[u8], i: usize) -> Token
+fn label_at(text: &[u8], i: usize) -> Lexeme
     requires { ⌜ i < length (now text) ⌝ }
-    ensures { λ r. ⌜ r ≡ labelAt (now (text .entry)) i ⌝ }
+    ensures { λ r. ⌜ asToken r ≡ labelAt (now (text .entry)) i ⌝ }
 {
     let j = i + 1;
     if is_letter(byte_at(text, j)) {
         let e = name_end(text, j);
         return named(Token::LABEL, i, j, e);
     }
-    Token {
+    Lexeme {
         kind: Token::FAULT,
         start: i,
         end: j,
@@ -468,35 +477,35 @@ fn mark_kind(b: u8, next: u8) -> usize
 }
 
 // Another byte stands at i: a mark of two bytes, else of one, else no token.
-fn mark_at(text: &[u8], i: usize) -> Token
+fn mark_at(text: &[u8], i: usize) -> Lexeme
     requires { ⌜ i < length (now text) ⌝ }
-    ensures { λ r. ⌜ r ≡ markAt (now (text .entry)) i ⌝ }
+    ensures { λ r. ⌜ asToken r ≡ markAt (now (text .entry)) i ⌝ }
 {
     let k = mark_kind(text[i], byte_at(text, i + 1));
     if k < Token::ROUND_OPEN {
-        return Token {
+        return Lexeme {
             kind: k,
             start: i,
             end: i + 2,
         };
     }
     if k < Token::NAME {
-        return Token {
+        return Lexeme {
             kind: k,
             start: i,
             end: i + 1,
         };
     }
-    Token {
+    Lexeme {
         kind: Token::FAULT,
         start: i,
         end: i + 1,
     }
 }
 
-fn first_at(text: &[u8], i: usize) -> Token
+fn first_at(text: &[u8], i: usize) -> Lexeme
     requires { ⌜ i < length (now text) ⌝ }
-    ensures { λ r. ⌜ r ≡ firstAt (now (text .entry)) i ⌝ }
+    ensures { λ r. ⌜ asToken r ≡ firstAt (now (text .entry)) i ⌝ }
 {
     let b = text[i];
     if is_letter(b) {
@@ -508,18 +517,40 @@ fn first_at(text: &[u8], i: usize) -> Token
     mark_at(text, i)
 }
 
-// The next token from `at` on.
-pub fn next_token(text: &[u8], at: usize) -> Token
-    ensures { λ r. ⌜ r ≡ tokenAt (now (text .entry)) at ⌝ }
-    ensures { λ r. ⌜ Onward (now (text .entry)) at r ⌝ }
+// The next token from `at` on, in any text.
+pub fn next_lexeme(text: &[u8], at: usize) -> Lexeme
+    ensures { λ r. ⌜ asToken r ≡ tokenAt (now (text .entry)) at ⌝ }
+    ensures { λ r. ⌜ Onward (now (text .entry)) at (asToken r) ⌝ }
 {
     let i = skip(text, at);
     if i < text.len() {
         return first_at(text, i);
     }
-    Token {
+    Lexeme {
         kind: Token::END,
         start: text.len(),
         end: text.len(),
+    }
+}
+
+// An offset of a text that is read, in the sixteen bits of a token.
+fn offset(i: usize) -> u16
+    requires { ⌜ i ≤ textLimit ⌝ }
+    ensures { λ r. ⌜ r ≡ i ⌝ }
+{
+    i as u16
+}
+
+// The next token from `at` on, in a text that is read.
+pub fn next_token(text: &[u8], at: u16) -> Token
+    requires { ⌜ length (now text) ≤ textLimit ⌝ }
+    ensures { λ r. ⌜ r ≡ tokenAt (now (text .entry)) at ⌝ }
+    ensures { λ r. ⌜ Onward (now (text .entry)) at r ⌝ }
+{
+    let t = next_lexeme(text, at as usize);
+    Token {
+        kind: t.kind,
+        start: offset(t.start),
+        end: offset(t.end),
     }
 }

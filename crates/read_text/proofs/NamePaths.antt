@@ -14,6 +14,7 @@ use Rattle.notation.specs.Processes.{processBy, readNames, nameList}
 use Rattle.notation.specs.Tables.{moreTerms, termNode, putTerm, afterProcess, writeProcess}
 use Rattle.notation.specs.declared.reading.Cursor.{Cursor}
 use Rattle.notation.specs.declared.reading.Tally.{Tally}
+use Rattle.notation.specs.declared.reading.TermNode.{TermNode}
 use Rattle.notation.specs.declared.reading.Taken.{Taken}
 use Rattle.notation.specs.declared.reading.Taken.the-variants.{At, Refused}
 use Rattle.notation.specs.declared.token.TermHead.the-variants.{Call}
@@ -221,10 +222,11 @@ module _ (s w : List ℕ) (c : Cursor) (k : Tally) (room : Room s w c k) {q : Ta
             (λ m lo. names-read _ (nameList m s kRoundOpen kRoundClose f) (a .is m (omega arith)) h λ xs p _.
             rw (took u e, took y g, p, names-refused _ (nameList m s kSquareOpen kSquareClose b) (a₂ .is m (omega arith)) h₂))
 
-        pub call-got : {j : ℕ} {b₂ : Cursor} {v : List ℕ} → z₂ ≡ At j b₂ → v ≡ putTerm w (k .terms) (termNode 10 at i bracket 0)
+        pub call-got : {j : ℕ} {b₂ : Cursor} {v : List ℕ} → z₂ ≡ At j b₂ → {n : TermNode} → n ≡ termNode 10 at i bracket 0 → v ≡ putTerm w (k .terms) n
             → TermRead Call s w c k (Got b₂ (moreTerms k)) v
         unfolding processBy afterProcess writeProcess FineProcess
-        call-got {j} {b₂} h₂ pt =
+        call-got {j} {b₂} h₂ ne put =
+            let pt = put ∙ ap (putTerm w (k .terms)) ne in
             let o = u .on at d e in
             let o₂ = y .on i f g in
             let o₃ = a .on bracket b h in

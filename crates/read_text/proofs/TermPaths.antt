@@ -174,15 +174,15 @@ module _ (s w : List ℕ) (c : Cursor) (k : Tally) (room : Room s w c k) where
       unfolding processBy
       cancel-name-no g h = turn-done (meets-no s w c k (refused-out g h) same (λ m _. rw (took u e, took y g)))
 
-      pub cancel-on : {i : ℕ} {f : Cursor} → x ≡ At i f → {t : Turn} {v : List ℕ} → RestTurned (k .terms) (termNode 4 at i 0 0) s w f (moreTerms k) t v
+      pub cancel-on : {i : ℕ} {f : Cursor} → x ≡ At i f → {n : TermNode} → n ≡ termNode 4 at i 0 0 → {t : Turn} {v : List ℕ} → RestTurned (k .terms) n s w f (moreTerms k) t v
           → TermTurned Cancel s w c k t v
       unfolding processBy afterProcess writeProcess FineProcess
-      cancel-on {i} {f} g {t} z =
+      cancel-on {i} {f} g ne {t} z =
           let o = u .on at d e in
           let o₂ = y .on i f g in
           turn-under t (omega arith) same
           (λ r v b. meets-as b (cancel at (nameIn s i)) w k (λ m lo. (rw (took u e, took y g), omega arith)) same
-          (λ m P _ _ fi _. (refl, refl, (omega arith, omega arith, fi))) (λ d l p. omega arith))
+          (λ m P _ _ fi _. (refl, ap (λ n. nodeForm (k .terms) n .write P (moreTerms k) w) ne, (omega arith, omega arith, fi))) (λ d l p. omega arith))
           z
 
   -- raise
@@ -191,12 +191,13 @@ module _ (s w : List ℕ) (c : Cursor) (k : Tally) (room : Room s w c k) where
     unfolding processBy
     raise-no g h = turn-done (meets-no s w c k (refused-out g h) same (λ m _. rw (took u g)))
 
-    pub raise-on : {at : ℕ} {d : Cursor} → q ≡ At at d → {v : List ℕ}
-        → v ≡ putTerm w (k .terms) (pointing (termNode 11 at 0 0 0) (peek s (d .at) (k .terms + 1)))
+    pub raise-on : {at : ℕ} {d : Cursor} → q ≡ At at d → {n : TermNode} → n ≡ termNode 11 at 0 0 0 → {v : List ℕ}
+        → v ≡ putTerm w (k .terms) (pointing n (peek s (d .at) (k .terms + 1)))
         → TermTurned Raise s w c k (On d (moreTerms k)) v
     unfolding processBy afterProcess writeProcess FineProcess
-    raise-on {at} {d} e x =
+    raise-on {at} {d} e ne put =
         let o = u .on at d e in
+        let x = put ∙ ap (λ n. putTerm w (k .terms) (pointing n (peek s (d .at) (k .terms + 1)))) ne in
         let kept = term-kept w (k .terms) (pointing (termNode 11 at 0 0 0) (peek s (d .at) (k .terms + 1))) (omega arith) x in
         turn-on kept (record {
           room = omega (arith, kept .long);
@@ -227,10 +228,11 @@ module _ (s w : List ℕ) (c : Cursor) (k : Tally) (room : Room s w c k) where
         unfolding processBy
         fwd-used-no h l = meets-no s w c k (refused-out h l) same (λ m _. rw (took u e, took y g, took o h))
 
-        pub fwd-got : {j : ℕ} {b : Cursor} {v : List ℕ} → z ≡ At j b → v ≡ putTerm w (k .terms) (termNode 9 at i j 0)
+        pub fwd-got : {j : ℕ} {b : Cursor} {v : List ℕ} → z ≡ At j b → {n : TermNode} → n ≡ termNode 9 at i j 0 → v ≡ putTerm w (k .terms) n
             → TermRead Fwd s w c k (Got b (moreTerms k)) v
         unfolding processBy afterProcess writeProcess FineProcess
-        fwd-got {j} {b} h x =
+        fwd-got {j} {b} h ne put =
+            let x = put ∙ ap (putTerm w (k .terms)) ne in
             let o₁ = u .on at d e in
             let o₂ = y .on i f g in
             let o₃ = o .on j b h in

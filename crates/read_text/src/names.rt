@@ -6,13 +6,15 @@ use read_types::steps::expect;
 use read_types::steps::kind_at;
 use read_types::steps::opening;
 ghost use Prim.Native.Nat.{_≤_};
+ghost use lib.ListN.{length};
+ghost use Rattle.notation.specs.Limits.{textLimit};
 ghost use Rattle.notation.specs.Token.{tokenAt};
 ghost use Rattle.notation.specs.Processes.{readNames, nameList};
 ghost use Rattle.read_text.specs.Names.{NamesTaken, listEnd, namesOrNone};
 
 // Names with commas between them, up to the bracket that closes.
 fn read_names(text: &[u8], c: Cursor, close: usize) -> Taken
-    requires { ⌜ close ≤ 31 ⌝ }
+    requires { ⌜ (length (now text) ≤ textLimit) × (close ≤ 31) ⌝ }
     ensures { λ r. ⌜ NamesTaken (now (text .entry)) c 0 (λ m. readNames m (now (text .entry)) close c) r ⌝ }
 {
     let mut b = c;
@@ -36,7 +38,7 @@ fn read_names(text: &[u8], c: Cursor, close: usize) -> Taken
 
 // The bracket that closes a list of names.
 fn list_end(text: &[u8], c: Cursor, close: usize) -> Taken
-    requires { ⌜ close ≤ 31 ⌝ }
+    requires { ⌜ (length (now text) ≤ textLimit) × (close ≤ 31) ⌝ }
     ensures { λ r. ⌜ NamesTaken (now (text .entry)) c 0 (λ m. listEnd (now (text .entry)) close c) r ⌝ }
 {
     let closed = expect(text, c, close);
@@ -48,7 +50,7 @@ fn list_end(text: &[u8], c: Cursor, close: usize) -> Taken
 
 // What stands in a list's brackets, and the one that closes it.
 fn names_or_none(text: &[u8], c: Cursor, close: usize) -> Taken
-    requires { ⌜ close ≤ 31 ⌝ }
+    requires { ⌜ (length (now text) ≤ textLimit) × (close ≤ 31) ⌝ }
     ensures { λ r. ⌜ NamesTaken (now (text .entry)) c 0 (λ m. namesOrNone m (now (text .entry)) close c) r ⌝ }
 {
     let next = c.at;
@@ -60,7 +62,7 @@ fn names_or_none(text: &[u8], c: Cursor, close: usize) -> Taken
 
 // A list of names in brackets; it is known by where it opens.
 pub(crate) fn name_list(text: &[u8], c: Cursor, opens: usize, closes: usize) -> Taken
-    requires { ⌜ (opens ≤ 31) × (closes ≤ 31) ⌝ }
+    requires { ⌜ (length (now text) ≤ textLimit) × (opens ≤ 31) × (closes ≤ 31) ⌝ }
     ensures { λ r. ⌜ NamesTaken (now (text .entry)) c (tokenAt (now (text .entry)) (c .at) .start) (λ m. nameList m (now (text .entry)) opens closes c) r ⌝ }
 {
     let opened = opening(text, c, opens);

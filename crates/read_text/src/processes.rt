@@ -121,7 +121,7 @@ fn read_recv(text: &[u8], scratch: &mut [u32], c: Cursor, k: Tally) -> Out
 }
 
 // What stands in a recv's bracket, by what it takes.
-fn read_handler(text: &[u8], scratch: &mut [u32], c: Cursor, k: Tally, at: usize, i: usize) -> Out
+fn read_handler(text: &[u8], scratch: &mut [u32], c: Cursor, k: Tally, at: u16, i: u16) -> Out
     requires { ⌜ Room (now text) (now scratch) c (moreTerms k) ⌝ }
     requires { ⌜ (at < textLimit) × (i < textLimit) ⌝ }
     ensures { λ r. ⌜ HandlerRead at i (now (text .entry)) (now (scratch .entry)) c k r (now (scratch .exit)) ⌝ }
@@ -142,8 +142,8 @@ fn receive_one(
     scratch: &mut [u32],
     c: Cursor,
     k: Tally,
-    at: usize,
-    i: usize,
+    at: u16,
+    i: u16,
     head: Payload,
 ) -> Out
     requires { ⌜ Room (now text) (now scratch) c (moreTerms k) ⌝ }
@@ -162,7 +162,7 @@ fn receive_one(
 }
 
 // A branch for each label; the node is put once the list is.
-fn receive_label(text: &[u8], scratch: &mut [u32], c: Cursor, k: Tally, at: usize, i: usize) -> Out
+fn receive_label(text: &[u8], scratch: &mut [u32], c: Cursor, k: Tally, at: u16, i: u16) -> Out
     requires { ⌜ Room (now text) (now scratch) c (moreTerms k) ⌝ }
     requires { ⌜ (at < textLimit) × (i < textLimit) ⌝ }
     ensures { λ r. ⌜ LabelsRead at i (now (text .entry)) (now (scratch .entry)) c k r (now (scratch .exit)) ⌝ }
@@ -175,8 +175,8 @@ fn receive_label(text: &[u8], scratch: &mut [u32], c: Cursor, k: Tally, at: usiz
     };
     let n = TermNode {
         kind: kinds::RECV_LABEL,
-        at,
-        first: i,
+        at: at as usize,
+        first: i as usize,
         second: l.branches,
         third: l.last,
     };
@@ -246,7 +246,7 @@ fn read_try(text: &[u8], scratch: &mut [u32], c: Cursor, k: Tally) -> Out
     let third = pointer_within(text, f.at, l.terms);
     let n = TermNode {
         kind: kinds::TRY,
-        at,
+        at: at as usize,
         first: 0,
         second,
         third,
@@ -278,7 +278,7 @@ fn read_spawn(text: &[u8], scratch: &mut [u32], c: Cursor, k: Tally) -> Turn
 }
 
 // The two halves of a spawn, the term i, whose name stands at `at` and whose type's node was read last.
-fn read_parts(text: &[u8], scratch: &mut [u32], c: Cursor, k: Tally, i: usize, at: usize) -> Turn
+fn read_parts(text: &[u8], scratch: &mut [u32], c: Cursor, k: Tally, i: usize, at: u16) -> Turn
     requires { ⌜ Room (now text) (now scratch) c k × (i < processTermLimit) ⌝ }
     requires { ⌜ (k .last < typeTermLimit) × (at < textLimit) ⌝ }
     ensures { λ r. ⌜ PartsTurned i at (now (text .entry)) (now (scratch .entry)) c k r (now (scratch .exit)) ⌝ }
@@ -290,7 +290,7 @@ fn read_parts(text: &[u8], scratch: &mut [u32], c: Cursor, k: Tally, i: usize, a
     };
     let n = TermNode {
         kind: kinds::SPAWN,
-        at,
+        at: at as usize,
         first: k.last,
         second,
         third: 0,

@@ -84,7 +84,7 @@ fn fill(text: &[u8], part: &mut [u32]) -> Reading
         }
         Out::Not(n, i) => {
             zero(part);
-            Reading::Refused(n, i)
+            Reading::Refused(n, i as usize)
         }
     }
 }

@@ -20,6 +20,8 @@ use read_types::steps::refusal;
 use read_types::types::read_type;
 ghost use mathlib.Core.Path.{_≡_};
 ghost use Prim.Native.Nat.{_<_, _≤_};
+ghost use lib.ListN.{length};
+ghost use Rattle.notation.specs.Limits.{textLimit};
 ghost use Rattle.notation.specs.Token.{width};
 ghost use Rattle.notation.specs.Scripts.{keyword, declarationHead};
 ghost use Rattle.notation.specs.declared.token.DeclarationHead.the-variants.{TypeWord, ProcWord, ExecWord};
@@ -28,7 +30,7 @@ ghost use Rattle.read_text.specs.Scripts.{declaredName, DeclarationRead,
 
 // The keyword of a declaration of whose kind `before` came before.
 fn keyword(text: &[u8], c: Cursor, kind: usize, before: usize, limit: usize) -> Taken
-    requires { ⌜ kind ≤ 31 ⌝ }
+    requires { ⌜ (length (now text) ≤ textLimit) × (kind ≤ 31) ⌝ }
     ensures { λ r. ⌜ Stepped (now (text .entry)) c (width kind) 0 0 (keyword (now (text .entry)) kind before limit c) r ⌝ }
 {
     let taken = expect(text, c, kind);
@@ -43,7 +45,7 @@ fn keyword(text: &[u8], c: Cursor, kind: usize, before: usize, limit: usize) -> 
 
 // The keyword, and the name that is declared.
 fn declared_name(text: &[u8], c: Cursor, kind: usize, before: usize, limit: usize) -> Taken
-    requires { ⌜ kind ≤ 31 ⌝ }
+    requires { ⌜ (length (now text) ≤ textLimit) × (kind ≤ 31) ⌝ }
     ensures { λ r. ⌜ Stepped (now (text .entry)) c 2 0 0 (declaredName (now (text .entry)) kind before limit c) r ⌝ }
 {
     let word = keyword(text, c, kind, before, limit);
@@ -101,7 +103,7 @@ fn declare_proc(text: &[u8], scratch: &mut [u32], c: Cursor, k: Tally) -> Out
         return inner;
     };
     let p = ProcessEntry {
-        at: i,
+        at: i as usize,
         first: k.entries,
         provided: l.entries - k.entries,
         used: m.entries - l.entries,

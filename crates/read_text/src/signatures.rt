@@ -12,12 +12,15 @@ use read_types::steps::refusal;
 use read_types::steps::then_expect;
 use read_types::types::read_type;
 ghost use Prim.Native.Nat.{_≤_};
+ghost use lib.ListN.{length};
+ghost use Rattle.notation.specs.Limits.{textLimit};
 ghost use Rattle.notation.specs.Scripts.{readEntries, entryList};
 ghost use Rattle.read_types.specs.Filling.{Stepped, Room};
 ghost use Rattle.read_text.specs.Scripts.{entryName, closeBy, entriesOrNone, EntriesRead};
 
 // The name of an entry, and its colon.
 fn entry_name(text: &[u8], c: Cursor) -> Taken
+    requires { ⌜ length (now text) ≤ textLimit ⌝ }
     ensures { λ r. ⌜ Stepped (now (text .entry)) c 2 0 0 (entryName (now (text .entry)) c) r ⌝ }
 {
     then_expect(text, expect(text, c, Token::NAME), Token::COLON)

@@ -15,9 +15,24 @@ use read_types::store::put_pair;
 use read_types::store::put_word;
 ghost use mathlib.Core.Path.{_≡_};
 ghost use Prim.Native.Nat.{_<_};
-ghost use Rattle.notation.specs.Tables.{Area, putTerm, putEntry, putType, putProcess, putExec, moreEntries, moreTypes, moreProcesses, moreExecs, offsetRadix};
-ghost use Rattle.notation.specs.Limits.{execLimit, processLimit, processTermLimit, typeLimit, typeTermLimit};
+ghost use Rattle.notation.specs.Tables.{Area, termKindRadix, termNode, putTerm, putEntry, putType, putProcess, putExec, moreEntries, moreTypes, moreProcesses, moreExecs, offsetRadix};
+ghost use Rattle.notation.specs.Limits.{execLimit, processLimit, processTermLimit, textLimit, typeLimit, typeTermLimit};
 ghost use Rattle.read_types.specs.Filling.{Put, FitsTerm, FitsEntry};
+
+// A node of this kind, by the offsets of what it has in the text; what follows it is put later.
+pub(crate) fn term_node(kind: usize, at: u16, first: u16, second: u16) -> TermNode
+    requires { ⌜ (kind < termKindRadix) × (at < textLimit) × (first < textLimit) × (second < textLimit) ⌝ }
+    ensures { λ r. ⌜ r ≡ termNode kind at first second 0 ⌝ }
+    ensures { λ r. ⌜ FitsTerm r ⌝ }
+{
+    TermNode {
+        kind,
+        at: at as usize,
+        first: first as usize,
+        second: second as usize,
+        third: 0,
+    }
+}
 
 // The node of the process term i is n.
 pub(crate) fn put_term(scratch: &mut [u32], i: usize, n: TermNode)
@@ -35,7 +50,7 @@ pub(crate) fn put_term(scratch: &mut [u32], i: usize, n: TermNode)
 }
 
 // Appends a signature entry: the name at `at` with its type's node.
-pub(crate) fn put_entry(scratch: &mut [u32], k: Tally, at: usize, node: usize) -> Tally
+pub(crate) fn put_entry(scratch: &mut [u32], k: Tally, at: u16, node: usize) -> Tally
     requires { ⌜ Area (now scratch) × (k .entries < typeTermLimit) × (at < offsetRadix) × (node < typeTermLimit) ⌝ }
     ensures { λ r. ⌜ Put (now (scratch .entry)) (putEntry (now (scratch .entry)) (k .entries) at node) (moreEntries k) r (now (scratch .exit)) ⌝ }
 {
@@ -46,12 +61,12 @@ pub(crate) fn put_entry(scratch: &mut [u32], k: Tally, at: usize, node: usize) -
 }
 
 // Appends a type: its name at `at` with its definition's node.
-pub(crate) fn put_type(scratch: &mut [u32], k: Tally, at: usize, node: usize) -> Tally
+pub(crate) fn put_type(scratch: &mut [u32], k: Tally, at: u16, node: usize) -> Tally
     requires { ⌜ Area (now scratch) × (k .types < typeLimit) × (at < offsetRadix) × (node < typeTermLimit) ⌝ }
     ensures { λ r. ⌜ Put (now (scratch .entry)) (putType (now (scratch .entry)) (k .types) at node) (moreTypes k) r (now (scratch .exit)) ⌝ }
 {
     let i = TYPES_AT + 2 * k.types;
-    put_word(scratch, i, at);
+    put_word(scratch, i, at as usize);
     put_word(scratch, i + 1, node);
     let mut l = k;
     l.types = k.types + 1;
@@ -75,11 +90,11 @@ pub(crate) fn put_process(scratch: &mut [u32], k: Tally, p: ProcessEntry) -> Tal
 }
 
 // Appends an exec: its process's name at `at`.
-pub(crate) fn put_exec(scratch: &mut [u32], k: Tally, at: usize) -> Tally
+pub(crate) fn put_exec(scratch: &mut [u32], k: Tally, at: u16) -> Tally
     requires { ⌜ Area (now scratch) × (k .execs < execLimit) × (at < offsetRadix) ⌝ }
     ensures { λ r. ⌜ Put (now (scratch .entry)) (putExec (now (scratch .entry)) (k .execs) at) (moreExecs k) r (now (scratch .exit)) ⌝ }
 {
-    put_word(scratch, EXECS_AT + k.execs, at);
+    put_word(scratch, EXECS_AT + k.execs, at as usize);
     let mut l = k;
     l.execs = k.execs + 1;
     l

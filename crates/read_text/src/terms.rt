@@ -4,6 +4,7 @@ use crate::payloads::payload_at;
 use crate::payloads::payload_node;
 use crate::payloads::payload_token;
 use crate::store::put_term;
+use crate::store::term_node;
 use crate::turns::Turn;
 use crate::turns::follow;
 use crate::turns::put_before;
@@ -11,7 +12,6 @@ use notation::kinds;
 use notation::reading::Cursor;
 use notation::reading::Taken;
 use notation::reading::Tally;
-use notation::reading::TermNode;
 use notation::token::Payload;
 use notation::token::Token;
 use read_types::steps::Out;
@@ -48,8 +48,8 @@ fn read_sent(
     scratch: &mut [u32],
     c: Cursor,
     k: Tally,
-    at: usize,
-    i: usize,
+    at: u16,
+    i: u16,
     head: Payload,
 ) -> Turn
     requires { ⌜ Room (now text) (now scratch) c (moreTerms k) ⌝ }
@@ -87,13 +87,7 @@ pub(crate) fn read_cancel(text: &[u8], scratch: &mut [u32], c: Cursor, k: Tally)
     };
     let mut l = k;
     l.terms = k.terms + 1;
-    let n = TermNode {
-        kind: kinds::CANCEL,
-        at,
-        first: i,
-        second: 0,
-        third: 0,
-    };
+    let n = term_node(kinds::CANCEL, at, i, 0);
     follow(text, scratch, e, l, k.terms, n)
 }
 
@@ -108,13 +102,7 @@ pub(crate) fn read_raise(text: &[u8], scratch: &mut [u32], c: Cursor, k: Tally) 
     };
     let mut l = k;
     l.terms = k.terms + 1;
-    let n = TermNode {
-        kind: kinds::RAISE,
-        at,
-        first: 0,
-        second: 0,
-        third: 0,
-    };
+    let n = term_node(kinds::RAISE, at, 0, 0);
     put_before(text, scratch, d.at, l.terms, k.terms, n);
     Turn::On(d, l)
 }
@@ -136,13 +124,7 @@ pub(crate) fn read_fwd(text: &[u8], scratch: &mut [u32], c: Cursor, k: Tally) ->
     let Taken::At(j, f) = used else {
         return refusal(used);
     };
-    let n = TermNode {
-        kind: kinds::FWD,
-        at,
-        first: i,
-        second: j,
-        third: 0,
-    };
+    let n = term_node(kinds::FWD, at, i, j);
     put_term(scratch, k.terms, n);
     let mut l = k;
     l.terms = k.terms + 1;
@@ -170,13 +152,7 @@ pub(crate) fn read_call(text: &[u8], scratch: &mut [u32], c: Cursor, k: Tally) -
     let Taken::At(_, g) = used else {
         return refusal(used);
     };
-    let n = TermNode {
-        kind: kinds::CALL,
-        at,
-        first: i,
-        second: bracket,
-        third: 0,
-    };
+    let n = term_node(kinds::CALL, at, i, bracket);
     put_term(scratch, k.terms, n);
     let mut l = k;
     l.terms = k.terms + 1;

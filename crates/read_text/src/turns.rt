@@ -38,7 +38,7 @@ pub(crate) fn finished(t: Turn) -> Out
 }
 
 // The pointer to the process that begins at `at`: the next node's number n, or the limit and the offset of an empty one.
-pub(crate) fn pointer(text: &[u8], at: usize, n: usize) -> usize
+pub(crate) fn pointer(text: &[u8], at: u16, n: usize) -> usize
     requires { ⌜ (length (now text) ≤ textLimit) × (n ≤ processTermLimit) ⌝ }
     ensures { λ r. ⌜ r ≡ peek (now (text .entry)) at n ⌝ }
     ensures { λ r. ⌜ r ≤ processTermLimit + textLimit ⌝ }
@@ -46,13 +46,13 @@ pub(crate) fn pointer(text: &[u8], at: usize, n: usize) -> usize
     let t = next_token(text, at);
     let head = term_head(t.kind);
     if let TermHead::Empty = head {
-        return Script::PROCESS_TERMS + t.start;
+        return Script::PROCESS_TERMS + t.start as usize;
     }
     n
 }
 
 // The pointer to the process in the bracket that opens at `at`.
-pub(crate) fn pointer_within(text: &[u8], at: usize, n: usize) -> usize
+pub(crate) fn pointer_within(text: &[u8], at: u16, n: usize) -> usize
     requires { ⌜ (length (now text) ≤ textLimit) × (n ≤ processTermLimit) ⌝ }
     ensures { λ r. ⌜ r ≡ peek (now (text .entry)) (tokenAt (now (text .entry)) at .end) n ⌝ }
     ensures { λ r. ⌜ r ≤ processTermLimit + textLimit ⌝ }
@@ -76,7 +76,7 @@ fn put_pointing(scratch: &mut [u32], i: usize, n: TermNode, third: usize)
 pub(crate) fn put_before(
     text: &[u8],
     scratch: &mut [u32],
-    at: usize,
+    at: u16,
     next: usize,
     i: usize,
     n: TermNode,
@@ -112,6 +112,6 @@ pub(crate) fn follow(
         put_before(text, scratch, d.at, k.terms, i, n);
         return Turn::On(d, k);
     }
-    put_pointing(scratch, i, n, Script::PROCESS_TERMS + t.start);
+    put_pointing(scratch, i, n, Script::PROCESS_TERMS + t.start as usize);
     Turn::Done(Out::Got(c, k))
 }

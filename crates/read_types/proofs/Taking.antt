@@ -46,7 +46,7 @@ module _ (s : List ℕ) (k : ℕ) (c : Cursor) (t : Token) (e : t ≡ tokenAt s 
   unfolding expect
   expect-at l q =
       let g = o .goes (omega arith) in
-      stepped-at _ _ (rw (← e, eq-eqb _ _ q)) (subst (λ k. c .at + width k ≤ t .end) q (g .0), g .1, g .2, omega arith, omega arith, omega arith, omega arith)
+      stepped-at _ _ (rw (← e, eq-eqb _ _ q)) (subst (λ k. c .at + width k ≤ t .end) q (g .0), o .ends, g .1, omega arith, omega arith, omega arith, omega arith)
 
   pub expect-no : ((t .kind ≡ k) → ⊥) → (n : ℕ) → n ≡ fault t → Stepped s c (width k) 0 0 (expect s k c) (Refused n (t .start))
   unfolding expect

@@ -9,6 +9,8 @@ use notation::token::Token;
 use notation::token::next_token;
 ghost use mathlib.Core.Path.{_≡_};
 ghost use Prim.Native.Nat.{_≤_};
+ghost use lib.ListN.{length};
+ghost use Rattle.notation.specs.Limits.{textLimit};
 ghost use Rattle.notation.specs.Token.{kindAt, width};
 ghost use Rattle.notation.specs.Reader.{fault, expect, opening, typeTerm, processTerm};
 ghost use Rattle.notation.specs.Types.{isInfix, labelTerm};
@@ -18,11 +20,12 @@ ghost use Rattle.read_types.specs.Filling.{Stepped, Followed, Closes, is
 // Where a reading went on to, with the fill of the tables; or the refusal's number and offset.
 pub enum Out {
     Got(Cursor, Tally),
-    Not(u32, usize),
+    Not(u32, u16),
 }
 
 // The kind of the next token.
-pub fn kind_at(text: &[u8], at: usize) -> usize
+pub fn kind_at(text: &[u8], at: u16) -> usize
+    requires { ⌜ length (now text) ≤ textLimit ⌝ }
     ensures { λ r. ⌜ r ≡ kindAt (now (text .entry)) at ⌝ }
 {
     let t = next_token(text, at);
@@ -41,6 +44,7 @@ fn fault(t: Token) -> u32
 
 // No token fits here.
 pub fn misfit_token(text: &[u8], c: Cursor) -> Taken
+    requires { ⌜ length (now text) ≤ textLimit ⌝ }
     ensures { λ r. ⌜ r ≡ misfitTaken (now (text .entry)) c ⌝ }
 {
     let at = c.at;
@@ -50,7 +54,7 @@ pub fn misfit_token(text: &[u8], c: Cursor) -> Taken
 
 // The token of this kind, or the refusal where another stands.
 pub fn expect(text: &[u8], c: Cursor, kind: usize) -> Taken
-    requires { ⌜ kind ≤ 31 ⌝ }
+    requires { ⌜ (length (now text) ≤ textLimit) × (kind ≤ 31) ⌝ }
     ensures { λ r. ⌜ Stepped (now (text .entry)) c (width kind) 0 0 (expect (now (text .entry)) kind c) r ⌝ }
 {
     let at = c.at;
@@ -71,7 +75,7 @@ pub fn expect(text: &[u8], c: Cursor, kind: usize) -> Taken
 
 // A step, and then the token of this kind; it is known by where the step began.
 pub fn then_expect(text: &[u8], step: Taken, kind: usize) -> Taken
-    requires { ⌜ kind ≤ 31 ⌝ }
+    requires { ⌜ (length (now text) ≤ textLimit) × (kind ≤ 31) ⌝ }
     ensures { λ r. ⌜ Followed (now (text .entry)) step kind r ⌝ }
 {
     let Taken::At(i, d) = step else {
@@ -86,7 +90,7 @@ pub fn then_expect(text: &[u8], step: Taken, kind: usize) -> Taken
 
 // A bracket that opens.
 pub fn opening(text: &[u8], c: Cursor, kind: usize) -> Taken
-    requires { ⌜ kind ≤ 31 ⌝ }
+    requires { ⌜ (length (now text) ≤ textLimit) × (kind ≤ 31) ⌝ }
     ensures { λ r. ⌜ Stepped (now (text .entry)) c (width kind) 0 0 (opening (now (text .entry)) kind c) r ⌝ }
 {
     let taken = expect(text, c, kind);
@@ -109,7 +113,7 @@ pub fn opening(text: &[u8], c: Cursor, kind: usize) -> Taken
 
 // A token that is a type term.
 pub(crate) fn type_term(text: &[u8], c: Cursor, kind: usize) -> Taken
-    requires { ⌜ kind ≤ 31 ⌝ }
+    requires { ⌜ (length (now text) ≤ textLimit) × (kind ≤ 31) ⌝ }
     ensures { λ r. ⌜ Stepped (now (text .entry)) c (width kind) 1 0 (typeTerm (now (text .entry)) kind c) r ⌝ }
 {
     let taken = expect(text, c, kind);
@@ -132,7 +136,7 @@ pub(crate) fn type_term(text: &[u8], c: Cursor, kind: usize) -> Taken
 
 // A token that begins a process term.
 pub fn process_term(text: &[u8], c: Cursor, kind: usize) -> Taken
-    requires { ⌜ kind ≤ 31 ⌝ }
+    requires { ⌜ (length (now text) ≤ textLimit) × (kind ≤ 31) ⌝ }
     ensures { λ r. ⌜ Stepped (now (text .entry)) c (width kind) 0 1 (processTerm (now (text .entry)) kind c) r ⌝ }
 {
     let taken = expect(text, c, kind);
@@ -155,6 +159,7 @@ pub fn process_term(text: &[u8], c: Cursor, kind: usize) -> Taken
 
 // A label of a list in which n came before.
 pub fn label_term(text: &[u8], c: Cursor, n: usize) -> Taken
+    requires { ⌜ length (now text) ≤ textLimit ⌝ }
     ensures { λ r. ⌜ Stepped (now (text .entry)) c 2 0 0 (labelTerm (now (text .entry)) n c) r ⌝ }
 {
     let taken = expect(text, c, Token::LABEL);
@@ -179,6 +184,7 @@ pub fn refusal(t: Taken) -> Out
 
 // What was read between round brackets, and then the bracket that closes; as many are open as at c.
 pub fn closing(text: &[u8], c: Cursor, inner: Out) -> Out
+    requires { ⌜ length (now text) ≤ textLimit ⌝ }
     ensures { λ r. ⌜ Closes (now (text .entry)) c inner r ⌝ }
 {
     let Out::Got(e, l) = inner else {
@@ -201,6 +207,7 @@ pub fn closing(text: &[u8], c: Cursor, inner: Out) -> Out
 
 // No token fits here, as an answer.
 pub fn misfit(text: &[u8], c: Cursor) -> Out
+    requires { ⌜ length (now text) ≤ textLimit ⌝ }
     ensures { λ r. ⌜ r ≡ misfitOut (now (text .entry)) c ⌝ }
 {
     refusal(misfit_token(text, c))

@@ -22,15 +22,15 @@ pub fn put_word(scratch: &mut [u32], i: usize, n: usize)
 }
 
 // The word of a name or label with the number that belongs to it.
-pub fn pair_word(at: usize, n: usize) -> u32
+pub fn pair_word(at: u16, n: usize) -> u32
     requires { ⌜ (at < offsetRadix) × (n < pointerRadix) ⌝ }
     ensures { λ r. ⌜ r ≡ pairWord at n ⌝ }
 {
-    (at + OFFSET_RADIX * n) as u32
+    (at as usize + OFFSET_RADIX * n) as u32
 }
 
 // The word at i is a name or label with the number that belongs to it.
-pub fn put_pair(scratch: &mut [u32], i: usize, at: usize, n: usize)
+pub fn put_pair(scratch: &mut [u32], i: usize, at: u16, n: usize)
     requires { ⌜ Area (now scratch) × (i < tableWords) × (at < offsetRadix) × (n < pointerRadix) ⌝ }
     ensures { λ r. ⌜ WordPut (now (scratch .entry)) i (pairWord at n) (now (scratch .exit)) ⌝ }
 {

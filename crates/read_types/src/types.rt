@@ -27,7 +27,8 @@ use notation::tables::ALTERNATIVES_AT;
 use notation::token::Token;
 ghost use mathlib.Core.Path.{_≡_};
 ghost use Prim.Native.Nat.{_+_, _<_, _≤_};
-ghost use Rattle.notation.specs.Limits.{labelLimit, typeTermLimit};
+ghost use lib.ListN.{length};
+ghost use Rattle.notation.specs.Limits.{labelLimit, textLimit, typeTermLimit};
 ghost use Rattle.notation.specs.Tables.{Area};
 ghost use Rattle.read_types.specs.Filling.{Stepped, labelColon, choiceOpening, infixKind, rootBefore, Waits, MarkPut, wholeRoot, listed, putListed, Put, Room, TypeRead, AtomRead, AlternativesRead, OneRead, NameRead, RoundRead, ChoiceRead};
 
@@ -36,6 +37,7 @@ const CHOICE_SHIFT: usize = Token::PLUS - kinds::PLUS;
 
 // A label and its colon.
 fn label_colon(text: &[u8], c: Cursor, n: usize) -> Taken
+    requires { ⌜ length (now text) ≤ textLimit ⌝ }
     ensures { λ r. ⌜ Stepped (now (text .entry)) c 3 0 0 (labelColon (now (text .entry)) n c) r ⌝ }
 {
     then_expect(text, label_term(text, c, n), Token::COLON)
@@ -43,7 +45,7 @@ fn label_colon(text: &[u8], c: Cursor, n: usize) -> Taken
 
 // The mark of a choice and its brace.
 fn choice_opening(text: &[u8], c: Cursor, kind: usize) -> Taken
-    requires { ⌜ kind ≤ 31 ⌝ }
+    requires { ⌜ (length (now text) ≤ textLimit) × (kind ≤ 31) ⌝ }
     ensures { λ r. ⌜ Stepped (now (text .entry)) c 2 1 0 (choiceOpening (now (text .entry)) kind c) r ⌝ }
 {
     let mark = type_term(text, c, kind);
@@ -163,7 +165,7 @@ fn name_type(text: &[u8], scratch: &mut [u32], c: Cursor, k: Tally) -> Out
         TypeNode {
             kind: kinds::NAMED,
             first: 0,
-            second: i,
+            second: i as usize,
         },
     );
     let mut l = k;

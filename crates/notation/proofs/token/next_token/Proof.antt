@@ -1,27 +1,28 @@
-use borrow.Author.Tests.{lt-ltb, le-ltb}
-use Rattle.notation.specs.Token.{tokenAt}
+use mathlib.Core.Path.{ap₂, _∙_}
+use Rattle.notation.specs.Token.{token}
 use Rattle.notation.proofs.Tokens.{lies-onward}
 use borrow.Author.Needs.{needs}
 use Rattle.notation.proofs.token.next_token.Statement.{statement}
 use Rattle.notation.proofs.token.next_token.Tie as tie
 use Rattle.notation.proofs.token.next_token.Reads as reads
 use Rattle.notation.proofs.token.next_token.Lts as lts
-use Rattle.notation.proofs.token.first_at.Reads as first-at-reads
-use Rattle.notation.proofs.token.skip.Reads as skip-reads
+use Rattle.notation.proofs.token.next_lexeme.Reads as next-lexeme-reads
+use Rattle.notation.proofs.token.offset.Reads as offset-reads
 
-skip-requires : tie.Need-skip-requires
-skip-requires c κs = search needs
+next-lexeme-requires : tie.Need-next-lexeme-requires
+next-lexeme-requires c κs = search needs
 
-first-at-requires : tie.Need-first-at-requires
-first-at-requires c κs = search needs
+offset-requires : tie.Need-offset-requires
+offset-requires c κs = search needs
+
+offset-requires-2 : tie.Need-offset-requires-2
+offset-requires-2 c κs = search needs
 
 returns : tie.Need-returns
-unfolding tokenAt
-returns c = lies-onward _ _ _ (rw (← c .before .before .skip .ensures, lt-ltb _ _ (c .before .if1 .taken), ← c .first-at .ensures))
-
-returns-2 : tie.Need-returns-2
-unfolding tokenAt
-returns-2 c = lies-onward _ _ _ (rw (← c .before .skip .ensures, le-ltb _ _ (c .if1 .left)))
+returns c =
+    let found = c .before .before .next-lexeme in
+    lies-onward _ _ _ (ap₂ (token (found .result .kind)) (c .before .offset .ensures) (c .offset2 .ensures) ∙ found .ensures .0)
 
 pub next-token-spec : {M : Type 1} → statement M
-next-token-spec = tie.close (tie.spec skip-requires first-at-requires returns returns-2)
+next-token-spec =
+    tie.close (tie.spec next-lexeme-requires offset-requires offset-requires-2 returns)

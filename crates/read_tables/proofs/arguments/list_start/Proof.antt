@@ -5,13 +5,13 @@ use Rattle.read_tables.proofs.arguments.list_start.Statement.{statement
 use Rattle.read_tables.proofs.arguments.list_start.Tie as tie
 use Rattle.read_tables.proofs.arguments.list_start.Reads as reads
 use Rattle.read_tables.proofs.arguments.list_start.Lts as lts
-use Rattle.notation.proofs.token.next_token.Reads as next-token-reads
+use Rattle.notation.proofs.token.next_lexeme.Reads as next-lexeme-reads
 
-next-token-requires : tie.Need-next-token-requires
-next-token-requires c κs = search needs
+next-lexeme-requires : tie.Need-next-lexeme-requires
+next-lexeme-requires c κs = search needs
 
 returns : tie.Need-returns
-returns c = ap (λ (t : Token). t .end) (c .next-token .ensures .0)
+returns c = ap (λ (t : Token). t .end) (c .next-lexeme .ensures .0)
 
 pub list-start-spec : {M : Type 1} → statement M
-list-start-spec = tie.close (tie.spec next-token-requires returns)
+list-start-spec = tie.close (tie.spec next-lexeme-requires returns)

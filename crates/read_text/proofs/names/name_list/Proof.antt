@@ -5,7 +5,7 @@ use Rattle.read_text.proofs.names.name_list.Statement.{statement}
 use Rattle.read_text.proofs.names.name_list.Tie as tie
 
 opening-requires : tie.Need-opening-requires
-opening-requires c κs = c .before .pre .0
+opening-requires c κs = search needs
 
 enum-known-opened : tie.Need-enum-known-opened
 enum-known-opened c = search needs
@@ -17,7 +17,7 @@ returns : tie.Need-returns
 returns c = list-no _ _ _ _ _ (width-pos (c .before .before .before .before .args .opens)) (c .before .before .opening .ensures) (c .enum-told .given .1)
 
 names-or-none-requires : tie.Need-names-or-none-requires
-names-or-none-requires c κs = c .before .before .before .before .before .pre .1
+names-or-none-requires c κs = search needs
 
 enum-known-names : tie.Need-enum-known-names
 enum-known-names c = search needs

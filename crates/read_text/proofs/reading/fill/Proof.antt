@@ -35,6 +35,9 @@ zero-requires-2 : tie.Need-zero-requires-2
 zero-requires-2 c κs = c .before .before .before .before .before .before .read-script .ensures .kept .long ∙ zeros-long _
     (c .before .before .before .before .before .before .before .before .before .before .before .zero .ensures)
 
+cast-t24 : tie.Need-cast-t24
+cast-t24 c = search needs
+
 same-length-2 : tie.Need-same-length-2
 same-length-2 c = search needs
 
@@ -68,6 +71,7 @@ fill-spec =
     write-counts-requires
     enum-known-out-2
     zero-requires-2
+    cast-t24
     same-length-2
     returns-2
     same-length-3

@@ -79,7 +79,7 @@ returns-3 c =
     (c .before .before .before .before .entry-list2 .ensures) (c .enum-told3 .given .1)
 
 expect-requires : tie.Need-expect-requires
-expect-requires c κs = search needs
+expect-requires c κs = (c .before .before .before .before .before .before .before .before .before .before .before .before .before .before .before .before .before .before .before .before .pre .0, omega arith)
 
 enum-known-equals : tie.Need-enum-known-equals
 enum-known-equals c = search needs
@@ -162,8 +162,13 @@ returns-5 c =
     (after-uses .before .before .before .before .entry-list2 .ensures) (after-uses .uses .given .1) (after-equals .before .before .expect .ensures)
     (after-equals .equals .given .1) (c .before .before .before .before .read-process .ensures) (c .enum-told5 .given .1)
 
-sub-t28 : tie.Need-sub-t28
-sub-t28 c =
+cast-t28 : tie.Need-cast-t28
+cast-t28 c =
+    let after-named = c .before .before .before .before .before .before .before .before .before .before .before .before .before .before .before .before .before .before .before .before .before .before .before .before .before .before .before in
+    omega (arith, after-named .before .before .before .before .before .pre, after-named .before .before .declared-name .ensures .on _ _ (after-named .named .given .1))
+
+sub-t29 : tie.Need-sub-t29
+sub-t29 c =
     let after-uses = c .before .before .before .before .before .before .before .before .before .before .before .before .before .before .before in
     omega (
       arith,
@@ -172,8 +177,8 @@ sub-t28 c =
       after-uses .before .before .before .before .entry-list2 .ensures .on _ _ (after-uses .uses .given .1),
     )
 
-sub-t29 : tie.Need-sub-t29
-sub-t29 c =
+sub-t30 : tie.Need-sub-t30
+sub-t30 c =
     let after-uses = c .before .before .before .before .before .before .before .before .before .before .before .before .before .before .before .before .before in
     omega (
       arith,
@@ -265,8 +270,9 @@ declare-proc-spec =
     enum-told-5
     same-length-4
     returns-5
-    sub-t28
+    cast-t28
     sub-t29
+    sub-t30
     put-process-requires
     same-length-5
     returns-6)

@@ -4,7 +4,7 @@ use Rattle.read_text.proofs.signatures.close_list.Statement.{statement}
 use Rattle.read_text.proofs.signatures.close_list.Tie as tie
 
 expect-requires : tie.Need-expect-requires
-expect-requires c κs = c .before .before .pre .1
+expect-requires c κs = search needs
 
 enum-known-closed : tie.Need-enum-known-closed
 enum-known-closed c = search needs

@@ -6,7 +6,7 @@ use Rattle.read_text.proofs.signatures.entry_list.Statement.{statement}
 use Rattle.read_text.proofs.signatures.entry_list.Tie as tie
 
 opening-requires : tie.Need-opening-requires
-opening-requires c κs = c .before .before .pre .1
+opening-requires c κs = search needs
 
 enum-known-opened : tie.Need-enum-known-opened
 enum-known-opened c = search needs

@@ -77,10 +77,10 @@ put-entry-requires c κs =
     )
 
 kind-at-requires : tie.Need-kind-at-requires Inv-loop μ-loop
-kind-at-requires c κs = search needs
+kind-at-requires c κs = c .before .before .before .before .before .before .before .before .before .before .before .before .before .before .before .loop .inv .room .0
 
 expect-requires : tie.Need-expect-requires Inv-loop μ-loop
-expect-requires c κs = search needs
+expect-requires c κs = (c .before .before .before .before .before .before .before .before .before .before .before .before .before .before .before .before .before .loop .inv .room .0, omega arith)
 
 enum-known-comma : tie.Need-enum-known-comma Inv-loop μ-loop
 enum-known-comma c = search needs

@@ -81,25 +81,30 @@ returns-4 c =
     (after-named .before .before .expect .ensures) (after-named .named .given .1) (after-provided .before .before .name-list .ensures)
     (after-provided .provided .given .1) (c .before .before .before .name-list2 .ensures) (c .before .enum-told4 .given .1) (c .refusal4 .ensures)
 
-put-term-requires : tie.Need-put-term-requires
-put-term-requires c κs =
-    let after-provided = c .before .before .before .before .before .before in
+term-node-requires : tie.Need-term-node-requires
+term-node-requires c κs =
+    let after-provided = c .before .before .before .before .before in
     let after-named = after-provided .before .before .before .before in
     let after-term = after-named .before .before .before .before in
-    let entry = after-term .before .before .before .before .before in
     omega (
       arith,
-      entry .pre,
+      after-term .before .before .before .before .before .pre,
       after-term .before .before .process-term .ensures .on _ _ (after-term .term .given .1),
       after-named .before .before .expect .ensures .on _ _ (after-named .named .given .1),
-      after-provided .before .before .name-list .ensures .on _ _
-          (after-provided .provided .given .1),
-      c .before .before .before .before .name-list2 .ensures .on _ _ (c .before .before .used .given .1),
+      after-provided .before .before .name-list .ensures .on _ _ (after-provided .provided .given .1),
+      c .before .before .before .name-list2 .ensures .on _ _ (c .before .used .given .1),
+    )
+
+put-term-requires : tie.Need-put-term-requires
+put-term-requires c κs =
+    let after-term = c .before .before .before .before .before .before .before .before .before .before .before .before .before .before .before in (
+      omega (arith, after-term .before .before .before .before .before .pre, after-term .before .before .process-term .ensures .on _ _ (after-term .term .given .1)),
+      c .before .term-node .ensures .1,
     )
 
 add-l : tie.Need-add-l
 add-l c =
-    let after-term = c .before .before .before .before .before .before .before .before .before .before .before .before .before .before .before .before .before .before in
+    let after-term = c .before .before .before .before .before .before .before .before .before .before .before .before .before .before .before .before .before .before .before in
     let entry = after-term .before .before .before .before .before in
     omega (arith, entry .pre, after-term .before .before .process-term .ensures .on _ _ (after-term .term .given .1))
 
@@ -108,7 +113,7 @@ same-length c = term-long _ _ _ (c .before .before .before .put-term .ensures)
 
 returns-5 : tie.Need-returns-5
 returns-5 c =
-    let after-used = c .before .before .before .before .before .before in
+    let after-used = c .before .before .before .before .before .before .before in
     let after-provided = after-used .before .before .before .before in
     let after-named = after-provided .before .before .before .before in
     let after-term = after-named .before .before .before .before in
@@ -116,7 +121,7 @@ returns-5 c =
     call-got _ _ _ _ (entry .pre) (after-term .before .before .process-term .ensures) (after-term .term .given .1)
     (after-named .before .before .expect .ensures) (after-named .named .given .1) (after-provided .before .before .name-list .ensures)
     (after-provided .provided .given .1) (after-used .before .before .name-list2 .ensures) (after-used .used .given .1)
-    (c .before .before .before .put-term .ensures)
+    (c .before .before .before .before .before .term-node .ensures .0) (c .before .before .before .put-term .ensures)
 
 pub read-call-spec : {M : Type 1} → statement M
 read-call-spec =
@@ -142,6 +147,7 @@ read-call-spec =
     enum-told-4
     refusal-requires-4
     returns-4
+    term-node-requires
     put-term-requires
     add-l
     same-length

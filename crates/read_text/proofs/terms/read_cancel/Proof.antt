@@ -43,15 +43,26 @@ add-l c =
     let entry = after-term .before .before .before .before .before in
     omega (arith, entry .pre, after-term .before .before .process-term .ensures .on _ _ (after-term .term .given .1))
 
-follow-requires : tie.Need-follow-requires
-follow-requires c κs =
-    let after-term = c .before .before .before .before .before .before .before in
-    let entry = after-term .before .before .before .before .before in
+term-node-requires : tie.Need-term-node-requires
+term-node-requires c κs =
+    let after-term = c .before .before .before .before .before .before in
     omega (
       arith,
-      entry .pre,
+      after-term .before .before .before .before .before .pre,
       after-term .before .before .process-term .ensures .on _ _ (after-term .term .given .1),
-      c .before .before .before .before .before .expect .ensures .on _ _ (c .before .before .before .named .given .1),
+      c .before .before .before .before .expect .ensures .on _ _ (c .before .before .named .given .1),
+    )
+
+follow-requires : tie.Need-follow-requires
+follow-requires c κs =
+    let after-term = c .before .before .before .before .before .before .before .before in (
+      omega (
+        arith,
+        after-term .before .before .before .before .before .pre,
+        after-term .before .before .process-term .ensures .on _ _ (after-term .term .given .1),
+        c .before .before .before .before .before .before .expect .ensures .on _ _ (c .before .before .before .before .named .given .1),
+      ),
+      c .before .term-node .ensures .1,
     )
 
 same-length : tie.Need-same-length
@@ -59,11 +70,11 @@ same-length c = search needs
 
 returns-3 : tie.Need-returns-3
 returns-3 c =
-    let after-named = c .before .before .before .before .before .before in
+    let after-named = c .before .before .before .before .before .before .before in
     let after-term = after-named .before .before .before .before in
     let entry = after-term .before .before .before .before .before in
     cancel-on _ _ _ _ (entry .pre) (after-term .before .before .process-term .ensures) (after-term .term .given .1)
-    (after-named .before .before .expect .ensures) (after-named .named .given .1) (c .before .before .follow .ensures)
+    (after-named .before .before .expect .ensures) (after-named .named .given .1) (c .before .before .before .before .term-node .ensures .0) (c .before .before .follow .ensures)
 
 pub read-cancel-spec : {M : Type 1} → statement M
 read-cancel-spec =
@@ -80,6 +91,7 @@ read-cancel-spec =
     refusal-requires-2
     returns-2
     add-l
+    term-node-requires
     follow-requires
     same-length
     returns-3)

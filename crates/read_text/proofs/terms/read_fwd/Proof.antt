@@ -58,22 +58,28 @@ returns-3 c =
     (after-expect .expect .ensures) (c .before .before .before .before .before .provided .given .1) (c .before .before .before .expect2 .ensures)
     (c .before .enum-told3 .given .1) (c .refusal3 .ensures)
 
-put-term-requires : tie.Need-put-term-requires
-put-term-requires c κs =
-    let after-provided = c .before .before .before .before .before .before in
+term-node-requires : tie.Need-term-node-requires
+term-node-requires c κs =
+    let after-provided = c .before .before .before .before .before in
     let after-term = after-provided .before .before .before .before in
-    let entry = after-term .before .before .before .before .before in
     omega (
       arith,
-      entry .pre,
+      after-term .before .before .before .before .before .pre,
       after-term .before .before .process-term .ensures .on _ _ (after-term .term .given .1),
       after-provided .before .before .expect .ensures .on _ _ (after-provided .provided .given .1),
-      c .before .before .before .before .expect2 .ensures .on _ _ (c .before .before .used .given .1),
+      c .before .before .before .expect2 .ensures .on _ _ (c .before .used .given .1),
+    )
+
+put-term-requires : tie.Need-put-term-requires
+put-term-requires c κs =
+    let after-term = c .before .before .before .before .before .before .before .before .before .before .before in (
+      omega (arith, after-term .before .before .before .before .before .pre, after-term .before .before .process-term .ensures .on _ _ (after-term .term .given .1)),
+      c .before .term-node .ensures .1,
     )
 
 add-l : tie.Need-add-l
 add-l c =
-    let after-term = c .before .before .before .before .before .before .before .before .before .before .before .before .before .before in
+    let after-term = c .before .before .before .before .before .before .before .before .before .before .before .before .before .before .before in
     let entry = after-term .before .before .before .before .before in
     omega (arith, entry .pre, after-term .before .before .process-term .ensures .on _ _ (after-term .term .given .1))
 
@@ -82,12 +88,12 @@ same-length c = term-long _ _ _ (c .before .before .before .put-term .ensures)
 
 returns-4 : tie.Need-returns-4
 returns-4 c =
-    let after-used = c .before .before .before .before .before .before in
+    let after-used = c .before .before .before .before .before .before .before in
     let after-expect = after-used .before .before .before .before .before .before in
     let entry = after-expect .before .before .before .before .before .before .before in
     fwd-got _ _ _ _ (entry .pre) (after-expect .before .before .before .before .process-term .ensures) (after-expect .before .before .term .given .1)
     (after-expect .expect .ensures) (after-used .before .before .before .before .provided .given .1) (after-used .before .before .expect2 .ensures)
-    (after-used .used .given .1) (c .before .before .before .put-term .ensures)
+    (after-used .used .given .1) (c .before .before .before .before .before .term-node .ensures .0) (c .before .before .before .put-term .ensures)
 
 pub read-fwd-spec : {M : Type 1} → statement M
 read-fwd-spec =
@@ -108,6 +114,7 @@ read-fwd-spec =
     enum-told-3
     refusal-requires-3
     returns-3
+    term-node-requires
     put-term-requires
     add-l
     same-length

@@ -29,11 +29,17 @@ add-l c = omega (
       (c .before .before .term .given .1),
 )
 
-put-before-requires : tie.Need-put-before-requires
-put-before-requires c κs = omega (
+term-node-requires : tie.Need-term-node-requires
+term-node-requires c κs = omega (
   arith,
-  c .before .before .before .before .before .before .before .before .pre,
-  c .before .before .before .before .before .process-term .ensures .on _ _ (c .before .before .before .term .given .1),
+  c .before .before .before .before .before .before .before .pre,
+  c .before .before .before .before .process-term .ensures .on _ _ (c .before .before .term .given .1),
+)
+
+put-before-requires : tie.Need-put-before-requires
+put-before-requires c κs = (
+  omega (arith, c .before .before .before .before .before .before .before .before .before .pre, c .before .before .before .before .before .before .process-term .ensures .on _ _ (c .before .before .before .before .term .given .1)),
+  c .before .term-node .ensures .1,
 )
 
 same-length : tie.Need-same-length
@@ -41,9 +47,9 @@ same-length c = term-long _ _ _ (c .before .before .put-before .ensures)
 
 returns-2 : tie.Need-returns-2
 returns-2 c =
-    let after-term = c .before .before .before .before .before .before in
+    let after-term = c .before .before .before .before .before .before .before in
     let entry = after-term .before .before .before .before .before in
-    raise-on _ _ _ _ (entry .pre) (after-term .before .before .process-term .ensures) (after-term .term .given .1) (c .before .before .put-before .ensures)
+    raise-on _ _ _ _ (entry .pre) (after-term .before .before .process-term .ensures) (after-term .term .given .1) (c .before .before .before .before .term-node .ensures .0) (c .before .before .put-before .ensures)
 
 pub read-raise-spec : {M : Type 1} → statement M
 read-raise-spec =
@@ -55,6 +61,7 @@ read-raise-spec =
     refusal-requires
     returns
     add-l
+    term-node-requires
     put-before-requires
     same-length
     returns-2)

@@ -45,6 +45,9 @@ returns-2 c =
     rest-on _ (entry .args .n) _ _ _ _ (entry .pre .0 .0) (entry .pre .0 .1) (next-token .result) (next-token .ensures .0) (next-token .ensures .1)
     (after-if1 .if1 .taken) (after-mark .before .before .expect .ensures) (after-mark .mark .given .1) (c .before .before .put-before .ensures)
 
+cast-put-pointing : tie.Need-cast-put-pointing
+cast-put-pointing c = search needs
+
 add-put-pointing : tie.Need-add-put-pointing
 add-put-pointing c = omega (
   arith,
@@ -81,6 +84,7 @@ follow-spec =
     put-before-requires
     same-length
     returns-2
+    cast-put-pointing
     add-put-pointing
     put-pointing-requires
     same-length-2

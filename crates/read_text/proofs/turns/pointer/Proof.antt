@@ -34,6 +34,9 @@ term-head-requires c κs = search needs
 enum-told : tie.Need-enum-told
 enum-told c = search needs
 
+cast-result : tie.Need-cast-result
+cast-result c = search needs
+
 add-result : tie.Need-add-result
 add-result c = omega (arith, c .before .before .before .before .before .before .pre, c .before .before .before .before .next-token .ensures .1 .starts)
 
@@ -62,6 +65,7 @@ pointer-spec =
     next-token-requires
     term-head-requires
     enum-told
+    cast-result
     add-result
     returns
     returns-2)

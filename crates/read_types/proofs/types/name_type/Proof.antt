@@ -25,6 +25,9 @@ returns : tie.Need-returns
 returns c = name-no _ _ _ _ (c .before .before .before .before .before .before .pre) (c .before .before .before .type-term .ensures)
     (c .before .enum-told .given .1) (c .refusal .ensures)
 
+cast-t12 : tie.Need-cast-t12
+cast-t12 c = search needs
+
 put-node-requires : tie.Need-put-node-requires
 put-node-requires c κs = omega (
   arith,
@@ -55,6 +58,7 @@ name-type-spec =
     enum-told
     refusal-requires
     returns
+    cast-t12
     put-node-requires
     add-l
     same-length

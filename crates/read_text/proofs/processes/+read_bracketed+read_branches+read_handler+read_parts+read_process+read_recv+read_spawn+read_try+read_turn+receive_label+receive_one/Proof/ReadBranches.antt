@@ -109,9 +109,9 @@ read-branches-met t =
     let after-labelled = c .before .before .before .before .before .before .before .before .before .before in
     omega (arith, branch-few _ _ _ (after-labelled .before .before .label-then .ensures) (after-labelled .labelled .given .1)))
     -- kind-at-requires
-    (λ c κs. search needs)
+    (λ c κs. c .before .before .before .before .before .before .before .before .before .before .before .before .before .loop .inv .room .0)
     -- expect-requires
-    (λ c κs. search needs)
+    (λ c κs. (c .before .before .before .before .before .before .before .before .before .before .before .before .before .before .before .loop .inv .room .0, omega arith))
     -- enum-known-bar
     (λ c. search needs)
     -- enum-told-3

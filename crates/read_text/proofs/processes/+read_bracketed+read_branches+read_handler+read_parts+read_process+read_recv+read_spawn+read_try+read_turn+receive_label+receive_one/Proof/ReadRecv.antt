@@ -86,7 +86,7 @@ read-recv-met t =
           (c .before .before .opened .given .1),
     ))
     -- closing-requires
-    (λ c κs. search needs)
+    (λ c κs. c .before .before .before .before .before .before .before .before .before .before .before .before .before .before .before .before .before .before .pre .1 .0)
     -- same-length
     (λ c. search needs)
     -- returns-4

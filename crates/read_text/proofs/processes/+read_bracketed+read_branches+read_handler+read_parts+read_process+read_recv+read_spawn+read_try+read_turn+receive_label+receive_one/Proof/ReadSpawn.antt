@@ -66,7 +66,7 @@ read-spawn-met t =
     spawn-type-no _ _ _ _ (entry .pre .1) (after-named .before .before .name-colon .ensures) (after-named .named .given .1)
     (c .before .before .before .before .read-type .ensures) (c .enum-told2 .given .1))
     -- expect-requires
-    (λ c κs. search needs)
+    (λ c κs. (c .before .before .before .before .before .before .before .before .before .before .before .before .before .before .pre .1 .0, omega arith))
     -- enum-known-arrow
     (λ c. search needs)
     -- enum-told-3

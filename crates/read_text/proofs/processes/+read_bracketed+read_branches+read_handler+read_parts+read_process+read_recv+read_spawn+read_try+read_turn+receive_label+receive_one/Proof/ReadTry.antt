@@ -76,7 +76,7 @@ read-try-met t =
     try-main-no _ _ _ _ (entry .pre .1) (after-term .before .before .process-term .ensures) (after-term .term .given .1)
     (c .before .before .before .before .read-bracketed .ensures) (c .enum-told2 .given .1))
     -- expect-requires
-    (λ c κs. search needs)
+    (λ c κs. (c .before .before .before .before .before .before .before .before .before .before .before .before .before .before .before .pre .1 .0, omega arith))
     -- enum-known-word
     (λ c. search needs)
     -- enum-told-3
@@ -104,6 +104,10 @@ read-try-met t =
       after-term .before .before .process-term .ensures .on _ _ (after-term .term .given .1),
       after-main .before .before .before .before .read-bracketed .ensures .on _ _ (after-main .main .given .1),
     ))
+    -- cast-t19
+    (λ c.
+    let after-term = c .before .before .before .before .before .before .before .before .before .before .before .before .before .before .before in
+    omega (arith, after-term .before .before .before .before .before .pre .1, after-term .before .before .process-term .ensures .on _ _ (after-term .term .given .1)))
     -- put-term-requires
     (λ c κs.
     let after-main = c .before .before .before .before .before .before .before in

@@ -99,7 +99,7 @@ read-alternatives-met t =
     -- kind-at-requires
     (λ c κs. search needs)
     -- expect-requires
-    (λ c κs. search needs)
+    (λ c κs. (c .before .before .before .before .before .before .before .before .before .before .before .before .before .before .loop .inv .room .0, omega arith))
     -- enum-known-comma
     (λ c. search needs)
     -- enum-told-3

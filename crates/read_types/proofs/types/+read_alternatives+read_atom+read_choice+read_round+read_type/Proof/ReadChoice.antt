@@ -65,7 +65,7 @@ read-choice-met t =
     choice-list-no _ _ _ _ (entry .pre .1 .0) _ (entry .pre .1 .1 .0) (entry .pre .1 .1 .1) (after-opened .before .before .choice-opening .ensures)
     (after-opened .opened .given .1) (c .before .before .before .before .read-alternatives .ensures) (c .enum-told2 .given .1))
     -- expect-requires
-    (λ c κs. search needs)
+    (λ c κs. (c .before .before .before .before .before .before .before .before .before .before .before .before .before .before .pre .1 .0 .0, omega arith))
     -- enum-known-closed
     (λ c. search needs)
     -- enum-told-3

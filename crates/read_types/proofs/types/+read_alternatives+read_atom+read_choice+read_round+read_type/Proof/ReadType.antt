@@ -78,7 +78,7 @@ read-type-met t =
     -- is-infix-requires
     (λ c κs. search needs)
     -- type-term-requires
-    (λ c κs. infix-most _ (sym (c .before .is-infix .ensures) ∙ c .if1 .taken))
+    (λ c κs. (c .before .before .before .before .before .before .before .before .before .before .before .before .before .before .before .before .loop .inv .room .0, infix-most _ (sym (c .before .is-infix .ensures) ∙ c .if1 .taken)))
     -- enum-known-taken
     (λ c. search needs)
     -- enum-told-2
