@@ -19,7 +19,7 @@ ghost use Rattle.notation.specs.Tables.{Area, termKindRadix, termNode, putTerm,
 ghost use Rattle.notation.specs.Limits.{execLimit, processLimit, processTermLimit, textLimit, typeLimit, typeTermLimit};
 ghost use Rattle.read_types.specs.Filling.{Put, FitsTerm, FitsEntry};
 
-// A node of this kind, by the offsets of what it has in the text; what follows it is put later.
+// A node of this kind, by the offsets of what it has in the text; what follows it, if anything does, is put later.
 pub(crate) fn term_node(kind: usize, at: u16, first: u16, second: u16) -> TermNode
     requires { ⌜ (kind < termKindRadix) × (at < textLimit) × (first < textLimit) × (second < textLimit) ⌝ }
     ensures { λ r. ⌜ r ≡ termNode kind at first second 0 ⌝ }
