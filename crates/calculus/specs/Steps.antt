@@ -152,6 +152,30 @@ outsideAfter givenUp k o = o
 unfoldable pub parting : Config → ℕ → Process → End → Outcome
 parting C i q e = carried (seenAt (farEnd C e)) (withOutside (outsideAfter (farEnd C e) (e .channel) (C .outside)) (replaced i q C))
 
+-- ── a handler: it starts by a raise or a lost recv of the process that is linked to it, and folds up when that process leaves
+abbrev pub startedDoing : Doing → Doing
+startedDoing (running P) = running P
+startedDoing folding = folding
+startedDoing (waiting Q) = running Q
+
+abbrev pub startedHandler : Process → Process
+startedHandler h = doingNow (startedDoing (h .doing)) h
+
+abbrev pub foldedHandler : Process → Process
+foldedHandler h = doingNow folding h
+
+abbrev pub putAt : List Process → ℕ → Option Process → List Process
+putAt l j none = l
+putAt l j (some h) = set l j h
+
+abbrev pub changedAt : (Process → Process) → Option ℕ → List Process → List Process
+changedAt f none l = l
+changedAt f (some j) l = putAt l j (Option·map f (getElem? l j))
+
+-- the process q stands at place i, without its link; its handler, if linked, starts
+abbrev pub handlerStarts : ℕ → Process → Config → Config
+handlerStarts i q C = replaced i (linkedBy none q) (withProcesses (changedAt startedHandler (q .link) (C .processes)) C)
+
 -- ── "A matching send and recv on one channel step together"
 abbrev pub bothTo : Config → ℕ → Process → ℕ → Option Process → Outcome
 bothTo C i p′ j none = notOpen
@@ -213,11 +237,11 @@ answering p C h (sends c m P) = cond (same (c .name) (h .name)) (send p C (h .pl
 answering p C h (receives c w) = notOpen
 answering p C h alone = notOpen
 
--- "a recv drops its channel in that step and folds up"
+-- "a recv drops its channel in that step and folds up; if its process is linked, the handler starts in that step, as by a raise, and the process folds up without the link"
 abbrev pub receiving : Program → Config → ℕ → Process → Name → Far → Outcome
 receiving p C i q c (atProcess h) = answering p C h (turnOf (h .process .doing))
 receiving p C i q c (atOutside n) = notOpen
-receiving p C i q c givenUp = carried Nothing (replaced i (foldsUp q (without c (q .held))) C)
+receiving p C i q c givenUp = carried Nothing (handlerStarts i (foldsUp q (without c (q .held))) C)
 
 unfoldable pub receive : Program → Config → ℕ → Process → Located → Outcome
 receive p C i q c = onHeld (lookup (c .name) (q .held)) λ e. receiving p C i q (c .name) (farEnd C e)
@@ -269,30 +293,9 @@ entering C i q ns (some s) = carried Nothing (replaced i (goesOn q (s .body) (re
 unfoldable pub calling : Program → Config → ℕ → Process → Located → List Located → List Located → Outcome
 calling p C i q f xs ys = entering C i q (namesOf xs ++ namesOf ys) (lookup (f .name) (p .processes))
 
--- ── alone: raise (the handler starts), and what the leaving of a linked process does to its handler
-abbrev pub startedDoing : Doing → Doing
-startedDoing (running P) = running P
-startedDoing folding = folding
-startedDoing (waiting Q) = running Q
-
-abbrev pub startedHandler : Process → Process
-startedHandler h = doingNow (startedDoing (h .doing)) h
-
-abbrev pub foldedHandler : Process → Process
-foldedHandler h = doingNow folding h
-
-abbrev pub putAt : List Process → ℕ → Option Process → List Process
-putAt l j none = l
-putAt l j (some h) = set l j h
-
-abbrev pub changedAt : (Process → Process) → Option ℕ → List Process → List Process
-changedAt f none l = l
-changedAt f (some j) l = putAt l j (Option·map f (getElem? l j))
-
+-- ── alone: raise (the handler starts)
 unfoldable pub raising : Config → ℕ → Process → Proc → Outcome
-raising C i q P =
-    carried Nothing
-    (replaced i (linkedBy none (goesOn q P (q .held))) (withProcesses (changedAt startedHandler (q .link) (C .processes)) C))
+raising C i q P = carried Nothing (handlerStarts i (goesOn q P (q .held)) C)
 
 -- ── alone: fwd. It "makes the two far ends one channel and leaves its process empty; if one was given up, the other finds its far end given up,
 -- and if that other is the outside, the step shows cancelled": e is the end of x, d that of c

@@ -8,7 +8,7 @@ use native.Mathlib.Omega.{arith}
 use lib.Dec.{eqb}
 use lib.ListN.{length, set, getElem?, length-set}
 use Rattle.calculus.specs.Configuration.{Process, Config, withProcesses, replaced, doingNow}
-use Rattle.calculus.specs.Steps.{startedDoing, startedHandler, foldedHandler, putAt, changedAt}
+use Rattle.calculus.specs.Steps.{startedDoing, startedHandler, foldedHandler, putAt, changedAt, handlerStarts}
 use Rattle.read_tables.specs.Decode.{processIn}
 use Rattle.run_words.specs.Lists.{All}
 use Rattle.run_words.specs.ListLaws.{all-set, all-at, all-map, all-of, map-at}
@@ -19,7 +19,7 @@ use Rattle.run_words.specs.Operations as raw
 use Rattle.run_words.specs.Bounds.{Unlinked}
 use Rattle.run_words.specs.declared.records.Process.{Process as ProcessWords}
 use Rattle.run_alone.specs.Run.{configIn, doingAs, processAs, RunOf, ProcessOf, StandsAt, Becomes}
-use Rattle.run_alone.specs.Changes.{stored, places-after, places-in}
+use Rattle.run_alone.specs.Changes.{then, stored, places-after, places-in}
 
 -- ── what becomes of a handler
 abbrev pub handlerKind : Bool → ℕ → ℕ
@@ -110,3 +110,13 @@ module _ (s w : List ℕ) where
 
     pub as-many : length (rawIn mid .processes) ≡ length (rawIn old .processes)
     as-many = places-after b ∙ changed-many raised (linkOf link) (configIn s w old .processes) ∙ places-in s w old
+
+-- ── a process goes on without its link, and its handler starts
+pub unlinked-fine : {s w : List ℕ} {n m : ℕ} (p : ProcessWords) → ProcessOf s w n p → ProcessOf s w m (values.ofLink 0 p)
+unlinked-fine p t = record { kind = t .kind; pointer = t .pointer; link = tt; term = t .term; held = t .held }
+
+module _ (s w old mid new : List ℕ) (i : ℕ) (p : ProcessWords) where
+  pub handler-started : {n : ℕ} → ProcessOf s w n p → Becomes s w old mid (withHandler true (linkOf (p .link)) (configIn s w old))
+      → Changed mid new (raw.onProcesses (λ l. set l i (values.processIn (values.ofLink 0 p))) (rawIn mid)) → Bounded (rawIn new)
+      → Becomes s w old new (handlerStarts i (processAs s w p) (configIn s w old))
+  handler-started t b c k = then (replaced i (processAs s w (values.ofLink 0 p))) b (stored s w mid new (b .run) i (values.ofLink 0 p) (unlinked-fine p t) c k)

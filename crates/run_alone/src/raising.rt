@@ -3,13 +3,11 @@ ghost use Rattle.calculus.specs.Steps.{raising};
 ghost use Rattle.read_tables.specs.Decode.{processIn};
 ghost use Rattle.read_tables.specs.Roots.{ProcessIn};
 ghost use Rattle.run_alone.specs.Run.{configIn, processAs, RunOf, StandsAt, Carries};
-use crate::handlers::change_handler;
+use crate::handlers::start_handler;
 use crate::outcome::Outcome;
 use calculus::answers::Seen;
-use run_words::processes::store;
 use run_words::records::Process;
 use run_words::records::RUNNING;
-use run_words::records::UNLINKED;
 
 // Raise: the handler starts, and the process goes on with the term at a pointer, without link.
 pub fn raise(
@@ -25,11 +23,9 @@ pub fn raise(
     requires { ⌜ ProcessIn (now text) (now scratch) pointer ⌝ }
     ensures { λ r. ⌜ Carries (now (text .entry)) (now (scratch .entry)) (now (run .entry)) (now (run .exit)) r (raising (configIn (now (text .entry)) (now (scratch .entry)) (now (run .entry))) place (processAs (now (text .entry)) (now (scratch .entry)) p) (processIn (now (text .entry)) (now (scratch .entry)) pointer)) ⌝ }
 {
-    change_handler(text, scratch, run, p.link, true);
     let mut q = p;
     q.kind = RUNNING;
     q.pointer = pointer;
-    q.link = UNLINKED;
-    store(run, place, q);
+    start_handler(text, scratch, run, place, q);
     Outcome::Carried(Seen::Nothing)
 }

@@ -1,8 +1,8 @@
 -- A recv: as the send at its far end, or with its far end given up.
 use Prim.Native.Nat.{_<_, _≤_, suc, zero, ℕ}
-use Rattle.calculus.specs.Configuration.{Config, Holder, Outside, foldsUp, replaced}
+use Rattle.calculus.specs.Configuration.{Config, Holder, Outside, foldsUp}
 use Rattle.calculus.specs.Program.{Program}
-use Rattle.calculus.specs.Steps.{Outcome, Turn, alone, answering, notOpen, receive, receives, receiving, send, sends, turnOf}
+use Rattle.calculus.specs.Steps.{Outcome, Turn, alone, answering, handlerStarts, notOpen, receive, receives, receiving, send, sends, turnOf}
 use Rattle.calculus.specs.declared.answers.Seen.the-variants.{Nothing}
 use Rattle.check_contexts.specs.Held.{Drops, Sees}
 use Rattle.check_contexts.specs.declared.held.Lookup.{Lookup}
@@ -122,11 +122,11 @@ module _ (s w old : List ℕ) (i : ℕ) (p : ProcessWords) (c : ℕ) (e : EndWor
     pub answers : {new : List ℕ} {o : OutcomeWords} → (t .kind ≡ idleKind → ⊥) → t .kind ≤ sendLabelKind → Carries s w old new o (sendBy s w old j r t) → Carries s w old new o (receivingBy s w old i p c e)
     answers {new} {o} a b k = subst (Carries s w old new o) (answered-send s w (configIn s w old) (holderBy j r x) t (t .kind) (omega (arith, a)) b ∙ sym answers-as) k
 
-  receives-up : {F : calculus.Far} {new : List ℕ} {h : Held} → FarAs (nameAt s) (plainIn s w) (processIn s w) (rawIn old) far.GivenUp F → Drops s (p .held) c h → Becomes s w old new (replaced i (processAs s w (values.foldingUp h p)) (configIn s w old))
+  receives-up : {F : calculus.Far} {new : List ℕ} {h : Held} → FarAs (nameAt s) (plainIn s w) (processIn s w) (rawIn old) far.GivenUp F → Drops s (p .held) c h → Becomes s w old new (handlerStarts i (processAs s w (values.foldingUp h p)) (configIn s w old))
       → Carries s w old new (Carried Nothing) (receiving (programIn s w) (configIn s w old) i (processAs s w p) (nameAt s c) F)
-  receives-up {new = new} givenUp d b = record { is = (refl, subst (λ l. Becomes s w old new (replaced i (foldsUp (processAs s w p) l) (configIn s w old))) (d .is w) b) }
+  receives-up {new = new} givenUp d b = record { is = (refl, subst (λ l. Becomes s w old new (handlerStarts i (foldsUp (processAs s w p) l) (configIn s w old))) (d .is w) b) }
 
-  pub receives-nothing : {new : List ℕ} {h : Held} → far.GivenUp ≡ farRaw s w old e → Drops s (p .held) c h → Becomes s w old new (replaced i (processAs s w (values.foldingUp h p)) (configIn s w old)) → Carries s w old new (Carried Nothing) (receivingBy s w old i p c e)
+  pub receives-nothing : {new : List ℕ} {h : Held} → far.GivenUp ≡ farRaw s w old e → Drops s (p .held) c h → Becomes s w old new (handlerStarts i (processAs s w (values.foldingUp h p)) (configIn s w old)) → Carries s w old new (Carried Nothing) (receivingBy s w old i p c e)
   receives-nothing f d b = receives-up (far-as s w old e far.GivenUp f) d b
 
   receives-out : {k : ℕ} {F : calculus.Far} → FarAs (nameAt s) (plainIn s w) (processIn s w) (rawIn old) (far.Outside k) F → Carries s w old old NotOpen (receiving (programIn s w) (configIn s w old) i (processAs s w p) (nameAt s c) F)

@@ -17,11 +17,11 @@ use check_contexts::held::Lookup;
 use check_contexts::held::drop_end;
 use check_contexts::held::find_end;
 use notation::kinds::SEND_LABEL;
+use run_alone::handlers::start_handler;
 use run_alone::outcome::Outcome;
 use run_words::far::far_end_near;
 use run_words::held::end_at;
 use run_words::processes::load;
-use run_words::processes::store;
 use run_words::records::End;
 use run_words::records::FOLDING;
 use run_words::records::Far;
@@ -48,7 +48,7 @@ fn answer(text: &[u8], scratch: &[u32], run: &mut [u32], j: usize, k: usize) -> 
     send(text, scratch, run, j, r, t)
 }
 
-// "a recv drops its channel in that step and folds up".
+// "a recv drops its channel in that step and folds up; if its process is linked, the handler starts in that step, as by a raise, and the process folds up without the link".
 fn receive_nothing(
     text: &[u8],
     scratch: &[u32],
@@ -68,7 +68,7 @@ fn receive_nothing(
     let mut q = p;
     q.kind = FOLDING;
     q.held = held;
-    store(run, place, q);
+    start_handler(text, scratch, run, place, q);
     Outcome::Carried(Seen::Nothing)
 }
 

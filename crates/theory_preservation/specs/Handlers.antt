@@ -1,28 +1,29 @@
--- Raise, which starts the handler, and leaving the list, by which the handler folds up.
+-- Raise and a lost recv, which start the handler, and leaving the list, by which the handler folds up.
 use mathlib.Core.Path.{_≡_, refl, sym, _∙_, ap, subst}
 use mathlib.Core.Logic.{_≢_, _⊎_, inl, inr}
-use mathlib.Core.List.{List}
+use mathlib.Core.List.{List, Sublistᴰ, Sublistᴰ·refl}
 use mathlib.Core.Option.{Option, some, none, Option·map, Option·none-ne-some}
-use mathlib.Core.Bool.{Bool, true, false, false≢true}
+use mathlib.Core.Bool.{Bool, true, false}
 use Prim.Native.Nat.{ℕ, _≤_, _<_}
 use native.Mathlib.Omega.{arith}
 use lib.ListN.{length, set, getElem?, length-set}
 use Rattle.notation.specs.Limits.{processPlaces}
 use Rattle.notation.specs.Tree.{Name, Proc, raise}
-use Rattle.calculus.specs.Named.{names, isSome}
+use Rattle.calculus.specs.Named.{names, isSome, without}
 use Rattle.calculus.specs.Program.{Context, Program}
 use Rattle.calculus.specs.Typing.{Typed, raises}
-use Rattle.calculus.specs.Configuration.{Doing, running, folding, waiting, Process, Config, withProcesses, replaced, relinked, removed, doingNow, linkedBy, goesOn, becoming}
-use Rattle.calculus.specs.Steps.{changedAt, putAt, startedHandler, startedDoing, foldedHandler}
+use Rattle.calculus.specs.Configuration.{End, Doing, running, folding, waiting, Process, Config, withProcesses, replaced, relinked, removed, doingNow, linkedBy, goesOn, foldsUp, becoming}
+use Rattle.calculus.specs.Steps.{changedAt, putAt, startedHandler, startedDoing, foldedHandler, handlerStarts}
 use Rattle.calculus.specs.Reduces.{Empty, no-term, no-channel}
-use Rattle.calculus.specs.WellFormed.{contextOf, isWaiting, NoneTwice, Stands}
+use Rattle.calculus.specs.WellFormed.{contextOf, isWaiting, Stands}
+use Rattle.theory_ends.specs.Names.{without-sub}
 use Rattle.theory_ends.specs.Lists.{length-removed, set-cases, found-below}
 use Rattle.theory_preservation.specs.Mates.{put}
-use Rattle.theory_preservation.specs.Roster.{TypedDoing, NamesDiffer, runs-on, runs-awake}
+use Rattle.theory_preservation.specs.Roster.{TypedDoing, NamesDiffer, names-less, Goes, runs-on, goes-folding, runs-awake}
 use Rattle.theory_preservation.specs.LettingGo.{raised, left, left-alone}
 use Rattle.theory_preservation.specs.Places.{Shows, shows-set, shows-out, idOut}
 use Rattle.theory_preservation.specs.Growing
-use Rattle.theory_preservation.specs.Invariant.{Inv, hasLink, at-roster, fine-at, handler, unlinked}
+use Rattle.theory_preservation.specs.Invariant.{Inv, hasLink, inv-less, at-roster, fine-at, handler, unlinked}
 
 started-waits-not : (d : Doing) → isWaiting (startedDoing d) ≡ false
 started-waits-not (running P) = refl
@@ -57,15 +58,15 @@ module _ {p : Program} {C : Config} (I : Inv p C) {i : ℕ} {q : Process} (here 
     link-id : Option·map (I .id) (q .link) ≡ some (I .id h)
     link-id = ap (Option·map (I .id)) lk
 
-    raised-inv : isWaiting d ≡ false → NamesDiffer d (names (r .held)) → TypedDoing p (contextOf (r .held)) (isSome (Option·map (I .id) (r .link))) d → (P : Proc)
-        → NoneTwice (names (q .held)) → Typed p (contextOf (q .held)) false P
-        → Inv p (withProcesses (set l₁ i (linkedBy none (goesOn q P (q .held)))) C)
-    raised-inv wd nd td P n t = record {
+    raised-inv : isWaiting d ≡ false → NamesDiffer d (names (r .held)) → TypedDoing p (contextOf (r .held)) (isSome (Option·map (I .id) (r .link))) d
+        → (d′ : Doing) → isWaiting d′ ≡ false → {l : List (Name × End)} → Sublistᴰ l (q .held) → NamesDiffer d′ (names l) → TypedDoing p (contextOf l) false d′
+        → Inv p (withProcesses (set l₁ i (linkedBy none (becoming d′ l q))) C)
+    raised-inv wd nd td d′ w′ {l} a n t = record {
       id = I .id;
-      roster = put (I .id i) (some (linkedBy none (goesOn q P (q .held)))) (put (I .id h) (some (relinked (I .id) (becoming d (r .held) r))) (I .roster));
+      roster = put (I .id i) (some (linkedBy none (becoming d′ l q))) (put (I .id h) (some (relinked (I .id) (becoming d (r .held) r))) (I .roster));
       next = I .next;
-      shows = shows-set s₁ i (omega (arith, inside, len₁)) (linkedBy none (goesOn q P (q .held))) (λ k e. absurd (Option·none-ne-some k e));
-      good = raised (I .good) (I .id i) (I .id h) (relinked (I .id) q) (relinked (I .id) r) (at-roster I i q (here .there)) (at-roster I h r rh) w link-id rw d wd nd td P n t;
+      shows = shows-set s₁ i (omega (arith, inside, len₁)) (linkedBy none (becoming d′ l q)) (λ k e. absurd (Option·none-ne-some k e));
+      good = raised (I .good) (I .id i) (I .id h) (relinked (I .id) q) (relinked (I .id) r) (at-roster I i q (here .there)) (at-roster I h r rh) w link-id rw d wd nd td d′ w′ a n t;
       places = subst (λ n. n ≤ processPlaces) (sym (length-set l₁ i _ ∙ len₁)) (I .places);
       numbers = I .numbers;
     }
@@ -89,18 +90,30 @@ module _ {p : Program} {C : Config} (I : Inv p C) {i : ℕ} {q : Process} (here 
             go (inl y) = unlinked I i q (here .there) w h r rh (ap (λ (s : Process). s .link) (y .1) ∙ z)
             go (inr y) = unlinked I i q (here .there) w j s (y .1) z
 
-  pub raise-keeps : {o : ℕ} {P : Proc} → q .doing ≡ running (raise o P) → Typed p (contextOf (q .held)) (hasLink I q) (raise o P)
-      → Inv p (replaced i (linkedBy none (goesOn q P (q .held))) (withProcesses (changedAt startedHandler (q .link) (C .processes)) C))
-  raise-keeps {P = P} r (raises e t) = go (q .link) refl
+  -- the process does d from now on, holds l and is not linked; its handler, if linked, starts
+  pub starts-keep : isWaiting (q .doing) ≡ false → (d : Doing) → Goes (q .doing) d → {l : List (Name × End)} → Sublistᴰ l (q .held) → TypedDoing p (contextOf l) false d
+      → Inv p (handlerStarts i (becoming d l q) C)
+  starts-keep w d g {l} a t = go (q .link) refl
     where
-      go : (o : Option ℕ) → q .link ≡ o → Inv p (replaced i (linkedBy none (goesOn q P (q .held))) (withProcesses (changedAt startedHandler o (C .processes)) C))
-      go none z = absurd (false≢true (sym (ap (λ o. isSome (Option·map (I .id) o)) z) ∙ e))
+      go : (o : Option ℕ) → q .link ≡ o → Inv p (replaced i (linkedBy none (becoming d l q)) (withProcesses (changedAt startedHandler o (C .processes)) C))
+      go none z =
+          subst (λ o. Inv p (replaced i (linkedBy o (becoming d l q)) C)) z
+          (inv-less I i q (here .there) d g a (subst (λ b. TypedDoing p (contextOf l) b d) (sym (ap (λ o. isSome (Option·map (I .id) o)) z)) t) (Sublistᴰ·refl (C .outside)))
       go (some h) z =
           let x = handler I i q (here .there) h z in
-          subst (λ o. Inv p (replaced i (linkedBy none (goesOn q P (q .held))) (withProcesses (putAt (C .processes) h (Option·map startedHandler o)) C))) (sym (x .1))
-          (raised-inv (runs-awake r) h z (x .0) (x .1) (x .2) (startedDoing (x .0 .doing)) (started-waits-not (x .0 .doing))
+          subst (λ o. Inv p (replaced i (linkedBy none (becoming d l q)) (withProcesses (putAt (C .processes) h (Option·map startedHandler o)) C))) (sym (x .1))
+          (raised-inv w h z (x .0) (x .1) (x .2) (startedDoing (x .0 .doing)) (started-waits-not (x .0 .doing))
           (started-names _ (x .0 .doing) (fine-at I h (x .0) (x .1) .names))
-          (started-typed p _ _ (x .0 .doing) (fine-at I h (x .0) (x .1) .typed)) P (runs-on r P .names _ (fine-at I i q (here .there) .names)) t)
+          (started-typed p _ _ (x .0 .doing) (fine-at I h (x .0) (x .1) .typed)) d (sym (g .waits) ∙ w) a
+          (names-less d a (g .names _ (fine-at I i q (here .there) .names))) t)
+
+  pub raise-keeps : {o : ℕ} {P : Proc} → q .doing ≡ running (raise o P) → Typed p (contextOf (q .held)) (hasLink I q) (raise o P)
+      → Inv p (handlerStarts i (goesOn q P (q .held)) C)
+  raise-keeps {P = P} r (raises e t) = starts-keep (runs-awake r) (running P) (runs-on r P) (Sublistᴰ·refl (q .held)) t
+
+  -- a recv whose far end was given up
+  pub lost-keeps : {P : Proc} → q .doing ≡ running P → (c : Name) → Inv p (handlerStarts i (foldsUp q (without c (q .held))) C)
+  lost-keeps r c = starts-keep (runs-awake r) folding (goes-folding (runs-awake r)) (without-sub c (q .held)) tt
 
   empty-awake : Empty q → isWaiting (q .doing) ≡ false
   empty-awake (no-term e) = ap isWaiting e

@@ -1,23 +1,22 @@
 -- Rules that only let go: of channels, of a link, of a place in the list.
 use mathlib.Core.Path.{_≡_, refl, sym, _∙_, ap, subst}
 use mathlib.Core.Logic.{ite, apply-ite}
-use mathlib.Core.List.{List, Sublistᴰ}
+use mathlib.Core.List.{List, Sublistᴰ, Sublistᴰ·refl}
 use mathlib.Core.Option.{Option, some, none, Option·none-ne-some}
 use mathlib.Core.Bool.{Bool, true, false, true≢false}
 use Prim.Native.Nat.{ℕ}
 use native.Mathlib.Omega.{arith}
 use native.Mathlib.Decide.{ℕ-discrete}
-use Rattle.notation.specs.Tree.{Name, Proc}
+use Rattle.notation.specs.Tree.{Name}
 use Rattle.calculus.specs.Named.{isSome, names}
 use Rattle.calculus.specs.Program.{Program}
-use Rattle.calculus.specs.Typing.{Typed}
-use Rattle.calculus.specs.Configuration.{End, Doing, running, Process, Outside, doingNow, linkedBy, becoming}
-use Rattle.calculus.specs.WellFormed.{In, contextOf, isWaiting, NoneTwice}
+use Rattle.calculus.specs.Configuration.{End, Doing, Process, Outside, doingNow, linkedBy, becoming}
+use Rattle.calculus.specs.WellFormed.{In, contextOf, isWaiting}
 use Rattle.theory_ends.specs.Lists.{sub-in}
 use Rattle.theory_preservation.specs.Witness.{Tip, Recast, recast-same, recasting}
 use Rattle.theory_preservation.specs.Outsides.{fair-less}
 use Rattle.theory_preservation.specs.Mates.{put, put-elim, put-at, Profile, Mates, mates-same, mates-put, mates-cut, Quiet, quiet-none, quiet-some}
-use Rattle.theory_preservation.specs.Roster.{Roster, tipOf, linkTip, outsideTip, Tips, holds, links, waits, Has, outside, inside, TypedDoing, Fine, fine-less, Continues, profile, Good, Afterwards, nobody-after, one-after, good-after, same-after, becomes, one-good, NamesDiffer}
+use Rattle.theory_preservation.specs.Roster.{Roster, tipOf, linkTip, outsideTip, Tips, holds, links, waits, Has, outside, inside, TypedDoing, Fine, fine-less, fine-holding, Continues, profile, Good, Afterwards, nobody-after, one-after, good-after, same-after, becomes, one-good, NamesDiffer}
 
 -- what is seen of a roster after a process is put in
 pub profile-put : (u : ℕ) (x : Option Process) (S : Roster) (v : ℕ) → profile (put u x S v) ≡ put u (profile x) (λ v. profile (S v)) v
@@ -58,17 +57,14 @@ module _ {p : Program} {S : Roster} {o : List Outside} {given next : ℕ} (G : G
   stays : (v : ℕ) → Shrinks v (S v)
   stays v = same-after G v (omega arith) (λ e _ h. h)
 
-  -- the process r of v does d from now on, which is no waiting, with its link or none
-  shrinks-to : (v : ℕ) (r : Process) → S v ≡ some r → (d : Doing) (k : Option ℕ) → isWaiting d ≡ false → ((h : ℕ) → k ≡ some h → r .link ≡ some h)
-      → NamesDiffer d (names (r .held)) → TypedDoing p (contextOf (r .held)) (isSome k) d
-      → Shrinks v (some (linkedBy k (doingNow d r)))
-  shrinks-to v r sv d k w s n t = one-after (linkedBy k (doingNow d r)) (G .placed v r sv) fine′ here
+  -- the process r of v does d from now on, which is no waiting, and holds l, with its link or none
+  shrinks-to : (v : ℕ) (r : Process) → S v ≡ some r → (d : Doing) {l : List (Name × End)} → Sublistᴰ l (r .held) → (k : Option ℕ) → isWaiting d ≡ false
+      → ((h : ℕ) → k ≡ some h → r .link ≡ some h) → NamesDiffer d (names l) → TypedDoing p (contextOf l) (isSome k) d
+      → Shrinks v (some (linkedBy k (becoming d l r)))
+  shrinks-to v r sv d {l} a k w s n t = one-after (linkedBy k (becoming d l r)) (G .placed v r sv) (fine-holding (G .fine v r sv) d k a n t) here
     where
-      fine′ : Fine p (linkedBy k (doingNow d r))
-      fine′ = let f = G .fine v r sv in record { typed = t; names = n; keys = f .keys; room = f .room; channels = f .channels }
-
-      here : (e : Tip) → Tips v (linkedBy k (doingNow d r)) e → Has S o v e
-      here e (holds x i z) = inside r sv (holds x i z)
+      here : (e : Tip) → Tips v (linkedBy k (becoming d l r)) e → Has S o v e
+      here e (holds x i z) = inside r sv (holds x (sub-in a i) z)
       here e (links h y z) = inside r sv (links h (s h y) z)
       here e (waits y z) = absurd (true≢false (sym y ∙ w))
 
@@ -82,7 +78,7 @@ module _ {p : Program} {S : Roster} {o : List Outside} {given next : ℕ} (G : G
     cut-mates = mates-cut (G .mates) u h (s .link) (profile-at u r su false w ∙ ap (λ l. some (l, false)) lk) (profile-at h s sh true wh)
 
     handler : Shrinks h (some (doingNow d s))
-    handler = shrinks-to h s sh d (s .link) wd (λ _ e. e) nd td
+    handler = shrinks-to h s sh d (Sublistᴰ·refl (s .held)) (s .link) wd (λ _ e. e) nd td
 
     rest-same : (x : Option Process) (y : Profile) → profile x ≡ y → (v : ℕ)
         → put u y (put h (some (s .link, false)) (λ v. profile (S v))) v ≡ profile (put u x (put h (some (doingNow d s)) S) v)
@@ -90,13 +86,13 @@ module _ {p : Program} {S : Roster} {o : List Outside} {given next : ℕ} (G : G
         sym (profile-put-two u h x (some (doingNow d s)) S v
         ∙ (λ i. put u (e i) (put h (some (s .link, wd i)) (λ v. profile (S v))) v))
 
-    pub raised : (P : Proc) → NoneTwice (names (r .held)) → Typed p (contextOf (r .held)) false P
-        → Good p (put u (some (linkedBy none (doingNow (running P) r))) (put h (some (doingNow d s)) S)) o given next
-    raised P n t =
+    pub raised : (d′ : Doing) → isWaiting d′ ≡ false → {l : List (Name × End)} → Sublistᴰ l (r .held) → NamesDiffer d′ (names l) → TypedDoing p (contextOf l) false d′
+        → Good p (put u (some (linkedBy none (becoming d′ l r))) (put h (some (doingNow d s)) S)) o given next
+    raised d′ w′ {l} a n t =
         shrunk-good
-        (put-elim Shrinks u _ (put h (some (doingNow d s)) S) (shrinks-to u r su (running P) none refl (λ k e. absurd (Option·none-ne-some k e)) n t)
+        (put-elim Shrinks u _ (put h (some (doingNow d s)) S) (shrinks-to u r su d′ a none w′ (λ k e. absurd (Option·none-ne-some k e)) n t)
         (λ v _. put-elim Shrinks h _ S handler (λ v _. stays v) v))
-        (mates-same (rest-same (some (linkedBy none (doingNow (running P) r))) (some (none, false)) refl) cut-mates)
+        (mates-same (rest-same (some (linkedBy none (becoming d′ l r))) (some (none, false)) (ap (λ b. some (none, b)) w′)) cut-mates)
 
     pub left : Good p (put u none (put h (some (doingNow d s)) S)) o given next
     left =

@@ -235,13 +235,18 @@ module _ {p : Program} {S : Roster} {o : List Outside} {given next : ℕ} (G : G
       (λ v n. put-elim (λ v y. v ≢ w → Change p R next v (S v) y) u (some q) S (λ _. c) (λ v m n. unchanged R v (λ e _. rest v e m n)) v n))
       (λ y i. rest 0 (outsideTip y) (λ e. u0 (sym e)) (λ e. w0 (sym e)) (outside refl y i refl)) (G .fair)
 
--- ── a process that holds less
-pub fine-less : {p : Program} {r : Process} → Fine p r → (d : Doing) → Goes (r .doing) d → {l : List (Name × End)} → Sublistᴰ l (r .held) → TypedDoing p (contextOf l) (isSome (r .link)) d
-    → Fine p (becoming d l r)
-fine-less {p} {r} f d w s t = record {
+-- ── a process that holds less: whatever it does then, and is linked to
+pub fine-holding : {p : Program} {r : Process} → Fine p r → (d : Doing) (k : Option ℕ) {l : List (Name × End)} → Sublistᴰ l (r .held) → NamesDiffer d (names l)
+    → TypedDoing p (contextOf l) (isSome k) d → Fine p (linkedBy k (becoming d l r))
+fine-holding f d k s n t = record {
   typed = t;
-  names = names-less d s (w .names (names (r .held)) (f .names));
+  names = n;
   keys = sub-once keyAt s (f .keys);
   room = let a = f .room in let b = sub-length s in omega arith;
   channels = λ x i. f .channels x (sub-in s i);
 }
+
+-- with its link
+pub fine-less : {p : Program} {r : Process} → Fine p r → (d : Doing) → Goes (r .doing) d → {l : List (Name × End)} → Sublistᴰ l (r .held) → TypedDoing p (contextOf l) (isSome (r .link)) d
+    → Fine p (becoming d l r)
+fine-less {r = r} f d w s t = fine-holding f d (r .link) s (names-less d s (w .names (names (r .held)) (f .names))) t

@@ -5,12 +5,10 @@ use Rattle.calculus.specs.Typing.{Bodies}
 use Rattle.calculus.specs.Configuration.{Config}
 use Rattle.calculus.specs.Reduces.{Sends, close-meets, channel-meets, label-meets, close-shows, label-shows, channel-shows, gone-shows, close-lost, label-lost, channel-lost, Reduces, communicates, spawns, tries, calls, cancels, raises, joins, joins-outside, joins-nobody, nobody-joins, unanswered, folds, leaves}
 use Rattle.calculus.specs.declared.answers.Seen.{Seen}
-use Rattle.theory_ends.specs.Names.{without-sub}
 use Rattle.theory_ends.specs.FarEnds.{far-held, far-outside, far-nobody}
-use Rattle.theory_preservation.specs.Roster.{runs-awake}
 use Rattle.theory_preservation.specs.Invariant.{Inv, runs-typed}
-use Rattle.theory_preservation.specs.GivingUp.{folds-up, cancel-keeps, fold-keeps}
-use Rattle.theory_preservation.specs.Handlers.{raise-keeps, leave-keeps}
+use Rattle.theory_preservation.specs.GivingUp.{cancel-keeps, fold-keeps}
+use Rattle.theory_preservation.specs.Handlers.{raise-keeps, lost-keeps, leave-keeps}
 use Rattle.theory_preservation.specs.Making.{spawn-keeps, try-keeps}
 use Rattle.theory_preservation.specs.Joining.{forward-keeps, forward-out-keeps, joined-nobody, nobody-joined}
 use Rattle.theory_preservation.specs.Calling.{call-keeps}
@@ -40,6 +38,6 @@ reduces-keep B {C} I (joins {e = e} r x c _) = forward-keeps I (r .stands) (r .r
 reduces-keep B I (joins-outside r x c _) = forward-out-keeps I (r .stands) (r .runs) (x .held) (c .held) (runs-typed I r)
 reduces-keep B I (joins-nobody r x c _) = joined-nobody I (r .stands) (r .runs) (x .held) (c .held)
 reduces-keep B I (nobody-joins r x c g) = nobody-joined I (r .stands) (r .runs) x (c .held) g
-reduces-keep B I (unanswered {q = q} {c = c} r _ _) = folds-up I (r .stands) (runs-awake (r .runs)) (without-sub (c .name) (q .held))
+reduces-keep B I (unanswered {c = c} r _ _) = lost-keeps I (r .stands) (r .runs) (c .name)
 reduces-keep B I (folds s d h g) = fold-keeps I s d h g
 reduces-keep B I (leaves s e) = leave-keeps I s e

@@ -1,7 +1,9 @@
 pub mod Chosen
+pub mod Elsewhere
 pub mod Endings
 pub mod Folding
 pub mod GivenUp
+pub mod Handlers
 pub mod Joints
 pub mod Places
 pub mod Outward
@@ -9,6 +11,7 @@ pub mod Progress
 pub mod RunOn
 pub mod Shapes
 pub mod Shown
+pub mod Starting
 pub mod Together
 pub mod Turns
 pub mod Waiting

@@ -1,20 +1,19 @@
 -- What a step does to the list of processes: it changes one or two in their places, brings one, or takes one away.
-use Prim.Native.Nat.{ℕ, _<_}
+use Prim.Native.Nat.{ℕ}
 use mathlib.Core.Path.{_≡_, refl, _∙_, ap}
 use mathlib.Core.List.{List}
-use mathlib.Core.Option.{Option}
 use mathlib.Core.Bool.{Bool, true, false}
-use lib.ListN.{length, set}
+use lib.ListN.{set}
 use Rattle.calculus.specs.Program.{Program}
 use Rattle.calculus.specs.Configuration.{End, Process, Config, inserted, removed}
 use Rattle.calculus.specs.Steps.{Outcome, carried, notOpen, lacking, Turn, sends, receives, alone, turnOf, startedHandler, foldedHandler, changedAt, step}
 use Rattle.calculus.specs.WellFormed.{Stands}
 use Rattle.calculus.specs.declared.answers.Seen.{Seen}
 use Rattle.calculus.specs.declared.answers.Seen.the-variants.{Nothing}
-use Rattle.theory_ends.specs.Lists.{found-below}
-use Rattle.calculus.specs.Reduces.{GivesUp, by-process, by-outside, by-nobody, Sends, close-meets, channel-meets, label-meets, close-shows, label-shows, channel-shows, gone-shows, close-lost, label-lost, channel-lost, Naming, its-own, its-recv, Reduces, communicates, spawns, tries, calls, cancels, raises, joins, joins-outside, joins-nobody, nobody-joins, unanswered, folds, leaves}
+use Rattle.calculus.specs.Reduces.{GivesUp, by-process, by-outside, by-nobody, Empty, Sends, close-meets, channel-meets, label-meets, close-shows, label-shows, channel-shows, gone-shows, close-lost, label-lost, channel-lost, Naming, its-own, its-recv, Reduces, communicates, spawns, tries, calls, cancels, raises, joins, joins-outside, joins-nobody, nobody-joins, unanswered, folds, leaves}
 use Rattle.theory_reductions.specs.CarriedOut.{holder-stands}
 use Rattle.theory_reductions.specs.StepIff.{step-iff}
+use Rattle.theory_progress.specs.Starting.{StartsHandler, by-raise, by-lost-recv}
 
 abbrev pub talks : Turn → Bool
 talks (sends c m P) = true
@@ -32,10 +31,10 @@ pub data Shape (C : Config) (k : ℕ) : Seen → List Process → Type 0 where
   two : (j h : ℕ) (x y : Process) → Touched C k j → Touched C k h → Shape C k Nothing (set (set (C .processes) j x) h y)
   -- a fwd changes the channel that another process holds, and not what it does
   joined : (h : ℕ) {r : Process} (x y : Process) → Stands C h r → y .doing ≡ r .doing → Shape C k Nothing (set (set (C .processes) k x) h y)
-  handled : (x : Process) (l : Option ℕ) → Shape C k Nothing (set (changedAt startedHandler l (C .processes)) k x)
+  handled : (x : Process) {q : Process} → StartsHandler C k q → Shape C k Nothing (set (changedAt startedHandler (q .link) (C .processes)) k x)
   spawned-one : (x y : Process) → Shape C k Nothing (inserted k x (set (C .processes) k y))
   tried-one : (x y : Process) → Shape C k Nothing (set (inserted k x (C .processes)) k y)
-  left : (l : Option ℕ) → k < length (C .processes) → Shape C k Nothing (removed k (changedAt foldedHandler l (C .processes)))
+  left : {q : Process} → Stands C k q → Empty q → Shape C k Nothing (removed k (changedAt foldedHandler (q .link) (C .processes)))
 
 module _ {C : Config} {k : ℕ} where
   names : {j : ℕ} → Naming C k j → Touched C k j
@@ -66,14 +65,14 @@ module _ {p : Program} {C : Config} {k : ℕ} where
   reduced (tries r n) = tried-one _ _
   reduced (calls r s) = one _ _ (itself refl)
   reduced (cancels r h g) = gives-up _ (itself refl) g
-  reduced (raises {q = q} r) = handled _ (q .link)
+  reduced (raises r) = handled _ (by-raise r)
   reduced (joins r h l n) = joined _ _ _ (holder-stands h) refl
   reduced (joins-outside r h l n) = one _ _ (itself refl)
   reduced (joins-nobody r h l n) = one _ _ (itself refl)
   reduced (nobody-joins r h l g) = gives-up _ (itself refl) g
-  reduced (unanswered r t h) = one _ _ (itself refl)
+  reduced (unanswered {P = P} {w = w} {e = e} r t h) = handled _ (by-lost-recv (record { term = P; runs = r; wanted = w; receives-on = t; held = e; holds = h }))
   reduced (folds s d h g) = gives-up _ (itself refl) g
-  reduced (leaves {q = q} s e) = left (q .link) (found-below (C .processes) k (s .there))
+  reduced (leaves s e) = left s e
 
 pub step-shape : (p : Program) (C D : Config) (k : ℕ) (seen : Seen) → step p C k ≡ carried seen D → Shape C k seen (D .processes)
 step-shape p C D k seen e = reduced (step-iff p C k .0 e)

@@ -14,10 +14,10 @@ shape-stays : {C : Config} {k : ℕ} {seen : Seen} {l : List Process} → Shape 
 shape-stays {C} (one j x t) s = length-set (C .processes) j x
 shape-stays (two j h x y t u) s = absurd s
 shape-stays (joined h x y t e) s = absurd s
-shape-stays (handled x l) s = absurd s
+shape-stays (handled x t) s = absurd s
 shape-stays (spawned-one x y) s = absurd s
 shape-stays (tried-one x y) s = absurd s
-shape-stays (left l b) s = absurd s
+shape-stays (left t e) s = absurd s
 
 pub shown-stays : (p : Program) (C D : Config) (i : ℕ) (seen : Seen) → step p C i ≡ carried seen D → Shows seen
     → length (D .processes) ≡ length (C .processes)
