@@ -8,6 +8,8 @@ use Rattle.calculus.specs.Starred.{around, Case}
 
 -- The link is not left with the spawned half: the handler starts when the other half raises, and does not fold up when the spawned half leaves.
 -- A passed channel is gone from its sender: the send on it meets the receiver's recv, though the sender stands before the receiver.
+-- A lost recv starts the handler, which then folds up neither with its process nor when that leaves.
+-- A cancel by the process's own term wakes nobody: the handler waits, and folds up when its process leaves.
 -- (A cancelled recv is no close: the fifth starred case.)
 abbrev pub astray : List Case
 astray =
@@ -18,6 +20,14 @@ astray =
     ∷ record {
       text = around (bytes "a : 1 <- (send a ()); c : 1 -o 1 <- (recv c (y => recv y (() => send c ()))); send c a; recv c (() => send x ())");
       output = bytes "Executing process m:\n#0 -> ()\ndone after 9 steps\n";
+    }
+    ∷ record {
+      text = around (bytes "s : 1 <- (cancel s); try (recv s (() => )) catch (send x ())");
+      output = bytes "Executing process m:\n#0 -> ()\ndone after 8 steps\n";
+    }
+    ∷ record {
+      text = around (bytes "c : 1 <- (send c ()); try (cancel c) catch (send x ())");
+      output = bytes "Executing process m:\n#0 -> cancelled\ndone after 8 steps\n";
     }
     ∷ []
 
