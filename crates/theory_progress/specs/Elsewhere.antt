@@ -144,7 +144,11 @@ pub record After (C : Config) (k i : ℕ) (d : Doing) (l : List Process) : Type 
   pub stands : DoesAt doing l (placeAfter k (length (C .processes)) (length l) i)
 
 module _ (C : Config) (k i : ℕ) {d : Doing} (silent : talks (turnOf d) ≡ false) (n : i ≢ k) (f : DoesAt d (C .processes) i) where
-  as-before : {l : List Process} → DoesAt d l (placeAfter k (length (C .processes)) (length l) i) → After C k i d l
+  -- it does e where it stands in the list l afterwards
+  abbrev Stays : Doing → List Process → Type 0
+  Stays e l = DoesAt e l (placeAfter k (length (C .processes)) (length l) i)
+
+  as-before : {l : List Process} → Stays d l → After C k i d l
   as-before g = record { doing = d; change = the-same; stands = g }
 
   -- it is none that the step touches
@@ -171,27 +175,31 @@ module _ (C : Config) (k i : ℕ) {d : Doing} (silent : talks (turnOf d) ≡ fal
   handled-after : (x : Process) {q : Process} → StartsHandler C k q → After C k i d (set (changedAt startedHandler (q .link) (C .processes)) k x)
   handled-after x {q} s = go (leads? (q .link) i)
     where
-      here : {e : Doing} → DoesAt e (changedAt startedHandler (q .link) (C .processes)) i
-          → DoesAt e (set (changedAt startedHandler (q .link) (C .processes)) k x) (placeAfter k (length (C .processes)) (length (set (changedAt startedHandler (q .link) (C .processes)) k x)) i)
-      here g = same-places k _ _ i _ (length-set (changedAt startedHandler (q .link) (C .processes)) k x ∙ length-changed startedHandler (q .link) (C .processes)) (does-set x n g)
+      l : List Process
+      l = changedAt startedHandler (q .link) (C .processes)
 
-      go : Dec (q .link ≡ some i) → After C k i d (set (changedAt startedHandler (q .link) (C .processes)) k x)
-      go (yes z) = record { doing = startedDoing d; change = started s z; stands = here (does-changed startedHandler (λ q e. ap startedDoing e) z f) }
-      go (no m) = as-before (here (does-beside startedHandler (q .link) m f))
+      stays : {e : Doing} → DoesAt e l i → Stays e (set l k x)
+      stays g = same-places k _ _ i _ (length-set l k x ∙ length-changed startedHandler (q .link) (C .processes)) (does-set x n g)
+
+      go : Dec (q .link ≡ some i) → After C k i d (set l k x)
+      go (yes z) = record { doing = startedDoing d; change = started s z; stands = stays (does-changed startedHandler (λ q e. ap startedDoing e) z f) }
+      go (no m) = as-before (stays (does-beside startedHandler (q .link) m f))
 
   left-after : {q : Process} → Stands C k q → Empty q → After C k i d (removed k (changedAt foldedHandler (q .link) (C .processes)))
   left-after {q} s t = go (leads? (q .link) i)
     where
-      here : {e : Doing} → DoesAt e (changedAt foldedHandler (q .link) (C .processes)) i
-          → DoesAt e (removed k (changedAt foldedHandler (q .link) (C .processes))) (placeAfter k (length (C .processes)) (length (removed k (changedAt foldedHandler (q .link) (C .processes)))) i)
-      here g =
+      l : List Process
+      l = changedAt foldedHandler (q .link) (C .processes)
+
+      stays : {e : Doing} → DoesAt e l i → Stays e (removed k l)
+      stays g =
           let c = length-changed foldedHandler (q .link) (C .processes) in
           let b = found-below (C .processes) k (s .there) in
-          one-less k _ i _ (length-removed k (changedAt foldedHandler (q .link) (C .processes)) (omega arith) ∙ c) (does-removed k n g)
+          one-less k _ i _ (length-removed k l (omega arith) ∙ c) (does-removed k n g)
 
-      go : Dec (q .link ≡ some i) → After C k i d (removed k (changedAt foldedHandler (q .link) (C .processes)))
-      go (yes z) = record { doing = folding; change = folded s t z; stands = here (does-changed foldedHandler (λ q e. refl) z f) }
-      go (no m) = as-before (here (does-beside foldedHandler (q .link) m f))
+      go : Dec (q .link ≡ some i) → After C k i d (removed k l)
+      go (yes z) = record { doing = folding; change = folded s t z; stands = stays (does-changed foldedHandler (λ q e. refl) z f) }
+      go (no m) = as-before (stays (does-beside foldedHandler (q .link) m f))
 
   shape-after : {seen : Seen} {l : List Process} → Shape C k seen l → After C k i d l
   shape-after (one j x t) = as-before (same-places k _ _ i _ (length-set (C .processes) j x) (does-set x (untouched t) f))
