@@ -15,11 +15,11 @@ use run_words::records::RUNNING;
 use run_words::records::UNLINKED;
 use run_words::records::WAITING;
 
-// What a handler does once its process raises or its recv is lost, or once it leaves the list.
-fn handler_kind(kind: u32, raised: bool) -> u32
-    ensures { λ r. ⌜ r ≡ handlerKind raised kind ⌝ }
+// What a handler does once it starts, or folds up.
+fn handler_kind(kind: u32, starts: bool) -> u32
+    ensures { λ r. ⌜ r ≡ handlerKind starts kind ⌝ }
 {
-    if raised {
+    if starts {
         if kind == WAITING {
             return RUNNING;
         }
@@ -29,10 +29,10 @@ fn handler_kind(kind: u32, raised: bool) -> u32
 }
 
 // The handler of a link, if there is one, starts or folds up.
-pub fn change_handler(text: &[u8], scratch: &[u32], run: &mut [u32], link: u32, raised: bool)
+pub fn change_handler(text: &[u8], scratch: &[u32], run: &mut [u32], link: u32, starts: bool)
     requires { ⌜ RunOf (now text) (now scratch) (now run) ⌝ }
     requires { ⌜ linksBelow (length (rawIn (now run) .processes)) (linkOf link) ⌝ }
-    ensures { λ r. ⌜ Becomes (now (text .entry)) (now (scratch .entry)) (now (run .entry)) (now (run .exit)) (withHandler raised (linkOf link) (configIn (now (text .entry)) (now (scratch .entry)) (now (run .entry)))) ⌝ }
+    ensures { λ r. ⌜ Becomes (now (text .entry)) (now (scratch .entry)) (now (run .entry)) (now (run .exit)) (withHandler starts (linkOf link) (configIn (now (text .entry)) (now (scratch .entry)) (now (run .entry)))) ⌝ }
 {
     if link == UNLINKED {
         return;
@@ -40,7 +40,7 @@ pub fn change_handler(text: &[u8], scratch: &[u32], run: &mut [u32], link: u32, 
     let place = wide(link - 1);
     let h = load(run, place);
     let mut q = h;
-    q.kind = handler_kind(h.kind, raised);
+    q.kind = handler_kind(h.kind, starts);
     store(run, place, q);
 }
 

@@ -20,7 +20,7 @@ use Rattle.theory_ends.specs.Names.{without-sub}
 use Rattle.theory_ends.specs.Lists.{length-removed, set-cases, found-below}
 use Rattle.theory_preservation.specs.Mates.{put}
 use Rattle.theory_preservation.specs.Roster.{TypedDoing, NamesDiffer, names-less, Goes, runs-on, goes-folding, runs-awake}
-use Rattle.theory_preservation.specs.LettingGo.{raised, left, left-alone}
+use Rattle.theory_preservation.specs.LettingGo.{started, left, left-alone}
 use Rattle.theory_preservation.specs.Places.{Shows, shows-set, shows-out, idOut}
 use Rattle.theory_preservation.specs.Growing
 use Rattle.theory_preservation.specs.Invariant.{Inv, hasLink, inv-less, at-roster, fine-at, handler, unlinked}
@@ -58,15 +58,15 @@ module _ {p : Program} {C : Config} (I : Inv p C) {i : ℕ} {q : Process} (here 
     link-id : Option·map (I .id) (q .link) ≡ some (I .id h)
     link-id = ap (Option·map (I .id)) lk
 
-    raised-inv : isWaiting d ≡ false → NamesDiffer d (names (r .held)) → TypedDoing p (contextOf (r .held)) (isSome (Option·map (I .id) (r .link))) d
+    started-inv : isWaiting d ≡ false → NamesDiffer d (names (r .held)) → TypedDoing p (contextOf (r .held)) (isSome (Option·map (I .id) (r .link))) d
         → (d′ : Doing) → isWaiting d′ ≡ false → {l : List (Name × End)} → Sublistᴰ l (q .held) → NamesDiffer d′ (names l) → TypedDoing p (contextOf l) false d′
         → Inv p (withProcesses (set l₁ i (linkedBy none (becoming d′ l q))) C)
-    raised-inv wd nd td d′ w′ {l} a n t = record {
+    started-inv wd nd td d′ w′ {l} a n t = record {
       id = I .id;
       roster = put (I .id i) (some (linkedBy none (becoming d′ l q))) (put (I .id h) (some (relinked (I .id) (becoming d (r .held) r))) (I .roster));
       next = I .next;
       shows = shows-set s₁ i (omega (arith, inside, len₁)) (linkedBy none (becoming d′ l q)) (λ k e. absurd (Option·none-ne-some k e));
-      good = raised (I .good) (I .id i) (I .id h) (relinked (I .id) q) (relinked (I .id) r) (at-roster I i q (here .there)) (at-roster I h r rh) w link-id rw d wd nd td d′ w′ a n t;
+      good = started (I .good) (I .id i) (I .id h) (relinked (I .id) q) (relinked (I .id) r) (at-roster I i q (here .there)) (at-roster I h r rh) w link-id rw d wd nd td d′ w′ a n t;
       places = subst (λ n. n ≤ processPlaces) (sym (length-set l₁ i _ ∙ len₁)) (I .places);
       numbers = I .numbers;
     }
@@ -102,7 +102,7 @@ module _ {p : Program} {C : Config} (I : Inv p C) {i : ℕ} {q : Process} (here 
       go (some h) z =
           let x = handler I i q (here .there) h z in
           subst (λ o. Inv p (replaced i (linkedBy none (becoming d l q)) (withProcesses (putAt (C .processes) h (Option·map startedHandler o)) C))) (sym (x .1))
-          (raised-inv w h z (x .0) (x .1) (x .2) (startedDoing (x .0 .doing)) (started-waits-not (x .0 .doing))
+          (started-inv w h z (x .0) (x .1) (x .2) (startedDoing (x .0 .doing)) (started-waits-not (x .0 .doing))
           (started-names _ (x .0 .doing) (fine-at I h (x .0) (x .1) .names))
           (started-typed p _ _ (x .0 .doing) (fine-at I h (x .0) (x .1) .typed)) d (sym (g .waits) ∙ w) a
           (names-less d a (g .names _ (fine-at I i q (here .there) .names))) t)

@@ -86,9 +86,9 @@ module _ {p : Program} {S : Roster} {o : List Outside} {given next : ℕ} (G : G
         sym (profile-put-two u h x (some (doingNow d s)) S v
         ∙ (λ i. put u (e i) (put h (some (s .link, wd i)) (λ v. profile (S v))) v))
 
-    pub raised : (d′ : Doing) → isWaiting d′ ≡ false → {l : List (Name × End)} → Sublistᴰ l (r .held) → NamesDiffer d′ (names l) → TypedDoing p (contextOf l) false d′
+    pub started : (d′ : Doing) → isWaiting d′ ≡ false → {l : List (Name × End)} → Sublistᴰ l (r .held) → NamesDiffer d′ (names l) → TypedDoing p (contextOf l) false d′
         → Good p (put u (some (linkedBy none (becoming d′ l r))) (put h (some (doingNow d s)) S)) o given next
-    raised d′ w′ {l} a n t =
+    started d′ w′ {l} a n t =
         shrunk-good
         (put-elim Shrinks u _ (put h (some (doingNow d s)) S) (shrinks-to u r su d′ a none w′ (λ k e. absurd (Option·none-ne-some k e)) n t)
         (λ v _. put-elim Shrinks h _ S handler (λ v _. stays v) v))

@@ -7,7 +7,7 @@ use Rattle.run_alone.proofs.handlers.change_handler.Tie as tie
 returns : tie.Need-returns
 returns c =
     let s = c .before .before .before .before in
-    handler-none (s .args .text .now) (s .args .scratch .now) (s .args .run .now) (s .args .run .now) (s .pre .0) (s .args .raised) (s .args .link) (c .if1 .taken)
+    handler-none (s .args .text .now) (s .args .scratch .now) (s .args .run .now) (s .args .run .now) (s .pre .0) (s .args .starts) (s .args .link) (c .if1 .taken)
 
 sub-wide : tie.Need-sub-wide
 sub-wide c = search needs
@@ -21,8 +21,8 @@ load-requires c κs =
       s .pre .0 .wide,
       (
         s .pre .0 .bounds,
-        handler-below (s .args .text .now) (s .args .scratch .now) (s .args .run .now) (s .args .run .now) (s .pre .0) (s .args .raised) (s .args .link)
-            (c .before .wide .result) _ (handler-place (s .args .text .now) (s .args .scratch .now) (s .args .run .now) (s .args .run .now) (s .pre .0) (s .args .raised) (s .args .link)
+        handler-below (s .args .text .now) (s .args .scratch .now) (s .args .run .now) (s .args .run .now) (s .pre .0) (s .args .starts) (s .args .link)
+            (c .before .wide .result) _ (handler-place (s .args .text .now) (s .args .scratch .now) (s .args .run .now) (s .args .run .now) (s .pre .0) (s .args .starts) (s .args .link)
             (c .before .wide .result) (c .before .before .if1 .left) (c .before .wide .ensures .0)) (s .pre .1),
       ),
     )
@@ -39,16 +39,16 @@ store-requires c κs =
     let text = entry .args .text .now in
     let scratch = entry .args .scratch .now in
     let run = entry .args .run .now in
-    let raised = entry .args .raised in
+    let starts = entry .args .starts in
     let link = entry .args .link in (
       entry .pre .0 .wide,
       (
         entry .pre .0 .bounds,
         (
-          handler-below text scratch run run (entry .pre .0) raised link (wide .result) _
-              (handler-place text scratch run run (entry .pre .0) raised link (wide .result) (after-wide .before .if1 .left) (wide .ensures .0)) (entry .pre .1),
+          handler-below text scratch run run (entry .pre .0) starts link (wide .result) _
+              (handler-place text scratch run run (entry .pre .0) starts link (wide .result) (after-wide .before .if1 .left) (wide .ensures .0)) (entry .pre .1),
           bounded-of _ _
-              (handler-fine text scratch run run (entry .pre .0) raised link (wide .result) (load .result)
+              (handler-fine text scratch run run (entry .pre .0) starts link (wide .result) (load .result)
               (loaded _ _ (load .result) (entry .pre .0) (load .ensures)) _ (c .before .handler-kind .ensures)),
         ),
       ),
@@ -66,9 +66,9 @@ returns-2 c =
     let text = entry .args .text .now in
     let scratch = entry .args .scratch .now in
     let run = entry .args .run .now in
-    handler-changed text scratch run _ (entry .pre .0) (entry .args .raised) (entry .args .link) (wide .result) (load .result)
+    handler-changed text scratch run _ (entry .pre .0) (entry .args .starts) (entry .args .link) (wide .result) (load .result)
     (loaded _ _ (load .result) (entry .pre .0) (load .ensures)) _
-    (c .before .before .before .before .handler-kind .ensures) (handler-place text scratch run run (entry .pre .0) (entry .args .raised) (entry .args .link) (wide .result)
+    (c .before .before .before .before .handler-kind .ensures) (handler-place text scratch run run (entry .pre .0) (entry .args .starts) (entry .args .link) (wide .result)
     (after-load .before .before .before .if1 .left) (wide .ensures .0)) (c .before .before .store .ensures .0) (c .before .before .store .ensures .1)
 
 pub change-handler-spec : {M : Type 1} → statement M
