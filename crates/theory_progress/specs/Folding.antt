@@ -7,30 +7,28 @@ use mathlib.Core.List.{List, [], _∷_}
 use lib.ListN.{length}
 use Rattle.notation.specs.Tree.{Name}
 use Rattle.calculus.specs.Program.{Program}
-use Rattle.calculus.specs.Configuration.{End, Doing, folding, Process, Config, foldsUp}
-use Rattle.calculus.specs.Steps.{carried, parting, foldedHandler, changedAt, leaving, foldingUp, stepDoing, step}
+use Rattle.calculus.specs.Configuration.{End, folding, Process, Config, foldsUp}
+use Rattle.calculus.specs.Steps.{carried, parting, startedDoing, foldedHandler, changedAt, leaving, foldingUp, stepDoing, step}
 use Rattle.calculus.specs.WellFormed.{Stands}
 use Rattle.calculus.specs.declared.answers.Seen.{Seen}
 use Rattle.theory_ends.specs.Lists.{found-below, set-at, length-removed}
 use Rattle.theory_reductions.specs.CarriedOut.{step-at}
 use Rattle.theory_progress.specs.Shapes.{config-by}
-use Rattle.theory_progress.specs.Elsewhere.{DoesAt, placeAfter, length-changed, Later, the-same, started, folded, step-after}
+use Rattle.theory_progress.specs.Elsewhere.{Does, DoesAt, placeAfter, length-changed, Stays, After, as-before, started, folded, silent-after}
 
 -- a process that folds up at a place
 abbrev pub FoldsAt : List Process → ℕ → Type 0
 FoldsAt = DoesAt folding
 
 -- ── a step at another place leaves it folding up: a handler that folds up is not started
-still-folds : {C : Config} {k i : ℕ} {d : Doing} → Later C k i folding d → d ≡ folding
-still-folds the-same = refl
-still-folds (started s z) = refl
-still-folds (folded s e z) = refl
+still-folds : {C : Config} {k i : ℕ} {l : List Process} → After C k i (Does folding) l → Stays C k i (Does folding) l
+still-folds (as-before f) = f
+still-folds (started s z f) = record { process = f .process; there = f .there; is = f .is .2 ∙ ap startedDoing (f .is .1) }
+still-folds (folded s e z f) = f
 
 pub folding-stays : (p : Program) (C D : Config) (k i : ℕ) (seen : Seen) → step p C k ≡ carried seen D → i ≢ k → FoldsAt (C .processes) i
     → FoldsAt (D .processes) (placeAfter k (length (C .processes)) (length (D .processes)) i)
-folding-stays p C D k i seen e n f =
-    let a = step-after C k i refl n f p e in
-    record { process = a .stands .process; there = a .stands .there; does = a .stands .does ∙ still-folds (a .change) }
+folding-stays p C D k i seen e n f = still-folds (silent-after C k i refl n f p e)
 
 -- ── its own step leaves it folding up with one channel less, or takes it from the list
 pub folding-on : (p : Program) (C : Config) (i : ℕ) (q : Process) → Stands C i q → q .doing ≡ folding → step p C i ≡ foldingUp C i q (q .held)
@@ -47,7 +45,7 @@ own-folds C D i q seen s [] e h =
     absurd (omega arith)
 own-folds C D i q seen s (x ∷ l) e h =
     subst (λ r. FoldsAt (config-by C r .processes) i) e
-    (record { process = foldsUp q l; there = set-at (C .processes) i _ (found-below (C .processes) i (s .there)); does = refl })
+    (record { process = foldsUp q l; there = set-at (C .processes) i _ (found-below (C .processes) i (s .there)); is = refl })
 
 -- ── a process followed through steps: that at place i of C is, after them, that at place j of D
 pub data Follows (p : Program) : Config → ℕ → Config → ℕ → Type 0 where
@@ -62,5 +60,5 @@ pub folds-on : {p : Program} {C D : Config} {i j : ℕ} → Follows p C i D j �
 folds-on (no-step e z) f = subst₂ (λ (C : Config) i. FoldsAt (C .processes) i) e z f
 folds-on {p} (own-step {C} {E} {i = i} seen e h r) f =
     let s : Stands C i (f .process) = record { there = f .there } in
-    folds-on r (own-folds C E i (f .process) seen s (f .process .held) (sym (folding-on p C i (f .process) s (f .does)) ∙ e) h)
+    folds-on r (own-folds C E i (f .process) seen s (f .process .held) (sym (folding-on p C i (f .process) s (f .is)) ∙ e) h)
 folds-on {p} (other-step {C} {E} {i = i} k seen e n r) f = folds-on r (folding-stays p C E k i seen e n f)

@@ -70,7 +70,7 @@ module _ (p : Program) (C : Config) (i : ℕ) (q : Process) (c : Located) (f : F
   folds-there =
       let n = length-changed startedHandler (q .link) (C .processes) in
       let b = found-below (C .processes) i (f .runs .stands .there) in
-      record { process = folded c q; there = set-at (changedAt startedHandler (q .link) (C .processes)) i (folded c q) (omega arith); does = refl }
+      record { process = folded c q; there = set-at (changedAt startedHandler (q .link) (C .processes)) i (folded c q) (omega arith); is = refl }
 
   -- and does so until it leaves, whatever its link was: what the recv would have gone on with is never run
   pub never-runs : {seen : Seen} {E D : Config} {j : ℕ} → step p C i ≡ carried seen E → Follows p E i D j → FoldsAt (D .processes) j

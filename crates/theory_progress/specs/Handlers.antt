@@ -14,8 +14,8 @@ use Rattle.calculus.specs.Reduces.{Runs, Empty, no-term, no-channel}
 use Rattle.calculus.specs.declared.answers.Seen.{Seen}
 use Rattle.theory_reductions.specs.Kinds.{ActsBy, closes-on, takes-on, picks-on, term-acts}
 use Rattle.theory_reductions.specs.CarriedOut.{step-at}
-use Rattle.theory_progress.specs.Starting.{StartsHandler, by-raise, by-lost-recv}
-use Rattle.theory_progress.specs.Elsewhere.{DoesAt, does-one, placeAfter, Later, the-same, started, folded, After, step-after}
+use Rattle.theory_progress.specs.Starting.{StartsHandler, by-raise, by-lost-recv, starter-stands}
+use Rattle.theory_progress.specs.Elsewhere.{Does, DoesAt, does-one, placeAfter, After, as-before, started, folded, silent-after}
 
 -- whether the step of a term can change a handler: a recv and a raise can start it, and when an empty process leaves it folds up
 abbrev pub changesHandler : Proc → Bool
@@ -53,9 +53,9 @@ empty-changes (no-term e) = ap changes e
 empty-changes (no-channel e h) = ap changes e
 
 module _ {C : Config} {k : ℕ} where
-  starter-changes : {q : Process} → StartsHandler C k q → Stands C k q × (changes (q .doing) ≡ true)
-  starter-changes (by-raise r) = (r .stands, ap changes (r .runs))
-  starter-changes (by-lost-recv f) = (f .runs .stands, ap changes (f .runs .runs) ∙ recv-changes (subst (ActsBy (running (f .term))) (f .receives-on) (term-acts (f .term))))
+  starter-changes : {q : Process} → StartsHandler C k q → changes (q .doing) ≡ true
+  starter-changes (by-raise r) = ap changes (r .runs)
+  starter-changes (by-lost-recv f) = ap changes (f .runs .runs) ∙ recv-changes (subst (ActsBy (running (f .term))) (f .receives-on) (term-acts (f .term)))
 
   one-process : {q r : Process} → Stands C k q → Stands C k r → q ≡ r
   one-process s t = Option·some-injective _ _ (sym (s .there) ∙ t .there)
@@ -69,28 +69,28 @@ module _ (p : Program) (C D : Config) (k : ℕ) {seen : Seen} (e : step p C k �
   apart : h ≢ k
   apart z =
       let s : Stands C k (f .process) = record { there = ap (getElem? (C .processes)) (sym z) ∙ f .there } in
-      true≢false (ap isOpenBy (sym e ∙ step-at p s ∙ ap (stepDoing p C k (f .process)) (f .does)))
+      true≢false (ap isOpenBy (sym e ∙ step-at p s ∙ ap (stepDoing p C k (f .process)) (f .is)))
 
-  after : After C k h (waiting Q) (D .processes)
-  after = step-after C k h refl apart f p e
+  after : After C k h (Does (waiting Q)) (D .processes)
+  after = silent-after C k h refl apart f p e
 
   -- a handler that waited and now runs was started by the process that was linked to it: by its raise, or by its lost recv
   pub starts-only : {P : Proc} → DoesAt (running P) (D .processes) there → (q : Process) × StartsHandler C k q × (q .link ≡ some h)
-  starts-only {P} g = go (after .change) (does-one (after .stands) g)
+  starts-only {P} g = go after
     where
-      go : {d : Doing} → Later C k h (waiting Q) d → d ≡ running P → (q : Process) × StartsHandler C k q × (q .link ≡ some h)
-      go the-same z = absurd (false≢true (ap isRunning z))
-      go (started {q} s l) z = (q, s, l)
-      go (folded s t l) z = absurd (false≢true (ap isRunning z))
+      go : After C k h (Does (waiting Q)) (D .processes) → (q : Process) × StartsHandler C k q × (q .link ≡ some h)
+      go (as-before a) = absurd (false≢true (ap isRunning (does-one a g)))
+      go (started {q} s l a) = (q, s, l)
+      go (folded s t l a) = absurd (false≢true (ap isRunning (does-one a g)))
 
   -- a cancel, a send, a fwd, and each other term that is no recv, no raise and not empty, wakes nobody
   pub wakes-nobody : {q : Process} {P : Proc} → Runs C k q P → changesHandler P ≡ false → DoesAt (waiting Q) (D .processes) there
-  wakes-nobody {q} {P} r n = go (after .change) (after .stands)
+  wakes-nobody {q} {P} r n = go after
     where
       no-change : {q′ : Process} → Stands C k q′ → changes (q′ .doing) ≡ true → ⊥
       no-change s t = true≢false (sym t ∙ ap (λ (q : Process). changes (q .doing)) (one-process s (r .stands)) ∙ ap changes (r .runs) ∙ n)
 
-      go : {d : Doing} → Later C k h (waiting Q) d → DoesAt d (D .processes) there → DoesAt (waiting Q) (D .processes) there
-      go the-same g = g
-      go (started s l) g = let c = starter-changes s in absurd (no-change (c .0) (c .1))
-      go (folded s t l) g = absurd (no-change s (empty-changes t))
+      go : After C k h (Does (waiting Q)) (D .processes) → DoesAt (waiting Q) (D .processes) there
+      go (as-before a) = a
+      go (started s l a) = absurd (no-change (starter-stands s) (starter-changes s))
+      go (folded s t l a) = absurd (no-change s (empty-changes t))

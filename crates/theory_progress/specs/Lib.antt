@@ -11,6 +11,7 @@ pub mod Progress
 pub mod RunOn
 pub mod Shapes
 pub mod Shown
+pub mod StandingStill
 pub mod Starting
 pub mod Together
 pub mod Turns

@@ -1,45 +1,74 @@
 -- What a step does to the list of processes: it changes one or two in their places, brings one, or takes one away.
 use Prim.Native.Nat.{ℕ}
 use mathlib.Core.Path.{_≡_, refl, _∙_, ap}
+use mathlib.Core.Logic.{_≢_}
 use mathlib.Core.List.{List}
-use mathlib.Core.Bool.{Bool, true, false}
+use mathlib.Core.Option.{Option, some, none}
 use lib.ListN.{set}
+use Rattle.notation.specs.Tree.{Name, Located, Proc}
+use Rattle.calculus.specs.Types.{Side}
 use Rattle.calculus.specs.Program.{Program}
-use Rattle.calculus.specs.Configuration.{End, Process, Config, inserted, removed}
-use Rattle.calculus.specs.Steps.{Outcome, carried, notOpen, lacking, Turn, sends, receives, alone, turnOf, startedHandler, foldedHandler, changedAt, step}
-use Rattle.calculus.specs.WellFormed.{Stands}
+use Rattle.calculus.specs.Configuration.{End, Process, Config, Holder, atProcess, givenUp, farEnd, inserted, removed}
+use Rattle.calculus.specs.Steps.{Outcome, carried, notOpen, lacking, Turn, sends, receives, alone, turn, turnOf, startedHandler, foldedHandler, changedAt, farMoved, step}
+use Rattle.calculus.specs.WellFormed.{In, Stands}
 use Rattle.calculus.specs.declared.answers.Seen.{Seen}
 use Rattle.calculus.specs.declared.answers.Seen.the-variants.{Nothing}
-use Rattle.calculus.specs.Reduces.{GivesUp, by-process, by-outside, by-nobody, Empty, Sends, close-meets, channel-meets, label-meets, close-shows, label-shows, channel-shows, gone-shows, close-lost, label-lost, channel-lost, Naming, its-own, its-recv, Reduces, communicates, spawns, tries, calls, cancels, raises, joins, joins-outside, joins-nobody, nobody-joins, unanswered, folds, leaves}
+use Rattle.calculus.specs.Reduces.{Holds, Answers, GivesUp, by-process, by-outside, by-nobody, Empty, Sends, close-meets, channel-meets, label-meets, close-shows, label-shows, channel-shows, gone-shows, close-lost, label-lost, channel-lost, Naming, its-own, its-recv, Reduces, communicates, spawns, tries, calls, cancels, raises, joins, joins-outside, joins-nobody, nobody-joins, unanswered, folds, leaves}
+use Rattle.theory_ends.specs.Names.{lookup-in}
+use Rattle.theory_ends.specs.FarEnds.{found-key, far-held, far-nobody, far-back}
 use Rattle.theory_reductions.specs.CarriedOut.{holder-stands}
 use Rattle.theory_reductions.specs.StepIff.{step-iff}
 use Rattle.theory_progress.specs.Starting.{StartsHandler, by-raise, by-lost-recv}
 
-abbrev pub talks : Turn → Bool
-talks (sends c m P) = true
-talks (receives c w) = true
-talks alone = false
+-- the name on which a send or a recv acts
+abbrev pub actsOn : Turn → Option Name
+actsOn (sends c m P) = some (c .name)
+actsOn (receives c w) = some (c .name)
+actsOn alone = none
 
--- a place that a step at place k changes: k itself, or that of a process that sends or receives
+-- a process that sends or receives, on a channel whose far end was not given up
+pub record Engaged (C : Config) (r : Process) : Type 0 where
+  pub name : Name
+  pub acts-on : actsOn (turnOf (r .doing)) ≡ some name
+  pub end : End
+  pub held : In (name, end) (r .held)
+  pub answered : farEnd C end ≢ givenUp
+
+-- a place that a step at place k changes: k itself, or that of its partner
 pub data Touched (C : Config) (k : ℕ) : ℕ → Type 0 where
   itself : {j : ℕ} → j ≡ k → Touched C k j
-  partner : {j : ℕ} {r : Process} → Stands C j r → talks (turnOf (r .doing)) ≡ true → Touched C k j
+  partner : {j : ℕ} {r : Process} → Stands C j r → Engaged C r → Touched C k j
 
 -- by what is seen, the list of processes afterwards
 pub data Shape (C : Config) (k : ℕ) : Seen → List Process → Type 0 where
   one : {seen : Seen} (j : ℕ) (x : Process) → Touched C k j → Shape C k seen (set (C .processes) j x)
   two : (j h : ℕ) (x y : Process) → Touched C k j → Touched C k h → Shape C k Nothing (set (set (C .processes) j x) h y)
-  -- a fwd changes the channel that another process holds, and not what it does
-  joined : (h : ℕ) {r : Process} (x y : Process) → Stands C h r → y .doing ≡ r .doing → Shape C k Nothing (set (set (C .processes) k x) h y)
+  -- a fwd, of the process q, moves the far end of its end e, which another process holds
+  joined : {q : Process} {n : Name} (h : ℕ) {r : Process} (x : Process) (e d : End) → Stands C k q → In (n, e) (q .held) → Stands C h r
+      → Shape C k Nothing (set (set (C .processes) k x) h (farMoved e d r))
   handled : (x : Process) {q : Process} → StartsHandler C k q → Shape C k Nothing (set (changedAt startedHandler (q .link) (C .processes)) k x)
   spawned-one : (x y : Process) → Shape C k Nothing (inserted k x (set (C .processes) k y))
   tried-one : (x y : Process) → Shape C k Nothing (set (inserted k x (C .processes)) k y)
   left : {q : Process} → Stands C k q → Empty q → Shape C k Nothing (removed k (changedAt foldedHandler (q .link) (C .processes)))
 
 module _ {C : Config} {k : ℕ} where
+  -- who holds the far end of an end that is held, and acts on it
+  engaged : {i : ℕ} {q : Process} {c c′ : Located} {e : End} {h : Holder} {P : Proc} → Stands C i q → Holds C q c e (atProcess h) → Answers h c′ P
+      → actsOn (turn P) ≡ some (c′ .name) → Touched C k (h .place)
+  engaged {i} {q} {c} {e = e} {h} s l a t =
+      let f = far-held C e (l .far) in
+      let back = far-back e (f .end) (found-key f) in
+      partner (holder-stands l) (record {
+        name = h .name;
+        acts-on = ap (λ d. actsOn (turnOf d)) (a .runs) ∙ t ∙ ap some (a .name);
+        end = f .end;
+        held = f .held;
+        answered = λ z. far-nobody C (f .end) z .processes i q (s .there) (c .name, e) (lookup-in (c .name) (q .held) (l .held)) (ap (λ (k : ℕ × Side). k .0) back) (ap (λ (k : ℕ × Side). k .1) back);
+      })
+
   names : {j : ℕ} → Naming C k j → Touched C k j
   names its-own = itself refl
-  names (its-recv r t h a u) = partner (holder-stands h) (ap talks (ap turnOf (a .runs) ∙ u))
+  names (its-recv r t h a u) = engaged (r .stands) h a (ap actsOn u)
 
   gives-up : {j : ℕ} (q : Process) {e : End} {seen : Seen} {D : Config} → Touched C k j → GivesUp C e seen D → Shape C k seen (set (D .processes) j q)
   gives-up q t (by-process z) = one _ _ t
@@ -48,9 +77,9 @@ module _ {C : Config} {k : ℕ} where
 
 module _ {p : Program} {C : Config} {k : ℕ} where
   sent : {j : ℕ} {seen : Seen} {D : Config} → Touched C k j → Sends p C j seen D → Shape C k seen (D .processes)
-  sent t (close-meets r h a) = two _ _ _ _ t (partner (holder-stands h) (ap (λ d. talks (turnOf d)) (a .runs)))
-  sent t (channel-meets r h a) = two _ _ _ _ t (partner (holder-stands h) (ap (λ d. talks (turnOf d)) (a .runs)))
-  sent t (label-meets r h a b) = two _ _ _ _ t (partner (holder-stands h) (ap (λ d. talks (turnOf d)) (a .runs)))
+  sent t (close-meets r h a) = two _ _ _ _ t (engaged (r .stands) h a refl)
+  sent t (channel-meets r h a) = two _ _ _ _ t (engaged (r .stands) h a refl)
+  sent t (label-meets r h a b) = two _ _ _ _ t (engaged (r .stands) h a refl)
   sent t (close-shows r h) = one _ _ t
   sent t (label-shows r h) = one _ _ t
   sent t (channel-shows r h l n m) = one _ _ t
@@ -66,7 +95,7 @@ module _ {p : Program} {C : Config} {k : ℕ} where
   reduced (calls r s) = one _ _ (itself refl)
   reduced (cancels r h g) = gives-up _ (itself refl) g
   reduced (raises r) = handled _ (by-raise r)
-  reduced (joins r h l n) = joined _ _ _ (holder-stands h) refl
+  reduced (joins {x = x} {e = e} {d = d} r h l n) = joined _ _ e d (r .stands) (lookup-in (x .name) _ (h .held)) (holder-stands h)
   reduced (joins-outside r h l n) = one _ _ (itself refl)
   reduced (joins-nobody r h l n) = one _ _ (itself refl)
   reduced (nobody-joins r h l g) = gives-up _ (itself refl) g

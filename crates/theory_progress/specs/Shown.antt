@@ -13,7 +13,7 @@ use Rattle.theory_progress.specs.RunOn.{Shows}
 shape-stays : {C : Config} {k : ℕ} {seen : Seen} {l : List Process} → Shape C k seen l → Shows seen → length l ≡ length (C .processes)
 shape-stays {C} (one j x t) s = length-set (C .processes) j x
 shape-stays (two j h x y t u) s = absurd s
-shape-stays (joined h x y t e) s = absurd s
+shape-stays (joined h x e d t m u) s = absurd s
 shape-stays (handled x t) s = absurd s
 shape-stays (spawned-one x y) s = absurd s
 shape-stays (tried-one x y) s = absurd s

@@ -4,6 +4,7 @@ use mathlib.Core.Path.{_≡_}
 use Rattle.notation.specs.Tree.{Located, Proc, raise}
 use Rattle.calculus.specs.Configuration.{End, Process, Config, givenUp}
 use Rattle.calculus.specs.Steps.{Wanted, receives, turn}
+use Rattle.calculus.specs.WellFormed.{Stands}
 use Rattle.calculus.specs.Reduces.{Runs, Holds}
 
 -- a process runs a recv, of one of the three kinds, on a channel whose far end was given up
@@ -19,3 +20,7 @@ pub record Forsaken (C : Config) (i : ℕ) (q : Process) (c : Located) : Type 0 
 pub data StartsHandler (C : Config) (k : ℕ) (q : Process) : Type 0 where
   by-raise : {o : ℕ} {P : Proc} → Runs C k q (raise o P) → StartsHandler C k q
   by-lost-recv : {c : Located} → Forsaken C k q c → StartsHandler C k q
+
+pub starter-stands : {C : Config} {k : ℕ} {q : Process} → StartsHandler C k q → Stands C k q
+starter-stands (by-raise r) = r .stands
+starter-stands (by-lost-recv f) = f .runs .stands
