@@ -2,7 +2,7 @@
 use mathlib.Core.Path.{_≡_, refl, sym, _∙_, ap, subst}
 use mathlib.Core.List.{List, [], _∷_, _++_, map, Sublistᴰ·refl, List·Memᴰ·head, List·Memᴰ·tail, List·Memᴰ·not-nil, Memᴰ·of-map, Memᴰ·cast}
 use mathlib.Core.Option.{Option, some, none, Option·some-injective}
-use mathlib.Core.Bool.{true, and-eq-true-iff}
+use mathlib.Core.Bool.{Bool, true, and-eq-true-iff}
 use Prim.Native.Nat.{ℕ, _≤_, _<_}
 use lib.ListN.{length, getElem?}
 use Rattle.notation.specs.Limits.{heldLimit, channelPlaces}
@@ -68,6 +68,11 @@ module _ (p : Program) (l : List (Name × End)) where
   fits-append (a ∷ ns) ms [] H f g = absurd f
   fits-append (a ∷ ns) ms (s ∷ G) H f g = (f .0, fits-append ns ms G H (f .1) g)
 
+  -- the names of a call are those of ends for its signature
+  call-fits : (xs ys : List Name) (s : Signature) → listFits (contextOf l) provided xs (s .provides) ≡ true → listFits (contextOf l) used ys (s .uses) ≡ true
+      → Fits (xs ++ ys) (signatureContext s)
+  call-fits xs ys s fx fy = fits-append xs ys _ _ (list-fits provided xs (s .provides) fx) (list-fits used ys (s .uses) fy)
+
   -- what a name that fits is renamed to
   renamed-cons : (a : Name) (ns : List Name) (s : Name × Slot) (G : Context) (h : Given a (s .1))
       → renamed (a ∷ ns) (s ∷ G) l ≡ (s .0, end (s .1 .side) (h .end .channel) (s .1 .type)) ∷ renamed ns G l
@@ -80,13 +85,13 @@ module _ (p : Program) (l : List (Name × End)) where
   renamed-context (a ∷ ns) (s ∷ G) f = ap contextOf (renamed-cons a ns s G (f .0)) ∙ ap (λ r. s ∷ r) (renamed-context ns G (f .1))
 
   -- each end was held under one of the names, with a type that is one with its type now
-  record Was (ns : List Name) (x : End) : Type 0 where
-    name : Name
-    listed : In name ns
-    end : End
-    held : In (name, end) l
-    same : key end ≡ key x
-    one : OneType p (end .type) (x .type)
+  pub record Was (ns : List Name) (x : End) : Type 0 where
+    pub name : Name
+    pub listed : In name ns
+    pub end : End
+    pub held : In (name, end) l
+    pub same : key end ≡ key x
+    pub one : OneType p (end .type) (x .type)
 
   given-was : (a : Name) (ns : List Name) (s : Slot) (h : Given a s) → Was (a ∷ ns) (end (s .side) (h .end .channel) (s .type))
   given-was a ns s h = record { name = a; listed = List·Memᴰ·head refl; end = h .end; held = lookup-in a l (h .found); same = λ i. (h .end .channel, h .side i); one = h .one }
@@ -100,6 +105,13 @@ module _ (p : Program) (l : List (Name × End)) where
       go : (In x (renamed ns G l) → Was ns (x .1)) → In x ((s .0, end (s .1 .side) (f .0 .end .channel) (s .1 .type)) ∷ renamed ns G l) → Was (a ∷ ns) (x .1)
       go r (List·Memᴰ·head e) = subst (Was (a ∷ ns)) (ap (λ (x : Name × End). x .1) (sym e)) (given-was a ns (s .1) (f .0))
       go r (List·Memᴰ·tail j) = let y = r j in record { name = y .name; listed = List·Memᴰ·tail (y .listed); end = y .end; held = y .held; same = y .same; one = y .one }
+
+  -- what a process holds after a call, it held before
+  pub called-was : {b : Bool} {o bracket : ℕ} {f : Located} {xs ys : List Located} {s : Signature} → Typed p (contextOf l) b (call o f bracket xs ys) → lookup (f .name) (p .processes) ≡ some s
+      → (x : Name × End) → In x (renamed (namesOf xs ++ namesOf ys) (signatureContext s) l) → Was (namesOf xs ++ namesOf ys) (x .1)
+  called-was {xs = xs} {ys = ys} (calls s e′ fx fy _ _) e x i =
+      renamed-was (namesOf xs ++ namesOf ys) (signatureContext s) (call-fits (namesOf xs) (namesOf ys) s fx fy) x
+      (subst (λ s. In x (renamed (namesOf xs ++ namesOf ys) (signatureContext s) l)) (Option·some-injective _ _ (sym e ∙ e′)) i)
 
   renamed-once : (ns : List Name) (G : Context) → Fits ns G → NoneTwice ns → NoneTwice (map keyAt l) → NoneTwice (map keyAt (renamed ns G l))
   renamed-once [] [] f u w = tt
@@ -142,7 +154,7 @@ module _ {p : Program} (B : Bodies p) {C : Config} (I : Inv p C) {i : ℕ} {q : 
       body = B .typed (f .name) s e′
 
       fits : Fits p (q .held) ns G
-      fits = fits-append p (q .held) (namesOf xs) (namesOf ys) _ _ (list-fits p (q .held) provided (namesOf xs) (s .provides) fx) (list-fits p (q .held) used (namesOf ys) (s .uses) fy)
+      fits = call-fits p (q .held) (namesOf xs) (namesOf ys) s fx fy
 
       was : (x : Name × End) → In x l → Was p (q .held) ns (x .1)
       was = renamed-was p (q .held) ns G fits

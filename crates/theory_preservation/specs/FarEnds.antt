@@ -18,6 +18,11 @@ use Rattle.theory_preservation.specs.Roster.{Roster, channelKey, channel
 use Rattle.theory_preservation.specs.TwoEnds.{farKeyOf}
 use Rattle.theory_preservation.specs.Places.{Shows}
 
+-- the side whose other side is the used one
+pub other-used : (s : Side) → other s ≡ used → s ≡ provided
+other-used provided z = refl
+other-used used z = absurd (side-clash z)
+
 -- ── from the list to the roster
 module _ (C : Config) {id : ℕ → ℕ} {S : Roster} (s : Shows id (C .processes) S) where
   -- who has an end of a channel holds it at a place
@@ -29,11 +34,7 @@ module _ (C : Config) {id : ℕ → ℕ} {S : Roster} (s : Shows id (C .processe
 
   -- nobody has the far end of e
   pub nobody-has : (e : End) → FarNobody C e → (v : ℕ) (t : Option (Ty Name)) → ¬ Has S (C .outside) v (farKeyOf e, t)
-  nobody-has e f v t (outside _ y i h) = f .outside (sides (e .side) (ap tipSide h)) y i (sym (channel-key-one (e .channel) (y .channel) (ap tipNumber h)))
-    where
-      sides : (s : Side) → other s ≡ used → s ≡ provided
-      sides provided z = refl
-      sides used z = absurd (side-clash z)
+  nobody-has e f v t (outside _ y i h) = f .outside (other-used (e .side) (ap tipSide h)) y i (sym (channel-key-one (e .channel) (y .channel) (ap tipNumber h)))
   nobody-has e f v t (inside r w (holds x i h)) =
       let q = held-back v r w x i in
       f .processes (q .0) (q .1) (q .2) x (q .3) (sym (channel-key-one (e .channel) (x .1 .channel) (ap tipNumber h))) (sym (ap tipSide h))

@@ -6,7 +6,7 @@ use Prim.Native.Nat.{ℕ}
 use lib.ListN.{getElem?}
 use Rattle.notation.specs.Tree.{Located, fwd}
 use Rattle.calculus.specs.Named.{lookup}
-use Rattle.calculus.specs.Types.{provided, used}
+use Rattle.calculus.specs.Types.{provided, used, other}
 use Rattle.calculus.specs.Program.{Program}
 use Rattle.calculus.specs.Typing.{OneType, Typed, forwards}
 use Rattle.calculus.specs.Configuration.{End, end, running, folding, Process, process, Config, withOutside, replaced, Holder, relinked, movedOutside, foldsUp}
@@ -23,16 +23,23 @@ use Rattle.theory_preservation.specs.Growing
 use Rattle.theory_preservation.specs.Invariant.{Inv, hasLink, at-roster, fine-at, inv-set, inv-two}
 use Rattle.theory_preservation.specs.GivingUp.{folds-up, parts}
 
+-- the far end of e is moved to the channel m
+pub far-relocated : {p : Program} {C : Config} (I : Inv p C) (e : End) (m : ℕ) {h : Holder} (f : HeldFar C e h)
+    → Relocated (f .end) m (h .process .held) (movedEnd (e .channel) (other (e .side)) m (h .process .held))
+far-relocated I e m {h} f =
+    subst (Relocated (f .end) m (h .process .held)) (λ t. movedEnd (f .channel t) (f .side t) m (h .process .held))
+    (relocated (h .name) (f .end) m (h .process .held) (fine-at I (h .place) (h .process) (f .stands) .keys) (f .held))
+
 module _ {p : Program} {C : Config} (I : Inv p C) {i : ℕ} {q : Process} (here : Stands C i q) where
   -- e is the end of x, d that of c
   module _ {o : ℕ} {x c : Located} (r : q .doing ≡ running (fwd o x c)) {e d : End} (le : lookup (x .name) (q .held) ≡ some e) (ld : lookup (c .name) (q .held) ≡ some d) where
     -- x is provided, c is used, and their types are one
-    record ForwarderTyped : Type 0 where
-      gives : e .side ≡ provided
-      takes : d .side ≡ used
-      one : OneType p (e .type) (d .type)
+    pub record ForwarderTyped : Type 0 where
+      pub gives : e .side ≡ provided
+      pub takes : d .side ≡ used
+      pub one : OneType p (e .type) (d .type)
 
-    forwards-as : Typed p (contextOf (q .held)) (hasLink I q) (fwd o x c) → ForwarderTyped
+    pub forwards-as : Typed p (contextOf (q .held)) (hasLink I q) (fwd o x c) → ForwarderTyped
     forwards-as (forwards A B hx hc ab _) =
         let a = held-plain (x .name) (q .held) provided A hx in
         let b = held-plain (c .name) (q .held) used B hc in
@@ -49,9 +56,7 @@ module _ {p : Program} {C : Config} (I : Inv p C) {i : ℕ} {q : Process} (here 
         let m = forwards-as t in
         inv-two I i (h .place) q (h .process) (here .there) (f .stands) folding (h .process .doing) [] _
         (forwarded (I .good) (I .id i) (relinked (I .id) q) (at-roster I i q (here .there)) (runs-awake r) (x .name) (c .name) e d le ld (m .gives) (m .takes) (m .one) (I .id (h .place))
-        (relinked (I .id) (h .process)) (at-roster I (h .place) (h .process) (f .stands)) (h .name) (f .end) (f .held) (f .channel) (f .side) _
-        (subst (Relocated (f .end) (d .channel) (h .process .held)) (λ t. movedEnd (f .channel t) (f .side t) (d .channel) (h .process .held))
-        (relocated (h .name) (f .end) (d .channel) (h .process .held) (fine-at I (h .place) (h .process) (f .stands) .keys) (f .held))))
+        (relinked (I .id) (h .process)) (at-roster I (h .place) (h .process) (f .stands)) (h .name) (f .end) (f .held) (f .channel) (f .side) _ (far-relocated I e (d .channel) f))
 
     pub forward-out-keeps : Typed p (contextOf (q .held)) (hasLink I q) (fwd o x c) → Inv p (withOutside (movedOutside (e .channel) (d .channel) (C .outside)) (replaced i (foldsUp q []) C))
     forward-out-keeps t =

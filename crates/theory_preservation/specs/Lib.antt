@@ -1,6 +1,7 @@
 pub mod Witness
 pub mod Mates
 pub mod Roster
+pub mod Each
 pub mod Outsides
 pub mod LettingGo
 pub mod TwoEnds
@@ -27,5 +28,7 @@ pub mod FromInvariant
 pub mod Seats
 pub mod ToInvariant
 pub mod Start
+pub mod Nobody
+pub mod StaysGivenUp
 pub mod Preserved
 pub mod Accepted

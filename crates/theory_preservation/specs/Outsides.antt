@@ -1,7 +1,7 @@
 -- The outside's channels: what stays fair when one is let go, changed, moved or added.
 use mathlib.Core.Path.{_≡_, refl, sym, _∙_, ap, subst}
 use mathlib.Core.Logic.{_≢_, _⊎_, inl, inr}
-use mathlib.Core.List.{List, [], _∷_, _++_, map, Sublistᴰ, Sublistᴰ·slnil, Sublistᴰ·cons, Sublistᴰ·cons-cons, List·Memᴰ·head, List·Memᴰ·tail, List·Memᴰ·not-nil, List·Memᴰ·append-cases, List·Memᴰ·eq-of-singleton, Memᴰ·map, Memᴰ·of-map, Memᴰ·cast}
+use mathlib.Core.List.{List, [], _∷_, _++_, map, Sublistᴰ, Sublistᴰ·slnil, Sublistᴰ·cons, Sublistᴰ·cons-cons, List·Memᴰ·head, List·Memᴰ·tail, List·Memᴰ·not-nil, Memᴰ·map, Memᴰ·of-map, Memᴰ·cast}
 use mathlib.Core.Bool.{Bool, true, false, cond, false≢true}
 use Prim.Native.Nat.{ℕ, suc, _≤_, _<_}
 use native.Mathlib.Omega.{arith}
@@ -15,6 +15,7 @@ use Rattle.calculus.specs.WellFormed.{In, NoneTwice, Rising}
 use Rattle.theory_derivations.specs.Booleans.{bool-cases, cond-true, cond-false, eqb-iff}
 use Rattle.theory_ends.specs.Lists.{sub-in, sub-once, once-snoc, map-append}
 use Rattle.theory_preservation.specs.Roster.{Fair}
+use Rattle.theory_preservation.specs.Each.{each-more}
 
 abbrev pub numberOf : Outside → ℕ
 numberOf y = y .number
@@ -135,14 +136,6 @@ rising-snoc (m ∷ l) low n r h b = (r .0, rising-snoc l (suc m) n (r .1) (b m (
 
 pub fair-later : {p : Program} {given : ℕ} {o : List Outside} → Fair p given o → Fair p (suc given) o
 fair-later F = record { outwards = F .outwards; below = λ y i. let b = F .below y i in omega arith; rising = F .rising; keys = F .keys; channels = F .channels }
-
--- what holds of each entry and of the one that comes
-pub each-more : (Q : Outside → Type 0) (o : List Outside) (y : Outside) → ((x : Outside) → In x o → Q x) → Q y → (x : Outside) → In x (o ++ (y ∷ [])) → Q x
-each-more Q o y a b x i = go (List·Memᴰ·append-cases o i)
-  where
-    go : In x o ⊎ In x (y ∷ []) → Q x
-    go (inl j) = a x j
-    go (inr j) = subst Q (sym (List·Memᴰ·eq-of-singleton j)) b
 
 pub fair-more : {p : Program} {o : List Outside} (y : Outside) → Fair p (y .number) o → outward p (y .type) ≡ true → y .channel < channelPlaces → ¬ In (y .channel) (map channelOf o)
     → Fair p (suc (y .number)) (o ++ (y ∷ []))

@@ -25,7 +25,8 @@ use Rattle.theory_preservation.specs.Witness.{Tip, Rel, of-channels, Wit
 use Rattle.theory_preservation.specs.Mates.{put}
 use Rattle.theory_preservation.specs.Roster.{Roster, Continues, channelKey, channel-no-link, keyOf, tipOf, linkTip, outsideTip, Has, outside, TypedDoing, Fine, fine-more, Fair, Good, Change, becomes, one-good, two-good, NamesDiffer}
 use Rattle.theory_preservation.specs.TwoEnds.{farKeyOf, key-cases, key-of-key, key-from-key, Facing, Opposite, turned, above, owner, held-tip, is-joint, joint-between, ends-apart, facing-opposite, opposite-outside, opposite-nobody, elsewhere, held-facing}
-use Rattle.theory_preservation.specs.Outsides.{channelOf, each-more, fair-less, fair-retyped, fair-later, fair-more}
+use Rattle.theory_preservation.specs.Each.{each-more}
+use Rattle.theory_preservation.specs.Outsides.{channelOf, fair-less, fair-retyped, fair-later, fair-more}
 use Rattle.theory_preservation.specs.Retyping.{retyped-keys, retyped-channels, fine-retyped, retyped-off, RetypedChannel, retyped-tip, retyped-link, retyped-out}
 
 pub lookup-without : {X : Type 0} (c a : Name) (l : List (Name × X)) → c ≢ a → lookup c (without a l) ≡ lookup c l

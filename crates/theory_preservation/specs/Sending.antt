@@ -236,19 +236,22 @@ module _ {p : Program} {C : Config} (I : Inv p C) where
       out : outward p (y .entry .type) ≡ true
       out = I .good .fair .outwards (y .entry) (y .listed)
 
+      pub passes-used : d .side ≡ used
+      passes-used = sym (x .side) ∙ x .outside-uses out
+
       pub channel-shown : Inv p (oneMoreGiven
           (withOutside (outsideOnward p (passes a) (e .channel) (C .outside) ++ newOutside p (C .given) (outsideOf (e .channel) (C .outside)) d)
           (replaced i passer C)))
       channel-shown =
           rw (onward-sender, outside-onward-is p (passes a) (e .channel) (C .outside) (y .found), y .found, x .goes)
           (inv-set I i q (r .stands .there) (running P) _ lt
-          (passed-out (I .good) (continuing I r P) (ps .apart) rest le ld (ps .typed) (x .one) (x .what) y (sym (x .side) ∙ x .outside-uses out) (x .left out) (x .passed out)))
+          (passed-out (I .good) (continuing I r P) (ps .apart) rest le ld (ps .typed) (x .one) (x .what) y passes-used (x .left out) (x .passed out)))
 
       pub gone-shown : Inv p (oneMoreGiven (withOutside (outsideOnward p (passes a) (e .channel) (C .outside)) (replaced i passer C)))
       gone-shown =
           rw (onward-sender, outside-onward-is p (passes a) (e .channel) (C .outside) (y .found))
           (inv-set I i q (r .stands .there) (running P) _ lt
-          (passed-gone (I .good) (continuing I r P) (ps .apart) rest le ld (ps .typed) (x .one) (x .what) y (sym (x .side) ∙ x .outside-uses out) (x .left out) (x .passed out)))
+          (passed-gone (I .good) (continuing I r P) (ps .apart) rest le ld (ps .typed) (x .one) (x .what) y passes-used (x .left out) (x .passed out)))
 
     -- to nobody
     pub channel-gone : FarNobody C e → {d : End} → lookup (a .name) (q .held) ≡ some d → {seen : Seen} {D : Config} → GivesUp C d seen D → Inv p (replaced i passer D)
