@@ -3,7 +3,6 @@ use mathlib.Core.Path.{_≡_, sym, _∙_, ap, subst}
 use mathlib.Core.List.{[], Sublistᴰ·nil-sublist}
 use mathlib.Core.Option.{some, Option·some-injective}
 use Prim.Native.Nat.{ℕ}
-use lib.ListN.{getElem?}
 use Rattle.notation.specs.Tree.{Located, fwd}
 use Rattle.calculus.specs.Named.{lookup}
 use Rattle.calculus.specs.Types.{provided, used, other}

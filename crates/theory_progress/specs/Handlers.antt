@@ -8,8 +8,8 @@ use lib.ListN.{length, getElem?}
 use Rattle.notation.specs.Tree.{Located, Proc, empty, sendUnit, sendChannel, sendLabel, cancel, spawn, recvUnit, recvChannel, recvLabel, fwd, call, raise, try}
 use Rattle.calculus.specs.Program.{Program}
 use Rattle.calculus.specs.Configuration.{Doing, running, folding, waiting, Process, Config}
-use Rattle.calculus.specs.Steps.{carried, Wanted, receives, turn, isOpenBy, stepDoing, step}
-use Rattle.calculus.specs.WellFormed.{isWaiting, Stands}
+use Rattle.calculus.specs.Steps.{carried, Wanted, receives, isOpenBy, stepDoing, step}
+use Rattle.calculus.specs.WellFormed.{Stands}
 use Rattle.calculus.specs.Reduces.{Runs, Empty, no-term, no-channel}
 use Rattle.calculus.specs.declared.answers.Seen.{Seen}
 use Rattle.theory_reductions.specs.Kinds.{ActsBy, closes-on, takes-on, picks-on, term-acts}
