@@ -7,7 +7,7 @@ use Rattle.calculus.specs.Steps.{Wanted, receives, turn}
 use Rattle.calculus.specs.WellFormed.{Stands}
 use Rattle.calculus.specs.Reduces.{Runs, Holds}
 
--- a process runs a recv, of one of the three kinds, on a channel whose far end was given up
+-- a lost recv: a process runs a recv, of one of the three kinds, on a channel whose far end was given up
 pub record Forsaken (C : Config) (i : ℕ) (q : Process) (c : Located) : Type 0 where
   pub term : Proc
   pub runs : Runs C i q term
