@@ -15,6 +15,7 @@ use Rattle.calculus.specs.Configuration.{End, Process, Outside, Config, heldAs,
 use Rattle.calculus.specs.WellFormed.{In, key, Stands, WellFormed}
 use Rattle.theory_derivations.specs.Booleans.{bool-cases, cond-true, cond-false, eqb-iff}
 use Rattle.theory_derivations.specs.Equality.{sameSide-iff}
+use Rattle.theory_ends.specs.Lists.{found-one}
 use Rattle.theory_ends.specs.Ends.{side-clash, one-holder, one-name}
 
 -- ── who holds an end
@@ -186,8 +187,17 @@ module _ (C : Config) (e : End) where
       go : FarIs C e givenUp → FarNobody C e
       go (at-nobody a o) = record { processes = a; outside = o }
 
+-- the key of the far end
+abbrev pub farKey : End → ℕ × Side
+farKey e = (e .channel, other (e .side))
+
+-- of an end whose far end was given up, no process holds the far end
+pub given-up-unheld : {C : Config} (e : End) → farEnd C e ≡ givenUp → {j : ℕ} {q : Process} → Stands C j q → {n : Name} {d : End} → In (n, d) (q .held) → key d ≢ farKey e
+given-up-unheld {C} e z {j} {q} s {n} {d} m k =
+    far-nobody C e z .processes j q (s .there) (n, d) m (ap (λ (k : ℕ × Side). k .0) k) (ap (λ (k : ℕ × Side). k .1) k)
+
 -- an end is the far end of its far end
-pub far-back : (e d : End) → key d ≡ (e .channel, other (e .side)) → key e ≡ (d .channel, other (d .side))
+pub far-back : (e d : End) → key d ≡ farKey e → key e ≡ farKey d
 far-back e d z = λ i. (ap (λ (k : ℕ × Side). k .0) (sym z) i, (sym (other-other (e .side)) ∙ ap (λ (k : ℕ × Side). other (k .1)) (sym z)) i)
   where
     other-other : (s : Side) → other (other s) ≡ s
@@ -196,7 +206,7 @@ far-back e d z = λ i. (ap (λ (k : ℕ × Side). k .0) (sym z) i, (sym (other-o
 
 module _ {p : Program} {C : Config} (w : WellFormed p C) where
   -- who holds the other side of a channel is its far end
-  pub far-found : {j : ℕ} {r : Process} {n : Name} {d : End} (e : End) → Stands C j r → In (n, d) (r .held) → key d ≡ (e .channel, other (e .side))
+  pub far-found : {j : ℕ} {r : Process} {n : Name} {d : End} (e : End) → Stands C j r → In (n, d) (r .held) → key d ≡ farKey e
       → farEnd C e ≡ atProcess (record { place = j; process = r; name = n })
   unfolding farEnd
   far-found {j} {r} {n} {d} e s m z = go (holderFrom 0 (e .channel) (other (e .side)) (C .processes)) refl
@@ -210,6 +220,6 @@ module _ {p : Program} {C : Config} (w : WellFormed p C) where
           let f = held-by C e h t in
           let g = found-key f ∙ sym z in
           let b : h .place ≡ j = one-holder w (stands-at C f) s (f .held) m g in
-          let c : h .process ≡ r = Option·some-injective _ _ (sym (f .stands) ∙ ap (getElem? (C .processes)) b ∙ s .there) in
+          let c : h .process ≡ r = found-one (C .processes) b (f .stands) (s .there) in
           let a : h .name ≡ n = one-name w s (subst (λ (r : Process). In (h .name, f .end) (r .held)) c (f .held)) m g in
           λ i. atProcess (record { place = b i; process = c i; name = a i })

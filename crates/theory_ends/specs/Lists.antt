@@ -46,6 +46,10 @@ module _ {A : Type 0} where
   in-found (List·Memᴰ·head e) = (zero, ap some (sym e))
   in-found (List·Memᴰ·tail m) = let r = in-found m in (suc (r .0), r .1)
 
+  -- at one position stands one element
+  pub found-one : (l : List A) {i j : ℕ} {a b : A} → i ≡ j → getElem? l i ≡ some a → getElem? l j ≡ some b → a ≡ b
+  found-one l z e f = Option·some-injective _ _ (sym e ∙ ap (getElem? l) z ∙ f)
+
   pub past-the-end : (l : List A) (i : ℕ) → length l ≤ i → getElem? l i ≡ none
   past-the-end [] i h = refl
   past-the-end (y ∷ l) zero h = absurd (omega arith)

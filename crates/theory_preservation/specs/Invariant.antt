@@ -1,7 +1,7 @@
 -- The invariant of a configuration: its list shows a good roster. What a step leaves keeps it.
 -- Why identities: inserting or removing a process shifts places and links, and under identities nothing of the forest changes then;
 -- only the map from places to identities does. So each rule is proved on rosters, and read off the list by one of three laws of Places.
-use mathlib.Core.Path.{_≡_, sym, _∙_, ap, subst}
+use mathlib.Core.Path.{_≡_, refl, sym, _∙_, ap, subst}
 use mathlib.Core.Logic.{_≢_}
 use mathlib.Core.List.{List, Sublistᴰ}
 use mathlib.Core.Option.{Option, some, Option·map, Option·some-injective}
@@ -17,7 +17,7 @@ use Rattle.calculus.specs.Configuration.{End, Doing, running, Process, relinked
 use Rattle.calculus.specs.Typing.{Typed}
 use Rattle.calculus.specs.Reduces.{Runs}
 use Rattle.calculus.specs.WellFormed.{contextOf, isWaiting}
-use Rattle.theory_ends.specs.Lists.{found-below, below-found}
+use Rattle.theory_ends.specs.Lists.{found-below, below-found, found-one}
 use Rattle.theory_preservation.specs.Mates.{put}
 use Rattle.theory_preservation.specs.Roster.{Roster, TypedDoing, Fine, Continues, profile, Good, Goes, runs-on}
 use Rattle.theory_preservation.specs.LettingGo.{lessen}
@@ -85,7 +85,7 @@ module _ {p : Program} {C : Config} (I : Inv p C) where
   pub unlinked : (i : ℕ) (q : Process) → getElem? (C .processes) i ≡ some q → isWaiting (q .doing) ≡ false → (j : ℕ) (r : Process) → getElem? (C .processes) j ≡ some r → r .link ≢ some i
   unlinked i q at w j r e z =
       let h = handler j r e i z in
-      true≢false (sym (h .2) ∙ ap (λ (q : Process). isWaiting (q .doing)) (Option·some-injective _ _ (sym (h .1) ∙ at)) ∙ w)
+      true≢false (sym (h .2) ∙ ap (λ (q : Process). isWaiting (q .doing)) (found-one (C .processes) refl (h .1) at) ∙ w)
 
   -- those at i and j change
   pub inv-two : (i j : ℕ) (q r : Process) → getElem? (C .processes) i ≡ some q → getElem? (C .processes) j ≡ some r → (d d′ : Doing) (l l′ : List (Name × End))

@@ -16,7 +16,7 @@ use Rattle.calculus.specs.WellFormed.{In, key}
 use Rattle.theory_ends.specs.Lists.{found-in, in-found}
 use Rattle.theory_ends.specs.Names.{without-sub, kept-sub, changed-map}
 use Rattle.theory_ends.specs.Ends.{keyAt}
-use Rattle.theory_ends.specs.FarEnds.{FarIs, at-process, at-outside, at-nobody, far-is, far-nobody, found-key}
+use Rattle.theory_ends.specs.FarEnds.{FarIs, at-process, at-outside, at-nobody, far-is, far-nobody, farKey, given-up-unheld, found-key}
 use Rattle.theory_preservation.specs.Each.{Each, EachHolds, each-none, each-one, each-sub, each-set}
 use Rattle.theory_preservation.specs.Relocating.{Relocated}
 use Rattle.theory_preservation.specs.FarEnds.{other-used}
@@ -35,17 +35,12 @@ pub record Nobody (κ : ℕ × Side) (l : List Process) (o : List Outside) : Typ
   pub outside : OutsideFreeOf κ o
 
 -- ── a far end was given up exactly if nobody has it
-abbrev pub farKey : End → ℕ × Side
-farKey e = (e .channel, other (e .side))
-
 module _ (C : Config) (e : End) where
   pub given-up-nobody : farEnd C e ≡ givenUp → Nobody (farKey e) (C .processes) (C .outside)
-  given-up-nobody z =
-      let f = far-nobody C e z in
-      record {
-        processes = λ q i x m k. let j = in-found i in f .processes (j .0) q (j .1) x m (ap (λ (k : ℕ × Side). k .0) k) (ap (λ (k : ℕ × Side). k .1) k);
-        outside = λ y i k. f .outside (other-used (e .side) (ap (λ (k : ℕ × Side). k .1) (sym k))) y i (ap (λ (k : ℕ × Side). k .0) k);
-      }
+  given-up-nobody z = record {
+    processes = λ q i x m. given-up-unheld e z (record { there = in-found i .1 }) m;
+    outside = λ y i k. far-nobody C e z .outside (other-used (e .side) (ap (λ (k : ℕ × Side). k .1) (sym k))) y i (ap (λ (k : ℕ × Side). k .0) k);
+  }
 
   pub nobody-given-up : Nobody (farKey e) (C .processes) (C .outside) → farEnd C e ≡ givenUp
   nobody-given-up n = go (far-is C e)

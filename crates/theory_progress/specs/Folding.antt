@@ -14,7 +14,8 @@ use Rattle.calculus.specs.declared.answers.Seen.{Seen}
 use Rattle.theory_ends.specs.Lists.{found-below, set-at, length-removed}
 use Rattle.theory_reductions.specs.CarriedOut.{step-at}
 use Rattle.theory_progress.specs.Shapes.{config-by}
-use Rattle.theory_progress.specs.Elsewhere.{Does, DoesAt, placeAfter, length-changed, Stays, After, as-before, started, folded, silent-after}
+use Rattle.theory_progress.specs.Placed.{Does, DoesAt, placeAfter, length-changed}
+use Rattle.theory_progress.specs.Elsewhere.{Stays, After, as-before, started, folded, silent-after}
 
 -- a process that folds up at a place
 abbrev pub FoldsAt : List Process → ℕ → Type 0

@@ -17,7 +17,7 @@ use Rattle.theory_ends.specs.Lists.{set-at, found-below}
 use Rattle.theory_reductions.specs.CarriedOut.{carried-out}
 use Rattle.theory_progress.specs.Starting.{Forsaken}
 use Rattle.theory_progress.specs.Shapes.{config-by}
-use Rattle.theory_progress.specs.Elsewhere.{length-changed}
+use Rattle.theory_progress.specs.Placed.{length-changed}
 use Rattle.theory_progress.specs.Folding.{FoldsAt, Follows, folds-on}
 
 -- the process afterwards: it folds up, without the channel and without the link

@@ -2,7 +2,7 @@
 use Prim.Native.Nat.{ℕ}
 use mathlib.Core.Path.{_≡_, refl, sym, _∙_, ap, subst}
 use mathlib.Core.Logic.{_≢_}
-use mathlib.Core.Option.{some, Option·some-injective}
+use mathlib.Core.Option.{some}
 use mathlib.Core.Bool.{Bool, true, false, true≢false, false≢true}
 use lib.ListN.{length, getElem?}
 use Rattle.notation.specs.Tree.{Located, Proc, empty, sendUnit, sendChannel, sendLabel, cancel, spawn, recvUnit, recvChannel, recvLabel, fwd, call, raise, try}
@@ -12,10 +12,12 @@ use Rattle.calculus.specs.Steps.{carried, Wanted, receives, isOpenBy, stepDoing
 use Rattle.calculus.specs.WellFormed.{Stands}
 use Rattle.calculus.specs.Reduces.{Runs, Empty, no-term, no-channel}
 use Rattle.calculus.specs.declared.answers.Seen.{Seen}
+use Rattle.theory_ends.specs.Lists.{found-one}
 use Rattle.theory_reductions.specs.Kinds.{ActsBy, closes-on, takes-on, picks-on, term-acts}
 use Rattle.theory_reductions.specs.CarriedOut.{step-at}
 use Rattle.theory_progress.specs.Starting.{StartsHandler, by-raise, by-lost-recv, starter-stands}
-use Rattle.theory_progress.specs.Elsewhere.{Does, DoesAt, does-one, placeAfter, After, as-before, started, folded, silent-after}
+use Rattle.theory_progress.specs.Placed.{Does, DoesAt, does-one, placeAfter}
+use Rattle.theory_progress.specs.Elsewhere.{After, as-before, started, folded, silent-after}
 
 -- whether the step of a term can change a handler: a recv and a raise can start it, and when an empty process leaves it folds up
 abbrev pub changesHandler : Proc → Bool
@@ -57,9 +59,6 @@ module _ {C : Config} {k : ℕ} where
   starter-changes (by-raise r) = ap changes (r .runs)
   starter-changes (by-lost-recv f) = ap changes (f .runs .runs) ∙ recv-changes (subst (ActsBy (running (f .term))) (f .receives-on) (term-acts (f .term)))
 
-  one-process : {q r : Process} → Stands C k q → Stands C k r → q ≡ r
-  one-process s t = Option·some-injective _ _ (sym (s .there) ∙ t .there)
-
 module _ (p : Program) (C D : Config) (k : ℕ) {seen : Seen} (e : step p C k ≡ carried seen D) {h : ℕ} {Q : Proc} (f : DoesAt (waiting Q) (C .processes) h) where
   -- where the handler stands afterwards
   abbrev there : ℕ
@@ -88,7 +87,7 @@ module _ (p : Program) (C D : Config) (k : ℕ) {seen : Seen} (e : step p C k �
   wakes-nobody {q} {P} r n = go after
     where
       no-change : {q′ : Process} → Stands C k q′ → changes (q′ .doing) ≡ true → ⊥
-      no-change s t = true≢false (sym t ∙ ap (λ (q : Process). changes (q .doing)) (one-process s (r .stands)) ∙ ap changes (r .runs) ∙ n)
+      no-change s t = true≢false (sym t ∙ ap (λ (q : Process). changes (q .doing)) (found-one (C .processes) refl (s .there) (r .stands .there)) ∙ ap changes (r .runs) ∙ n)
 
       go : After C k h (Does (waiting Q)) (D .processes) → DoesAt (waiting Q) (D .processes) there
       go (as-before a) = a

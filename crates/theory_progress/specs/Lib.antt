@@ -5,6 +5,7 @@ pub mod Folding
 pub mod GivenUp
 pub mod Handlers
 pub mod Joints
+pub mod Placed
 pub mod Places
 pub mod Outward
 pub mod Progress

@@ -6,7 +6,6 @@ use mathlib.Core.List.{List}
 use mathlib.Core.Option.{Option, some, none}
 use lib.ListN.{set}
 use Rattle.notation.specs.Tree.{Name, Located, Proc}
-use Rattle.calculus.specs.Types.{Side}
 use Rattle.calculus.specs.Program.{Program}
 use Rattle.calculus.specs.Configuration.{End, Process, Config, Holder, atProcess, givenUp, farEnd, inserted, removed}
 use Rattle.calculus.specs.Steps.{Outcome, carried, notOpen, lacking, Turn, sends, receives, alone, turn, turnOf, startedHandler, foldedHandler, changedAt, farMoved, step}
@@ -15,7 +14,7 @@ use Rattle.calculus.specs.declared.answers.Seen.{Seen}
 use Rattle.calculus.specs.declared.answers.Seen.the-variants.{Nothing}
 use Rattle.calculus.specs.Reduces.{Holds, Answers, GivesUp, by-process, by-outside, by-nobody, Empty, Sends, close-meets, channel-meets, label-meets, close-shows, label-shows, channel-shows, gone-shows, close-lost, label-lost, channel-lost, Naming, its-own, its-recv, Reduces, communicates, spawns, tries, calls, cancels, raises, joins, joins-outside, joins-nobody, nobody-joins, unanswered, folds, leaves}
 use Rattle.theory_ends.specs.Names.{lookup-in}
-use Rattle.theory_ends.specs.FarEnds.{found-key, far-held, far-nobody, far-back}
+use Rattle.theory_ends.specs.FarEnds.{found-key, far-held, given-up-unheld, far-back}
 use Rattle.theory_reductions.specs.CarriedOut.{holder-stands}
 use Rattle.theory_reductions.specs.StepIff.{step-iff}
 use Rattle.theory_progress.specs.Starting.{StartsHandler, by-raise, by-lost-recv}
@@ -57,13 +56,12 @@ module _ {C : Config} {k : ℕ} where
       → actsOn (turn P) ≡ some (c′ .name) → Touched C k (h .place)
   engaged {i} {q} {c} {e = e} {h} s l a t =
       let f = far-held C e (l .far) in
-      let back = far-back e (f .end) (found-key f) in
       partner (holder-stands l) (record {
         name = h .name;
         acts-on = ap (λ d. actsOn (turnOf d)) (a .runs) ∙ t ∙ ap some (a .name);
         end = f .end;
         held = f .held;
-        answered = λ z. far-nobody C (f .end) z .processes i q (s .there) (c .name, e) (lookup-in (c .name) (q .held) (l .held)) (ap (λ (k : ℕ × Side). k .0) back) (ap (λ (k : ℕ × Side). k .1) back);
+        answered = λ z. given-up-unheld (f .end) z s (lookup-in (c .name) (q .held) (l .held)) (far-back e (f .end) (found-key f));
       })
 
   names : {j : ℕ} → Naming C k j → Touched C k j

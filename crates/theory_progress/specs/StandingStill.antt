@@ -5,7 +5,6 @@ use mathlib.Core.Logic.{_≢_}
 use mathlib.Core.List.{List, [], _∷_}
 use mathlib.Core.Option.{some, Option·none-ne-some, Option·some-injective}
 use mathlib.Core.Bool.{Bool, true, false, cond, true≢false}
-use lib.ListN.{getElem?}
 use Rattle.notation.specs.Tree.{Name, Located}
 use Rattle.calculus.specs.Named.{lookup, names, isSome}
 use Rattle.calculus.specs.Types.{Side, other}
@@ -14,9 +13,10 @@ use Rattle.calculus.specs.Configuration.{End, Doing, running, ofChannel, Proces
 use Rattle.calculus.specs.Steps.{carried, turnOf, movedEnd, step}
 use Rattle.calculus.specs.WellFormed.{In, NoneTwice, key, contextOf, TypedAs, isWaiting, Stands, WellFormed}
 use Rattle.calculus.specs.declared.answers.Seen.{Seen}
+use Rattle.theory_ends.specs.Lists.{found-one}
 use Rattle.theory_ends.specs.Names.{by-test, in-lookup, distinct-iff}
 use Rattle.theory_ends.specs.Contexts.{context-names}
-use Rattle.theory_ends.specs.FarEnds.{isEnd, is-end, far-nobody, far-back}
+use Rattle.theory_ends.specs.FarEnds.{isEnd, is-end, given-up-unheld, far-back}
 use Rattle.theory_progress.specs.Starting.{Forsaken, starter-stands}
 use Rattle.theory_progress.specs.Shapes.{actsOn, Engaged, Touched, itself, partner}
 use Rattle.theory_progress.specs.Elsewhere.{Stays, After, as-before, started, folded, step-after}
@@ -57,24 +57,21 @@ module _ {p : Program} {C : Config} (w : WellFormed p C) {i : ℕ} {q : Process}
   module _ {k : ℕ} (n : i ≢ k) where
     apart : {j : ℕ} → Touched C k j → i ≢ j
     apart (itself e) z = n (z ∙ e)
-    apart (partner {r = r} s g) z = not-engaged (subst (Engaged C) (Option·some-injective r q (sym (s .there) ∙ ap (getElem? (C .processes)) (sym z) ∙ f .runs .stands .there)) g)
+    apart (partner {r = r} s g) z = not-engaged (subst (Engaged C) (found-one (C .processes) (sym z) (s .there) (f .runs .stands .there)) g)
 
     -- a fwd moves the far end of one of its own ends, and that of this one is nobody's
     moved : {r : Process} {m : Name} {a : Doing} {l : List (Name × End)} (e d : End) → Stands C k r → In (m, e) (r .held) → BeforeRecv a l
         → BeforeRecv a (movedEnd (e .channel) (other (e .side)) (d .channel) l)
-    moved {r} {m} {l = l} e d s h b =
-        record { runs = b .runs; holds = lookup-moved (e .channel) (other (e .side)) (d .channel) (c .name) l other-end (b .holds) }
-      where
-        other-end : key (f .held) ≢ (e .channel, other (e .side))
-        other-end z =
-            let y = far-back e (f .held) z in
-            far-nobody C (f .held) (f .holds .far) .processes k r (s .there) (m, e) h (ap (λ (k : ℕ × Side). k .0) y) (ap (λ (k : ℕ × Side). k .1) y)
+    moved {l = l} e d s h b = record {
+      runs = b .runs;
+      holds = lookup-moved (e .channel) (other (e .side)) (d .channel) (c .name) l (λ z. given-up-unheld (f .held) (f .holds .far) s h (far-back e (f .held) z)) (b .holds);
+    }
 
     -- no link leads to a process that runs
     unlinked : {r : Process} → Stands C k r → r .link ≢ some i
     unlinked {r} s z =
         let l = w .links k r s i z in
-        let same : l .0 ≡ q = Option·some-injective _ _ (sym (l .1 .there) ∙ f .runs .stands .there) in
+        let same : l .0 ≡ q = found-one (C .processes) refl (l .1 .there) (f .runs .stands .there) in
         true≢false (sym (l .2) ∙ ap (λ (q : Process). isWaiting (q .doing)) same ∙ ap isWaiting (f .runs .runs))
 
     pub stands-still : {D : Config} {seen : Seen} → step p C k ≡ carried seen D → Stays C k i BeforeRecv (D .processes)
