@@ -98,6 +98,10 @@ static int one_step(uint32_t number)
     if (refusal != 0)
         return 1 + refused(refusal);
     printf("step %" PRIu32 " at %" PRIu32, number, place);
+    if (answer[EPASS_STEP_SEEN] == EPASS_STEP_UNCAUGHT) { /* nobody catches the raise: the machine stops as it stands */
+        printf("\nuncaught after %" PRIu32 " steps\n", number);
+        return 1;
+    }
     print_seen(answer + EPASS_STEP_SEEN);
     printf("\n");
     return 0;

@@ -3,7 +3,7 @@
 //! It asks which steps are open and has one of them carried out, over and over. A pseudo-random source stands for the relays, whose
 //! order no controller knows: with another seed the steps come in another order. For every seed that
 //! was tried each outside channel showed the same.
-use epass::{Reason, Refusal, Run, Script, RUN_WORDS, SCRATCH_WORDS};
+use epass::{Reason, Refusal, Run, Script, Step, RUN_WORDS, SCRATCH_WORDS};
 use std::process::ExitCode;
 use std::{env, fs};
 
@@ -38,9 +38,15 @@ fn run_line(script: &mut Script<'_, &mut [u32]>, run: &mut [u32], line: u32, rel
             return Ok(true);
         }
         let place = open[relays.next(open.len())];
-        match run.step(script, place)?.seen {
-            Some(seen) => println!("step {number} at {place}: {seen}"),
-            None => println!("step {number} at {place}"),
+        match run.step(script, place)? {
+            Step::Carried(Some(seen)) => println!("step {number} at {place}: {seen}"),
+            Step::Carried(None) => println!("step {number} at {place}"),
+            // Nobody catches the raise: the machine stops as it stands.
+            Step::Uncaught => {
+                println!("step {number} at {place}");
+                println!("uncaught after {number} steps");
+                return Ok(true);
+            }
         }
     }
     println!("stopped after {STEPS} steps");

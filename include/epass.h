@@ -56,7 +56,7 @@ enum epass_refusal {
     EPASS_TYPE_WRONG = 11,
     EPASS_BRANCHES_WRONG = 12,
     EPASS_LEFT_OVER = 13,
-    EPASS_NO_LINK = 14,
+    EPASS_NO_LINK = 14, /* never given: a raise needs no link in the text */
     EPASS_HELD_FULL = 15,
     EPASS_RUN_SHORT = 16,
     EPASS_NO_LINE = 17,
@@ -64,6 +64,7 @@ enum epass_refusal {
     EPASS_NO_PROCESS = 19,
     EPASS_NOT_OPEN = 20,
     EPASS_LACKING = 21,
+    EPASS_HALTED = 22, /* tested after 18 and before 19 */
     /* The answer has under EPASS_ANSWER_WORDS words: of this interface alone. No slice was touched. */
     EPASS_ANSWER_SHORT = 255
 };
@@ -73,7 +74,7 @@ enum epass_answer {
     /* Of every answer: the refusal's number, 0 where there is none; then, of a refused one, the offset in the text. */
     EPASS_REFUSAL = 0,
     EPASS_OFFSET = 1,
-    /* Of a step: what was seen, from here on. */
+    /* Of a step: what was seen, from here on, or EPASS_STEP_UNCAUGHT. */
     EPASS_STEP_SEEN = 1,
     /* Of a run-on: how it ended, the steps taken, and what was seen, from here on, if that ended it. */
     EPASS_RUN_END = 1,
@@ -96,7 +97,8 @@ enum epass_seen {
     EPASS_SEEN_LABEL = 1, /* number; the label's offset in the text; its length, the apostrophe counted */
     EPASS_SEEN_CLOSE = 2, /* number */
     EPASS_SEEN_PASSED = 3, /* number; the number that the passed channel has from then on; 1 where it was given up already, else 0 */
-    EPASS_SEEN_CANCELLED = 4 /* number */
+    EPASS_SEEN_CANCELLED = 4, /* number */
+    EPASS_STEP_UNCAUGHT = 5 /* of a step alone, and no sighting: its raise found no handler, and the run has halted */
 };
 
 /* How a run-on ended. */
@@ -104,7 +106,8 @@ enum epass_end {
     EPASS_END_SHOWN = 1,
     EPASS_END_DONE = 2,
     EPASS_END_FULL = 3,
-    EPASS_END_STOPPED = 4
+    EPASS_END_STOPPED = 4,
+    EPASS_END_UNCAUGHT = 5 /* the run has halted */
 };
 
 /* What the step at a place is. */
@@ -123,11 +126,14 @@ enum epass_place {
 uint32_t epass_start(const uint8_t *EPASS_RESTRICT text, size_t text_length, uint32_t *EPASS_RESTRICT scratch, size_t scratch_length,
                      uint32_t *EPASS_RESTRICT run, size_t run_length, uint32_t line, uint32_t *EPASS_RESTRICT answer, size_t answer_length);
 
-/* Carries out the step at a place; places are numbered from 0. */
+/*
+ * Carries out the step at a place; places are numbered from 0. A raise without a handler halts the run and leaves all else as it is: from
+ * then on a step is refused (22), run-on answers EPASS_END_UNCAUGHT and no step is open, until the run is begun anew.
+ */
 uint32_t epass_step(const uint8_t *EPASS_RESTRICT text, size_t text_length, uint32_t *EPASS_RESTRICT scratch, size_t scratch_length,
                     uint32_t *EPASS_RESTRICT run, size_t run_length, uint32_t place, uint32_t *EPASS_RESTRICT answer, size_t answer_length);
 
-/* Carries out steps, each at the first place where one can be, until one shows something, no process is left, none can be carried out, or the budget is spent. */
+/* Carries out steps, each at the first place where one can be, until the run has halted, one shows something, no process is left, none can be carried out, or the budget is spent. */
 uint32_t epass_run_on(const uint8_t *EPASS_RESTRICT text, size_t text_length, uint32_t *EPASS_RESTRICT scratch, size_t scratch_length,
                       uint32_t *EPASS_RESTRICT run, size_t run_length, uint32_t budget, uint32_t *EPASS_RESTRICT answer, size_t answer_length);
 
@@ -161,7 +167,7 @@ static inline const char *epass_refusal_sentence(uint32_t refusal)
     case EPASS_TYPE_WRONG: return "side, type, sent label, list length or a repeated name breaks the rule";
     case EPASS_BRANCHES_WRONG: return "the branch labels are not those of the type";
     case EPASS_LEFT_OVER: return "a channel is left over, or mentioned in both or neither half where that is barred";
-    case EPASS_NO_LINK: return "a raise has no link to a handler";
+    case EPASS_NO_LINK: return "never given: a raise needs no link in the text";
     case EPASS_HELD_FULL: return "a 17th channel is held, or a new name is already held";
     case EPASS_RUN_SHORT: return "the run has too few words";
     case EPASS_NO_LINE: return "the exec number has no line";
@@ -169,6 +175,7 @@ static inline const char *epass_refusal_sentence(uint32_t refusal)
     case EPASS_NO_PROCESS: return "the place holds no process";
     case EPASS_NOT_OPEN: return "the step is not open";
     case EPASS_LACKING: return "the step lacks a free place or number";
+    case EPASS_HALTED: return "the run has halted";
     case EPASS_ANSWER_SHORT: return "the answer has too few words";
     default: return "no refusal has this number";
     }

@@ -82,19 +82,30 @@ impl fmt::Display for Seen<'_> {
     }
 }
 
-/// A step that was carried out.
+/// What a step did.
 #[derive(Clone, Copy, Debug, PartialEq, Eq, Hash)]
-pub struct Step<'t> {
-    /// What it showed, if anything.
-    pub seen: Option<Seen<'t>>,
+pub enum Step<'t> {
+    /// It was carried out, and showed this, if anything.
+    Carried(Option<Seen<'t>>),
+    /// Its raise found no handler, and the run has halted.
+    Uncaught,
+}
+
+impl<'t> Step<'t> {
+    pub(crate) fn told(text: &'t [u8], answer: &Answer) -> Step<'t> {
+        match answer[1] {
+            5 => Step::Uncaught,
+            _ => Step::Carried(Seen::told(text, &answer[1..])),
+        }
+    }
 }
 
 impl fmt::Display for Step<'_> {
     fn fmt(&self, f: &mut fmt::Formatter<'_>) -> fmt::Result {
-        f.write_str("carried out")?;
-        match self.seen {
-            Some(seen) => write!(f, ", {seen}"),
-            None => Ok(()),
+        match self {
+            Step::Carried(Some(seen)) => write!(f, "carried out, {seen}"),
+            Step::Carried(None) => f.write_str("carried out"),
+            Step::Uncaught => f.write_str("uncaught"),
         }
     }
 }
@@ -110,6 +121,8 @@ pub enum End<'t> {
     Full,
     /// The budget is spent, and the run could go on.
     Stopped,
+    /// The run has halted: a raise found no handler.
+    Uncaught,
 }
 
 /// What a run-on did.
@@ -127,6 +140,7 @@ impl<'t> RanOn<'t> {
             (1, Some(seen)) => End::Shown(seen),
             (2, _) => End::Done,
             (3, _) => End::Full,
+            (5, _) => End::Uncaught,
             _ => End::Stopped,
         };
         RanOn { steps: answer[2], end }
@@ -141,6 +155,7 @@ impl fmt::Display for RanOn<'_> {
             End::Done => f.write_str("done"),
             End::Full => f.write_str("full"),
             End::Stopped => f.write_str("stopped"),
+            End::Uncaught => f.write_str("uncaught"),
         }
     }
 }

@@ -23,6 +23,8 @@
 //! refused call leaves the run as it was. An open step is refused only where a run is out of room
 //! ([`Reason::Lacking`]): it has 128 process places, 512 channel places and 32 outside numbers.
 //!
+//! A raise that finds no handler is answered, not refused: the step is [`Step::Uncaught`], and the run has halted until it is begun anew.
+//!
 //! # Memory
 //!
 //! There is no heap. Scratch and run are slices of words that are owned (an array) or lent (a `&mut [u32]`): everything that is

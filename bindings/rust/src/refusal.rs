@@ -54,7 +54,7 @@ reasons! {
     TypeWrong = 11, "side, type, sent label, list length or a repeated name breaks the rule";
     BranchesWrong = 12, "the branch labels are not those of the type";
     LeftOver = 13, "a channel is left over, or mentioned in both or neither half where that is barred";
-    NoLink = 14, "a raise has no link to a handler";
+    NoLink = 14, "never given: a raise needs no link in the text";
     HeldFull = 15, "a 17th channel is held, or a new name is already held";
     RunShort = 16, "the run has too few words";
     NoLine = 17, "the exec number has no line";
@@ -62,6 +62,7 @@ reasons! {
     NoProcess = 19, "the place holds no process";
     NotOpen = 20, "the step is not open";
     Lacking = 21, "the step lacks a free place or number";
+    Halted = 22, "the run has halted";
 }
 
 impl Refusal {

@@ -1,6 +1,6 @@
 //! A run of a script's exec line.
 
-use crate::answers::{Places, RanOn, Report, Seen, Step};
+use crate::answers::{Places, RanOn, Report, Step};
 use crate::ffi::{self, Numbered, Reading};
 use crate::refusal::Refusal;
 use crate::script::Script;
@@ -36,17 +36,18 @@ impl<W: AsMut<[u32]> + AsRef<[u32]>> Run<W> {
         Refusal::told(&ffi::change(Numbered::Start, text, scratch, self.words.as_mut(), line))
     }
 
-    /// Carries out the step of the process at a place; places are numbered from 0.
+    /// Carries out the step of the process at a place; places are numbered from 0. A raise without a handler halts the run and leaves
+    /// all else as it is: from then on a step is refused ([`crate::Reason::Halted`]), run-on answers [`crate::End::Uncaught`] and no
+    /// step is open, until the run is begun anew.
     pub fn step<'t, S: AsMut<[u32]>>(&mut self, script: &mut Script<'t, S>, place: u32) -> Result<Step<'t>, Refusal> {
         let (text, scratch) = script.lent();
         let answer = ffi::change(Numbered::Step, text, scratch, self.words.as_mut(), place);
         Refusal::told(&answer)?;
-        let seen = Seen::told(text, &answer[1..]);
-        Ok(Step { seen })
+        Ok(Step::told(text, &answer))
     }
 
-    /// Carries out steps, each at the first place where one can be, until one shows something, no process is left, none can be
-    /// carried out, or the budget is spent.
+    /// Carries out steps, each at the first place where one can be, until the run has halted, one shows something, no process is
+    /// left, none can be carried out, or the budget is spent.
     pub fn run_on<'t, S: AsMut<[u32]>>(&mut self, script: &mut Script<'t, S>, budget: u32) -> Result<RanOn<'t>, Refusal> {
         let (text, scratch) = script.lent();
         let answer = ffi::change(Numbered::RunOn, text, scratch, self.words.as_mut(), budget);

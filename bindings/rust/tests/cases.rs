@@ -47,6 +47,7 @@ fn print_line(out: &mut String, script: &mut Script<'_, &mut [u32]>, line: u32) 
             End::Done => "done",
             End::Full => "full",
             End::Stopped => "stopped",
+            End::Uncaught => "uncaught",
         };
         writeln!(out, "{end} after {taken} steps").unwrap();
         return Ok(());

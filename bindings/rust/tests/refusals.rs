@@ -1,6 +1,6 @@
 //! What is refused, and how an answer is told.
 
-use epass::{Reason, Run, Script, RUN_WORDS, SCRATCH_WORDS};
+use epass::{End, Reason, Run, Script, Step, RUN_WORDS, SCRATCH_WORDS};
 
 const TEXT: &[u8] = b"proc m (x : 1) [] = try (send x ()) catch ()\nexec m\n";
 
@@ -66,6 +66,37 @@ fn a_run_that_is_full() {
     let mut run = Run::start(&mut script, 0, vec![0; RUN_WORDS]).unwrap();
     assert_eq!(run.run_on(&mut script, 10_000).unwrap().to_string(), "254 steps, full");
     assert_eq!(run.step(&mut script, 127).unwrap_err().reason(), Some(Reason::Lacking));
+}
+
+/// A raise without a handler: the step is taken, and the run has halted until it is begun anew.
+#[test]
+fn a_run_that_has_halted() {
+    let mut script = Script::check(b"proc m (x : 1) [] = raise send x ()\nexec m\n", scratch()).unwrap();
+    let mut run = Run::start(&mut script, 0, vec![0; RUN_WORDS]).unwrap();
+    assert_eq!(run.step(&mut script, 0), Ok(Step::Uncaught));
+    let ran = run.run_on(&mut script, 9).unwrap();
+    assert_eq!((ran.steps, ran.end, ran.to_string().as_str()), (0, End::Uncaught, "0 steps, uncaught"));
+    for place in [0, 9] {
+        let refusal = run.step(&mut script, place).unwrap_err();
+        assert_eq!((refusal.reason(), refusal.to_string().as_str()), (Some(Reason::Halted), "refused 22"));
+    }
+    assert_eq!(run.report(&mut script).unwrap().numbers(), [0]);
+    assert_eq!(run.places(&mut script).unwrap().to_string(), "1 processes waits");
+    run.restart(&mut script, 0).unwrap();
+    assert_eq!(run.run_on(&mut script, 9).unwrap().to_string(), "1 steps, uncaught");
+}
+
+/// Words that say that a run has halted, though no step of it would halt it, are no run.
+#[test]
+fn a_run_that_would_not_halt() {
+    // where a run says whether it has halted
+    const HALTED: usize = 3;
+    let mut script = Script::check(TEXT, scratch()).unwrap();
+    let mut words = Run::start(&mut script, 0, vec![0; RUN_WORDS]).unwrap().words().to_vec();
+    words[HALTED] = 1;
+    let mut run = Run::resume(words);
+    assert_eq!(run.step(&mut script, 0).unwrap_err().reason(), Some(Reason::NoRun));
+    assert_eq!(run.run_on(&mut script, 9).unwrap_err().reason(), Some(Reason::NoRun));
 }
 
 #[test]

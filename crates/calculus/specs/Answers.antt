@@ -41,16 +41,19 @@ unfoldable pub startedAs : Started → Told
 startedAs Begins.Begun = givenAs []
 startedAs (Begins.Refused n at) = refusedAs n at
 
+-- what was seen; uncaught is a kind of its own
 unfoldable pub steppedAs : Stepped → Told
 steppedAs (Steps.Carried seen) = givenAs (seenValues seen)
+steppedAs Steps.Uncaught = givenAs (5 ∷ [])
 steppedAs (Steps.Refused n at) = refusedAs n at
 
--- how run-on ended, in the order of its tests, the steps taken, and what was seen
+-- how run-on ended, the steps taken, and what was seen
 unfoldable pub ranOnAs : RanOn → Told
 ranOnAs (Runs.Shown seen steps) = givenAs (1 ∷ steps ∷ seenValues seen)
 ranOnAs (Runs.Done steps) = givenAs (2 ∷ steps ∷ [])
 ranOnAs (Runs.Full steps) = givenAs (3 ∷ steps ∷ [])
 ranOnAs (Runs.Stopped steps) = givenAs (4 ∷ steps ∷ [])
+ranOnAs (Runs.Uncaught steps) = givenAs (5 ∷ steps ∷ [])
 ranOnAs (Runs.Refused n at) = refusedAs n at
 
 unfoldable pub reportedAs : Reported → Told

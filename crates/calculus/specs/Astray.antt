@@ -1,5 +1,4 @@
 -- Cases in which a reading that leads astray would print something else, computed from the rules.
-use Prim.Native.Nat.{ℕ}
 use mathlib.Core.Path.{_≡_, refl}
 use mathlib.Core.List.{List, [], _∷_, map}
 use Rattle.notation.specs.Bytes.{bytes}
@@ -10,6 +9,7 @@ use Rattle.calculus.specs.Starred.{around, Case}
 -- A passed channel is gone from its sender: the send on it meets the receiver's recv, though the sender stands before the receiver.
 -- A lost recv starts the handler, which then folds up neither with its process nor when that leaves.
 -- A cancel by the process's own term wakes nobody: the handler waits, and folds up when its process leaves.
+-- Whether a raise is caught is decided when it runs: a called process inherits the link, and the spawned half has none, however it stands in the text; a halt stops the others too.
 -- (A cancelled recv is no close: the fifth starred case.)
 abbrev pub astray : List Case
 astray =
@@ -28,6 +28,14 @@ astray =
     ∷ record {
       text = around (bytes "c : 1 <- (send c ()); try (cancel c) catch (send x ())");
       output = bytes "Executing process m:\n#0 -> cancelled\ndone after 8 steps\n";
+    }
+    ∷ record {
+      text = bytes "proc f () [] = raise\nproc m (x : 1) [] = try (call f () []) catch (send x ())\nexec m\n";
+      output = bytes "Executing process m:\n#0 -> ()\ndone after 6 steps\n";
+    }
+    ∷ record {
+      text = around (bytes "try (c : 1 <- (raise send c ()); recv c (() => )) catch (send x ())");
+      output = bytes "Executing process m:\nuncaught after 3 steps\n";
     }
     ∷ []
 

@@ -1,16 +1,16 @@
 -- Refusals 10 to 15: the first term in text order, then the lowest number, at the term's first byte.
-use Prim.Native.Nat.{ℕ, zero, suc}
+use Prim.Native.Nat.{ℕ}
 use mathlib.Core.List.{List, [], _∷_, _++_}
-use mathlib.Core.Bool.{Bool, true, false, cond, not, _&&_}
+use mathlib.Core.Bool.{Bool, not, _&&_}
 use mathlib.Core.Option.{Option, some, none}
 use lib.ListN.{length, getElem?}
 use lib.Dec.{ltb}
 use Rattle.notation.specs.Limits.{heldLimit}
 use Rattle.notation.specs.Bytes.{same}
-use Rattle.notation.specs.Tree.{Name, Located, Ty, unit, Alternatives, Proc, empty, sendUnit, sendChannel, sendLabel, cancel, spawn, recvUnit, recvChannel, recvLabel, fwd, call, raise, try, Branches, branch, Entry, Declaration, declareType, declareProc, declareExec, plain}
-use Rattle.calculus.specs.Named.{lookup, without, changed, names, isSome, all, distinct}
-use Rattle.calculus.specs.Types.{Side, provided, used, other, sameSide, sameType, shape, atLeaf, Passing, passing, Choosing, choosing, labelled}
-use Rattle.calculus.specs.Program.{Slot, slot, Context, Signature, Program, signatureContext, entries, programOf}
+use Rattle.notation.specs.Tree.{Name, Located, Ty, Alternatives, Proc, empty, sendUnit, sendChannel, sendLabel, cancel, spawn, recvUnit, recvChannel, recvLabel, fwd, call, raise, try, Branches, branch, Declaration, declareType, declareProc, declareExec, plain}
+use Rattle.calculus.specs.Named.{lookup, without, names, isSome, all, distinct}
+use Rattle.calculus.specs.Types.{Side, provided, used, other, sameSide, sameType, shape, atLeaf, passing, choosing, labelled}
+use Rattle.calculus.specs.Program.{Slot, slot, Context, Program, signatureContext, entries, programOf}
 use Rattle.calculus.specs.Declarations.{channels, isNil}
 use Rattle.calculus.specs.Mentions.{spawnTakes, spawnLeaves, tryTakes, neverBoth, exactlyOne}
 use Rattle.calculus.specs.Typing.{acting, retyped, bringing, fitting, namesOf, listFits, withoutAll}
@@ -27,71 +27,71 @@ abbrev pub fitsSlot : Side → Ty Name → Slot → Bool
 fitsSlot s A h = sameSide (h .side) s && sameType (h .type) A
 
 unfoldable mutual
-  pub check : Program → Context → Bool → Proc → Verdict
-  check p G link (empty at) = demand 13 at (isNil G) fine
-  check p G link (sendUnit at c P) =
+  pub check : Program → Context → Proc → Verdict
+  check p G (empty at) = demand 13 at (isNil G) fine
+  check p G (sendUnit at c P) =
       having 10 at (acting p (c .name) G) λ h.
       demand 11 at (isUnitOn provided h)
-      (check p (without (c .name) G) link P)
-  check p G link (sendChannel at c a P) =
+      (check p (without (c .name) G) P)
+  check p G (sendChannel at c a P) =
       having 10 at (acting p (c .name) G) λ h.
       having 10 at (lookup (a .name) G) λ e.
       demand 11 at (not (same (c .name) (a .name)))
       (having 11 at (passing (h .type)) λ t.
       demand 11 at (sameSide (h .side) (t .sender) && fitsSlot (t .side) (t .what) e)
-      (check p (retyped (c .name) (t .after) (without (a .name) G)) link P))
-  check p G link (sendLabel at c l P) =
+      (check p (retyped (c .name) (t .after) (without (a .name) G)) P))
+  check p G (sendLabel at c l P) =
       having 10 at (acting p (c .name) G) λ h.
       having 11 at (choosing (h .type)) λ t.
       demand 11 at (sameSide (h .side) (t .sender))
       (having 11 at (labelled (l .name) (t .labels)) λ A.
-      check p (retyped (c .name) A G) link P)
-  check p G link (cancel at c P) =
+      check p (retyped (c .name) A G) P)
+  check p G (cancel at c P) =
       having 10 at (lookup (c .name) G) λ _.
-      check p (without (c .name) G) link P
-  check p G link (spawn x A P Q) =
+      check p (without (c .name) G) P
+  check p G (spawn x A P Q) =
       demand 13 (x .at) (neverBoth (x .name) P Q (names G))
       (demand 15 (x .at) (mayBring (x .name) G (spawnTakes (x .name) P G) && mayBring (x .name) G (spawnLeaves (x .name) P G))
-      (andThen (check p (bringing (x .name) (slot provided (plain A)) (spawnTakes (x .name) P G)) false P)
-      (check p (bringing (x .name) (slot used (plain A)) (spawnLeaves (x .name) P G)) link Q)))
-  check p G link (recvUnit at c P) =
+      (andThen (check p (bringing (x .name) (slot provided (plain A)) (spawnTakes (x .name) P G)) P)
+      (check p (bringing (x .name) (slot used (plain A)) (spawnLeaves (x .name) P G)) Q)))
+  check p G (recvUnit at c P) =
       having 10 at (acting p (c .name) G) λ h.
       demand 11 at (isUnitOn used h)
-      (check p (without (c .name) G) link P)
-  check p G link (recvChannel at c x P) =
+      (check p (without (c .name) G) P)
+  check p G (recvChannel at c x P) =
       having 10 at (acting p (c .name) G) λ h.
       having 11 at (passing (h .type)) λ t.
       demand 11 at (sameSide (h .side) (other (t .sender)))
       (demand 15 at (mayBring (x .name) G G)
-      (check p (bringing (x .name) (slot (t .side) (t .what)) (retyped (c .name) (t .after) G)) link P))
-  check p G link (recvLabel at c B) =
+      (check p (bringing (x .name) (slot (t .side) (t .what)) (retyped (c .name) (t .after) G)) P))
+  check p G (recvLabel at c B) =
       having 10 at (acting p (c .name) G) λ h.
       having 11 at (choosing (h .type)) λ t.
       demand 11 at (sameSide (h .side) (other (t .sender)))
       (demand 12 at (fitting (t .labels) B)
-      (checkBranches p G link at (c .name) (t .labels) B))
-  check p G link (fwd at x c) =
+      (checkBranches p G at (c .name) (t .labels) B))
+  check p G (fwd at x c) =
       having 10 at (lookup (x .name) G) λ h.
       having 10 at (lookup (c .name) G) λ e.
       demand 11 at (sameSide (h .side) provided && fitsSlot used (h .type) e)
       (demand 13 at (isNil (withoutAll (x .name ∷ c .name ∷ []) G)) fine)
-  check p G link (call at q bracket xs ys) =
+  check p G (call at q bracket xs ys) =
       demand 10 at (all (λ n. isSome (lookup n G)) (namesOf xs ++ namesOf ys))
       (having 11 at (lookup (q .name) (p .processes)) λ s.
       demand 11 at (listFits G provided (namesOf xs) (s .provides) && listFits G used (namesOf ys) (s .uses))
       (demand 11 at (distinct (namesOf xs ++ namesOf ys))
       (demand 13 at (isNil (withoutAll (namesOf xs ++ namesOf ys) G)) fine)))
-  check p G link (raise at P) = demand 14 at link (check p G false P)
-  check p G link (try at P Q) =
+  check p G (raise at P) = check p G P
+  check p G (try at P Q) =
       demand 13 at (exactlyOne P Q (names G))
-      (andThen (check p (tryTakes P G) true P) (check p (tryTakes Q G) link Q))
+      (andThen (check p (tryTakes P G) P) (check p (tryTakes Q G) Q))
 
   -- branches as written; `at` is the recv's offset
-  pub checkBranches : Program → Context → Bool → ℕ → Name → Alternatives Name → Branches → Verdict
-  checkBranches p G link at c r Branches.none = fine
-  checkBranches p G link at c r (branch l P B) =
+  pub checkBranches : Program → Context → ℕ → Name → Alternatives Name → Branches → Verdict
+  checkBranches p G at c r Branches.none = fine
+  checkBranches p G at c r (branch l P B) =
       having 12 at (labelled (l .name) r) λ A.
-      andThen (check p (retyped c A G) link P) (checkBranches p G link at c r B)
+      andThen (check p (retyped c A G) P) (checkBranches p G at c r B)
 
 -- "a signature's 17th name is taken before the body"
 abbrev pub unlessNamed : Option Located → Verdict → Verdict
@@ -102,7 +102,7 @@ abbrev pub checkDeclaration : Program → Declaration → Verdict
 checkDeclaration p (declareType n A) = fine
 checkDeclaration p (declareProc n xs ys P) =
     unlessNamed (getElem? (channels xs ++ channels ys) heldLimit)
-    (check p (signatureContext (record { provides = entries xs; uses = entries ys; body = P })) false P)
+    (check p (signatureContext (record { provides = entries xs; uses = entries ys; body = P })) P)
 checkDeclaration p (declareExec n) = fine
 
 -- procs in text order

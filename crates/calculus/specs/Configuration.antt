@@ -1,9 +1,10 @@
--- Configurations: "a list of processes", the outside's channels, and how many outside numbers were given.
+-- Configurations: "a list of processes", the outside's channels, how many outside numbers were given, and whether the run has halted.
 use Prim.Native.Nat.{ℕ, zero, suc, _+_, _-_}
+use mathlib.Core.Path.{_≡_}
 use mathlib.Core.List.{List, [], _∷_, _++_, map}
 use mathlib.Core.Bool.{Bool, true, false, cond, _&&_}
 use mathlib.Core.Option.{Option, some, none, Option·map}
-use lib.ListN.{length, take, drop, set, getElem?}
+use lib.ListN.{take, drop, set, getElem?}
 use lib.Dec.{ltb, eqb}
 use Rattle.notation.specs.Limits.{channelPlaces}
 use Rattle.notation.specs.Tree.{Name, Ty, Proc}
@@ -55,23 +56,28 @@ pub record Config : Type 0 where
   pub processes : List Process
   pub outside : List Outside
   pub given : ℕ
+  pub halted : Bool
 
 -- a new configuration, and a new process
 abbrev pub config : List Process → List Outside → ℕ → Config
-config l o n = record { processes = l; outside = o; given = n }
+config l o n = record { processes = l; outside = o; given = n; halted = false }
 
 abbrev pub process : Doing → List (Name × End) → Option ℕ → Process
 process d h o = record { doing = d; held = h; link = o }
 
 -- ── one part of a configuration changed, the rest as it was
 abbrev pub withProcesses : List Process → Config → Config
-withProcesses l C = record { processes = l; outside = C .outside; given = C .given }
+withProcesses l C = record { processes = l; outside = C .outside; given = C .given; halted = C .halted }
 
 abbrev pub withOutside : List Outside → Config → Config
-withOutside o C = record { processes = C .processes; outside = o; given = C .given }
+withOutside o C = record { processes = C .processes; outside = o; given = C .given; halted = C .halted }
 
 abbrev pub withGiven : ℕ → Config → Config
-withGiven n C = record { processes = C .processes; outside = C .outside; given = n }
+withGiven n C = record { processes = C .processes; outside = C .outside; given = n; halted = C .halted }
+
+-- the run halts, and all else stays as it is
+abbrev pub halt : Config → Config
+halt C = record { processes = C .processes; outside = C .outside; given = C .given; halted = true }
 
 -- one more outside number is given
 abbrev pub oneMoreGiven : Config → Config
@@ -103,6 +109,10 @@ holding l q = becoming (q .doing) l q
 -- the process at a place
 abbrev pub at : Config → ℕ → Option Process
 at C i = getElem? (C .processes) i
+
+-- a process of the configuration, with its place
+pub record Stands (C : Config) (i : ℕ) (q : Process) : Type 0 where
+  pub there : at C i ≡ some q
 
 -- ── who holds an end
 -- the name under which an end is held

@@ -10,13 +10,13 @@ pub mod Checking
 pub mod Accepted
 pub mod Configuration
 pub mod Steps
+pub mod Reduces
 pub mod Runs
 pub mod Printed
 pub mod Machine
 pub mod Forest
 pub mod WellFormed
 pub mod Reports
-pub mod Reduces
 pub mod Demands
 pub mod Starred
 pub mod Astray

@@ -1,15 +1,15 @@
 -- "Demand 3's plain machine is fed with the calls alone: script, numbers and slice lengths, never the run slice's words."
 use Prim.Native.Nat.{ℕ}
 use mathlib.Core.List.{List, [], _∷_}
-use mathlib.Core.Bool.{cond}
+use mathlib.Core.Bool.{Bool, true, false, cond}
 use mathlib.Core.Option.{Option, some, none}
 use lib.ListN.{length, getElem?}
 use lib.Dec.{leb}
 use Rattle.notation.specs.Limits.{scratchWords, runWords}
 use Rattle.calculus.specs.Program.{Program, programOf}
 use Rattle.calculus.specs.Accepted.{Checked, accepted, faulty, checked}
-use Rattle.calculus.specs.Configuration.{Process, Config, config, at}
-use Rattle.calculus.specs.Steps.{Outcome, carried, notOpen, lacking, step}
+use Rattle.calculus.specs.Configuration.{Process, Config, config, halt, at}
+use Rattle.calculus.specs.Steps.{Outcome, carried, uncaught, notOpen, lacking, step}
 use Rattle.calculus.specs.Runs.{startConfig, execOf, runOn, report, places}
 use Rattle.calculus.specs.declared.answers.Seen.{Seen}
 use Rattle.calculus.specs.declared.answers.Started.{Started}
@@ -66,16 +66,22 @@ abbrev pub onLine : {A X : Type 0} → Option X → (ℕ → ℕ → A) → (X �
 onLine none refuse k = refuse 17 0
 onLine (some x) refuse k = k x
 
+-- 22
+abbrev pub onGoing : {A : Type 0} → Bool → (ℕ → ℕ → A) → A → A
+onGoing true refuse a = refuse 22 0
+onGoing false refuse a = a
+
 -- 19
 abbrev pub onPlace : {A : Type 0} → Option Process → (ℕ → ℕ → A) → A → A
 onPlace none refuse a = refuse 19 0
 onPlace (some q) refuse a = a
 
 -- 20, 21
-abbrev pub onStep : {A : Type 0} → Outcome → (ℕ → ℕ → A) → (Seen → Config → A) → A
-onStep (carried s D) refuse k = k s D
-onStep notOpen refuse k = refuse 20 0
-onStep lacking refuse k = refuse 21 0
+abbrev pub onStep : {A : Type 0} → Outcome → (ℕ → ℕ → A) → (Seen → Config → A) → A → A
+onStep (carried s D) refuse k halts = k s D
+onStep uncaught refuse k halts = halts
+onStep notOpen refuse k halts = refuse 20 0
+onStep lacking refuse k halts = refuse 21 0
 
 -- a refusal, by the call's kind
 abbrev pub refusal : Config → Call → ℕ → ℕ → Reply
@@ -94,8 +100,9 @@ respondBy refuse s C (callStart scratch run line) =
 respondBy refuse s C (callStep scratch run place) =
     onProgram (textChecked s scratch) refuse λ p.
     onRun run refuse
+    (onGoing (C .halted) refuse
     (onPlace (at C place) refuse
-    (onStep (step p C place) refuse λ seen D. reply (stepped (Steps.Carried seen)) D))
+    (onStep (step p C place) refuse (λ seen D. reply (stepped (Steps.Carried seen)) D) (reply (stepped Steps.Uncaught) (halt C)))))
 respondBy refuse s C (callRunOn scratch run budget) =
     onProgram (textChecked s scratch) refuse λ p.
     onRun run refuse

@@ -1,12 +1,12 @@
 -- The bytes that the program must print for a text.
 use Prim.Native.Nat.{ℕ, zero, suc, _+_, _-_, _/_, _%_}
 use mathlib.Core.List.{List, [], _∷_, _++_}
-use mathlib.Core.Bool.{Bool, true, false, cond}
+use mathlib.Core.Bool.{Bool, true, false}
 use mathlib.Core.Option.{Option, some, none}
 use lib.Dec.{ltb}
 use Rattle.notation.specs.Bytes.{bytes}
 use Rattle.notation.specs.Token.{nameAt}
-use Rattle.notation.specs.Tree.{Name, Located, Declaration, plain}
+use Rattle.notation.specs.Tree.{Name, Located, plain}
 use Rattle.notation.specs.Computed.{readNow}
 use Rattle.calculus.specs.Named
 use Rattle.calculus.specs.Types
@@ -21,11 +21,11 @@ use Rattle.calculus.specs.Runs
 use Rattle.calculus.specs.Program.{Signature, Program, programOf}
 use Rattle.calculus.specs.Accepted.{Checked, accepted, faulty, checked}
 use Rattle.calculus.specs.Configuration.{Config}
-use Rattle.calculus.specs.Runs.{Ran, ran, startConfig, lineSignature, execOf, runOn}
+use Rattle.calculus.specs.Runs.{startConfig, lineSignature, execOf, runOn}
 use Rattle.calculus.specs.declared.answers.Seen.{Seen}
 use Rattle.calculus.specs.declared.answers.Seen.the-variants.{Nothing, Label, Close, Passed, Cancelled}
 use Rattle.calculus.specs.declared.answers.RanOn.{RanOn}
-use Rattle.calculus.specs.declared.answers.RanOn.the-variants.{Shown, Done, Full, Stopped, Refused}
+use Rattle.calculus.specs.declared.answers.RanOn.the-variants.{Uncaught, Shown, Done, Full, Stopped, Refused}
 
 -- "10,000 steps taken in this exec"
 abbrev pub stepLimit : ℕ
@@ -66,6 +66,7 @@ ending word steps = line (word ++ (bytes " after " ++ (decimal steps ++ bytes " 
 -- run-on asked again with what is left of the steps, until it shows no more: `taken` steps were taken before
 abbrev pub showing : List ℕ → ℕ → RanOn → (ℕ → List ℕ) → List ℕ
 showing s taken (Shown seen steps) more = sighting s seen ++ more (taken + steps)
+showing s taken (Uncaught steps) more = ending (bytes "uncaught") (taken + steps)
 showing s taken (Done steps) more = ending (bytes "done") (taken + steps)
 showing s taken (Full steps) more = ending (bytes "full") (taken + steps)
 showing s taken (Stopped steps) more = ending (bytes "stopped") (taken + steps)
@@ -81,7 +82,7 @@ abbrev pub execLines : List ℕ → Program → Name → Option Signature → Li
 execLines s p n none = []
 execLines s p n (some g) = line (bytes "Executing process " ++ (n ++ bytes ":")) ++ runLines (suc stepLimit) s p 0 (startConfig g)
 
--- "for each exec, a header, each sighting on a line .., and `done`, `stopped` .. or `full`"
+-- "for each exec, a header, each sighting on a line .., and `uncaught`, `done`, `stopped` .. or `full`"
 abbrev pub allExecs : List ℕ → Program → List Located → List ℕ
 allExecs s p [] = []
 allExecs s p (n ∷ ns) = execLines s p (n .name) (lineSignature p (some n)) ++ allExecs s p ns

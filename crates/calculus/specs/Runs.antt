@@ -1,5 +1,5 @@
 -- Start, run-on, report and places.
-use Prim.Native.Nat.{ℕ, zero, suc, _+_}
+use Prim.Native.Nat.{ℕ, zero, suc}
 use mathlib.Core.List.{List, [], _∷_, map}
 use mathlib.Core.Bool.{Bool, true, false, cond}
 use mathlib.Core.Option.{Option, some, none}
@@ -8,12 +8,12 @@ use Rattle.notation.specs.Tree.{Name, Located, Ty}
 use Rattle.calculus.specs.Named.{lookup}
 use Rattle.calculus.specs.Types.{provided}
 use Rattle.calculus.specs.Program.{Signature, Program}
-use Rattle.calculus.specs.Configuration.{End, end, running, Process, process, Outside, Config, config}
-use Rattle.calculus.specs.Steps.{Outcome, carried, notOpen, lacking, step}
+use Rattle.calculus.specs.Configuration.{End, end, running, Process, process, Outside, Config, config, halt}
+use Rattle.calculus.specs.Steps.{Outcome, carried, uncaught, notOpen, lacking, step}
 use Rattle.calculus.specs.declared.answers.Seen.{Seen}
 use Rattle.calculus.specs.declared.answers.Seen.the-variants.{Nothing, Label, Close, Passed, Cancelled}
 use Rattle.calculus.specs.declared.answers.RanOn.{RanOn}
-use Rattle.calculus.specs.declared.answers.RanOn.the-variants.{Shown, Done, Full, Stopped}
+use Rattle.calculus.specs.declared.answers.RanOn.the-variants.{Uncaught, Shown, Done, Full, Stopped}
 
 -- ── "Start makes one process, the exec process's body with its signature's channels."
 abbrev pub startHeld : ℕ → List (Name × Ty Name) → List (Name × End)
@@ -36,9 +36,10 @@ lineSignature p (some n) = lookup (n .name) (p .processes)
 unfoldable pub execOf : Program → ℕ → Option Signature
 execOf p line = lineSignature p (getElem? (p .execs) line)
 
--- ── "Run-on takes the first open place that can be carried out"
+-- ── "Run-on takes the first open place that can be carried out": one that halts the run too
 abbrev pub isCarried : Outcome → Bool
 isCarried (carried s D) = true
+isCarried uncaught = true
 isCarried notOpen = false
 isCarried lacking = false
 
@@ -57,7 +58,7 @@ pub record Ran : Type 0 where
 abbrev pub ran : RanOn → Config → Ran
 ran a C = record { answer = a; config = C }
 
--- its tests in their order, before each step: a step showed something, no process is left, none can be carried out; then, with the place of the next step, its budget
+-- its tests in their order, before each step: the run has halted, a step showed something, no process is left, none can be carried out; then, with the place of the next step, its budget
 abbrev pub orFull : ℕ → Config → Option ℕ → (ℕ → Ran) → Ran
 orFull taken C none k = ran (Full taken) C
 orFull taken C (some i) k = k i
@@ -66,24 +67,33 @@ abbrev pub orDone : Program → ℕ → Config → List Process → (ℕ → Ran
 orDone p taken C [] k = ran (Done taken) C
 orDone p taken C (q ∷ l) k = orFull taken C (choosePlace p C) k
 
-abbrev pub testing : Program → Seen → ℕ → Config → (ℕ → Ran) → Ran
-testing p Nothing taken C k = orDone p taken C (C .processes) k
-testing p (Label n l) taken C k = ran (Shown (Label n l) taken) C
-testing p (Close n) taken C k = ran (Shown (Close n) taken) C
-testing p (Passed n m gone) taken C k = ran (Shown (Passed n m gone) taken) C
-testing p (Cancelled n) taken C k = ran (Shown (Cancelled n) taken) C
+abbrev pub orShown : Program → Seen → ℕ → Config → (ℕ → Ran) → Ran
+orShown p Nothing taken C k = orDone p taken C (C .processes) k
+orShown p (Label n l) taken C k = ran (Shown (Label n l) taken) C
+orShown p (Close n) taken C k = ran (Shown (Close n) taken) C
+orShown p (Passed n m gone) taken C k = ran (Shown (Passed n m gone) taken) C
+orShown p (Cancelled n) taken C k = ran (Shown (Cancelled n) taken) C
 
-abbrev pub afterStep : Outcome → (Seen → Config → Ran) → Ran → Ran
-afterStep (carried s D) k r = k s D
-afterStep notOpen k r = r
-afterStep lacking k r = r
+abbrev pub orUncaught : Bool → ℕ → Config → Ran → Ran
+orUncaught true taken C r = ran (Uncaught taken) C
+orUncaught false taken C r = r
+
+abbrev pub testing : Program → Seen → ℕ → Config → (ℕ → Ran) → Ran
+testing p seen taken C k = orUncaught (C .halted) taken C (orShown p seen taken C k)
+
+-- the step at a place of C was taken: what it shows and leaves
+abbrev pub afterStep : Config → Outcome → (Seen → Config → Ran) → Ran → Ran
+afterStep C (carried s D) k r = k s D
+afterStep C uncaught k r = k Nothing (halt C)
+afterStep C notOpen k r = r
+afterStep C lacking k r = r
 
 -- with `taken` steps taken, the last of which showed `seen`, and so many still in the budget
 unfoldable pub runFrom : Program → ℕ → ℕ → Seen → Config → Ran
 runFrom p zero taken seen C = testing p seen taken C λ i. ran (Stopped taken) C
 runFrom p (suc budget) taken seen C =
     testing p seen taken C λ i.
-    afterStep (step p C i) (λ s D. runFrom p budget (suc taken) s D) (ran (Full taken) C)
+    afterStep C (step p C i) (λ s D. runFrom p budget (suc taken) s D) (ran (Full taken) C)
 
 -- "It gives the steps taken."
 unfoldable pub runOn : Program → Config → ℕ → Ran
@@ -95,15 +105,17 @@ unfoldable pub report : Config → List ℕ
 report C = map (λ (o : Outside). o .number) (C .outside)
 
 -- ── "Places gives for each process whether its step is open, and whether it lacks a free place or number"
--- not open 0, open 1, open but lacking 2
-abbrev pub openness : Outcome → ℕ
-openness notOpen = 0
-openness (carried s D) = 1
-openness lacking = 2
+-- not open 0, open 1, open but lacking 2; "in a halted run none is" open
+abbrev pub openness : Bool → Outcome → ℕ
+openness true o = 0
+openness false notOpen = 0
+openness false (carried s D) = 1
+openness false uncaught = 1
+openness false lacking = 2
 
 unfoldable pub opennessFrom : Program → Config → ℕ → List Process → List ℕ
 opennessFrom p C i [] = []
-opennessFrom p C i (q ∷ l) = openness (step p C i) ∷ opennessFrom p C (suc i) l
+opennessFrom p C i (q ∷ l) = openness (C .halted) (step p C i) ∷ opennessFrom p C (suc i) l
 
 unfoldable pub places : Program → Config → List ℕ
 places p C = opennessFrom p C 0 (C .processes)

@@ -21,7 +21,7 @@ starred =
     ∷ record { text = around (bytes "try (send x ()) catch ()"); output = bytes "Executing process m:\n#0 -> ()\ndone after 4 steps\n" }
     ∷ record { text = around (bytes "c : 1 <- (send c ()); cancel c; send x ()"); output = bytes "Executing process m:\n#0 -> ()\ndone after 6 steps\n" }
     ∷ record { text = around (bytes "c : 1 <- (cancel c); recv c (() => send x ())"); output = bytes "Executing process m:\n#0 -> cancelled\ndone after 6 steps\n" }
-    ∷ record { text = around (bytes "raise send x ()"); output = bytes "refused 14 at 20\n" }
+    ∷ record { text = around (bytes "raise send x ()"); output = bytes "Executing process m:\nuncaught after 1 steps\n" }
     ∷ record { text = around (bytes "send x (); send x ()"); output = bytes "refused 10 at 31\n" }
     ∷ record { text = around []; output = bytes "refused 13 at 21\n" }
     ∷ record { text = bytes "type a = a"; output = bytes "refused 8 at 9\n" }

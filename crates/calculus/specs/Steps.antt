@@ -17,9 +17,10 @@ use Rattle.calculus.specs.Configuration.{End, end, Doing, running, foldi
 use Rattle.calculus.specs.declared.answers.Seen.{Seen}
 use Rattle.calculus.specs.declared.answers.Seen.the-variants.{Nothing, Label, Close, Passed, Cancelled}
 
--- carried out, with what was seen; "A step is open when, lack of places and numbers aside, a rule here applies at its place"
+-- carried out, with what was seen; uncaught, which halts the run and leaves the rest as it was; "A step is open when, lack of places and numbers aside, a rule here applies at its place"
 pub data Outcome : Type 0 where
   carried : Seen → Config → Outcome
+  uncaught : Outcome
   notOpen : Outcome
   lacking : Outcome
 
@@ -293,9 +294,13 @@ entering C i q ns (some s) = carried Nothing (replaced i (goesOn q (s .body) (re
 unfoldable pub calling : Program → Config → ℕ → Process → Located → List Located → List Located → Outcome
 calling p C i q f xs ys = entering C i q (namesOf xs ++ namesOf ys) (lookup (f .name) (p .processes))
 
--- ── alone: raise (the handler starts)
+-- ── alone: raise. "the handler starts"; "a raise without a link halts the run"
+abbrev pub caughtBy : Option ℕ → Config → ℕ → Process → Outcome
+caughtBy none C i q = uncaught
+caughtBy (some h) C i q = carried Nothing (handlerStarts i q C)
+
 unfoldable pub raising : Config → ℕ → Process → Proc → Outcome
-raising C i q P = carried Nothing (handlerStarts i (goesOn q P (q .held)) C)
+raising C i q P = caughtBy (q .link) C i (goesOn q P (q .held))
 
 -- ── alone: fwd. It "makes the two far ends one channel and leaves its process empty; if one was given up, the other finds its far end given up,
 -- and if that other is the outside, the step shows cancelled": e is the end of x, d that of c
@@ -370,10 +375,12 @@ step p C i = stepOf p C i (at C i)
 
 abbrev pub isOpenBy : Outcome → Bool
 isOpenBy (carried s D) = true
+isOpenBy uncaught = true
 isOpenBy notOpen = false
 isOpenBy lacking = true
 
 abbrev pub lacksBy : Outcome → Bool
 lacksBy (carried s D) = false
+lacksBy uncaught = false
 lacksBy notOpen = false
 lacksBy lacking = true

@@ -1,5 +1,5 @@
 -- The typing rules of the scope, one constructor for each, in its order and words.
--- `Typed p G link P`: with the channels of G held, oldest first, and with a link to a handler or none, P is typed in the program p.
+-- `Typed p G P`: with the channels of G held, oldest first, P is typed in the program p. Whether a process has a link does not count: that is found when it runs.
 use Prim.Native.Nat.{ℕ, suc, _≤_, _<_}
 use mathlib.Core.Path.{_≡_}
 use mathlib.Core.List.{List, [], _∷_, _++_}
@@ -10,7 +10,7 @@ use lib.Dec.{eqb}
 use Rattle.notation.specs.Limits.{heldLimit}
 use Rattle.notation.specs.Bytes.{same}
 use Rattle.notation.specs.Tree.{Name, Located, Ty, unit, Alternatives, Proc, empty, sendUnit, sendChannel, sendLabel, cancel, spawn, recvUnit, recvChannel, recvLabel, fwd, call, raise, try, Branches, branch, plain}
-use Rattle.calculus.specs.Named.{lookup, without, changed, names, isSome, all, any, distinct}
+use Rattle.calculus.specs.Named.{lookup, without, changed, names, isSome, all, distinct}
 use Rattle.calculus.specs.Types.{Side, provided, used, other, sameSide, sameType, standing, Passing, passing, Choosing, choosing, labelled, labelsOf}
 use Rattle.calculus.specs.Program.{Slot, slot, Context, Signature, Program, signatureContext}
 use Rattle.calculus.specs.Mentions.{spawnTakes, spawnLeaves, tryTakes, neverBoth, exactlyOne}
@@ -73,105 +73,104 @@ pub record Brought (x : Name) (G H : Context) : Type 0 where
   pub room : length H < heldLimit
 
 mutual
-  pub data Typed (p : Program) : Context → Bool → Proc → Type 0 where
+  pub data Typed (p : Program) : Context → Proc → Type 0 where
     -- `send c ()`: c : 1 provided, then dropped.
-    sends-unit : {G : Context} {link : Bool} {at : ℕ} {c : Located} {P : Proc}
+    sends-unit : {G : Context} {at : ℕ} {c : Located} {P : Proc}
         → acting p (c .name) G ≡ some (slot provided unit)
-        → Typed p (without (c .name) G) link P
-        → Typed p G link (sendUnit at c P)
+        → Typed p (without (c .name) G) P
+        → Typed p G (sendUnit at c P)
     -- `recv c (() => P)`: c : 1 used, then dropped.
-    recvs-unit : {G : Context} {link : Bool} {at : ℕ} {c : Located} {P : Proc}
+    recvs-unit : {G : Context} {at : ℕ} {c : Located} {P : Proc}
         → acting p (c .name) G ≡ some (slot used unit)
-        → Typed p (without (c .name) G) link P
-        → Typed p G link (recvUnit at c P)
+        → Typed p (without (c .name) G) P
+        → Typed p G (recvUnit at c P)
     -- `send c a`, a not c: c : A * B provided, a : A used; or c : A @ B used, a : A provided; or c : A -o B used, a : A used. Afterwards a is gone and c : B.
-    sends-channel : {G : Context} {link : Bool} {at : ℕ} {c a : Located} {P : Proc} (T A : Ty Name) (t : Passing)
+    sends-channel : {G : Context} {at : ℕ} {c a : Located} {P : Proc} (T A : Ty Name) (t : Passing)
         → same (c .name) (a .name) ≡ false
         → passing T ≡ some t
         → acting p (c .name) G ≡ some (slot (t .sender) T)
         → lookup (a .name) G ≡ some (slot (t .side) A)
         → OneType p A (t .what)
-        → Typed p (retyped (c .name) (t .after) (without (a .name) G)) link P
-        → Typed p G link (sendChannel at c a P)
+        → Typed p (retyped (c .name) (t .after) (without (a .name) G)) P
+        → Typed p G (sendChannel at c a P)
     -- `recv c (x => P)` is the other end. For *, c is used and x is used; for @, both provided; for -o, c is provided and x used.
-    recvs-channel : {G : Context} {link : Bool} {at : ℕ} {c x : Located} {P : Proc} (T : Ty Name) (t : Passing)
+    recvs-channel : {G : Context} {at : ℕ} {c x : Located} {P : Proc} (T : Ty Name) (t : Passing)
         → passing T ≡ some t
         → acting p (c .name) G ≡ some (slot (other (t .sender)) T)
         → Brought (x .name) G G
-        → Typed p (bringing (x .name) (slot (t .side) (t .what)) (retyped (c .name) (t .after) G)) link P
-        → Typed p G link (recvChannel at c x P)
+        → Typed p (bringing (x .name) (slot (t .side) (t .what)) (retyped (c .name) (t .after) G)) P
+        → Typed p G (recvChannel at c x P)
     -- `send c 'l`: + provided or & used.
-    sends-label : {G : Context} {link : Bool} {at : ℕ} {c l : Located} {P : Proc} (T A : Ty Name) (t : Choosing)
+    sends-label : {G : Context} {at : ℕ} {c l : Located} {P : Proc} (T A : Ty Name) (t : Choosing)
         → choosing T ≡ some t
         → acting p (c .name) G ≡ some (slot (t .sender) T)
         → labelled (l .name) (t .labels) ≡ some A
-        → Typed p (retyped (c .name) A G) link P
-        → Typed p G link (sendLabel at c l P)
+        → Typed p (retyped (c .name) A G) P
+        → Typed p G (sendLabel at c l P)
     -- `recv c` with labels: + used or & provided, each label of the type once, in whatever order.
-    recvs-label : {G : Context} {link : Bool} {at : ℕ} {c : Located} {B : Branches} (T : Ty Name) (t : Choosing)
+    recvs-label : {G : Context} {at : ℕ} {c : Located} {B : Branches} (T : Ty Name) (t : Choosing)
         → choosing T ≡ some t
         → acting p (c .name) G ≡ some (slot (other (t .sender)) T)
         → fitting (t .labels) B ≡ true
-        → TypedBranches p G link (c .name) (t .labels) B
-        → Typed p G link (recvLabel at c B)
+        → TypedBranches p G (c .name) (t .labels) B
+        → Typed p G (recvLabel at c B)
     -- `fwd x c`: x provided, c used, equal types, no other channel held; the link may be.
-    forwards : {G : Context} {link : Bool} {at : ℕ} {x c : Located} (A B : Ty Name)
+    forwards : {G : Context} {at : ℕ} {x c : Located} (A B : Ty Name)
         → lookup (x .name) G ≡ some (slot provided A)
         → lookup (c .name) G ≡ some (slot used B)
         → OneType p A B
         → withoutAll (x .name ∷ c .name ∷ []) G ≡ []
-        → Typed p G link (fwd at x c)
+        → Typed p G (fwd at x c)
     -- `call`: lists fit in number, side and type; no name twice; no other channel held; a link stays with the process.
-    calls : {G : Context} {link : Bool} {at bracket : ℕ} {q : Located} {xs ys : List Located} (s : Signature)
+    calls : {G : Context} {at bracket : ℕ} {q : Located} {xs ys : List Located} (s : Signature)
         → lookup (q .name) (p .processes) ≡ some s
         → listFits G provided (namesOf xs) (s .provides) ≡ true
         → listFits G used (namesOf ys) (s .uses) ≡ true
         → distinct (namesOf xs ++ namesOf ys) ≡ true
         → withoutAll (namesOf xs ++ namesOf ys) G ≡ []
-        → Typed p G link (call at q bracket xs ys)
+        → Typed p G (call at q bracket xs ys)
     -- `x : A <- (P); Q`: P takes the held channels it mentions and provides x, without link; Q takes the rest, the link, and uses x. None is mentioned in both.
-    spawns : {G : Context} {link : Bool} {x : Located} {A : Ty Located} {P Q : Proc}
+    spawns : {G : Context} {x : Located} {A : Ty Located} {P Q : Proc}
         → neverBoth (x .name) P Q (names G) ≡ true
         → Brought (x .name) G (spawnTakes (x .name) P G)
         → Brought (x .name) G (spawnLeaves (x .name) P G)
-        → Typed p (bringing (x .name) (slot provided (plain A)) (spawnTakes (x .name) P G)) false P
-        → Typed p (bringing (x .name) (slot used (plain A)) (spawnLeaves (x .name) P G)) link Q
-        → Typed p G link (spawn x A P Q)
+        → Typed p (bringing (x .name) (slot provided (plain A)) (spawnTakes (x .name) P G)) P
+        → Typed p (bringing (x .name) (slot used (plain A)) (spawnLeaves (x .name) P G)) Q
+        → Typed p G (spawn x A P Q)
     -- `try (P) catch (Q)`: each half takes what it mentions; each held channel is mentioned in exactly one. P gets a new link, Q the old.
-    tries : {G : Context} {link : Bool} {at : ℕ} {P Q : Proc}
+    tries : {G : Context} {at : ℕ} {P Q : Proc}
         → exactlyOne P Q (names G) ≡ true
-        → Typed p (tryTakes P G) true P
-        → Typed p (tryTakes Q G) link Q
-        → Typed p G link (try at P Q)
-    -- `raise P` needs the link; P goes on without it.
-    raises : {G : Context} {link : Bool} {at : ℕ} {P : Proc}
-        → link ≡ true
-        → Typed p G false P
-        → Typed p G link (raise at P)
+        → Typed p (tryTakes P G) P
+        → Typed p (tryTakes Q G) Q
+        → Typed p G (try at P Q)
+    -- `raise P`: P goes on.
+    raises : {G : Context} {at : ℕ} {P : Proc}
+        → Typed p G P
+        → Typed p G (raise at P)
     -- `cancel c` drops c.
-    cancels : {G : Context} {link : Bool} {at : ℕ} {c : Located} {P : Proc}
+    cancels : {G : Context} {at : ℕ} {c : Located} {P : Proc}
         → isSome (lookup (c .name) G) ≡ true
-        → Typed p (without (c .name) G) link P
-        → Typed p G link (cancel at c P)
+        → Typed p (without (c .name) G) P
+        → Typed p G (cancel at c P)
     -- An empty process holds no channel; it may hold the link.
-    empties : {G : Context} {link : Bool} {at : ℕ}
+    empties : {G : Context} {at : ℕ}
         → G ≡ []
-        → Typed p G link (empty at)
+        → Typed p G (empty at)
 
   -- each branch goes on with the type of its label
-  pub data TypedBranches (p : Program) : Context → Bool → Name → Alternatives Name → Branches → Type 0 where
-    last-branch : {G : Context} {link : Bool} {c : Name} {r : Alternatives Name}
-        → TypedBranches p G link c r Branches.none
-    one-branch : {G : Context} {link : Bool} {c : Name} {r : Alternatives Name} {l : Located} {P : Proc} {B : Branches} (A : Ty Name)
+  pub data TypedBranches (p : Program) : Context → Name → Alternatives Name → Branches → Type 0 where
+    last-branch : {G : Context} {c : Name} {r : Alternatives Name}
+        → TypedBranches p G c r Branches.none
+    one-branch : {G : Context} {c : Name} {r : Alternatives Name} {l : Located} {P : Proc} {B : Branches} (A : Ty Name)
         → labelled (l .name) r ≡ some A
-        → Typed p (retyped c A G) link P
-        → TypedBranches p G link c r B
-        → TypedBranches p G link c r (branch l P B)
+        → Typed p (retyped c A G) P
+        → TypedBranches p G c r B
+        → TypedBranches p G c r (branch l P B)
 
--- "A proc body starts with its lists and no link."
+-- "A proc body starts with its lists"
 pub record TypedBody (p : Program) (s : Signature) : Type 0 where
   pub room : length (signatureContext s) ≤ heldLimit
-  pub body : Typed p (signatureContext s) false (s .body)
+  pub body : Typed p (signatureContext s) (s .body)
 
 -- what an accepted script gives of the processes that it declares
 pub record Bodies (p : Program) : Type 0 where

@@ -1,19 +1,20 @@
 -- What refusal 18 asks of a configuration, in its words.
-use Prim.Native.Nat.{ℕ, zero, suc, _≤_, _<_}
+use Prim.Native.Nat.{ℕ, suc, _≤_, _<_}
 use mathlib.Core.Path.{_≡_}
 use mathlib.Core.List.{List, [], _∷_, _++_, map, List·Memᴰ}
 use mathlib.Core.Bool.{Bool, true, false}
-use mathlib.Core.Option.{Option, some, none}
+use mathlib.Core.Option.{some}
 use lib.ListN.{length}
 use Rattle.notation.specs.Limits.{heldLimit, processPlaces, channelPlaces, outsideNumbers}
-use Rattle.notation.specs.Tree.{Name, Ty}
-use Rattle.calculus.specs.Named.{names, distinct, isSome}
-use Rattle.calculus.specs.Types.{Side, provided, used}
-use Rattle.calculus.specs.Program.{Slot, slot, Context, Program}
+use Rattle.notation.specs.Tree.{Name}
+use Rattle.calculus.specs.Named.{names, distinct}
+use Rattle.calculus.specs.Types.{Side, used}
+use Rattle.calculus.specs.Program.{slot, Context, Program}
 use Rattle.calculus.specs.Declarations.{outward}
 use Rattle.calculus.specs.Typing.{OneType, Typed}
-use Rattle.calculus.specs.Configuration.{End, end, Doing, running, folding, waiting, Process, Outside, Config, at}
-use Rattle.calculus.specs.Forest.{Joint, Forest, joints}
+use Rattle.calculus.specs.Configuration.{End, end, Doing, running, folding, waiting, Process, Outside, Config, Stands}
+use Rattle.calculus.specs.Forest.{Forest, joints}
+use Rattle.calculus.specs.Reduces.{Halts}
 
 -- membership, and no element twice
 abbrev pub In : {A : Type 0} → A → List A → Type 0
@@ -56,23 +57,23 @@ key e = (e .channel, e .side)
 
 -- ── the clauses
 -- "each process is typed by the rules above (one folding up may hold anything)"
-abbrev pub TypedAs : Program → Context → Bool → Doing → Type 0
-TypedAs p G link (running P) = (distinct (names G) ≡ true) × Typed p G link P
-TypedAs p G link folding = Unit {0}
-TypedAs p G link (waiting Q) = (distinct (names G) ≡ true) × Typed p G link Q
+abbrev pub TypedAs : Program → Context → Doing → Type 0
+TypedAs p G (running P) = (distinct (names G) ≡ true) × Typed p G P
+TypedAs p G folding = Unit {0}
+TypedAs p G (waiting Q) = (distinct (names G) ≡ true) × Typed p G Q
 
 abbrev pub isWaiting : Doing → Bool
 isWaiting (running P) = false
 isWaiting folding = false
 isWaiting (waiting Q) = true
 
--- a process of the configuration, with its place
-pub record Stands (C : Config) (i : ℕ) (q : Process) : Type 0 where
-  pub there : at C i ≡ some q
+-- "one step would halt it, were it not halted": no rule looks at the halt. What else may halt a run is another case here.
+pub data WouldHalt (C : Config) : Type 0 where
+  by-step : {i : ℕ} → Halts C i → WouldHalt C
 
 pub record WellFormed (p : Program) (C : Config) : Type 0 where
   -- "each process is typed by the rules above"
-  pub typed : (i : ℕ) (q : Process) → Stands C i q → TypedAs p (contextOf (q .held)) (isSome (q .link)) (q .doing)
+  pub typed : (i : ℕ) (q : Process) → Stands C i q → TypedAs p (contextOf (q .held)) (q .doing)
   -- a channel has two ends, each held at most once, and "both ends of a channel have one type"
   pub once : NoneTwice (map key (ends C))
   pub agree : (e d : End) → In e (ends C) → In d (ends C) → e .channel ≡ d .channel → OneType p (e .type) (d .type)
@@ -85,6 +86,8 @@ pub record WellFormed (p : Program) (C : Config) : Type 0 where
   -- "the outside's channels keep the exec rule and bear different numbers", which rise, "all of them given already"
   pub outside : (o : Outside) → In o (C .outside) → (outward p (o .type) ≡ true) × (o .number < C .given)
   pub numbers : Rising 0 (map (λ (o : Outside). o .number) (C .outside))
+  -- "and of a halted run one step would halt it, were it not halted"
+  pub halt : C .halted ≡ true → WouldHalt C
   -- places and numbers are those of a run
   pub processes : length (C .processes) ≤ processPlaces
   pub channels : (e : End) → In e (ends C) → e .channel < channelPlaces

@@ -14,13 +14,16 @@ pub enum Started {
     Refused(u32, usize),
 }
 
+// Uncaught: the step was a raise that nobody catches, and the run has halted.
 pub enum Stepped {
     Carried(Seen),
+    Uncaught,
     Refused(u32, usize),
 }
 
 // A run-on's end, each with the steps taken.
 pub enum RanOn {
+    Uncaught(u32),
     Shown(Seen, u32),
     Done(u32),
     Full(u32),
@@ -39,7 +42,7 @@ pub struct Report {
     pub numbers: [u32; 32],
 }
 
-// How many processes there are; what the step at each of their places is stands beside it in Places: not open 0, open 1, open but lacking 2.
+// How many processes there are; what the step at each of their places is stands beside it in Places: not open 0, open 1, open but lacking 2; in a halted run none is open.
 pub enum Surveyed {
     Processes(u32),
     Refused(u32, usize),

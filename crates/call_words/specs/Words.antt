@@ -37,11 +37,13 @@ seenWords s seen = seenValues seen ++ labelLength s seen
 abbrev pub moreOf : List ℕ → Answer → List ℕ
 moreOf s (started a) = []
 moreOf s (stepped (steps.Carried seen)) = labelLength s seen
+moreOf s (stepped steps.Uncaught) = []
 moreOf s (stepped (steps.Refused n at)) = []
 moreOf s (ranOn (runs.Shown seen t)) = labelLength s seen
 moreOf s (ranOn (runs.Done t)) = []
 moreOf s (ranOn (runs.Full t)) = []
 moreOf s (ranOn (runs.Stopped t)) = []
+moreOf s (ranOn (runs.Uncaught t)) = []
 moreOf s (ranOn (runs.Refused n at)) = []
 moreOf s (reported a l) = []
 moreOf s (surveyed a l) = []

@@ -89,6 +89,7 @@ pub(crate) fn stepped_words(text: &[u8], answer: Stepped) -> [u32; ANSWER_WORDS]
             lay(&mut words, 1, &shown);
             return words;
         }
+        Stepped::Uncaught => return few_words(0, 5, 0),
         Stepped::Refused(n, at) => return refused_words(n, at),
     }
 }
@@ -111,6 +112,7 @@ pub(crate) fn ran_on_words(text: &[u8], answer: RanOn) -> [u32; ANSWER_WORDS]
         RanOn::Done(steps) => return few_words(0, 2, steps),
         RanOn::Full(steps) => return few_words(0, 3, steps),
         RanOn::Stopped(steps) => return few_words(0, 4, steps),
+        RanOn::Uncaught(steps) => return few_words(0, 5, steps),
         RanOn::Refused(n, at) => return refused_words(n, at),
     }
 }

@@ -2,7 +2,6 @@
 use Prim.Native.Nat.{ℕ, _+_, _-_, _<_, _≤_}
 use mathlib.Core.Path.{_≡_, refl, sym, _∙_, ap}
 use mathlib.Core.List.{List}
-use mathlib.Core.Bool.{Bool}
 use mathlib.Core.Option.{Option·map}
 use Rattle.notation.specs.Token.{nameAt}
 use Rattle.notation.specs.Tree.{plains, Branches}
@@ -30,44 +29,44 @@ use Rattle.check_processes.specs.Process.{then-refused, then-fine}
 use Rattle.check_processes.specs.Turns.{verdictAt}
 
 -- the verdict of branches, for the labels of m alternatives before the place e
-abbrev pub branchesVerdict : List ℕ → List ℕ → Held → Bool → ℕ → ℕ → ℕ → ℕ → Branches → calculus.Verdict
-branchesVerdict s w h link at c e m B = checkBranches (programIn s w) (contextIn s w h) link at (nameAt s c) (plains (alternativesIn s w e m)) B
+abbrev pub branchesVerdict : List ℕ → List ℕ → Held → ℕ → ℕ → ℕ → ℕ → Branches → calculus.Verdict
+branchesVerdict s w h at c e m B = checkBranches (programIn s w) (contextIn s w h) at (nameAt s c) (plains (alternativesIn s w e m)) B
 
 -- nothing is at fault in the first i of k branches before the place d: the others decide
-pub record CheckedTo (s w : List ℕ) (h : Held) (link : Bool) (at c e m d k i : ℕ) : Type 0 where
+pub record CheckedTo (s w : List ℕ) (h : Held) (at c e m d k i : ℕ) : Type 0 where
   pub left : Left s w d k i
-  pub is : branchesVerdict s w h link at c e m (branchesIn s w (d - i) (k - i)) ≡ branchesVerdict s w h link at c e m (branchesIn s w d k)
+  pub is : branchesVerdict s w h at c e m (branchesIn s w (d - i) (k - i)) ≡ branchesVerdict s w h at c e m (branchesIn s w d k)
 
-module _ {s w : List ℕ} {h : Held} {link : Bool} {at c e m d k : ℕ} where
-  pub branches-begin : BranchesIn s w d k → CheckedTo s w h link at c e m d k 0
-  branches-begin a = record { left = left-begin a; is = ap (branchesVerdict s w h link at c e m) (sym (left-whole s w d k)) }
+module _ {s w : List ℕ} {h : Held} {at c e m d k : ℕ} where
+  pub branches-begin : BranchesIn s w d k → CheckedTo s w h at c e m d k 0
+  branches-begin a = record { left = left-begin a; is = ap (branchesVerdict s w h at c e m) (sym (left-whole s w d k)) }
 
-  module _ {i : ℕ} (t : CheckedTo s w h link at c e m d k i) where
-    pub branches-fine : k ≤ i → fine ≡ branchesVerdict s w h link at c e m (branchesIn s w d k)
+  module _ {i : ℕ} (t : CheckedTo s w h at c e m d k i) where
+    pub branches-fine : k ≤ i → fine ≡ branchesVerdict s w h at c e m (branchesIn s w d k)
     unfolding check
-    branches-fine l = ap (branchesVerdict s w h link at c e m) (sym (left-none s w d l)) ∙ t .is
+    branches-fine l = ap (branchesVerdict s w h at c e m) (sym (left-none s w d l)) ∙ t .is
 
     module _ (l : i < k) {b : Labelled} (o : BranchOf w (d - i) b) {r : Found} (f : LeadsTo s w (b .at) e m r) where
       -- by what the branch's label leads to
       branch-by : (j : ℕ) → j ≡ i + 1 → (x : Found) → r ≡ x
-          → having 12 at (Option·map (plainIn s w) (placeOf x)) (λ A. andThen (check (programIn s w) (retyped (nameAt s c) A (contextIn s w h)) link (processIn s w (b .number))) (branchesVerdict s w h link at c e m (branchesIn s w (d - j) (k - j))))
-          ≡ branchesVerdict s w h link at c e m (branchesIn s w d k)
+          → having 12 at (Option·map (plainIn s w) (placeOf x)) (λ A. andThen (check (programIn s w) (retyped (nameAt s c) A (contextIn s w h)) (processIn s w (b .number))) (branchesVerdict s w h at c e m (branchesIn s w (d - j) (k - j))))
+          ≡ branchesVerdict s w h at c e m (branchesIn s w d k)
       unfolding check
       branch-by j z x q =
-          let rest = branchesVerdict s w h link at c e m (branchesIn s w (d - j) (k - j)) in
+          let rest = branchesVerdict s w h at c e m (branchesIn s w (d - j) (k - j)) in
           sym (sym (t .is)
-          ∙ ap (branchesVerdict s w h link at c e m) (left-is (t .left) l o j z)
-          ∙ ap (λ y. having 12 at y (λ A. andThen (check (programIn s w) (retyped (nameAt s c) A (contextIn s w h)) link (processIn s w (b .number))) rest)) (f .is ∙ ap (λ y. Option·map (plainIn s w) (placeOf y)) q))
+          ∙ ap (branchesVerdict s w h at c e m) (left-is (t .left) l o j z)
+          ∙ ap (λ y. having 12 at y (λ A. andThen (check (programIn s w) (retyped (nameAt s c) A (contextIn s w h)) (processIn s w (b .number))) rest)) (f .is ∙ ap (λ y. Option·map (plainIn s w) (placeOf y)) q))
 
-      pub branch-unlabelled : r ≡ found.Nothing → refused 12 at ≡ branchesVerdict s w h link at c e m (branchesIn s w d k)
+      pub branch-unlabelled : r ≡ found.Nothing → refused 12 at ≡ branchesVerdict s w h at c e m (branchesIn s w d k)
       branch-unlabelled q = branch-by (i + 1) refl found.Nothing q
 
-      module _ {n : ℕ} (q : r ≡ found.At n) {x : Held} (u : Retypes s h c n x) (v : Verdict) (y : verdictOf v ≡ verdictAt s w x link (b .number)) where
-        branch-is : verdictOf v ≡ check (programIn s w) (retyped (nameAt s c) (plainIn s w n) (contextIn s w h)) link (processIn s w (b .number))
-        branch-is = y ∙ ap (λ H. check (programIn s w) H link (processIn s w (b .number))) (sym (retyped-so s w h c n x u))
+      module _ {n : ℕ} (q : r ≡ found.At n) {x : Held} (u : Retypes s h c n x) (v : Verdict) (y : verdictOf v ≡ verdictAt s w x (b .number)) where
+        branch-is : verdictOf v ≡ check (programIn s w) (retyped (nameAt s c) (plainIn s w n) (contextIn s w h)) (processIn s w (b .number))
+        branch-is = y ∙ ap (λ H. check (programIn s w) H (processIn s w (b .number))) (sym (retyped-so s w h c n x u))
 
-        pub branch-refused : {a g : ℕ} → v ≡ verdict.Refused a g → verdictOf v ≡ branchesVerdict s w h link at c e m (branchesIn s w d k)
+        pub branch-refused : {a g : ℕ} → v ≡ verdict.Refused a g → verdictOf v ≡ branchesVerdict s w h at c e m (branchesIn s w d k)
         branch-refused {a} {g} p = then-refused _ v a g p branch-is ∙ branch-by (i + 1) refl (found.At n) q
 
-        pub branch-fine : v ≡ verdict.Fine → (j : ℕ) → j ≡ i + 1 → CheckedTo s w h link at c e m d k j
+        pub branch-fine : v ≡ verdict.Fine → (j : ℕ) → j ≡ i + 1 → CheckedTo s w h at c e m d k j
         branch-fine p j z = record { left = left-next (t .left) l o j z; is = then-fine _ v p branch-is refl ∙ branch-by j z (found.At n) q }

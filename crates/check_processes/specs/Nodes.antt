@@ -1,34 +1,32 @@
 -- What the rules ask of one term, by the kind of its node.
-use Prim.Native.Nat.{ℕ, zero, suc, _+_, _-_, _<_, _≤_}
+use Prim.Native.Nat.{ℕ, zero, suc, _+_, _<_, _≤_}
 use mathlib.Core.Path.{_≡_, refl, sym, _∙_, ap, subst}
-use mathlib.Core.List.{List, [], _∷_, _++_}
-use mathlib.Core.Bool.{Bool, true, false, cond, not, _&&_}
-use mathlib.Core.Option.{Option, some, none}
+use mathlib.Core.List.{List}
+use mathlib.Core.Bool.{Bool, true, false, cond, _&&_}
 use native.Mathlib.Omega.{arith}
 use lib.Dec.{eqb}
-use lib.ListN.{length}
 use borrow.Author.Tests.{eqb-true, eqb-false}
 use Rattle.notation.specs.Limits.{textLimit, processTermLimit}
 use Rattle.notation.specs.Sizes.{processTerms, branchesTerms}
 use Rattle.notation.specs.Token.{nameAt}
 use Rattle.notation.specs.Tables.{termNode}
-use Rattle.notation.specs.Tree.{Name, Proc}
+use Rattle.notation.specs.Tree.{Proc}
 use Rattle.notation.specs.declared.reading.TermNode.{TermNode}
 use Rattle.calculus.specs.Named.{names}
 use Rattle.calculus.specs.Types.{provided, used}
 use Rattle.calculus.specs.Mentions.{spawnTakes, spawnLeaves, tryTakes, neverBoth, exactlyOne}
-use Rattle.calculus.specs.Program.{Slot, slot, Context, Program}
+use Rattle.calculus.specs.Program.{slot, Context, Program}
 use Rattle.calculus.specs.Typing.{bringing, namesOf}
 use Rattle.calculus.specs.Checking.{mayBring, check, checkBranches}
-use Rattle.calculus.specs.Verdict.{Verdict, fine, refused, andThen, demand}
+use Rattle.calculus.specs.Verdict.{Verdict, fine, andThen, demand}
 use Rattle.read_tables.specs.Decode.{argumentsAt, processIn}
 use Rattle.read_tables.specs.Names.{CallAt}
 use Rattle.read_tables.specs.Program.{plainIn, programIn}
 use Rattle.read_tables.specs.Roots.{Cases, _or_, atKind, processCases, TypeIn, ProcessIn, BranchesIn, branchesIn}
-use Rattle.check_terms.specs.Next.{Step, stop, go, granted, resume, contextIn, demand-asks}
+use Rattle.check_terms.specs.Next.{Step, go, granted, resume, demand-asks}
 use Rattle.check_terms.specs.Rules.{closes, passes, chooses, givesUp, receives, check-send-unit, check-send-channel, check-send-label, check-cancel, check-recv-unit, check-recv-channel}
 use Rattle.check_processes.specs.Offers.{offeredBy, choosing-with, check-recv-label}
-use Rattle.check_terms.specs.Endings.{numberOf, forwards, calls, check-fwd, check-call}
+use Rattle.check_terms.specs.Endings.{forwards, calls, check-fwd, check-call}
 
 -- the node n of the process at the pointer p
 pub record NodeIn (s w : List ℕ) (p : ℕ) (n : TermNode) : Type 0 where
@@ -114,42 +112,42 @@ module _ (s w : List ℕ) (p : ℕ) (n : TermNode) (t : NodeIn s w p n) where
   HalvesOf x y = suc (processTerms (processIn s w x)) + processTerms (processIn s w y) ≤ processTerms A
 
   -- the rule's step, then the rest
-  abbrev Over : Bool → (Context → Step) → Type 0
-  Over link step = (G : Context) → check P G link A ≡ resume (n .at) (step G) (λ H. check P H link (processIn s w (n .third)))
+  abbrev Over : (Context → Step) → Type 0
+  Over step = (G : Context) → check P G A ≡ resume (n .at) (step G) (λ H. check P H (processIn s w (n .third)))
 
   abbrev Sends : ℕ → Type 0
-  Sends k = Part (n .third) × ((link : Bool) → Over link (sendStep s w (node k)))
+  Sends k = Part (n .third) × Over (sendStep s w (node k))
 
   sends : (k : ℕ) → Said k → 1 ≤ k → k ≤ 3 → Sends k
   unfolding sendStep
   sends zero e l h = absurd e
-  sends (suc zero) (f, e) l h = (f, λ link G. ap (check P G link) e ∙ check-send-unit P G link (n .at) _ _)
-  sends (suc (suc zero)) (f, e) l h = (f, λ link G. ap (check P G link) e ∙ check-send-channel P G link (n .at) _ _ _)
-  sends (suc (suc (suc zero))) (f, e) l h = (f, λ link G. ap (check P G link) e ∙ check-send-label P G link (n .at) _ _ _)
+  sends (suc zero) (f, e) l h = (f, λ G. ap (check P G) e ∙ check-send-unit P G (n .at) _ _)
+  sends (suc (suc zero)) (f, e) l h = (f, λ G. ap (check P G) e ∙ check-send-channel P G (n .at) _ _ _)
+  sends (suc (suc (suc zero))) (f, e) l h = (f, λ G. ap (check P G) e ∙ check-send-label P G (n .at) _ _ _)
   sends (suc (suc (suc (suc k)))) e l h = absurd (omega (arith, h))
 
   pub send-at : 1 ≤ n .kind → n .kind ≤ 3 → Sends (n .kind)
   send-at = sends (n .kind) (t .says)
 
   abbrev Cancels : Type 0
-  Cancels = Part (n .third) × ((link : Bool) → Over link (givesUp (nameAt s (n .first))))
+  Cancels = Part (n .third) × Over (givesUp (nameAt s (n .first)))
 
   cancels : Said 4 → Cancels
-  cancels (f, e) = (f, λ link G. ap (check P G link) e ∙ check-cancel P G link (n .at) _ _)
+  cancels (f, e) = (f, λ G. ap (check P G) e ∙ check-cancel P G (n .at) _ _)
 
   pub cancel-at : n .kind ≡ 4 → Cancels
   cancel-at z = cancels (said 4 z)
 
   abbrev Receives : ℕ → Type 0
-  Receives k = Part (n .third) × (k ≡ 7 → n .second < textLimit) × ((link : Bool) → Over link (receiveStep s w (node k)))
+  Receives k = Part (n .third) × (k ≡ 7 → n .second < textLimit) × Over (receiveStep s w (node k))
 
   receives-unit : Said 6 → Receives 6
   unfolding receiveStep
-  receives-unit (f, e) = (f, λ z. absurd (omega (arith, z)), λ link G. ap (check P G link) e ∙ check-recv-unit P G link (n .at) _ _)
+  receives-unit (f, e) = (f, λ z. absurd (omega (arith, z)), λ G. ap (check P G) e ∙ check-recv-unit P G (n .at) _ _)
 
   receives-channel : Said 7 → Receives 7
   unfolding receiveStep
-  receives-channel (b, (f, e)) = (f, λ _. b, λ link G. ap (check P G link) e ∙ check-recv-channel P G link (n .at) _ _ _)
+  receives-channel (b, (f, e)) = (f, λ _. b, λ G. ap (check P G) e ∙ check-recv-channel P G (n .at) _ _ _)
 
   pub receive-at : 6 ≤ n .kind → n .kind ≤ 7 → Receives (n .kind)
   receive-at = either Receives 6 (n .kind) (λ z. receives-unit (said 6 z)) (λ z. receives-channel (said 7 z))
@@ -157,41 +155,41 @@ module _ (s w : List ℕ) (p : ℕ) (n : TermNode) (t : NodeIn s w p n) where
   abbrev Ends : ℕ → Type 0
   Ends k =
       ((k ≡ 9 → ⊥) → CallAt s (n .second) (argumentsAt s (n .second) .0) (argumentsAt s (n .second) .1))
-      × ((link : Bool) (G : Context) → check P G link A ≡ resume (n .at) (endStep s w (node k) G) (λ _. fine))
+      × ((G : Context) → check P G A ≡ resume (n .at) (endStep s w (node k) G) (λ _. fine))
 
   ends-fwd : Said 9 → Ends 9
   unfolding endStep
-  ends-fwd e = (λ no. absurd (no refl), λ link G. ap (check P G link) e ∙ check-fwd P G link (n .at) _ _)
+  ends-fwd e = (λ no. absurd (no refl), λ G. ap (check P G) e ∙ check-fwd P G (n .at) _ _)
 
   ends-call : Said 10 → Ends 10
   unfolding endStep
-  ends-call (c, e) = (λ _. c, λ link G. ap (check P G link) e ∙ check-call P G link (n .at) _ _ _ _)
+  ends-call (c, e) = (λ _. c, λ G. ap (check P G) e ∙ check-call P G (n .at) _ _ _ _)
 
   pub end-at : 9 ≤ n .kind → n .kind ≤ 10 → Ends (n .kind)
   end-at = either Ends 9 (n .kind) (λ z. ends-fwd (said 9 z)) (λ z. ends-call (said 10 z))
 
   abbrev Raises : Type 0
-  Raises = Part (n .third) × ((link : Bool) (G : Context) → check P G link A ≡ demand 14 (n .at) link (check P G false (processIn s w (n .third))))
+  Raises = Part (n .third) × ((G : Context) → check P G A ≡ check P G (processIn s w (n .third)))
 
   raises : Said 11 → Raises
   unfolding check
-  raises (f, e) = (f, λ link G. ap (check P G link) e)
+  raises (f, e) = (f, λ G. ap (check P G) e)
 
   pub raise-at : n .kind ≡ 11 → Raises
   raise-at z = raises (said 11 z)
 
-  abbrev spawnRest : Bool → Context → Verdict
-  spawnRest link H = andThen (check P (halfContext s w n H true) false (processIn s w (n .second))) (check P (halfContext s w n H false) link (processIn s w (n .third)))
+  abbrev spawnRest : Context → Verdict
+  spawnRest H = andThen (check P (halfContext s w n H true) (processIn s w (n .second))) (check P (halfContext s w n H false) (processIn s w (n .third)))
 
   abbrev Spawns : Type 0
   Spawns =
       TypeIn s w (n .first) × Part (n .second) × Part (n .third) × HalvesOf (n .second) (n .third)
-      × ((link : Bool) (G : Context) → check P G link A ≡ resume (n .at) (spawnStep s w n G) (spawnRest link))
+      × ((G : Context) → check P G A ≡ resume (n .at) (spawnStep s w n G) spawnRest)
 
   spawns : Said 5 → Spawns
   unfolding check spawnStep processTerms
   spawns (y, f, (g, e)) =
-      (y, f, g, omega (arith, ap processTerms e), λ link G. ap (check P G link) e ∙ demand-asks 13 (n .at) (apart? s w n G) _ (granted 15 (joins? s w n G) (go G)) (spawnRest link) (demand-asks 15 (n .at) (joins? s w n G) _ (go G) (spawnRest link) refl))
+      (y, f, g, omega (arith, ap processTerms e), λ G. ap (check P G) e ∙ demand-asks 13 (n .at) (apart? s w n G) _ (granted 15 (joins? s w n G) (go G)) spawnRest (demand-asks 15 (n .at) (joins? s w n G) _ (go G) spawnRest refl))
 
   pub spawn-at : n .kind ≡ 5 → Spawns
   spawn-at z = spawns (said 5 z)
@@ -200,10 +198,10 @@ module _ (s w : List ℕ) (p : ℕ) (n : TermNode) (t : NodeIn s w p n) where
   Chooses =
       (branchesTerms (branchesIn s w (n .second) (n .third)) < processTerms A)
       × BranchesIn s w (n .second) (n .third)
-      × ((link : Bool) (G : Context) → check P G link A ≡ choosing-with (n .at) (offeredBy s w n G) (λ r. checkBranches P G link (n .at) (nameAt s (n .first)) r (branchesIn s w (n .second) (n .third))))
+      × ((G : Context) → check P G A ≡ choosing-with (n .at) (offeredBy s w n G) (λ r. checkBranches P G (n .at) (nameAt s (n .first)) r (branchesIn s w (n .second) (n .third))))
 
   choosing-one : Said 8 → Chooses
-  choosing-one (l, f, e) = (l, f, λ link G. ap (check P G link) e ∙ check-recv-label P G link (n .at) _ _)
+  choosing-one (l, f, e) = (l, f, λ G. ap (check P G) e ∙ check-recv-label P G (n .at) _ _)
 
   pub choose-at : n .kind ≡ 8 → Chooses
   choose-at z = choosing-one (said 8 z)
@@ -211,11 +209,11 @@ module _ (s w : List ℕ) (p : ℕ) (n : TermNode) (t : NodeIn s w p n) where
   abbrev Tries : Type 0
   Tries =
       Part (n .second) × Part (n .third) × HalvesOf (n .second) (n .third)
-      × ((link : Bool) (G : Context) → check P G link A ≡ demand 13 (n .at) (exactlyOne (processIn s w (n .second)) (processIn s w (n .third)) (names G)) (andThen (check P (tryTakes (processIn s w (n .second)) G) true (processIn s w (n .second))) (check P (tryTakes (processIn s w (n .third)) G) link (processIn s w (n .third)))))
+      × ((G : Context) → check P G A ≡ demand 13 (n .at) (exactlyOne (processIn s w (n .second)) (processIn s w (n .third)) (names G)) (andThen (check P (tryTakes (processIn s w (n .second)) G) (processIn s w (n .second))) (check P (tryTakes (processIn s w (n .third)) G) (processIn s w (n .third)))))
 
   tries : Said 12 → Tries
   unfolding check processTerms
-  tries (f, (g, e)) = (f, g, omega (arith, ap processTerms e), λ link G. ap (check P G link) e)
+  tries (f, (g, e)) = (f, g, omega (arith, ap processTerms e), λ G. ap (check P G) e)
 
   thirteen-kinds : n .kind < 13
   thirteen-kinds = within (processCases s w n A) (n .kind) (t .says)

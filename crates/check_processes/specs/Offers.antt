@@ -1,24 +1,22 @@
 -- What the typing rule of a recv with labels asks of its channel and its branches.
-use Prim.Native.Nat.{ℕ, zero, suc, _<_, _≤_}
+use Prim.Native.Nat.{ℕ, _<_}
 use mathlib.Core.Path.{_≡_, refl, sym, _∙_, ap, subst}
 use mathlib.Core.List.{List}
-use mathlib.Core.Bool.{Bool, true, false, cond, not}
+use mathlib.Core.Bool.{Bool, true, false, not}
 use mathlib.Core.Option.{Option, some, none}
-use native.Mathlib.Omega.{arith}
 use Rattle.notation.specs.Token.{nameAt}
-use Rattle.notation.specs.Tree.{Name, Located, Alternatives, Proc, Branches, recvLabel, plains}
+use Rattle.notation.specs.Tree.{Name, Located, Alternatives, Branches, recvLabel, plains}
 use Rattle.notation.specs.declared.reading.TermNode.{TermNode}
-use Rattle.calculus.specs.Types.{Side, provided, used, other, sameSide, Choosing, choosing}
+use Rattle.calculus.specs.Types.{other, sameSide, Choosing, choosing}
 use Rattle.calculus.specs.Program.{Slot, Context, Program}
 use Rattle.calculus.specs.Typing.{acting, fitting}
 use Rattle.calculus.specs.Checking.{check, checkBranches}
-use Rattle.calculus.specs.Verdict.{Verdict, fine, refused, demand, having}
+use Rattle.calculus.specs.Verdict.{Verdict, refused, demand, having}
 use Rattle.run_words.specs.Raw.{sideOf}
-use Rattle.run_words.specs.Values.{endIn}
 use Rattle.run_words.specs.declared.records.End.{End as EndWords}
 use Rattle.run_words.specs.declared.records.Held.{Held}
 use Rattle.read_tables.specs.Program.{plainIn, programIn}
-use Rattle.read_tables.specs.Roots.{TypeIn, AlternativesIn, alternativesIn, BranchesIn, branchesIn}
+use Rattle.read_tables.specs.Roots.{AlternativesIn, alternativesIn, branchesIn}
 use Rattle.check_types.specs.Acting.{choosingOf, chosenIn, ChoosingIn}
 use Rattle.check_types.specs.declared.messages.Choosing.{Choosing as ChoosingWords}
 use Rattle.check_types.specs.declared.messages.Choosing.the-variants.{Chooses}
@@ -55,15 +53,15 @@ offeredAt B h = wanting 11 (choosing (h .type)) (offeredOn B h)
 unfoldable pub offered : Program → Name → Branches → Context → Offered
 offered p c B G = wanting 10 (acting p c G) (offeredAt B)
 
-pub check-recv-label : (p : Program) (G : Context) (link : Bool) (at : ℕ) (c : Located) (B : Branches) → check p G link (recvLabel at c B) ≡ choosing-with at (offered p (c .name) B G) (λ r. checkBranches p G link at (c .name) r B)
+pub check-recv-label : (p : Program) (G : Context) (at : ℕ) (c : Located) (B : Branches) → check p G (recvLabel at c B) ≡ choosing-with at (offered p (c .name) B G) (λ r. checkBranches p G at (c .name) r B)
 unfolding check offered
-check-recv-label p G link at c B =
+check-recv-label p G at c B =
     having-so 10 (acting p (c .name) G) _ (offeredAt B) λ h.
     having-so 11 (choosing (h .type)) _ (offeredOn B h) λ t.
     demand-so 11 (sameSide (h .side) (other (t .sender))) _ (allowed 12 (fitting (t .labels) B) (offers (t .labels))) (demand-so 12 (fitting (t .labels) B) _ (offers (t .labels)) refl)
   where
     k : Alternatives Name → Verdict
-    k r = checkBranches p G link at (c .name) r B
+    k r = checkBranches p G at (c .name) r B
 
     having-so : {X : Type 0} (n : ℕ) (o : Option X) (v : X → Verdict) (t : X → Offered) → ((x : X) → v x ≡ choosing-with at (t x) k) → having n at o v ≡ choosing-with at (wanting n o t) k
     having-so n none v t f = refl

@@ -1,25 +1,21 @@
 -- The ways through the check of a process.
-use Prim.Native.Nat.{ℕ, zero, suc, _+_, _-_, _<_, _≤_}
-use mathlib.Core.Path.{_≡_, refl, sym, _∙_, ap, subst}
+use Prim.Native.Nat.{ℕ, zero, suc, _-_, _<_, _≤_}
+use mathlib.Core.Path.{_≡_, refl, sym, _∙_, ap}
 use mathlib.Core.List.{List, [], _∷_, _++_}
 use mathlib.Core.Bool.{Bool, true, false, cond, _&&_}
-use mathlib.Core.Option.{Option, some, none, Option·map}
+use mathlib.Core.Option.{Option, some, none}
 use native.Mathlib.Omega.{arith}
 use lib.Dec.{eqb}
-use borrow.Author.Tests.{eq-eqb, ne-eqb}
-use Rattle.notation.specs.Limits.{processTermLimit, textLimit}
-use Rattle.notation.specs.Token.{nameAt}
-use Rattle.notation.specs.Tree.{Name, Proc, empty, Alternatives, Branches, plains}
+use Rattle.notation.specs.Limits.{processTermLimit}
+use Rattle.notation.specs.Tree.{Name}
 use Rattle.notation.specs.declared.reading.TermNode.{TermNode}
-use Rattle.notation.specs.declared.reading.Found.{Found}
-use Rattle.notation.specs.declared.reading.Found.the-variants as found
 use Rattle.calculus.specs.Named.{lookup, isSome, all, distinct}
-use Rattle.calculus.specs.Types.{provided, used, labelled}
+use Rattle.calculus.specs.Types.{provided, used}
 use Rattle.calculus.specs.Program.{Context, Program}
 use Rattle.calculus.specs.Declarations.{isNil}
-use Rattle.calculus.specs.Typing.{retyped, listFits, withoutAll}
-use Rattle.calculus.specs.Checking.{check, checkBranches}
-use Rattle.calculus.specs.Verdict.{fine, refused, andThen, demand, having}
+use Rattle.calculus.specs.Typing.{listFits, withoutAll}
+use Rattle.calculus.specs.Checking.{check}
+use Rattle.calculus.specs.Verdict.{fine, refused, andThen, demand}
 use Rattle.calculus.specs.Verdict as calculus
 use Rattle.run_words.specs.declared.records.Held.{Held}
 use Rattle.calculus.specs.Verdict.{verdictOf}
@@ -27,16 +23,11 @@ use Rattle.calculus.specs.declared.verdict.Verdict.{Verdict}
 use Rattle.calculus.specs.declared.verdict.Verdict.the-variants as verdict
 use Rattle.read_tables.specs.Access.{TermOf}
 use Rattle.read_tables.specs.Decode.{processIn}
-use Rattle.read_tables.specs.Program.{plainIn, programIn}
-use Rattle.read_tables.specs.Roots.{atKind, processCases, ProcessIn, process-root, AlternativesIn, alternativesIn, BranchesIn, branchesIn, FirstBranch}
-use Rattle.read_tables.specs.Search.{placeOf}
+use Rattle.read_tables.specs.Program.{programIn}
+use Rattle.read_tables.specs.Roots.{atKind, processCases, ProcessIn, process-root}
 use Rattle.read_tables.specs.Whole.{Tables}
-use Rattle.check_types.specs.Labels.{LeadsTo}
-use Rattle.check_contexts.specs.Held.{HeldIn, Retypes}
-use Rattle.check_terms.specs.Next.{Step, stop, go, asking, granted, resume, contextIn, nextOf, Goes}
+use Rattle.check_terms.specs.Next.{Step, stop, go, asking, granted, resume, contextIn}
 use Rattle.check_terms.specs.Endings.{numberOf, verdictBy, joins, forwards, calls, none-left, some-left}
-use Rattle.check_terms.specs.Sends.{retyped-so}
-use Rattle.check_terms.specs.declared.next.Next.{Next}
 use Rattle.check_processes.specs.Nodes.{NodeIn, endStep, spawnStep, apart?, joins?}
 
 pub refused-by : (at n : ℕ) → (n ≡ 0 → ⊥) → refused n at ≡ verdictBy at n
@@ -44,15 +35,15 @@ refused-by at zero z = absurd (z refl)
 refused-by at (suc n) z = refl
 
 -- ── an empty process
-module _ (s w : List ℕ) (h : Held) (link : Bool) (p : ℕ) (t : Tables s w) (a : ProcessIn s w p) (b : processTermLimit ≤ p) where
-  empty-by : (c : Bool) → isNil (contextIn s w h) ≡ c → check (programIn s w) (contextIn s w h) link (processIn s w p) ≡ demand 13 (p - processTermLimit) c fine
+module _ (s w : List ℕ) (h : Held) (p : ℕ) (t : Tables s w) (a : ProcessIn s w p) (b : processTermLimit ≤ p) where
+  empty-by : (c : Bool) → isNil (contextIn s w h) ≡ c → check (programIn s w) (contextIn s w h) (processIn s w p) ≡ demand 13 (p - processTermLimit) c fine
   unfolding check
-  empty-by c e = ap (check (programIn s w) (contextIn s w h) link) (process-root s w (t .within) p a .none b) ∙ ap (λ d. demand 13 (p - processTermLimit) d fine) e
+  empty-by c e = ap (check (programIn s w) (contextIn s w h)) (process-root s w (t .within) p a .none b) ∙ ap (λ d. demand 13 (p - processTermLimit) d fine) e
 
-  pub empty-fine : h .count ≡ 0 → fine ≡ check (programIn s w) (contextIn s w h) link (processIn s w p)
+  pub empty-fine : h .count ≡ 0 → fine ≡ check (programIn s w) (contextIn s w h) (processIn s w p)
   empty-fine z = sym (empty-by true (none-left s w h z))
 
-  pub empty-left : (h .count ≡ 0 → ⊥) → refused 13 (p - processTermLimit) ≡ check (programIn s w) (contextIn s w h) link (processIn s w p)
+  pub empty-left : (h .count ≡ 0 → ⊥) → refused 13 (p - processTermLimit) ≡ check (programIn s w) (contextIn s w h) (processIn s w p)
   empty-left z = sym (empty-by false (some-left s w h z))
 
 pub node-in : (s w : List ℕ) (p : ℕ) (n : TermNode) → Tables s w → ProcessIn s w p → p < processTermLimit → TermOf w p n → NodeIn s w p n
@@ -111,14 +102,6 @@ by-number at (go G) h = refl
 
 pub ends-so : (s w : List ℕ) (n : TermNode) (G : Context) (x : ℕ) {u v : calculus.Verdict} → x ≡ numberOf (endStep s w n G) → u ≡ verdictBy (n .at) x → v ≡ resume (n .at) (endStep s w n G) (λ _. fine) → u ≡ v
 ends-so s w n G x e p q = p ∙ ap (verdictBy (n .at)) e ∙ sym (q ∙ by-number (n .at) (endStep s w n G) (end-no-zero s w n G))
-
--- ── a raise, with a link or none
-module _ (at : ℕ) (link : Bool) {u : calculus.Verdict} (v : calculus.Verdict) (e : u ≡ demand 14 at link v) where
-  pub raise-goes : link ≡ true → v ≡ u
-  raise-goes z = sym (e ∙ ap (λ b. demand 14 at b v) z)
-
-  pub raise-stops : link ≡ false → refused 14 at ≡ u
-  raise-stops z = sym (e ∙ ap (λ b. demand 14 at b v) z)
 
 -- ── two halves: the first that is at fault, else the second
 pub then-refused : {u : calculus.Verdict} (v : calculus.Verdict) (r : Verdict) (n i : ℕ) → r ≡ verdict.Refused n i → verdictOf r ≡ u → verdictOf r ≡ andThen u v

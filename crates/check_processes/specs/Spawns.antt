@@ -1,8 +1,8 @@
 -- The ways through the code of a spawn and of a try.
-use Prim.Native.Nat.{ℕ, zero, suc, _+_, _<_, _≤_}
-use mathlib.Core.Path.{_≡_, refl, sym, _∙_, ap, subst}
-use mathlib.Core.List.{List, [], _∷_, _++_}
-use mathlib.Core.Bool.{Bool, true, false, true≢false, cond, not, _&&_}
+use Prim.Native.Nat.{ℕ, _<_, _≤_}
+use mathlib.Core.Path.{_≡_, refl, sym, _∙_, ap}
+use mathlib.Core.List.{List}
+use mathlib.Core.Bool.{Bool, true, false, true≢false, not, _&&_}
 use native.Mathlib.Omega.{arith}
 use lib.Dec.{ltb}
 use lib.ListN.{length}
@@ -21,17 +21,15 @@ use Rattle.calculus.specs.Typing.{bringing}
 use Rattle.calculus.specs.Configuration.{End}
 use Rattle.calculus.specs.WellFormed.{contextOf}
 use Rattle.theory_ends.specs.Contexts.{context-kept, context-names, context-append, context-length}
-use Rattle.run_words.specs.Raw.{sideOf}
 use Rattle.run_words.specs.declared.records.Held.{Held}
 use Rattle.read_tables.specs.Decode.{processIn}
 use Rattle.read_tables.specs.Program.{plainIn, programIn}
-use Rattle.read_tables.specs.Roots.{TypeIn}
 use Rattle.check_contexts.specs.Held.{channelsOf, HeldIn}
 use Rattle.check_contexts.specs.Marks.{ALL}
 use Rattle.check_contexts.specs.declared.marks.Marks.{Marks}
 use Rattle.check_contexts.specs.Halves.{halfSide, wanted, takes, Takes, Keeps, keeps-so, Picks, Fair, fair-both, fair-each, Divides, HasRoom, has-room, SpawnHalf, spawn-takes, spawn-leaves, try-takes, never-shared, shared-once}
 use Rattle.check_contexts.specs.declared.halves.Half.the-variants.{OfSpawn, OfTry}
-use Rattle.check_terms.specs.Next.{Step, stop, go, granted, resume, contextIn}
+use Rattle.check_terms.specs.Next.{go, granted, resume, contextIn}
 use Rattle.check_terms.specs.Endings.{numberOf}
 use Rattle.check_terms.specs.Sends.{count-so}
 use Rattle.check_processes.specs.Nodes.{NodeIn, apart?, joins?, spawnStep, halfContext, spawn-at, try-at}
@@ -173,48 +171,48 @@ module _ (s w : List ℕ) (h : Held) (n : TermNode) where
         ∙ half-context
 
 -- ── what a spawn's checks come to
-module _ (s w : List ℕ) (h : Held) (link : Bool) (p : ℕ) (n : TermNode) (t : NodeIn s w p n) (z : n .kind ≡ 5) where
+module _ (s w : List ℕ) (h : Held) (p : ℕ) (n : TermNode) (t : NodeIn s w p n) (z : n .kind ≡ 5) where
   abbrev context : Context
   context = contextIn s w h
 
   abbrev first? : Context → calculus.Verdict
-  first? H = check (programIn s w) (halfContext s w n H true) false (processIn s w (n .second))
+  first? H = check (programIn s w) (halfContext s w n H true) (processIn s w (n .second))
 
   abbrev second? : Context → calculus.Verdict
-  second? H = check (programIn s w) (halfContext s w n H false) link (processIn s w (n .third))
+  second? H = check (programIn s w) (halfContext s w n H false) (processIn s w (n .third))
 
-  spawn-said : verdictAt s w h link p ≡ resume (n .at) (spawnStep s w n context) (λ H. andThen (first? H) (second? H))
-  spawn-said = spawn-at s w p n t z .4 link context
+  spawn-said : verdictAt s w h p ≡ resume (n .at) (spawnStep s w n context) (λ H. andThen (first? H) (second? H))
+  spawn-said = spawn-at s w p n t z .4 context
 
-  pub spawn-refused : (r : ℕ) → r ≡ numberOf (spawnStep s w n context) → (r ≡ 0 → ⊥) → refused r (n .at) ≡ verdictAt s w h link p
+  pub spawn-refused : (r : ℕ) → r ≡ numberOf (spawnStep s w n context) → (r ≡ 0 → ⊥) → refused r (n .at) ≡ verdictAt s w h p
   spawn-refused r e d = spawn-stops s w n context (n .at) (λ H. andThen (first? H) (second? H)) r e d ∙ sym spawn-said
 
   pub spawn-halves : (r : ℕ) → r ≡ numberOf (spawnStep s w n context) → r ≡ 0 → (a b : Held) → contextIn s w a ≡ halfContext s w n context true → contextIn s w b ≡ halfContext s w n context false
-      → andThen (verdictAt s w a false (n .second)) (verdictAt s w b link (n .third)) ≡ verdictAt s w h link p
+      → andThen (verdictAt s w a (n .second)) (verdictAt s w b (n .third)) ≡ verdictAt s w h p
   spawn-halves r e o a b f g =
-      (λ j. andThen (check (programIn s w) (f j) false (processIn s w (n .second))) (check (programIn s w) (g j) link (processIn s w (n .third))))
+      (λ j. andThen (check (programIn s w) (f j) (processIn s w (n .second))) (check (programIn s w) (g j) (processIn s w (n .third))))
       ∙ sym (spawn-said ∙ spawn-goes s w n context (n .at) (λ H. andThen (first? H) (second? H)) r e o)
 
 -- ── what a try's checks come to
-module _ (s w : List ℕ) (h : Held) (link : Bool) (p : ℕ) (n : TermNode) (t : NodeIn s w p n) (z : 12 ≤ n .kind) where
+module _ (s w : List ℕ) (h : Held) (p : ℕ) (n : TermNode) (t : NodeIn s w p n) (z : 12 ≤ n .kind) where
   abbrev main? : calculus.Verdict
-  main? = check (programIn s w) (tryTakes (processIn s w (n .second)) (contextIn s w h)) true (processIn s w (n .second))
+  main? = check (programIn s w) (tryTakes (processIn s w (n .second)) (contextIn s w h)) (processIn s w (n .second))
 
   abbrev handler? : calculus.Verdict
-  handler? = check (programIn s w) (tryTakes (processIn s w (n .third)) (contextIn s w h)) link (processIn s w (n .third))
+  handler? = check (programIn s w) (tryTakes (processIn s w (n .third)) (contextIn s w h)) (processIn s w (n .third))
 
   module _ (u : HeldIn s w h) {a b : Marks} (f : Takes s w h (OfTry (n .second)) ALL a) (g : Takes s w h (OfTry (n .third)) ALL b) (r : Bool) (d : Divides (h .count) a b true r) where
-    try-said : verdictAt s w h link p ≡ demand 13 (n .at) r (andThen main? handler?)
-    try-said = try-at s w p n t z .3 link (contextIn s w h) ∙ ap (λ c. demand 13 (n .at) c (andThen main? handler?)) (sym (tried-once s w h (n .second) (n .third) r (fair-each f u g d)))
+    try-said : verdictAt s w h p ≡ demand 13 (n .at) r (andThen main? handler?)
+    try-said = try-at s w p n t z .3 (contextIn s w h) ∙ ap (λ c. demand 13 (n .at) c (andThen main? handler?)) (sym (tried-once s w h (n .second) (n .third) r (fair-each f u g d)))
 
-    try-by : (c : Bool) → r ≡ c → demand 13 (n .at) c (andThen main? handler?) ≡ verdictAt s w h link p
+    try-by : (c : Bool) → r ≡ c → demand 13 (n .at) c (andThen main? handler?) ≡ verdictAt s w h p
     try-by c e = sym (try-said ∙ ap (λ c. demand 13 (n .at) c (andThen main? handler?)) e)
 
-    pub try-refused : r ≡ false → refused 13 (n .at) ≡ verdictAt s w h link p
+    pub try-refused : r ≡ false → refused 13 (n .at) ≡ verdictAt s w h p
     try-refused e = try-by false e
 
     pub try-halves : r ≡ true → (x y : Held) → Picks h a true x → Picks h b true y
-        → andThen (verdictAt s w x true (n .second)) (verdictAt s w y link (n .third)) ≡ verdictAt s w h link p
+        → andThen (verdictAt s w x (n .second)) (verdictAt s w y (n .third)) ≡ verdictAt s w h p
     try-halves e x y k l =
-        (λ j. andThen (check (programIn s w) (tried s w h (n .second) x (keeps-so f u k) j) true (processIn s w (n .second))) (check (programIn s w) (tried s w h (n .third) y (keeps-so g u l) j) link (processIn s w (n .third))))
+        (λ j. andThen (check (programIn s w) (tried s w h (n .second) x (keeps-so f u k) j) (processIn s w (n .second))) (check (programIn s w) (tried s w h (n .third) y (keeps-so g u l) j) (processIn s w (n .third))))
         ∙ try-by true e

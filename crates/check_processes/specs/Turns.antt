@@ -7,7 +7,6 @@ use native.Mathlib.Omega.{arith}
 use lib.Dec.{eqb}
 use borrow.Author.Tests.{eq-eqb, ne-eqb}
 use Rattle.notation.specs.Sizes.{processTerms}
-use Rattle.calculus.specs.Program.{Context}
 use Rattle.calculus.specs.Checking.{check}
 use Rattle.notation.specs.declared.reading.TermNode.{TermNode}
 use Rattle.calculus.specs.Verdict.{fine, andThen, verdictOf}
@@ -19,7 +18,7 @@ use Rattle.read_tables.specs.Decode.{processIn}
 use Rattle.read_tables.specs.Program.{programIn}
 use Rattle.read_tables.specs.Roots.{ProcessIn}
 use Rattle.check_contexts.specs.Held.{HeldIn}
-use Rattle.check_terms.specs.Next.{Step, stop, go, resume, contextIn, nextOf, Goes}
+use Rattle.check_terms.specs.Next.{Step, stop, go, resume, contextIn, Goes}
 use Rattle.check_terms.specs.declared.next.Next.{Next}
 use Rattle.check_processes.specs.declared.turns.Turn.{Turn}
 use Rattle.check_processes.specs.Nodes.{NodeIn}
@@ -27,10 +26,9 @@ use Rattle.check_processes.specs.Process.{then-refused, then-fine}
 
 -- ── what a turn says
 -- the process at `rest` follows; the verdict is given; a choice stands at p, with this node
-pub record Onward (h : Held) (link : Bool) (rest : ℕ) (r : Turn) : Type 0 where
+pub record Onward (h : Held) (rest : ℕ) (r : Turn) : Type 0 where
   pub on : r .on ≡ true
   pub held : r .held ≡ h
-  pub linked : r .link ≡ link
   pub resting : r .rest ≡ rest
   pub whole : r .halved ≡ false
   pub no-choice : r .choice ≡ false
@@ -41,43 +39,40 @@ pub record Given (v : Verdict) (r : Turn) : Type 0 where
   pub verdict : r .verdict ≡ v
   pub whole : r .halved ≡ false
 
-pub record Choosing (h : Held) (link : Bool) (p : ℕ) (n : TermNode) (r : Turn) : Type 0 where
+pub record Choosing (h : Held) (p : ℕ) (n : TermNode) (r : Turn) : Type 0 where
   pub ends : r .on ≡ false
   pub choice : r .choice ≡ true
   pub held : r .held ≡ h
-  pub linked : r .link ≡ link
   pub resting : r .rest ≡ p
   pub node : r .node ≡ n
   pub whole : r .halved ≡ false
 
 -- the same, after a first half
-abbrev pub halvedBy : Held → Bool → ℕ → Turn → Turn
-halvedBy half tied from t = record {
+abbrev pub halvedBy : Held → ℕ → Turn → Turn
+halvedBy half from t = record {
   on = t .on;
   choice = t .choice;
   verdict = t .verdict;
   held = t .held;
-  link = t .link;
   rest = t .rest;
   node = t .node;
   halved = true;
   half = half;
-  tied = tied;
   from = from;
 }
 
 -- ── the verdict of the process at a pointer, of a first half, and what a turn leaves
-abbrev pub verdictAt : List ℕ → List ℕ → Held → Bool → ℕ → calculus.Verdict
-verdictAt s w h link p = check (programIn s w) (contextIn s w h) link (processIn s w p)
+abbrev pub verdictAt : List ℕ → List ℕ → Held → ℕ → calculus.Verdict
+verdictAt s w h p = check (programIn s w) (contextIn s w h) (processIn s w p)
 
-abbrev pub halfVerdict : List ℕ → List ℕ → Bool → Held → Bool → ℕ → calculus.Verdict
-halfVerdict s w halved h link p = cond halved (verdictAt s w h link p) fine
+abbrev pub halfVerdict : List ℕ → List ℕ → Bool → Held → ℕ → calculus.Verdict
+halfVerdict s w halved h p = cond halved (verdictAt s w h p) fine
 
 abbrev pub restVerdict : List ℕ → List ℕ → Turn → calculus.Verdict
-restVerdict s w r = cond (r .on) (verdictAt s w (r .held) (r .link) (r .rest)) (cond (r .choice) (verdictAt s w (r .held) (r .link) (r .rest)) (verdictOf (r .verdict)))
+restVerdict s w r = cond (r .on) (verdictAt s w (r .held) (r .rest)) (cond (r .choice) (verdictAt s w (r .held) (r .rest)) (verdictOf (r .verdict)))
 
 abbrev pub verdictAfter : List ℕ → List ℕ → Turn → calculus.Verdict
-verdictAfter s w r = andThen (halfVerdict s w (r .halved) (r .half) (r .tied) (r .from)) (restVerdict s w r)
+verdictAfter s w r = andThen (halfVerdict s w (r .halved) (r .half) (r .from)) (restVerdict s w r)
 
 -- a choice at p
 pub record ChoiceAt (s w : List ℕ) (h : Held) (p : ℕ) (n : TermNode) : Type 0 where
@@ -99,8 +94,8 @@ abbrev pub turnTerms : List ℕ → List ℕ → Turn → ℕ
 turnTerms s w r = cond (r .halved) (suc (processTerms (processIn s w (r .from)))) 0 + restTerms s w r
 
 -- a turn of the process at p
-pub record Turned (s w : List ℕ) (h : Held) (link : Bool) (p : ℕ) (r : Turn) : Type 0 where
-  pub is : verdictAfter s w r ≡ verdictAt s w h link p
+pub record Turned (s w : List ℕ) (h : Held) (p : ℕ) (r : Turn) : Type 0 where
+  pub is : verdictAfter s w r ≡ verdictAt s w h p
   pub stands : TurnIn s w r
   pub fewer : turnTerms s w r ≤ processTerms (processIn s w p)
   pub less : r .on ≡ true → processTerms (processIn s w (r .rest)) < processTerms (processIn s w p)
@@ -110,16 +105,16 @@ not-both e q = absurd (false≢true (sym e ∙ q))
 
 -- the verdict after a turn with no first half
 whole-is : (s w : List ℕ) (r : Turn) → r .halved ≡ false → verdictAfter s w r ≡ restVerdict s w r
-whole-is s w r e = ap (λ c. andThen (cond c (verdictAt s w (r .half) (r .tied) (r .from)) fine) (restVerdict s w r)) e
+whole-is s w r e = ap (λ c. andThen (cond c (verdictAt s w (r .half) (r .from)) fine) (restVerdict s w r)) e
 
 rest-given : (s w : List ℕ) (r : Turn) (v : Verdict) → Given v r → restVerdict s w r ≡ verdictOf v
-rest-given s w r v g = λ j. cond (g .ends j) (verdictAt s w (r .held) (r .link) (r .rest)) (cond (g .no-choice j) (verdictAt s w (r .held) (r .link) (r .rest)) (verdictOf (g .verdict j)))
+rest-given s w r v g = λ j. cond (g .ends j) (verdictAt s w (r .held) (r .rest)) (cond (g .no-choice j) (verdictAt s w (r .held) (r .rest)) (verdictOf (g .verdict j)))
 
-rest-onward : (s w : List ℕ) (r : Turn) (h : Held) (link : Bool) (rest : ℕ) → Onward h link rest r → restVerdict s w r ≡ verdictAt s w h link rest
-rest-onward s w r h link rest o = λ j. cond (o .on j) (verdictAt s w (o .held j) (o .linked j) (o .resting j)) (cond (r .choice) (verdictAt s w (o .held j) (o .linked j) (o .resting j)) (verdictOf (r .verdict)))
+rest-onward : (s w : List ℕ) (r : Turn) (h : Held) (rest : ℕ) → Onward h rest r → restVerdict s w r ≡ verdictAt s w h rest
+rest-onward s w r h rest o = λ j. cond (o .on j) (verdictAt s w (o .held j) (o .resting j)) (cond (r .choice) (verdictAt s w (o .held j) (o .resting j)) (verdictOf (r .verdict)))
 
-rest-choosing : (s w : List ℕ) (r : Turn) (h : Held) (link : Bool) (p : ℕ) (n : TermNode) → Choosing h link p n r → restVerdict s w r ≡ verdictAt s w h link p
-rest-choosing s w r h link p n o = λ j. cond (o .ends j) (verdictAt s w (o .held j) (o .linked j) (o .resting j)) (cond (o .choice j) (verdictAt s w (o .held j) (o .linked j) (o .resting j)) (verdictOf (r .verdict)))
+rest-choosing : (s w : List ℕ) (r : Turn) (h : Held) (p : ℕ) (n : TermNode) → Choosing h p n r → restVerdict s w r ≡ verdictAt s w h p
+rest-choosing s w r h p n o = λ j. cond (o .ends j) (verdictAt s w (o .held j) (o .resting j)) (cond (o .choice j) (verdictAt s w (o .held j) (o .resting j)) (verdictOf (r .verdict)))
 
 -- how many terms there are after each
 terms-given : (s w : List ℕ) (r : Turn) (v : Verdict) → Given v r → turnTerms s w r ≡ 0
@@ -127,11 +122,11 @@ terms-given s w r v g =
     let q : turnTerms s w r ≡ 0 + 0 = λ j. cond (g .whole j) (suc (processTerms (processIn s w (r .from)))) 0 + cond (g .ends j) (processTerms (processIn s w (r .rest))) (cond (g .no-choice j) (processTerms (processIn s w (r .rest))) 0) in
     omega (arith, q)
 
-terms-onward : (s w : List ℕ) (r : Turn) (h : Held) (link : Bool) (rest : ℕ) → Onward h link rest r → restTerms s w r ≡ processTerms (processIn s w rest)
-terms-onward s w r h link rest o = λ j. cond (o .on j) (processTerms (processIn s w (o .resting j))) (cond (r .choice) (processTerms (processIn s w (o .resting j))) 0)
+terms-onward : (s w : List ℕ) (r : Turn) (h : Held) (rest : ℕ) → Onward h rest r → restTerms s w r ≡ processTerms (processIn s w rest)
+terms-onward s w r h rest o = λ j. cond (o .on j) (processTerms (processIn s w (o .resting j))) (cond (r .choice) (processTerms (processIn s w (o .resting j))) 0)
 
-terms-choosing : (s w : List ℕ) (r : Turn) (h : Held) (link : Bool) (p : ℕ) (n : TermNode) → Choosing h link p n r → restTerms s w r ≡ processTerms (processIn s w p)
-terms-choosing s w r h link p n o = λ j. cond (o .ends j) (processTerms (processIn s w (o .resting j))) (cond (o .choice j) (processTerms (processIn s w (o .resting j))) 0)
+terms-choosing : (s w : List ℕ) (r : Turn) (h : Held) (p : ℕ) (n : TermNode) → Choosing h p n r → restTerms s w r ≡ processTerms (processIn s w p)
+terms-choosing s w r h p n o = λ j. cond (o .ends j) (processTerms (processIn s w (o .resting j))) (cond (o .choice j) (processTerms (processIn s w (o .resting j))) 0)
 
 whole-terms : (s w : List ℕ) (r : Turn) → r .halved ≡ false → turnTerms s w r ≡ 0 + restTerms s w r
 whole-terms s w r e = ap (λ c. cond c (suc (processTerms (processIn s w (r .from)))) 0 + restTerms s w r) e
@@ -139,8 +134,8 @@ whole-terms s w r e = ap (λ c. cond c (suc (processTerms (processIn s w (r .fro
 part-as : {s w : List ℕ} {h k : Held} {p q : ℕ} → k ≡ h → q ≡ p → HeldIn s w h × ProcessIn s w p → HeldIn s w k × ProcessIn s w q
 part-as {s} {w} e z (f, a) = (subst (HeldIn s w) (sym e) f, subst (ProcessIn s w) (sym z) a)
 
-module _ {s w : List ℕ} {h : Held} {link : Bool} {p : ℕ} {r : Turn} where
-  pub turned-given : {v : Verdict} → Given v r → verdictOf v ≡ verdictAt s w h link p → Turned s w h link p r
+module _ {s w : List ℕ} {h : Held} {p : ℕ} {r : Turn} where
+  pub turned-given : {v : Verdict} → Given v r → verdictOf v ≡ verdictAt s w h p → Turned s w h p r
   turned-given {v} g q = record {
     is = whole-is s w r (g .whole) ∙ rest-given s w r v g ∙ q;
     stands = record { goes = λ z. not-both (g .ends) z; halves = λ z. not-both (g .whole) z; chooses = λ _ z. not-both (g .no-choice) z };
@@ -148,18 +143,18 @@ module _ {s w : List ℕ} {h : Held} {link : Bool} {p : ℕ} {r : Turn} where
     less = λ z. not-both (g .ends) z;
   }
 
-  pub turned-onward : {k : Held} {l : Bool} {rest : ℕ} → Onward k l rest r → verdictAt s w k l rest ≡ verdictAt s w h link p → HeldIn s w k → ProcessIn s w rest
-      → processTerms (processIn s w rest) < processTerms (processIn s w p) → Turned s w h link p r
-  turned-onward {k} {l} {rest} o q f a b = record {
-    is = whole-is s w r (o .whole) ∙ rest-onward s w r k l rest o ∙ q;
+  pub turned-onward : {k : Held} {rest : ℕ} → Onward k rest r → verdictAt s w k rest ≡ verdictAt s w h p → HeldIn s w k → ProcessIn s w rest
+      → processTerms (processIn s w rest) < processTerms (processIn s w p) → Turned s w h p r
+  turned-onward {k} {rest} o q f a b = record {
+    is = whole-is s w r (o .whole) ∙ rest-onward s w r k rest o ∙ q;
     stands = record { goes = λ _. part-as (o .held) (o .resting) (f, a); halves = λ z. not-both (o .whole) z; chooses = λ z. not-both z (o .on) };
-    fewer = omega (arith, b, whole-terms s w r (o .whole), terms-onward s w r k l rest o);
+    fewer = omega (arith, b, whole-terms s w r (o .whole), terms-onward s w r k rest o);
     less = λ _. omega (arith, b, ap (λ i. processTerms (processIn s w i)) (o .resting));
   }
 
-  pub turned-choosing : {n : TermNode} → Choosing h link p n r → HeldIn s w h → NodeIn s w p n → n .kind ≡ 8 → Turned s w h link p r
+  pub turned-choosing : {n : TermNode} → Choosing h p n r → HeldIn s w h → NodeIn s w p n → n .kind ≡ 8 → Turned s w h p r
   turned-choosing {n} o f g z = record {
-    is = whole-is s w r (o .whole) ∙ rest-choosing s w r h link p n o;
+    is = whole-is s w r (o .whole) ∙ rest-choosing s w r h p n o;
     stands = record {
       goes = λ y. not-both (o .ends) y;
       halves = λ y. not-both (o .whole) y;
@@ -167,34 +162,34 @@ module _ {s w : List ℕ} {h : Held} {link : Bool} {p : ℕ} {r : Turn} where
           let c : ChoiceAt s w h p n = record { held = f; node = g; kind = z } in
           subst (λ x. ChoiceAt s w x (r .rest) (r .node)) (sym (o .held)) (subst (λ x. ChoiceAt s w h x (r .node)) (sym (o .resting)) (subst (ChoiceAt s w h p) (sym (o .node)) c));
     };
-    fewer = omega (arith, whole-terms s w r (o .whole), terms-choosing s w r h link p n o);
+    fewer = omega (arith, whole-terms s w r (o .whole), terms-choosing s w r h p n o);
     less = λ y. not-both (o .ends) y;
   }
 
   -- two halves
-  pub turned-halves : {t : Turn} {a b : Held} {l m : Bool} {first second : ℕ} → Onward b m second t → r ≡ halvedBy a l first t → andThen (verdictAt s w a l first) (verdictAt s w b m second) ≡ verdictAt s w h link p
-      → HeldIn s w a × ProcessIn s w first → HeldIn s w b × ProcessIn s w second → suc (processTerms (processIn s w first)) + processTerms (processIn s w second) ≤ processTerms (processIn s w p) → Turned s w h link p r
-  turned-halves {t} {a} {b} {l} {m} {first} {second} o e q f g n = subst (Turned s w h link p) (sym e) (record {
-    is = ap (andThen (verdictAt s w a l first)) (rest-onward s w t b m second o) ∙ q;
+  pub turned-halves : {t : Turn} {a b : Held} {first second : ℕ} → Onward b second t → r ≡ halvedBy a first t → andThen (verdictAt s w a first) (verdictAt s w b second) ≡ verdictAt s w h p
+      → HeldIn s w a × ProcessIn s w first → HeldIn s w b × ProcessIn s w second → suc (processTerms (processIn s w first)) + processTerms (processIn s w second) ≤ processTerms (processIn s w p) → Turned s w h p r
+  turned-halves {t} {a} {b} {first} {second} o e q f g n = subst (Turned s w h p) (sym e) (record {
+    is = ap (andThen (verdictAt s w a first)) (rest-onward s w t b second o) ∙ q;
     stands = record { goes = λ _. part-as (o .held) (o .resting) g; halves = λ _. f; chooses = λ z. not-both z (o .on) };
-    fewer = omega (arith, n, terms-onward s w t b m second o);
+    fewer = omega (arith, n, terms-onward s w t b second o);
     less = λ _. omega (arith, n, ap (λ i. processTerms (processIn s w i)) (o .resting));
   })
 
 -- ── the rest of a term that goes on, or its refusal
-pub data Follows (x : Next) (link : Bool) (at rest : ℕ) (r : Turn) : Type 0 where
-  goes : x .refusal ≡ 0 → Onward (x .held) link rest r → Follows x link at rest r
-  stops : (x .refusal ≡ 0 → ⊥) → Given (verdict.Refused (x .refusal) at) r → Follows x link at rest r
+pub data Follows (x : Next) (at rest : ℕ) (r : Turn) : Type 0 where
+  goes : x .refusal ≡ 0 → Onward (x .held) rest r → Follows x at rest r
+  stops : (x .refusal ≡ 0 → ⊥) → Given (verdict.Refused (x .refusal) at) r → Follows x at rest r
 
 -- the same of the process at p, whose rule's step it is
-pub turned-after : {s w : List ℕ} {h : Held} {link : Bool} {p : ℕ} {x : Next} {at rest : ℕ} {r : Turn} {t : Step} → Follows x link at rest r → Goes s w x t
-    → verdictAt s w h link p ≡ resume at t (λ H. check (programIn s w) H link (processIn s w rest)) → (processTerms (processIn s w rest) < processTerms (processIn s w p)) × ProcessIn s w rest → Turned s w h link p r
-turned-after {s} {w} {h} {link} {p} {x} {at} {rest} {r} {t} f g q (b, a) = by-follows f
+pub turned-after : {s w : List ℕ} {h : Held} {p : ℕ} {x : Next} {at rest : ℕ} {r : Turn} {t : Step} → Follows x at rest r → Goes s w x t
+    → verdictAt s w h p ≡ resume at t (λ H. check (programIn s w) H (processIn s w rest)) → (processTerms (processIn s w rest) < processTerms (processIn s w p)) × ProcessIn s w rest → Turned s w h p r
+turned-after {s} {w} {h} {p} {x} {at} {rest} {r} {t} f g q (b, a) = by-follows f
   where
-    by : (c : Bool) → eqb (x .refusal) 0 ≡ c → verdictAt s w h link p ≡ resume at (cond c (go (contextIn s w (x .held))) (stop (x .refusal))) (λ H. check (programIn s w) H link (processIn s w rest))
-    by c e = q ∙ ap (λ y. resume at y (λ H. check (programIn s w) H link (processIn s w rest))) (sym (g .is) ∙ ap (λ d. cond d (go (contextIn s w (x .held))) (stop (x .refusal))) e)
+    by : (c : Bool) → eqb (x .refusal) 0 ≡ c → verdictAt s w h p ≡ resume at (cond c (go (contextIn s w (x .held))) (stop (x .refusal))) (λ H. check (programIn s w) H (processIn s w rest))
+    by c e = q ∙ ap (λ y. resume at y (λ H. check (programIn s w) H (processIn s w rest))) (sym (g .is) ∙ ap (λ d. cond d (go (contextIn s w (x .held))) (stop (x .refusal))) e)
 
-    by-follows : Follows x link at rest r → Turned s w h link p r
+    by-follows : Follows x at rest r → Turned s w h p r
     by-follows (goes z o) = turned-onward o (sym (by true (eq-eqb _ _ z))) (g .fits z) a b
     by-follows (stops z o) = turned-given o (sym (by false (ne-eqb _ _ z)))
 
@@ -210,7 +205,7 @@ termsLeft s w t = cond (t .on) (suc (processTerms (processIn s w (t .rest)))) 0
 pub check-begin : {s w : List ℕ} {t : Turn} → TurnIn s w t → Checking s w t t
 check-begin a = record { is = refl; stands = a; fewer = omega arith }
 
-module _ {s w : List ℕ} {t₀ t : Turn} (u : Checking s w t₀ t) (x : Verdict) (e : verdictOf x ≡ halfVerdict s w (t .halved) (t .half) (t .tied) (t .from)) where
+module _ {s w : List ℕ} {t₀ t : Turn} (u : Checking s w t₀ t) (x : Verdict) (e : verdictOf x ≡ halfVerdict s w (t .halved) (t .half) (t .from)) where
   pub half-refused : {n i : ℕ} → x ≡ verdict.Refused n i → verdictOf x ≡ verdictAfter s w t₀
   half-refused {n} {i} q = then-refused (restVerdict s w t) x n i q e ∙ u .is
 
@@ -221,15 +216,15 @@ module _ {s w : List ℕ} {t₀ t : Turn} (u : Checking s w t₀ t) (x : Verdict
 
     module _ (z : t .on ≡ false) where
       pub check-done : t .choice ≡ false → verdictOf (t .verdict) ≡ verdictAfter s w t₀
-      check-done c = sym (λ j. cond (z j) (verdictAt s w (t .held) (t .link) (t .rest)) (cond (c j) (verdictAt s w (t .held) (t .link) (t .rest)) (verdictOf (t .verdict)))) ∙ rest-is
+      check-done c = sym (λ j. cond (z j) (verdictAt s w (t .held) (t .rest)) (cond (c j) (verdictAt s w (t .held) (t .rest)) (verdictOf (t .verdict)))) ∙ rest-is
 
-      pub choice-is : {v : calculus.Verdict} → t .choice ≡ true → v ≡ verdictAt s w (t .held) (t .link) (t .rest) → v ≡ verdictAfter s w t₀
-      choice-is c y = y ∙ sym (λ j. cond (z j) (verdictAt s w (t .held) (t .link) (t .rest)) (cond (c j) (verdictAt s w (t .held) (t .link) (t .rest)) (verdictOf (t .verdict)))) ∙ rest-is
+      pub choice-is : {v : calculus.Verdict} → t .choice ≡ true → v ≡ verdictAt s w (t .held) (t .rest) → v ≡ verdictAfter s w t₀
+      choice-is c y = y ∙ sym (λ j. cond (z j) (verdictAt s w (t .held) (t .rest)) (cond (c j) (verdictAt s w (t .held) (t .rest)) (verdictOf (t .verdict)))) ∙ rest-is
 
-    module _ {r : Turn} (z : t .on ≡ true) (v : Turned s w (t .held) (t .link) (t .rest) r) where
+    module _ {r : Turn} (z : t .on ≡ true) (v : Turned s w (t .held) (t .rest) r) where
       pub check-next : Checking s w t₀ r
       check-next = record {
-        is = v .is ∙ sym (ap (λ c. cond c (verdictAt s w (t .held) (t .link) (t .rest)) (cond (t .choice) (verdictAt s w (t .held) (t .link) (t .rest)) (verdictOf (t .verdict)))) z) ∙ rest-is;
+        is = v .is ∙ sym (ap (λ c. cond c (verdictAt s w (t .held) (t .rest)) (cond (t .choice) (verdictAt s w (t .held) (t .rest)) (verdictOf (t .verdict)))) z) ∙ rest-is;
         stands = v .stands;
         fewer = omega (arith, v .fewer, u .fewer, rest-terms);
       }
@@ -264,9 +259,9 @@ module _ (s w : List ℕ) where
   pub half-there : (halved : Bool) (p : ℕ) {t : ℕ} → halved ≡ true → cond halved (8 * processTerms (processIn s w p) + 9) 0 ≡ t → 8 * processTerms (processIn s w p) + 9 ≡ t
   half-there halved p z e = sym (ap (λ b. cond b (8 * processTerms (processIn s w p) + 9) 0) z) ∙ e
 
-  module _ (h : Held) (link : Bool) (p : ℕ) {halved : Bool} where
-    pub half-so : halved ≡ true → halfVerdict s w halved h link p ≡ verdictAt s w h link p
-    half-so z = ap (λ b. halfVerdict s w b h link p) z
+  module _ (h : Held) (p : ℕ) {halved : Bool} where
+    pub half-so : halved ≡ true → halfVerdict s w halved h p ≡ verdictAt s w h p
+    half-so z = ap (λ b. halfVerdict s w b h p) z
 
-    pub half-none : halved ≡ false → halfVerdict s w halved h link p ≡ fine
-    half-none z = ap (λ b. halfVerdict s w b h link p) z
+    pub half-none : halved ≡ false → halfVerdict s w halved h p ≡ fine
+    half-none z = ap (λ b. halfVerdict s w b h p) z

@@ -13,7 +13,7 @@ use read_tables::access::branch;
 use run_words::records::Held;
 ghost use mathlib.Core.Path.{_≡_};
 ghost use mathlib.Core.Bool.{true};
-ghost use Prim.Native.Nat.{ℕ, _<_, _≤_};
+ghost use Prim.Native.Nat.{_<_};
 ghost use Rattle.notation.specs.Token.{nameAt};
 ghost use Rattle.notation.specs.Tree.{plains};
 ghost use Rattle.calculus.specs.Checking.{check, checkBranches};
@@ -27,12 +27,12 @@ ghost use Rattle.check_terms.specs.Next.{contextIn};
 ghost use Rattle.check_processes.specs.Nodes.{NodeIn};
 ghost use Rattle.check_processes.specs.Turns.{TurnIn, halfVerdict, verdictAfter};
 
-// The process at the pointer p, with what it holds and with a link or none: nothing is at fault, or a refusal.
-pub fn check_process(text: &[u8], scratch: &[u32], h: Held, link: bool, p: usize) -> Verdict
+// The process at the pointer p, with what it holds: nothing is at fault, or a refusal.
+pub fn check_process(text: &[u8], scratch: &[u32], h: Held, p: usize) -> Verdict
     requires { ⌜ Tables (now text) (now scratch) × HeldIn (now text) (now scratch) h × ProcessIn (now text) (now scratch) p ⌝ }
-    ensures { λ r. ⌜ verdictOf r ≡ check (programIn (now (text .entry)) (now (scratch .entry))) (contextIn (now (text .entry)) (now (scratch .entry)) h) link (processIn (now (text .entry)) (now (scratch .entry)) p) ⌝ }
+    ensures { λ r. ⌜ verdictOf r ≡ check (programIn (now (text .entry)) (now (scratch .entry))) (contextIn (now (text .entry)) (now (scratch .entry)) h) (processIn (now (text .entry)) (now (scratch .entry)) p) ⌝ }
 {
-    let t = check_turn(text, scratch, h, link, p);
+    let t = check_turn(text, scratch, h, p);
     check_on(text, scratch, t)
 }
 
@@ -44,7 +44,7 @@ fn check_on(text: &[u8], scratch: &[u32], first: Turn) -> Verdict
     let mut t = first;
     loop {
         let half = t.half;
-        let v = check_half(text, scratch, t.halved, half, t.tied, t.from);
+        let v = check_half(text, scratch, t.halved, half, t.from);
         let Verdict::Fine = v else {
             return v;
         };
@@ -52,31 +52,31 @@ fn check_on(text: &[u8], scratch: &[u32], first: Turn) -> Verdict
             break;
         }
         let held = t.held;
-        t = check_turn(text, scratch, held, t.link, t.rest);
+        t = check_turn(text, scratch, held, t.rest);
     }
     if t.choice {
         let held = t.held;
         let node = t.node;
-        return check_choice(text, scratch, held, t.link, t.rest, node);
+        return check_choice(text, scratch, held, t.rest, node);
     }
     t.verdict
 }
 
 // The first half of a term, if it has halves.
-fn check_half(text: &[u8], scratch: &[u32], halved: bool, h: Held, link: bool, p: usize) -> Verdict
+fn check_half(text: &[u8], scratch: &[u32], halved: bool, h: Held, p: usize) -> Verdict
     requires { ⌜ Tables (now text) (now scratch) × (halved ≡ true → HeldIn (now text) (now scratch) h × ProcessIn (now text) (now scratch) p) ⌝ }
-    ensures { λ r. ⌜ verdictOf r ≡ halfVerdict (now (text .entry)) (now (scratch .entry)) halved h link p ⌝ }
+    ensures { λ r. ⌜ verdictOf r ≡ halfVerdict (now (text .entry)) (now (scratch .entry)) halved h p ⌝ }
 {
     if halved {
-        return check_process(text, scratch, h, link, p);
+        return check_process(text, scratch, h, p);
     }
     Verdict::Fine
 }
 
 // `recv c ('l => P | ..)`.
-fn check_choice(text: &[u8], scratch: &[u32], h: Held, link: bool, p: usize, n: TermNode) -> Verdict
+fn check_choice(text: &[u8], scratch: &[u32], h: Held, p: usize, n: TermNode) -> Verdict
     requires { ⌜ Tables (now text) (now scratch) × HeldIn (now text) (now scratch) h × NodeIn (now text) (now scratch) p n × (n .kind ≡ 8) ⌝ }
-    ensures { λ r. ⌜ verdictOf r ≡ check (programIn (now (text .entry)) (now (scratch .entry))) (contextIn (now (text .entry)) (now (scratch .entry)) h) link (processIn (now (text .entry)) (now (scratch .entry)) p) ⌝ }
+    ensures { λ r. ⌜ verdictOf r ≡ check (programIn (now (text .entry)) (now (scratch .entry))) (contextIn (now (text .entry)) (now (scratch .entry)) h) (processIn (now (text .entry)) (now (scratch .entry)) p) ⌝ }
 {
     let o = labels_offered(text, scratch, h, n);
     match o {
@@ -84,18 +84,7 @@ fn check_choice(text: &[u8], scratch: &[u32], h: Held, link: bool, p: usize, n: 
             return Verdict::Refused(refusal, n.at);
         }
         Offer::Labels(e, m) => {
-            return check_branches(
-                text,
-                scratch,
-                h,
-                link,
-                n.at,
-                n.first,
-                e,
-                m,
-                n.second,
-                n.third,
-            );
+            return check_branches(text, scratch, h, n.at, n.first, e, m, n.second, n.third);
         }
     }
 }
@@ -105,7 +94,6 @@ fn check_branches(
     text: &[u8],
     scratch: &[u32],
     h: Held,
-    link: bool,
     at: usize,
     c: usize,
     e: usize,
@@ -114,7 +102,7 @@ fn check_branches(
     k: usize,
 ) -> Verdict
     requires { ⌜ Tables (now text) (now scratch) × HeldIn (now text) (now scratch) h × AlternativesIn (now text) (now scratch) e m × BranchesIn (now text) (now scratch) d k ⌝ }
-    ensures { λ r. ⌜ verdictOf r ≡ checkBranches (programIn (now (text .entry)) (now (scratch .entry))) (contextIn (now (text .entry)) (now (scratch .entry)) h) link at (nameAt (now (text .entry)) c) (plains (alternativesIn (now (text .entry)) (now (scratch .entry)) e m)) (branchesIn (now (text .entry)) (now (scratch .entry)) d k) ⌝ }
+    ensures { λ r. ⌜ verdictOf r ≡ checkBranches (programIn (now (text .entry)) (now (scratch .entry))) (contextIn (now (text .entry)) (now (scratch .entry)) h) at (nameAt (now (text .entry)) c) (plains (alternativesIn (now (text .entry)) (now (scratch .entry)) e m)) (branchesIn (now (text .entry)) (now (scratch .entry)) d k) ⌝ }
 {
     let mut i: usize = 0;
     while i < k {
@@ -124,7 +112,7 @@ fn check_branches(
             return Verdict::Refused(12, at);
         };
         let held = retype_end(text, h, c, narrow(j));
-        let v = check_process(text, scratch, held, link, b.number);
+        let v = check_process(text, scratch, held, b.number);
         let Verdict::Fine = v else {
             return v;
         };

@@ -1,27 +1,26 @@
 -- What the typing rules ask of a term that ends its process.
 use Prim.Native.Nat.{ℕ, zero, suc, _<_}
-use mathlib.Core.Path.{_≡_, refl, sym, _∙_, ap, subst}
+use mathlib.Core.Path.{_≡_, refl, sym, _∙_, ap}
 use mathlib.Core.List.{List, [], _∷_, _++_}
-use mathlib.Core.Bool.{Bool, true, false, cond, _&&_}
-use mathlib.Core.Option.{Option, some, none}
+use mathlib.Core.Bool.{Bool, true, false, _&&_}
+use mathlib.Core.Option.{some, none}
 use native.Mathlib.Omega.{arith}
 use lib.ListN.{length}
 use Rattle.notation.specs.Token.{nameAt}
-use Rattle.notation.specs.Tree.{Name, Located, Proc, fwd, call}
+use Rattle.notation.specs.Tree.{Name, Located, fwd, call}
 use Rattle.calculus.specs.Named.{lookup, without, isSome, all, distinct}
 use Rattle.calculus.specs.Types.{provided, used, sameSide, sameType}
-use Rattle.calculus.specs.Program.{Slot, Context, Signature, Program}
+use Rattle.calculus.specs.Program.{Slot, Context, Program}
 use Rattle.calculus.specs.Declarations.{isNil}
 use Rattle.calculus.specs.Typing.{namesOf, listFits, withoutAll}
 use Rattle.calculus.specs.Checking.{fitsSlot, check}
-use Rattle.calculus.specs.Verdict.{Verdict, fine, refused, demand, having}
+use Rattle.calculus.specs.Verdict.{Verdict, fine, refused}
 use Rattle.run_words.specs.Raw.{sideOf}
-use Rattle.run_words.specs.Values.{endIn}
 use Rattle.run_words.specs.declared.records.End.{End as EndWords}
 use Rattle.run_words.specs.declared.records.Held.{Held}
 use Rattle.read_tables.specs.Program.{plainIn}
 use Rattle.check_contexts.specs.Held.{Drops}
-use Rattle.check_terms.specs.Next.{Step, stop, go, asking, granted, resume, contextIn, asking-none, asking-some, granted-not, granted-so, having-asks, demand-asks}
+use Rattle.check_terms.specs.Next.{Step, stop, go, asking, granted, resume, contextIn, asking-none, asking-some, having-asks, demand-asks}
 use Rattle.check_terms.specs.Acting.{slotIn, different-sides, equal-sides}
 use Rattle.check_terms.specs.Sends.{dropped, count-so}
 
@@ -56,16 +55,16 @@ calls p q xs ys G =
 abbrev ended : Context → Verdict
 ended G = fine
 
-pub check-fwd : (p : Program) (G : Context) (link : Bool) (at : ℕ) (x c : Located) → check p G link (fwd at x c) ≡ resume at (forwards (x .name) (c .name) G) ended
+pub check-fwd : (p : Program) (G : Context) (at : ℕ) (x c : Located) → check p G (fwd at x c) ≡ resume at (forwards (x .name) (c .name) G) ended
 unfolding check forwards
-check-fwd p G link at x c =
+check-fwd p G at x c =
     having-asks 10 at (lookup (x .name) G) _ _ ended λ h.
     having-asks 10 at (lookup (c .name) G) _ _ ended λ e.
     demand-asks 11 at (joins h e) _ _ ended (demand-asks 13 at (isNil (withoutAll (x .name ∷ c .name ∷ []) G)) _ _ ended refl)
 
-pub check-call : (p : Program) (G : Context) (link : Bool) (at : ℕ) (q : Located) (bracket : ℕ) (xs ys : List Located) → check p G link (call at q bracket xs ys) ≡ resume at (calls p (q .name) (namesOf xs) (namesOf ys) G) ended
+pub check-call : (p : Program) (G : Context) (at : ℕ) (q : Located) (bracket : ℕ) (xs ys : List Located) → check p G (call at q bracket xs ys) ≡ resume at (calls p (q .name) (namesOf xs) (namesOf ys) G) ended
 unfolding check calls
-check-call p G link at q bracket xs ys =
+check-call p G at q bracket xs ys =
     demand-asks 10 at (all (λ n. isSome (lookup n G)) (namesOf xs ++ namesOf ys)) _ _ ended
     (having-asks 11 at (lookup (q .name) (p .processes)) _ _ ended λ s.
     demand-asks 11 at (listFits G provided (namesOf xs) (s .provides) && listFits G used (namesOf ys) (s .uses)) _ _ ended

@@ -1,6 +1,6 @@
 -- What the typing rules ask of one term that goes on, one definition for each; the check of such a term is the rule's step, then the rest.
 use Prim.Native.Nat.{ℕ}
-use mathlib.Core.Path.{_≡_, refl, sym, _∙_, ap}
+use mathlib.Core.Path.{_≡_, refl}
 use mathlib.Core.Bool.{Bool, true, false, cond, not, _&&_}
 use mathlib.Core.Option.{Option, some, none}
 use Rattle.notation.specs.Bytes.{same}
@@ -10,8 +10,8 @@ use Rattle.calculus.specs.Types.{Side, provided, used, other, sameSide, Passing
 use Rattle.calculus.specs.Program.{Slot, slot, Context, Program}
 use Rattle.calculus.specs.Typing.{acting, retyped, bringing}
 use Rattle.calculus.specs.Checking.{mayBring, isUnitOn, fitsSlot, check}
-use Rattle.calculus.specs.Verdict.{Verdict, refused, demand, having}
-use Rattle.check_terms.specs.Next.{Step, stop, go, asking, granted, resume, having-asks, demand-asks}
+use Rattle.calculus.specs.Verdict.{Verdict, demand, having}
+use Rattle.check_terms.specs.Next.{Step, go, asking, granted, resume, having-asks, demand-asks}
 
 -- ── a close
 unfoldable pub closes : Program → Side → Name → Context → Step
@@ -60,19 +60,19 @@ receives p c x G =
     asking 11 (takesFrom h) λ t. granted 15 (mayBring x G G) (go (bringing x (slot (t .side) (t .what)) (retyped c (t .after) G)))
 
 -- ── the check of a term is the rule's step, then the rest
-module _ (p : Program) (G : Context) (link : Bool) (at : ℕ) where
+module _ (p : Program) (G : Context) (at : ℕ) where
   abbrev rest : Proc → Context → Verdict
-  rest P H = check p H link P
+  rest P H = check p H P
 
-  pub check-send-unit : (c : Located) (P : Proc) → check p G link (sendUnit at c P) ≡ resume at (closes p provided (c .name) G) (rest P)
+  pub check-send-unit : (c : Located) (P : Proc) → check p G (sendUnit at c P) ≡ resume at (closes p provided (c .name) G) (rest P)
   unfolding check closes
   check-send-unit c P = having-asks 10 at (acting p (c .name) G) _ _ (rest P) λ h. demand-asks 11 at (isUnitOn provided h) _ _ (rest P) refl
 
-  pub check-recv-unit : (c : Located) (P : Proc) → check p G link (recvUnit at c P) ≡ resume at (closes p used (c .name) G) (rest P)
+  pub check-recv-unit : (c : Located) (P : Proc) → check p G (recvUnit at c P) ≡ resume at (closes p used (c .name) G) (rest P)
   unfolding check closes
   check-recv-unit c P = having-asks 10 at (acting p (c .name) G) _ _ (rest P) λ h. demand-asks 11 at (isUnitOn used h) _ _ (rest P) refl
 
-  pub check-cancel : (c : Located) (P : Proc) → check p G link (cancel at c P) ≡ resume at (givesUp (c .name) G) (rest P)
+  pub check-cancel : (c : Located) (P : Proc) → check p G (cancel at c P) ≡ resume at (givesUp (c .name) G) (rest P)
   unfolding check givesUp
   check-cancel c P = having-asks 10 at (lookup (c .name) G) _ _ (rest P) λ h. refl
 
@@ -86,7 +86,7 @@ module _ (p : Program) (G : Context) (link : Bool) (at : ℕ) where
       test true = refl
       test false = refl
 
-  pub check-send-channel : (c a : Located) (P : Proc) → check p G link (sendChannel at c a P) ≡ resume at (passes p (c .name) (a .name) G) (rest P)
+  pub check-send-channel : (c a : Located) (P : Proc) → check p G (sendChannel at c a P) ≡ resume at (passes p (c .name) (a .name) G) (rest P)
   unfolding check passes
   check-send-channel c a P =
       having-asks 10 at (acting p (c .name) G) _ _ (rest P) λ h.
@@ -104,7 +104,7 @@ module _ (p : Program) (G : Context) (link : Bool) (at : ℕ) where
       test true (some A) = refl
       test false o = refl
 
-  pub check-send-label : (c l : Located) (P : Proc) → check p G link (sendLabel at c l P) ≡ resume at (chooses p (c .name) (l .name) G) (rest P)
+  pub check-send-label : (c l : Located) (P : Proc) → check p G (sendLabel at c l P) ≡ resume at (chooses p (c .name) (l .name) G) (rest P)
   unfolding check chooses
   check-send-label c l P = having-asks 10 at (acting p (c .name) G) _ _ (rest P) λ h. choose-so (c .name) h (l .name) P (choosing (h .type))
 
@@ -120,6 +120,6 @@ module _ (p : Program) (G : Context) (link : Bool) (at : ℕ) where
       test true = demand-asks 15 at (mayBring x G G) _ _ (rest P) refl
       test false = refl
 
-  pub check-recv-channel : (c x : Located) (P : Proc) → check p G link (recvChannel at c x P) ≡ resume at (receives p (c .name) (x .name) G) (rest P)
+  pub check-recv-channel : (c x : Located) (P : Proc) → check p G (recvChannel at c x P) ≡ resume at (receives p (c .name) (x .name) G) (rest P)
   unfolding check receives
   check-recv-channel c x P = having-asks 10 at (acting p (c .name) G) _ _ (rest P) λ h. take-so (c .name) (x .name) h P (passing (h .type))

@@ -1,19 +1,19 @@
 -- The check of each process of a script: what its signature has it hold, and its 17th name.
 use Prim.Native.Nat.{ℕ, zero, suc, _+_, _-_, _<_, _≤_}
 use mathlib.Core.Path.{_≡_, refl, sym, _∙_, ap, subst}
-use mathlib.Core.List.{List, [], _∷_, _++_, map}
-use mathlib.Core.Bool.{Bool, true, false, cond}
+use mathlib.Core.List.{List, [], _∷_, _++_}
+use mathlib.Core.Bool.{Bool, true, false}
 use mathlib.Core.Option.{Option, some, none}
 use native.Mathlib.Omega.{arith}
 use lib.Dec.{ltb}
 use borrow.Author.Tests.{ltb-true, ltb-false, lt-ltb, le-ltb}
-use lib.ListN.{length, getElem?}
+use lib.ListN.{getElem?}
 use Rattle.notation.specs.Limits.{heldLimit, typeTermLimit}
 use Rattle.notation.specs.Reader.{nameIn}
 use Rattle.notation.specs.Token.{nameAt}
-use Rattle.notation.specs.Tree.{Name, Located, Entry, Declaration, declareType, declareProc, declareExec, plain}
+use Rattle.notation.specs.Tree.{Located, Entry, Declaration}
 use Rattle.calculus.specs.Types.{Side, provided, used}
-use Rattle.calculus.specs.Program.{Slot, slot, Context, Signature, Program, onSide, signatureContext, entries, programOf}
+use Rattle.calculus.specs.Program.{slot, Context, Program, onSide, entries}
 use Rattle.calculus.specs.Declarations.{channels}
 use Rattle.calculus.specs.Checking.{check, unlessNamed, checkDeclaration, checkDeclarations, typed}
 use Rattle.calculus.specs.Verdict.{fine, refused, andThen}
@@ -23,7 +23,7 @@ use Rattle.theory_ends.specs.Contexts.{context-append}
 use Rattle.run_words.specs.Raw.{RawEnd, sideOf}
 use Rattle.run_words.specs.declared.records.Held.{Held}
 use Rattle.read_tables.specs.Access.{EntryOf, SignatureOf, asEntry}
-use Rattle.read_tables.specs.Decode.{tallyIn, entryAt, typeIn, processIn, entriesIn, procDeclaration, procBy, processAt, typeDeclaration, execDeclaration, numbered, scriptIn}
+use Rattle.read_tables.specs.Decode.{tallyIn, entryAt, typeIn, processIn, entriesIn, procDeclaration, procBy, typeDeclaration, execDeclaration, numbered, scriptIn}
 use Rattle.read_tables.specs.Program.{plainIn, programIn}
 use Rattle.read_tables.specs.Whole.{SignatureIn, Tables}
 use Rattle.read_tables.specs.declared.access.Labelled.{Labelled}
@@ -132,7 +132,7 @@ module _ (s w : List ℕ) (i : ℕ) (d : Declared) (g : SignatureOf w i d) where
   P = programIn s w
 
   abbrev bodyVerdict : Option Located → calculus.Verdict
-  bodyVerdict o = unlessNamed o (check P (contextBy s w (asEntry d)) false (processIn s w (d .body)))
+  bodyVerdict o = unlessNamed o (check P (contextBy s w (asEntry d)) (processIn s w (d .body)))
 
   body-by : checkDeclaration P (procDeclaration s w i) ≡ bodyVerdict (getElem? (names-of s w (asEntry d)) heldLimit)
   unfolding procDeclaration
@@ -141,10 +141,10 @@ module _ (s w : List ℕ) (i : ℕ) (d : Declared) (g : SignatureOf w i d) where
   pub body-named : (t : Labelled) → EntryOf w (d .first + heldLimit) t → heldLimit < d .provided + d .used → refused 15 (t .at) ≡ checkDeclaration P (procDeclaration s w i)
   body-named t o l = sym (body-by ∙ ap (λ ns. bodyVerdict (getElem? ns heldLimit)) (names-in s w (asEntry d)) ∙ ap bodyVerdict (channel-at s w (d .first) (d .provided + d .used) heldLimit l t o))
 
-  pub body-checked : (r : Held) → d .provided + d .used ≤ heldLimit → SignatureHeld s w (asEntry d) r → {v : calculus.Verdict} → v ≡ check P (contextIn s w r) false (processIn s w (d .body)) → v ≡ checkDeclaration P (procDeclaration s w i)
+  pub body-checked : (r : Held) → d .provided + d .used ≤ heldLimit → SignatureHeld s w (asEntry d) r → {v : calculus.Verdict} → v ≡ check P (contextIn s w r) (processIn s w (d .body)) → v ≡ checkDeclaration P (procDeclaration s w i)
   body-checked r l h e =
       e
-      ∙ ap (λ H. check P H false (processIn s w (d .body))) (h .is)
+      ∙ ap (λ H. check P H (processIn s w (d .body))) (h .is)
       ∙ sym (body-by ∙ ap (λ ns. bodyVerdict (getElem? ns heldLimit)) (names-in s w (asEntry d)) ∙ ap bodyVerdict (none-at s w (d .first) (d .provided + d .used) heldLimit l))
 
 -- ── each process in its turn

@@ -13,7 +13,7 @@ use run_words::records::Held;
 use run_words::records::PROVIDED;
 use run_words::records::USED;
 ghost use mathlib.Core.Path.{_≡_};
-ghost use Prim.Native.Nat.{ℕ, _+_, _-_, _<_, _≤_};
+ghost use Prim.Native.Nat.{_+_, _-_, _<_, _≤_};
 ghost use Rattle.notation.specs.Limits.{heldLimit};
 ghost use Rattle.calculus.specs.Checking.{checkDeclaration, typed};
 ghost use Rattle.calculus.specs.Declarations.{declared};
@@ -47,7 +47,7 @@ fn check_body(text: &[u8], scratch: &[u32], i: usize) -> Verdict
         return Verdict::Refused(15, t.at);
     }
     let h = signature_held(text, scratch, e);
-    check_process(text, scratch, h, false, e.body)
+    check_process(text, scratch, h, e.body)
 }
 
 // A signature has more than 16 names.

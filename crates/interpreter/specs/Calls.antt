@@ -20,7 +20,7 @@ use Rattle.interpreter.specs.Entries.{EntryCall, callOf, configOf, Holds
 -- ── demand 1: "Whoever calls, with whatever text, buffers, numbers or order of calls, gets an answer or a numbered refusal; a refused step leaves the run as it was."
 -- `Answers s m` is the contract of the entry that was called: the very record of its `ensures`, and of a report's the field `answers`.
 pub record Demand1 : Type 0 where
-  pub numbered : (s : List ℕ) (m : EntryCall) → Answers s m → isRefused (m .answer) ≡ true → (1 ≤ refusalOf (m .answer)) × (refusalOf (m .answer) ≤ 21)
+  pub numbered : (s : List ℕ) (m : EntryCall) → Answers s m → isRefused (m .answer) ≡ true → ((1 ≤ refusalOf (m .answer)) × (refusalOf (m .answer) ≤ 22)) × (refusalOf (m .answer) ≢ 14)
   pub unchanged : (s : List ℕ) (m : EntryCall) → Answers s m → isRefused (m .answer) ≡ true → m .left .run ≡ m .lent .run
 
 -- ── the run between the calls: the first 6,144 words. The slices may be longer or shorter from call to call.
@@ -53,8 +53,8 @@ pub record Agrees (s : List ℕ) (p : Program) (C : Config) (run : List ℕ) (m 
   -- the run holds the plain machine's configuration
   pub holds : HoldsRun s (leftBy run m)
   pub config : configOf s (leftBy run m) ≡ respond s C (callOf m) .config
-  -- a forest, joints fewer than processes, one type at both ends of a channel, a step open while a process is left, also between the steps of a run-on;
-  -- a start is refused exactly when its line is missing, a run-on never, an open step exactly when it lacks; a refusal changes nothing
+  -- a forest, joints fewer than processes, one type at both ends of a channel, a step open while a process is left and the run has not halted, also between the steps of a run-on;
+  -- a start is refused exactly when its line is missing, a run-on never, an open step exactly when it lacks; a refusal changes nothing; a halted run answers 22 to every step, uncaught to every run-on
   pub plain : SafeExchange p (record { before = C; call = callOf m; after = respond s C (callOf m) })
   pub never18 : refusalOf (m .answer) ≢ 18
 

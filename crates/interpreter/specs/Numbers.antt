@@ -9,7 +9,7 @@ use Rattle.calculus.specs.Answers.{startedAs, steppedAs, ranOnAs, reportedAs, s
 use Rattle.calculus.specs.Configuration.{Config}
 use Rattle.calculus.specs.Demands.{isRefused}
 use Rattle.calculus.specs.Machine.{Call, callStart, callStep, callRunOn, callReport, callPlaces, callExecName, Answer, refusal, respond, idle}
-use Rattle.theory_refusals.specs.Refusals.{refusalOf, offsetOf, ByArguments, Refuses, refuses-as, respond-numbered, respond-unrefused}
+use Rattle.theory_refusals.specs.Refusals.{refusalOf, offsetOf, ByArguments, Refuses, refuses-as, respond-numbered, never-14, respond-unrefused}
 use Rattle.interpreter.specs.Entries.{EntryCall, callOf, RunUse, anew, read, unlent, useOf, configOf, HoldsRun, keepsRun, leftAs, Reached, plainReply, Answers}
 use Rattle.interpreter.specs.Calls.{Demand1}
 
@@ -38,20 +38,20 @@ never-18 s C c = go (isRefused (respond s C c .answer)) refl
 
 -- ── demand 1
 abbrev InList : Answer → Type 0
-InList a = (1 ≤ refusalOf a) × (refusalOf a ≤ 21)
+InList a = ((1 ≤ refusalOf a) × (refusalOf a ≤ 22)) × (refusalOf a ≢ 14)
 
 -- the answer of a reply
 by-reply : (s : List ℕ) (C : Config) (c : Call) {a : Answer} → a ≡ respond s C c .answer → isRefused a ≡ true → InList a
-by-reply s C c e r = subst InList (sym e) (respond-numbered s C c (ap isRefused (sym e) ∙ r))
+by-reply s C c e r = subst InList (sym e) (let f = ap isRefused (sym e) ∙ r in (respond-numbered s C c f, never-14 s C c f))
 
 eighteen : (c : Call) → InList (refusal idle c 18 0 .answer)
 unfolding startedAs steppedAs ranOnAs reportedAs surveyedAs
-eighteen (callStart scratch run line) = (omega arith, omega arith)
-eighteen (callStep scratch run place) = (omega arith, omega arith)
-eighteen (callRunOn scratch run budget) = (omega arith, omega arith)
-eighteen (callReport scratch run) = (omega arith, omega arith)
-eighteen (callPlaces scratch run) = (omega arith, omega arith)
-eighteen (callExecName scratch line) = (omega arith, omega arith)
+eighteen (callStart scratch run line) = omega arith
+eighteen (callStep scratch run place) = omega arith
+eighteen (callRunOn scratch run budget) = omega arith
+eighteen (callReport scratch run) = omega arith
+eighteen (callPlaces scratch run) = omega arith
+eighteen (callExecName scratch line) = omega arith
 
 -- a refusal leaves the run
 refused-keeps : (u : RunUse) (a : Answer) → isRefused a ≡ true → keepsRun u a ≡ true

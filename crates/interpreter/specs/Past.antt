@@ -10,8 +10,8 @@ use lib.ListN.{length, getElem?}
 use Rattle.notation.specs.Limits.{scratchWords, runWords}
 use Rattle.notation.specs.Tree.{Declaration}
 use Rattle.calculus.specs.Accepted.{Checked, accepted, faulty, checked}
-use Rattle.calculus.specs.Configuration.{Config, at}
-use Rattle.calculus.specs.Machine.{Answer, started, stepped, ranOn, reported, surveyed, named, Reply, reply, textChecked, onProgram, onRun, onLine, onPlace, onStep, refusal, respond, idle}
+use Rattle.calculus.specs.Configuration.{Config, halt, at}
+use Rattle.calculus.specs.Machine.{Answer, started, stepped, ranOn, reported, surveyed, named, Reply, reply, textChecked, onProgram, onRun, onLine, onGoing, onPlace, onStep, refusal, respond, idle}
 use Rattle.calculus.specs.Program.{Program, programOf}
 use Rattle.calculus.specs.Runs.{startConfig, execOf, runOn, report, places}
 use Rattle.calculus.specs.Steps.{step}
@@ -44,8 +44,9 @@ onLent unlent run f y = y
 abbrev pub pastRun : Program → Request → Config → Reply
 pastRun p (toStart line) C = onLine (execOf p line) (refuse (toStart line) C) λ g. reply (started starts.Begun) (startConfig g)
 pastRun p (toStep place) C =
-    onPlace (at C place) (refuse (toStep place) C)
-    (onStep (step p C place) (refuse (toStep place) C) λ seen D. reply (stepped (steps.Carried seen)) D)
+    onGoing (C .halted) (refuse (toStep place) C)
+    (onPlace (at C place) (refuse (toStep place) C)
+    (onStep (step p C place) (refuse (toStep place) C) (λ seen D. reply (stepped (steps.Carried seen)) D) (reply (stepped steps.Uncaught) (halt C))))
 pastRun p (toRunOn budget) C = reply (ranOn (runOn p C budget .answer)) (runOn p C budget .config)
 pastRun p toReport C = reply (reported (reports.Open (length (report C))) (report C)) C
 pastRun p toPlaces C = reply (surveyed (surveys.Processes (length (places p C))) (places p C)) C

@@ -3,7 +3,7 @@ use Prim.Native.Nat.{ℕ, zero, suc, _+_, _<_, _≤_}
 use mathlib.Core.Path.{_≡_, refl, sym, _∙_, ap}
 use mathlib.Core.List.{List, [], _∷_}
 use native.Mathlib.Omega.{arith}
-use lib.ListN.{length, getD, set, take, length-map}
+use lib.ListN.{length, getD, set, take}
 use Rattle.notation.specs.Limits.{runWords, processPlaces}
 use Rattle.notation.specs.Tables.{tables, FitsTables}
 use Rattle.notation.specs.Tree.{Declaration}
@@ -43,19 +43,19 @@ module _ (p : Program) (C : Config) where
   from-many i [] = refl
   from-many i (q ∷ l) = ap suc (from-many (suc i) l)
 
-  from-at : (i k : ℕ) (l : List Process) → k < length l → getD (opennessFrom p C i l) k 0 ≡ openness (step p C (i + k))
+  from-at : (i k : ℕ) (l : List Process) → k < length l → getD (opennessFrom p C i l) k 0 ≡ openness (C .halted) (step p C (i + k))
   unfolding opennessFrom
   from-at i k [] h = absurd (omega arith)
-  from-at i zero (q ∷ l) h = ap (λ j. openness (step p C j)) (omega arith)
-  from-at i (suc k) (q ∷ l) h = from-at (suc i) k l (omega (arith, h)) ∙ ap (λ j. openness (step p C j)) (omega arith)
+  from-at i zero (q ∷ l) h = ap (λ j. openness (C .halted) (step p C j)) (omega arith)
+  from-at i (suc k) (q ∷ l) h = from-at (suc i) k l (omega (arith, h)) ∙ ap (λ j. openness (C .halted) (step p C j)) (omega arith)
 
   pub places-many : length (places p C) ≡ length (C .processes)
   unfolding places
   places-many = from-many 0 (C .processes)
 
-  place-at : (k : ℕ) → k < length (C .processes) → getD (places p C) k 0 ≡ openness (step p C k)
+  place-at : (k : ℕ) → k < length (C .processes) → getD (places p C) k 0 ≡ openness (C .halted) (step p C k)
   unfolding places
-  place-at k h = let e : 0 + k ≡ k = omega arith in from-at 0 k (C .processes) h ∙ ap (λ j. openness (step p C j)) e
+  place-at k h = let e : 0 + k ≡ k = omega arith in from-at 0 k (C .processes) h ∙ ap (λ j. openness (C .halted) (step p C j)) e
 
 module _ (s w ws : List ℕ) where
   abbrev P : Program
@@ -68,7 +68,7 @@ module _ (s w ws : List ℕ) where
   all-places = places-many P C ∙ places-in s w ws
 
   pub surveyed-on : {words : List ℕ} {k x : ℕ} → Listing processPlaces (places P C) words k → k < length (rawIn ws .processes) → length (rawIn ws .processes) ≤ processPlaces
-      → x ≡ openness (step P C k) → Listing processPlaces (places P C) (set words k x) (k + 1)
+      → x ≡ openness (C .halted) (step P C k) → Listing processPlaces (places P C) (set words k x) (k + 1)
   surveyed-on {words} {k} a h m e = listing-on (places P C) words k a (omega (arith, h, all-places)) (omega (arith, m, all-places)) (e ∙ sym (place-at P C k (omega (arith, h, places-in s w ws))))
 
   pub surveyed-end : {words : List ℕ} {k : ℕ} → Listing processPlaces (places P C) words k → length (rawIn ws .processes) ≤ k → k ≤ length (rawIn ws .processes) → Listed words (places P C)

@@ -2,7 +2,7 @@
 use Prim.Native.Nat.{ℕ, _<_, _≤_}
 use mathlib.Core.Path.{_≡_, refl, sym, subst}
 use mathlib.Core.List.{List, []}
-use mathlib.Core.Bool.{Bool, true}
+use mathlib.Core.Bool.{Bool, true, false}
 use mathlib.Core.Option.{some}
 use lib.ListN.{length, getElem?}
 use Rattle.notation.specs.Limits.{runWords}
@@ -16,9 +16,11 @@ use Rattle.calculus.specs.declared.answers.Reported.the-variants as reports
 use Rattle.calculus.specs.declared.answers.Report.{Report}
 use Rattle.calculus.specs.declared.answers.Surveyed.the-variants as surveys
 use Rattle.calculus.specs.declared.answers.Places.{Places}
+use Rattle.calculus.specs.declared.answers.Stepped.{Stepped}
 use Rattle.calculus.specs.declared.answers.Stepped.the-variants as steps
 use Rattle.read_tables.specs.Program.{programIn}
 use Rattle.run_words.specs.Raw.{rawIn}
+use Rattle.run_words.specs.Decode.{isHalted}
 use Rattle.run_alone.specs.declared.outcome.Outcome.{Outcome as OutcomeWords}
 use Rattle.run_alone.specs.Run.{configIn, RunOf, Carries}
 use Rattle.run_steps.specs.Running as machine
@@ -75,14 +77,17 @@ module _ {s w : List ℕ} (t : TextIn s w) where
 
   -- ── step
   module _ {ws : List ℕ} {place : ℕ} (l : runWords ≤ length ws) (f : HoldsRun s ws) where
-    pub step-nobody : length (rawIn ws .processes) ≤ place → AnswersIn s (toStep place) ws (stepped (steps.Refused 19 0)) ws
-    step-nobody h = stepping.step-nobody s (t .script) (t .accepts) (t .fits) ws place l f h
+    pub step-halted : isHalted (rawIn ws .halted) ≡ true → AnswersIn s (toStep place) ws (stepped (steps.Refused 22 0)) ws
+    step-halted = stepping.step-halted s (t .script) (t .accepts) (t .fits) ws place l f
 
-    pub step-told : {vs : List ℕ} {a o : OutcomeWords} → place < length (rawIn ws .processes) → Carries s w ws vs a (step (programIn s w) (configIn s w ws) place) → a ≡ o
-        → AnswersIn s (toStep place) ws (stepped (steppedBy o)) vs
-    step-told {vs} {a} {o} h c e =
-        subst (λ x. AnswersIn s (toStep place) ws (stepped (steppedBy x)) vs) e
-        (stepping.step-told s (t .script) (t .accepts) (t .fits) ws place l f h (under t (λ x. Carries s x ws vs a (step (programIn s x) (configIn s x ws) place)) c))
+    pub step-nobody : isHalted (rawIn ws .halted) ≡ false → length (rawIn ws .processes) ≤ place → AnswersIn s (toStep place) ws (stepped (steps.Refused 19 0)) ws
+    step-nobody = stepping.step-nobody s (t .script) (t .accepts) (t .fits) ws place l f
+
+    pub step-told : {vs : List ℕ} {a : OutcomeWords} {r : Stepped} → isHalted (rawIn ws .halted) ≡ false → place < length (rawIn ws .processes) → Carries s w ws vs a (step (programIn s w) (configIn s w ws) place) → r ≡ steppedBy a
+        → AnswersIn s (toStep place) ws (stepped r) vs
+    step-told {vs} {a} g h c e =
+        subst (λ x. AnswersIn s (toStep place) ws (stepped x) vs) (sym e)
+        (stepping.step-told s (t .script) (t .accepts) (t .fits) ws place l f g h (under t (λ x. Carries s x ws vs a (step (programIn s x) (configIn s x ws) place)) c))
 
   -- ── run-on
   pub run-told : {ws vs : List ℕ} {budget : ℕ} {r : RanOn} → runWords ≤ length ws → HoldsRun s ws

@@ -1,4 +1,5 @@
-// What the entries come to for an accepted text, whose tables are lent: refusals 16 to 21.
+// What the entries come to for an accepted text, whose tables are lent: refusals 16 to 22.
+ghost use mathlib.Core.Path.{_≡_};
 ghost use Prim.Native.Nat.{_≤_};
 ghost use lib.ListN.{length};
 ghost use Rattle.notation.specs.Limits.{runWords};
@@ -6,6 +7,7 @@ ghost use Rattle.calculus.specs.Machine.{started, stepped, ranOn};
 ghost use Rattle.interpreter.specs.Entries.{toStart, toStep, toRunOn, HoldsRun};
 ghost use Rattle.check_accepted.specs.Texts.{TextIn};
 ghost use Rattle.interpreter.specs.Inside.{AnswersIn};
+ghost use Rattle.interpreter.specs.Stepping.{steppedBy};
 use calculus::answers::RanOn;
 use calculus::answers::Started;
 use calculus::answers::Stepped;
@@ -15,6 +17,7 @@ use run_steps::dispatch::step_at;
 use run_steps::running::steps_until;
 use run_steps::starting::begin_line;
 use run_wellformed::well_formed;
+use run_words::halting::is_halted;
 use run_words::processes::count;
 
 pub(crate) fn start_in(text: &[u8], tables: &[u32], run: &mut [u32], line: u32) -> Started
@@ -49,12 +52,23 @@ fn step_placed(text: &[u8], tables: &[u32], run: &mut [u32], place: usize) -> St
     requires { ⌜ (runWords ≤ length (now run)) × HoldsRun (now text) (now run) ⌝ }
     ensures { λ r. ⌜ AnswersIn (now (text .entry)) (toStep place) (now (run .entry)) (stepped r) (now (run .exit)) ⌝ }
 {
+    if is_halted(run) {
+        return Stepped::Refused(22, 0);
+    }
     if count(run) <= place {
         return Stepped::Refused(19, 0);
     }
     let o = step_at(text, tables, run, place);
+    answer_of(o)
+}
+
+// A step's outcome as the entry's answer.
+fn answer_of(o: Outcome) -> Stepped
+    ensures { λ r. ⌜ r ≡ steppedBy o ⌝ }
+{
     match o {
         Outcome::Carried(seen) => return Stepped::Carried(seen),
+        Outcome::Uncaught => return Stepped::Uncaught,
         Outcome::NotOpen => return Stepped::Refused(20, 0),
         Outcome::Lacking => return Stepped::Refused(21, 0),
     }

@@ -1,7 +1,7 @@
 -- The words that a log of calls has for an answer. s is the text.
 use Prim.Native.Nat.{ℕ, zero, suc, _+_}
 use mathlib.Core.List.{List, [], _∷_, _++_}
-use mathlib.Core.Bool.{Bool, true, false, cond, _&&_}
+use mathlib.Core.Bool.{Bool, true, false, _&&_}
 use lib.Dec.{leb}
 use Rattle.notation.specs.Bytes.{bytes}
 use Rattle.notation.specs.Token.{nameAt}
@@ -54,6 +54,7 @@ startedWords (Starts.Refused n at) = refusedWords n at
 
 unfoldable pub steppedWords : List ℕ → Stepped → List ℕ
 steppedWords s (Steps.Carried seen) = bytes "carried out" ++ seenWords s seen
+steppedWords s Steps.Uncaught = bytes "uncaught"
 steppedWords s (Steps.Refused n at) = refusedWords n at
 
 abbrev pub stepsWords : ℕ → List ℕ → List ℕ
@@ -64,6 +65,7 @@ ranOnWords s (Runs.Shown seen steps) = stepsWords steps (bytes "seen" ++ seenWor
 ranOnWords s (Runs.Done steps) = stepsWords steps (bytes "done")
 ranOnWords s (Runs.Full steps) = stepsWords steps (bytes "full")
 ranOnWords s (Runs.Stopped steps) = stepsWords steps (bytes "stopped")
+ranOnWords s (Runs.Uncaught steps) = stepsWords steps (bytes "uncaught")
 ranOnWords s (Runs.Refused n at) = refusedWords n at
 
 -- the words of each number, one after another

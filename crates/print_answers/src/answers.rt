@@ -34,6 +34,7 @@ pub fn put_stepped(text: &[u8], out: &mut [u8], at: usize, answer: Stepped) -> u
             let a = put(out, at, b"carried out");
             return put_seen(text, out, a, seen);
         }
+        Stepped::Uncaught => return put(out, at, b"uncaught"),
         Stepped::Refused(n, offset) => return put_refused(out, at, n, offset),
     }
 }
@@ -61,6 +62,7 @@ pub fn put_ran_on(text: &[u8], out: &mut [u8], at: usize, answer: RanOn) -> usiz
         RanOn::Done(steps) => return put_steps(out, at, steps, b"done"),
         RanOn::Full(steps) => return put_steps(out, at, steps, b"full"),
         RanOn::Stopped(steps) => return put_steps(out, at, steps, b"stopped"),
+        RanOn::Uncaught(steps) => return put_steps(out, at, steps, b"uncaught"),
         RanOn::Refused(n, offset) => return put_refused(out, at, n, offset),
     }
 }

@@ -6,16 +6,13 @@ use mathlib.Core.List.{List, [], _∷_, _++_}
 use mathlib.Core.Bool.{Bool, true, false}
 use lib.ListN.{length, take, drop}
 use Rattle.notation.specs.Bytes.{bytes}
-use Rattle.notation.specs.Tables.{tables}
-use Rattle.notation.specs.Tree.{Declaration}
 use Rattle.notation.specs.Limits.{textLimit}
-use Rattle.calculus.specs.Accepted.{accepted, checked}
 use Rattle.calculus.specs.Configuration.{Config}
 use Rattle.calculus.specs.Printed.{stepLimit, sighting, ending, runLines, allExecs, printed}
 use Rattle.calculus.specs.Program.{Program}
 use Rattle.calculus.specs.WellFormed.{WellFormed}
 use Rattle.calculus.specs.declared.answers.RanOn.{RanOn}
-use Rattle.calculus.specs.declared.answers.RanOn.the-variants.{Shown, Done, Full, Stopped, Refused}
+use Rattle.calculus.specs.declared.answers.RanOn.the-variants.{Shown, Done, Full, Stopped, Uncaught, Refused}
 use Rattle.read_tables.specs.Program.{programIn}
 use Rattle.run_alone.specs.Run.{configIn, RunOf}
 use Rattle.check_accepted.specs.Texts.{TextIn}
@@ -88,6 +85,7 @@ toldLines s taken (Shown seen steps) = sighting s seen
 toldLines s taken (Done steps) = ending (bytes "done") (taken + steps)
 toldLines s taken (Full steps) = ending (bytes "full") (taken + steps)
 toldLines s taken (Stopped steps) = ending (bytes "stopped") (taken + steps)
+toldLines s taken (Uncaught steps) = ending (bytes "uncaught") (taken + steps)
 toldLines s taken (Refused n at) = []
 
 abbrev pub toldStage : ℕ → ℕ → RanOn → Stage
@@ -95,6 +93,7 @@ toldStage line taken (Shown seen steps) = Running line (taken + steps)
 toldStage line taken (Done steps) = Exec (line + 1)
 toldStage line taken (Full steps) = Exec (line + 1)
 toldStage line taken (Stopped steps) = Exec (line + 1)
+toldStage line taken (Uncaught steps) = Exec (line + 1)
 toldStage line taken (Refused n at) = Exec (line + 1)
 
 -- ── every list of pieces

@@ -9,7 +9,7 @@ use Rattle.calculus.specs.Runs.{runOn}
 use Rattle.calculus.specs.Printed.{stepLimit, showing, runLines}
 use Rattle.calculus.specs.declared.answers.Seen.{Seen}
 use Rattle.calculus.specs.declared.answers.RanOn.{RanOn}
-use Rattle.calculus.specs.declared.answers.RanOn.the-variants.{Shown, Done, Full, Stopped, Refused}
+use Rattle.calculus.specs.declared.answers.RanOn.the-variants.{Shown, Done, Full, Stopped, Uncaught, Refused}
 use Rattle.theory_progress.specs.RunOn.{Ended, showingTo, given, run-on-ends}
 
 -- run-on takes at most its budget, and a sighting at least one step
@@ -19,6 +19,7 @@ module _ (p : Program) (C : Config) (budget : ℕ) where
   steps-within D (Done t) e = e .0
   steps-within D (Full t) e = e .0
   steps-within D (Stopped t) e = omega (arith, e .0)
+  steps-within D (Uncaught t) e = e .0
   steps-within D (Refused k i) e = absurd e
 
   pub given-within : given (runOn p C budget .answer) ≤ budget
@@ -41,6 +42,7 @@ module _ (s : List ℕ) (taken : ℕ) where
   showing-same (Done n) f g h = refl
   showing-same (Full n) f g h = refl
   showing-same (Stopped n) f g h = refl
+  showing-same (Uncaught n) f g h = refl
   showing-same (Refused n i) f g h = refl
 
 -- more fuel than steps are left does not matter

@@ -20,14 +20,11 @@ use Rattle.calculus.specs.Accepted.{Checked, accepted, faulty, checked}
 use Rattle.calculus.specs.Configuration.{Config}
 use Rattle.calculus.specs.Printed
 use Rattle.calculus.specs.Printed.{stepLimit, decimal, sighting, showing, runLines, execLines, allExecs, printedOf, printed}
-use Rattle.calculus.specs.Program.{Signature, Program, programOf}
+use Rattle.calculus.specs.Program.{Signature, Program}
 use Rattle.calculus.specs.Runs.{startConfig, lineSignature, execOf, runOn}
-use Rattle.calculus.specs.Verdict.{fine}
-use Rattle.calculus.specs.Verdict as calculus
 use Rattle.calculus.specs.WellFormed.{WellFormed}
 use Rattle.calculus.specs.declared.answers.RanOn.{RanOn}
-use Rattle.calculus.specs.declared.answers.RanOn.the-variants.{Shown, Done, Full, Stopped, Refused}
-use Rattle.calculus.specs.Typing.{Bodies}
+use Rattle.calculus.specs.declared.answers.RanOn.the-variants.{Shown, Done, Full, Stopped, Uncaught, Refused}
 use Rattle.theory_preservation.specs.Accepted.{accepted-start}
 use Rattle.theory_safety.specs.Safety.{run-keeps}
 use Rattle.theory_progress.specs.RunOn.{given}
@@ -38,11 +35,9 @@ use Rattle.check_text.specs.Texts.{verdictIn, wordsIn, TextChecked}
 use Rattle.read_tables.specs.Access.{ExecOf, exec-of}
 use Rattle.read_tables.specs.Decode.{tallyIn, execAt}
 use Rattle.read_tables.specs.Program.{programIn}
-use Rattle.read_tables.specs.Whole.{Tables}
 use Rattle.run_alone.specs.Run.{configIn, Becomes}
 use Rattle.run_steps.specs.Running.{RunsOn}
 use Rattle.run_steps.specs.Starting.{BeginsBy, Begins, execs-many, exec-name}
-use Rattle.run_steps.specs.Dispatch.{SmallSignatures, small-signatures}
 use Rattle.check_accepted.specs.Texts.{TextIn, tables-in, program-in}
 use Rattle.check_accepted.specs.Verdicts.{refused-so, fine-so}
 use Rattle.print_bytes.specs.Writing.{Appended}
@@ -232,6 +227,7 @@ module _ (s w ws : List ℕ) (line taken : ℕ) (r : RunningIn s w ws line taken
   told-left (Done n) e = refl
   told-left (Full n) e = refl
   told-left (Stopped n) e = refl
+  told-left (Uncaught n) e = refl
   told-left (Refused n i) e = refl
 
   module _ (vs : List ℕ) (m : Becomes s w ws vs D) where
@@ -250,6 +246,7 @@ module _ (s w ws : List ℕ) (line taken : ℕ) (r : RunningIn s w ws line taken
     told-going (Done n) e = record { is = r .text }
     told-going (Full n) e = record { is = r .text }
     told-going (Stopped n) e = record { is = r .text }
+    told-going (Uncaught n) e = record { is = r .text }
     told-going (Refused n i) e = record { is = r .text }
 
   told-falls : (a : RanOn) → A ≡ a → turns Q (toldStage line taken a) < turns Q (Running line taken)
@@ -257,6 +254,7 @@ module _ (s w ws : List ℕ) (line taken : ℕ) (r : RunningIn s w ws line taken
   told-falls (Done n) e = omega arith
   told-falls (Full n) e = omega arith
   told-falls (Stopped n) e = omega arith
+  told-falls (Uncaught n) e = omega arith
   told-falls (Refused n i) e = omega arith
 
   -- no more steps than there are

@@ -150,6 +150,7 @@ fn told_piece(text: &[u8], out: &mut [u8], line: usize, taken: u32, answer: RanO
         RanOn::Done(steps) => return ended_piece(out, b"done", line, taken + steps),
         RanOn::Full(steps) => return ended_piece(out, b"full", line, taken + steps),
         RanOn::Stopped(steps) => return ended_piece(out, b"stopped", line, taken + steps),
+        RanOn::Uncaught(steps) => return ended_piece(out, b"uncaught", line, taken + steps),
         RanOn::Refused(_, _) => return Piece {
             length: 0,
             stage: Stage::Exec(line + 1),

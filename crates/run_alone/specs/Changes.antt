@@ -1,5 +1,5 @@
 -- Changes of a run, as the calculus has them.
-use Prim.Native.Nat.{ℕ, suc, _+_, _-_, _≤_, _<_}
+use Prim.Native.Nat.{ℕ, suc, _-_, _≤_, _<_}
 use mathlib.Core.Path.{_≡_, refl, sym, _∙_, ap, subst}
 use mathlib.Core.List.{List, [], _∷_, _++_, map}
 use mathlib.Core.Bool.{Bool, true, false, cond}
@@ -115,20 +115,28 @@ module _ (s w : List ℕ) where
 
   -- ── what is changed
   module _ (old new : List ℕ) (t : RunOf s w old) where
-    by-processes : (f : List RawProcess → List RawProcess) (l : List Process) → map decodes (f (rawIn old .processes)) ≡ l → All (Fits s w) (f (rawIn old .processes))
-        → Changed old new (raw.onProcesses f (rawIn old)) → Bounded (rawIn new) → Becomes s w old new (calculus.withProcesses l (configIn s w old))
-    by-processes f l e a c b = record {
-      is = ap (decoded (nameAt s) (plainIn s w) (processIn s w)) (c .is) ∙ ap (λ m. calculus.withProcesses m (configIn s w old)) e;
+    abbrev TypedOutside : RawOutside → Type 0
+    TypedOutside o = TypeIn s w (o .node)
+
+    -- the words are now those of C, which stands for D
+    becomes : (C : RawConfig) (D : Config) → decoded (nameAt s) (plainIn s w) (processIn s w) C ≡ D → All (Fits s w) (C .processes) → All TypedOutside (C .outside)
+        → Changed old new C → Bounded (rawIn new) → Becomes s w old new D
+    becomes C D e p o c b = record {
+      is = ap (decoded (nameAt s) (plainIn s w) (processIn s w)) (c .is) ∙ e;
       run = record {
         tables = t .tables;
         wide = omega (arith, t .wide, c .long);
         bounds = b;
-        processes = subst (λ (C : RawConfig). All (Fits s w) (C .processes)) (sym (c .is)) a;
-        outside = subst (λ (C : RawConfig). All (λ (o : RawOutside). TypeIn s w (o .node)) (C .outside)) (sym (c .is)) (t .outside);
+        processes = subst (λ (C : RawConfig). All (Fits s w) (C .processes)) (sym (c .is)) p;
+        outside = subst (λ (C : RawConfig). All TypedOutside (C .outside)) (sym (c .is)) o;
       };
       past = c .past;
       long = c .long;
     }
+
+    by-processes : (f : List RawProcess → List RawProcess) (l : List Process) → map decodes (f (rawIn old .processes)) ≡ l → All (Fits s w) (f (rawIn old .processes))
+        → Changed old new (raw.onProcesses f (rawIn old)) → Bounded (rawIn new) → Becomes s w old new (calculus.withProcesses l (configIn s w old))
+    by-processes f l e a = becomes (raw.onProcesses f (rawIn old)) _ (ap (λ m. calculus.withProcesses m (configIn s w old)) e) a (t .outside)
 
     pub stored : (i : ℕ) (p : ProcessWords) → ProcessOf s w (length (rawIn old .processes)) p → Changed old new (raw.onProcesses (λ l. set l i (values.processIn p)) (rawIn old)) → Bounded (rawIn new)
         → Becomes s w old new (replaced i (processAs s w p) (configIn s w old))
@@ -155,26 +163,12 @@ module _ (s w : List ℕ) where
         (all-remove (Fits s w) i (map (raw.relinked (movedDown i)) (rawIn old .processes)) (relinked-fits (movedDown i))) c b
 
     -- ── the outside
-    abbrev TypedOutside : RawOutside → Type 0
-    TypedOutside o = TypeIn s w (o .node)
-
     abbrev outsides : List RawOutside → List Outside
     outsides l = map (decodedOutside (nameAt s) (plainIn s w) (processIn s w)) l
 
     by-outside : (f : List RawOutside → List RawOutside) (l : List Outside) → outsides (f (rawIn old .outside)) ≡ l → All TypedOutside (f (rawIn old .outside))
         → Changed old new (raw.onOutside f (rawIn old)) → Bounded (rawIn new) → Becomes s w old new (calculus.withOutside l (configIn s w old))
-    by-outside f l e a c b = record {
-      is = ap (decoded (nameAt s) (plainIn s w) (processIn s w)) (c .is) ∙ ap (λ m. calculus.withOutside m (configIn s w old)) e;
-      run = record {
-        tables = t .tables;
-        wide = omega (arith, t .wide, c .long);
-        bounds = b;
-        processes = subst (λ (C : RawConfig). All (Fits s w) (C .processes)) (sym (c .is)) (t .processes);
-        outside = subst (λ (C : RawConfig). All TypedOutside (C .outside)) (sym (c .is)) a;
-      };
-      past = c .past;
-      long = c .long;
-    }
+    by-outside f l e a = becomes (raw.onOutside f (rawIn old)) _ (ap (λ m. calculus.withOutside m (configIn s w old)) e) (t .processes) a
 
     pub let-go : (k : ℕ) → Changed old new (raw.onOutside (raw.letGo k) (rawIn old)) → Bounded (rawIn new) → Becomes s w old new (calculus.withOutside (calculus.letGo k (configIn s w old .outside)) (configIn s w old))
     let-go k = by-outside (raw.letGo k) _ (decoded-letGo (nameAt s) (plainIn s w) (processIn s w) k (rawIn old .outside)) (letGo-all TypedOutside k (rawIn old .outside) (t .outside))
@@ -198,18 +192,10 @@ module _ (s w : List ℕ) where
         (all-append TypedOutside (rawIn old .outside) (values.outsideIn o ∷ []) (t .outside) (u, tt))
 
     pub given : (n : ℕ) → Changed old new (raw.withGiven (rawIn old) n) → Bounded (rawIn new) → Becomes s w old new (calculus.withGiven n (configIn s w old))
-    given n c b = record {
-      is = ap (decoded (nameAt s) (plainIn s w) (processIn s w)) (c .is);
-      run = record {
-        tables = t .tables;
-        wide = omega (arith, t .wide, c .long);
-        bounds = b;
-        processes = subst (λ (C : RawConfig). All (Fits s w) (C .processes)) (sym (c .is)) (t .processes);
-        outside = subst (λ (C : RawConfig). All TypedOutside (C .outside)) (sym (c .is)) (t .outside);
-      };
-      past = c .past;
-      long = c .long;
-    }
+    given n = becomes (raw.withGiven (rawIn old) n) _ refl (t .processes) (t .outside)
+
+    pub halted : Changed old new (raw.withHalted (rawIn old) 1) → Bounded (rawIn new) → Becomes s w old new (calculus.halt (configIn s w old))
+    halted = becomes (raw.withHalted (rawIn old) 1) _ refl (t .processes) (t .outside)
 
 -- how many processes there are now
 pub places-after : {s w old new : List ℕ} {D : Config} → Becomes s w old new D → length (rawIn new .processes) ≡ length (D .processes)

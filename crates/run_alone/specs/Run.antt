@@ -6,7 +6,7 @@ use mathlib.Core.Option.{some}
 use lib.ListN.{length, drop}
 use Rattle.notation.specs.Limits.{runWords}
 use Rattle.notation.specs.Token.{nameAt}
-use Rattle.calculus.specs.Configuration.{Doing, Process, holding, Config, at}
+use Rattle.calculus.specs.Configuration.{Doing, Process, holding, Config, halt, at}
 use Rattle.calculus.specs.Steps as calculus
 use Rattle.read_tables.specs.Decode.{processIn}
 use Rattle.read_tables.specs.Program.{plainIn}
@@ -19,7 +19,7 @@ use Rattle.run_words.specs.Values as values
 use Rattle.run_words.specs.declared.records.Process.{Process as ProcessWords}
 use Rattle.check_contexts.specs.Held.{channelsOf, EndIn, HeldIn}
 use Rattle.run_alone.specs.declared.outcome.Outcome.{Outcome}
-use Rattle.run_alone.specs.declared.outcome.Outcome.the-variants.{Carried, NotOpen, Lacking}
+use Rattle.run_alone.specs.declared.outcome.Outcome.the-variants.{Carried, Uncaught, NotOpen, Lacking}
 
 abbrev pub configIn : List ℕ → List ℕ → List ℕ → Config
 configIn s w ws = decoded (nameAt s) (plainIn s w) (processIn s w) (rawIn ws)
@@ -68,6 +68,7 @@ pub record Becomes (s w old new : List ℕ) (D : Config) : Type 0 where
 -- what a rule promises, by what the calculus' own step comes to
 abbrev pub CarriesBy : List ℕ → List ℕ → List ℕ → List ℕ → Outcome → calculus.Outcome → Type 0
 CarriesBy s w old new r (calculus.carried seen D) = (r ≡ Carried seen) × Becomes s w old new D
+CarriesBy s w old new r calculus.uncaught = (r ≡ Uncaught) × Becomes s w old new (halt (configIn s w old))
 CarriesBy s w old new r calculus.notOpen = (r ≡ NotOpen) × (new ≡ old)
 CarriesBy s w old new r calculus.lacking = (r ≡ Lacking) × (new ≡ old)
 

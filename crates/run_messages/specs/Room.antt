@@ -12,7 +12,6 @@ use Rattle.notation.specs.Bytes.{same}
 use Rattle.notation.specs.Token.{nameAt}
 use Rattle.notation.specs.Tree.{Name, Proc}
 use Rattle.notation.specs.declared.reading.TermNode.{TermNode}
-use Rattle.calculus.specs.Named.{isSome}
 use Rattle.calculus.specs.Program.{Context, Program}
 use Rattle.calculus.specs.Typing.{Typed, sends-unit, recvs-unit, sends-channel, recvs-channel, sends-label, recvs-label, forwards, calls, spawns, tries, raises, cancels, empties}
 use Rattle.calculus.specs.Configuration.{Doing, running, folding, waiting, Process, Outside}
@@ -21,7 +20,7 @@ use Rattle.calculus.specs.Reports.{number-borne}
 use Rattle.calculus.specs.WellFormed.{In, Rising, contextOf, isWaiting, TypedAs, WellFormed}
 use Rattle.read_tables.specs.Program.{programIn}
 use Rattle.run_words.specs.ListLaws.{all-of, map-at}
-use Rattle.run_words.specs.Raw.{rawIn, linkOf}
+use Rattle.run_words.specs.Raw.{rawIn}
 use Rattle.run_words.specs.Bounds.{Unlinked}
 use Rattle.run_words.specs.Near.{HeldOnce, held-key}
 use Rattle.run_words.specs.declared.records.Process.{Process as ProcessWords}
@@ -54,7 +53,7 @@ heard-wants x (receives c v) e = go (same (c .name) x) e
     go false e = absurd (false≢true e)
 heard-wants x alone e = absurd (false≢true e)
 
-receiver-room : {p : Program} {G : Context} {link : Bool} {P : Proc} → Typed p G link P → wantsChannel (turn P) ≡ true → length G < heldLimit
+receiver-room : {p : Program} {G : Context} {P : Proc} → Typed p G P → wantsChannel (turn P) ≡ true → length G < heldLimit
 receiver-room (sends-unit a d) e = absurd (false≢true e)
 receiver-room (recvs-unit a d) e = absurd (false≢true e)
 receiver-room (sends-channel T A t n b a l m d) e = absurd (false≢true e)
@@ -65,20 +64,20 @@ receiver-room (forwards A B a b c d) e = absurd (false≢true e)
 receiver-room (calls s a b c d f) e = absurd (false≢true e)
 receiver-room (spawns a b c d f) e = absurd (false≢true e)
 receiver-room (tries a b c) e = absurd (false≢true e)
-receiver-room (raises a b) e = absurd (false≢true e)
+receiver-room (raises a) e = absurd (false≢true e)
 receiver-room (cancels a b) e = absurd (false≢true e)
 receiver-room (empties a) e = absurd (false≢true e)
 
-doing-room : (p : Program) (G : Context) (link : Bool) (d : Doing) → TypedAs p G link d → wantsChannel (turnOf d) ≡ true → length G < heldLimit
-doing-room p G link (running P) (a, t) e = receiver-room t e
-doing-room p G link folding t e = absurd (false≢true e)
-doing-room p G link (waiting Q) t e = absurd (false≢true e)
+doing-room : (p : Program) (G : Context) (d : Doing) → TypedAs p G d → wantsChannel (turnOf d) ≡ true → length G < heldLimit
+doing-room p G (running P) (a, t) e = receiver-room t e
+doing-room p G folding t e = absurd (false≢true e)
+doing-room p G (waiting Q) t e = absurd (false≢true e)
 
 module _ (s w ws : List ℕ) (F : WellFormed (programIn s w) (configIn s w ws)) where
   pub room-to-hear : (j : ℕ) (r : ProcessWords) (x : ℕ) (t : TermNode) → StandsAt s w ws j r → Heard s w x (doingAs s w (r .kind) (r .pointer)) t → t .kind ≡ recvChannelKind → r .held .count < heldLimit
   room-to-hear j r x t u g z =
       let e : wantsChannel (heard (nameAt s x) (turnOf (doingAs s w (r .kind) (r .pointer)))) ≡ true = ap wantsChannel (g .is) ∙ ap (λ k. wantsChannel (turnBy s w t k)) z in
-      let l = doing-room (programIn s w) (contextOf (channelsOf s w (r .held))) (isSome (linkOf (r .link))) (doingAs s w (r .kind) (r .pointer)) (F .typed j (processAs s w r) (record { there = u .there })) (heard-wants (nameAt s x) (turnOf (doingAs s w (r .kind) (r .pointer))) e) in
+      let l = doing-room (programIn s w) (contextOf (channelsOf s w (r .held))) (doingAs s w (r .kind) (r .pointer)) (F .typed j (processAs s w r) (record { there = u .there })) (heard-wants (nameAt s x) (turnOf (doingAs s w (r .kind) (r .pointer))) e) in
       omega (arith, l, context-length (channelsOf s w (r .held)), channels-many s w (r .held))
 
   -- ── fewer outside channels than numbers given

@@ -9,11 +9,11 @@ use lib.ListN.{length, drop}
 use Rattle.calculus.specs.Named.{isSome}
 use Rattle.calculus.specs.Program.{Program}
 use Rattle.calculus.specs.Configuration.{Process, Config}
-use Rattle.calculus.specs.Steps.{Outcome, carried, notOpen, lacking, step}
+use Rattle.calculus.specs.Steps.{Outcome, carried, uncaught, notOpen, lacking, step}
 use Rattle.calculus.specs.Runs.{isCarried, firstFrom, choosePlace}
 use Rattle.read_tables.specs.Program.{programIn}
 use Rattle.run_alone.specs.declared.outcome.Outcome.{Outcome as OutcomeWords}
-use Rattle.run_alone.specs.declared.outcome.Outcome.the-variants.{Carried, NotOpen, Lacking}
+use Rattle.run_alone.specs.declared.outcome.Outcome.the-variants.{Carried, Uncaught, NotOpen, Lacking}
 use Rattle.run_alone.specs.Run.{configIn, Carries}
 use Rattle.run_alone.specs.Changes.{places-in}
 use Rattle.run_words.specs.Raw.{rawIn}
@@ -27,6 +27,7 @@ stepFirst p C = stepChosen p C (choosePlace p C)
 
 abbrev pub wasCarried : OutcomeWords → Bool
 wasCarried (Carried seen) = true
+wasCarried Uncaught = true
 wasCarried NotOpen = false
 wasCarried Lacking = false
 
@@ -61,7 +62,7 @@ module _ (p : Program) (C : Config) where
   none-left : {i : ℕ} → Skipped p C i → length (C .processes) ≤ i → choosePlace p C ≡ none
   none-left {i} k h = k .left ∙ ended (C .processes) i i h
 
-  -- a place that is chosen is one whose step is carried out
+  -- a place that is chosen is one whose step is taken
   chosen-carried : (i : ℕ) (l : List Process) → isCarried (stepChosen p C (firstFrom p C i l)) ≡ isSome (firstFrom p C i l)
   unfolding firstFrom
   chosen-carried i [] = refl
@@ -86,11 +87,13 @@ module _ (s w old : List ℕ) where
 
   pub answers-so : {new : List ℕ} {r : OutcomeWords} (o : Outcome) → Carries s w old new r o → isCarried o ≡ wasCarried r
   answers-so (carried seen D) c = sym (ap wasCarried (c .is .0))
+  answers-so uncaught c = sym (ap wasCarried (c .is .0))
   answers-so notOpen c = sym (ap wasCarried (c .is .0))
   answers-so lacking c = sym (ap wasCarried (c .is .0))
 
   as-before : {new : List ℕ} {r : OutcomeWords} (o : Outcome) → Carries s w old new r o → isCarried o ≡ false → new ≡ old
   as-before (carried seen D) c e = absurd (true≢false e)
+  as-before uncaught c e = absurd (true≢false e)
   as-before notOpen c e = c .is .1
   as-before lacking c e = c .is .1
 

@@ -11,7 +11,7 @@ use Rattle.notation.specs.Reader.{nameIn, labelIn}
 use Rattle.notation.specs.Tree.{Name, Located, Ty, Proc, sendLabel, spawn, call}
 use Rattle.notation.specs.Tables.{termNode}
 use Rattle.notation.specs.declared.reading.TermNode.{TermNode}
-use Rattle.calculus.specs.Named.{lookup, kept, isSome}
+use Rattle.calculus.specs.Named.{lookup, kept}
 use Rattle.calculus.specs.Types.{Side, provided}
 use Rattle.calculus.specs.Program.{slot, Context, Signature, Program, signatureContext}
 use Rattle.calculus.specs.Mentions.{spawnTakes, spawnLeaves, halfMentions}
@@ -24,7 +24,7 @@ use Rattle.read_tables.specs.Decode.{typeIn, processIn, argumentsAt}
 use Rattle.read_tables.specs.Names.{CallAt}
 use Rattle.read_tables.specs.Program.{programIn}
 use Rattle.read_tables.specs.Roots.{TypeIn, ProcessIn, Handlers, each-kind, processCases, process-root}
-use Rattle.run_words.specs.Raw.{rawIn, linkOf, pointerLimit, runningKind}
+use Rattle.run_words.specs.Raw.{rawIn, pointerLimit, runningKind}
 use Rattle.run_words.specs.Values.{valueOf}
 use Rattle.run_words.specs.declared.records.Process.{Process as ProcessWords}
 use Rattle.check_contexts.specs.Held.{channelsOf}
@@ -64,29 +64,29 @@ module _ (s w old : List ℕ) (i : ℕ) (q : Process) (n : TermNode) where
   ruleBy (suc (suc (suc (suc (suc (suc (suc (suc (suc (suc (suc zero))))))))))) = raising C i q (processIn s w (n .third))
   ruleBy (suc (suc (suc (suc (suc (suc (suc (suc (suc (suc (suc (suc k)))))))))))) = trying C i q (processIn s w (n .second)) (processIn s w (n .third))
 
-module _ (s w : List ℕ) (G : Context) (link : Bool) (n : TermNode) where
+module _ (s w : List ℕ) (G : Context) (n : TermNode) where
   abbrev pub factsBy : ℕ → Type 0
   factsBy zero = ⊥
   factsBy (suc zero) = ProcessIn s w (n .third)
   factsBy (suc (suc zero)) = ProcessIn s w (n .third)
   factsBy (suc (suc (suc zero))) = (n .second < pointerLimit) × ProcessIn s w (n .third)
   factsBy (suc (suc (suc (suc zero)))) = ProcessIn s w (n .third)
-  factsBy (suc (suc (suc (suc (suc zero))))) = TypeIn s w (n .first) × ProcessIn s w (n .second) × ProcessIn s w (n .third) × Typed (programIn s w) G link (spawn (nameIn s (n .at)) (typeIn s w (n .first)) (processIn s w (n .second)) (processIn s w (n .third)))
+  factsBy (suc (suc (suc (suc (suc zero))))) = TypeIn s w (n .first) × ProcessIn s w (n .second) × ProcessIn s w (n .third) × Typed (programIn s w) G (spawn (nameIn s (n .at)) (typeIn s w (n .first)) (processIn s w (n .second)) (processIn s w (n .third)))
   factsBy (suc (suc (suc (suc (suc (suc zero)))))) = Unit {0}
   factsBy (suc (suc (suc (suc (suc (suc (suc zero))))))) = Unit {0}
   factsBy (suc (suc (suc (suc (suc (suc (suc (suc zero)))))))) = Unit {0}
   factsBy (suc (suc (suc (suc (suc (suc (suc (suc (suc zero))))))))) = Unit {0}
-  factsBy (suc (suc (suc (suc (suc (suc (suc (suc (suc (suc zero)))))))))) = CallAt s (n .second) (argumentsAt s (n .second) .0) (argumentsAt s (n .second) .1) × Typed (programIn s w) G link (call (n .at) (nameIn s (n .first)) (n .second) (argumentsAt s (n .second) .0) (argumentsAt s (n .second) .1))
+  factsBy (suc (suc (suc (suc (suc (suc (suc (suc (suc (suc zero)))))))))) = CallAt s (n .second) (argumentsAt s (n .second) .0) (argumentsAt s (n .second) .1) × Typed (programIn s w) G (call (n .at) (nameIn s (n .first)) (n .second) (argumentsAt s (n .second) .0) (argumentsAt s (n .second) .1))
   factsBy (suc (suc (suc (suc (suc (suc (suc (suc (suc (suc (suc zero))))))))))) = ProcessIn s w (n .third)
   factsBy (suc (suc (suc (suc (suc (suc (suc (suc (suc (suc (suc (suc k)))))))))))) = ProcessIn s w (n .second) × ProcessIn s w (n .third)
 
-module _ (s w old : List ℕ) (i : ℕ) (q : Process) (A : Proc) (G : Context) (link : Bool) (d : Typed (programIn s w) G link A)
+module _ (s w old : List ℕ) (i : ℕ) (q : Process) (A : Proc) (G : Context) (d : Typed (programIn s w) G A)
     (small : (o : ℕ) (c : Located) (k : ℕ) (P : Proc) → A ≡ sendLabel o c (labelIn s k) P → k < pointerLimit) (at first second third : ℕ) where
   abbrev node : ℕ → TermNode
   node k = termNode k at first second third
 
   abbrev Ruled : ℕ → Type 0
-  Ruled k = (stepTerm (programIn s w) (configIn s w old) i q A ≡ ruleBy s w old i q (node k) k) × factsBy s w G link (node k) k
+  Ruled k = (stepTerm (programIn s w) (configIn s w old) i q A ≡ ruleBy s w old i q (node k) k) × factsBy s w G (node k) k
 
   abbrev ruled : {B : Proc} → A ≡ B → stepTerm (programIn s w) (configIn s w old) i q A ≡ stepTerm (programIn s w) (configIn s w old) i q B
   ruled e = ap (stepTerm (programIn s w) (configIn s w old) i q) e
@@ -104,7 +104,7 @@ module _ (s w old : List ℕ) (i : ℕ) (q : Process) (A : Proc) (G : Context) (
           (
             λ ((m, f), e). (ruled e, f),
             (
-              λ (t, (l, f), ((m, g), e)). (ruled e, (t, f, g, subst (Typed (programIn s w) G link) e d)),
+              λ (t, (l, f), ((m, g), e)). (ruled e, (t, f, g, subst (Typed (programIn s w) G) e d)),
               (
                 λ (f, e). (ruled e, tt),
                 (
@@ -114,7 +114,7 @@ module _ (s w old : List ℕ) (i : ℕ) (q : Process) (A : Proc) (G : Context) (
                     (
                       λ e. (ruled e, tt),
                       (
-                        λ (c, e). (ruled e, (c, subst (Typed (programIn s w) G link) e d)),
+                        λ (c, e). (ruled e, (c, subst (Typed (programIn s w) G) e d)),
                         (λ ((m, f), e). (ruled e, f), (λ ((l, f), ((m, g), e)). (ruled e, (f, g)), tt)),
                       ),
                     ),
@@ -133,21 +133,18 @@ module _ (s w old : List ℕ) (t : RunOf s w old) (F : WellFormed (programIn s w
   abbrev context : Context
   context = contextOf (channelsOf s w (p .held))
 
-  abbrev linked : Bool
-  linked = isSome (linkOf (p .link))
-
   stands-term : ProcessIn s w (p .pointer)
   stands-term = u .is .term (λ e. let q : _≡_ {A = ℕ} 0 1 = sym z ∙ e in omega arith)
 
-  typed-term : Typed (programIn s w) context linked (processIn s w (p .pointer))
-  typed-term = subst (λ k. TypedAs (programIn s w) context linked (doingAs s w k (p .pointer))) z (F .typed i (processAs s w p) (record { there = u .there })) .1
+  typed-term : Typed (programIn s w) context (processIn s w (p .pointer))
+  typed-term = subst (λ k. TypedAs (programIn s w) context (doingAs s w k (p .pointer))) z (F .typed i (processAs s w p) (record { there = u .there })) .1
 
   pub node-ruled : (n : TermNode) → p .pointer < processTermLimit → TermOf w (p .pointer) n
-      → (stepTerm (programIn s w) (configIn s w old) i (processAs s w p) (processIn s w (p .pointer)) ≡ ruleBy s w old i (processAs s w p) n (n .kind)) × factsBy s w context linked n (n .kind)
+      → (stepTerm (programIn s w) (configIn s w old) i (processAs s w p) (processIn s w (p .pointer)) ≡ ruleBy s w old i (processAs s w p) n (n .kind)) × factsBy s w context n (n .kind)
   node-ruled n b o =
       each-kind (processCases s w n (processIn s w (p .pointer)))
-      (Ruled s w old i (processAs s w p) (processIn s w (p .pointer)) context linked typed-term (label-small s w (p .pointer) (t .tables) stands-term) (n .at) (n .first) (n .second) (n .third))
-      (rules s w old i (processAs s w p) (processIn s w (p .pointer)) context linked typed-term (label-small s w (p .pointer) (t .tables) stands-term) (n .at) (n .first) (n .second) (n .third))
+      (Ruled s w old i (processAs s w p) (processIn s w (p .pointer)) context typed-term (label-small s w (p .pointer) (t .tables) stands-term) (n .at) (n .first) (n .second) (n .third))
+      (rules s w old i (processAs s w p) (processIn s w (p .pointer)) context typed-term (label-small s w (p .pointer) (t .tables) stands-term) (n .at) (n .first) (n .second) (n .third))
       (n .kind) (o .says s (t .tables) stands-term .node b .1)
 
   pub empty-ruled : processTermLimit ≤ p .pointer → {new : List ℕ} {r : OutcomeWords} → Carries s w old new r (leaving (configIn s w old) i (processAs s w p)) → Carries s w old new r (stepTerm (programIn s w) (configIn s w old) i (processAs s w p) (processIn s w (p .pointer)))
@@ -164,7 +161,7 @@ kept-many t (e ∷ l) = go (t (e .0)) (kept-many t l)
     go true h = ap suc h
     go false h = h
 
-pub spawn-room : {p : Program} {link : Bool} {x : Located} {A : Ty Located} {P Q : Proc} (l : List (Name × End)) → Typed p (contextOf l) link (spawn x A P Q) → (length (spawnTakes (x .name) P l) < heldLimit) × (length (spawnLeaves (x .name) P l) < heldLimit)
+pub spawn-room : {p : Program} {x : Located} {A : Ty Located} {P Q : Proc} (l : List (Name × End)) → Typed p (contextOf l) (spawn x A P Q) → (length (spawnTakes (x .name) P l) < heldLimit) × (length (spawnLeaves (x .name) P l) < heldLimit)
 unfolding spawnTakes spawnLeaves
 spawn-room {x = x} {P = P} l (spawns nb bP bQ dP dQ) = (omega (arith, bP .room, kept-many (halfMentions (x .name) P) l), omega (arith, bQ .room, kept-many (λ n. not (halfMentions (x .name) P n)) l))
 
@@ -175,23 +172,23 @@ fits-many G a [] (x ∷ es) e = absurd (false≢true e)
 fits-many G a (n ∷ ns) [] e = absurd (false≢true e)
 fits-many G a (n ∷ ns) (x ∷ es) e = ap suc (fits-many G a ns es (and-eq-true-iff (entryFits a (x .1) (lookup n G)) (listFits G a ns es) .0 e .1))
 
-pub call-fits : {p : Program} {G : Context} {link : Bool} {o bracket : ℕ} {q : Located} {xs ys : List Located} → Typed p G link (call o q bracket xs ys) → (g : Signature) → lookup (q .name) (p .processes) ≡ some g → length xs ≡ length (g .provides)
+pub call-fits : {p : Program} {G : Context} {o bracket : ℕ} {q : Located} {xs ys : List Located} → Typed p G (call o q bracket xs ys) → (g : Signature) → lookup (q .name) (p .processes) ≡ some g → length xs ≡ length (g .provides)
 call-fits {G = G} {xs = xs} (calls h e fx fy d w) g z = sym (names-many xs) ∙ fits-many G provided (namesOf xs) (h .provides) fx ∙ ap (λ (x : Signature). length (x .provides)) (Option·some-injective _ _ (sym e ∙ z))
 
 -- ── the node n says which rule applies
 pub record RuledBy (s w old : List ℕ) (i : ℕ) (p : ProcessWords) (n : TermNode) : Type 0 where
   pub is : stepTerm (programIn s w) (configIn s w old) i (processAs s w p) (processIn s w (p .pointer)) ≡ ruleBy s w old i (processAs s w p) n (n .kind)
-  pub facts : factsBy s w (contextOf (channelsOf s w (p .held))) (isSome (linkOf (p .link))) n (n .kind)
+  pub facts : factsBy s w (contextOf (channelsOf s w (p .held))) n (n .kind)
   pub at : n .at < textLimit
 
 abbrev pub termBy : List ℕ → List ℕ → List ℕ → ℕ → ProcessWords → Outcome
 termBy s w old i p = stepTerm (programIn s w) (configIn s w old) i (processAs s w p) (processIn s w (p .pointer))
 
 module _ (s w old : List ℕ) (i : ℕ) (p : ProcessWords) (n : TermNode) (u : RuledBy s w old i p n) where
-  pub facts-at : (k : ℕ) → n .kind ≡ k → factsBy s w (contextOf (channelsOf s w (p .held))) (isSome (linkOf (p .link))) n k
-  facts-at k e = subst (factsBy s w (contextOf (channelsOf s w (p .held))) (isSome (linkOf (p .link))) n) e (u .facts)
+  pub facts-at : (k : ℕ) → n .kind ≡ k → factsBy s w (contextOf (channelsOf s w (p .held))) n k
+  facts-at k e = subst (factsBy s w (contextOf (channelsOf s w (p .held))) n) e (u .facts)
 
-  facts-send : (k : ℕ) → 1 ≤ k → k ≤ 3 → factsBy s w (contextOf (channelsOf s w (p .held))) (isSome (linkOf (p .link))) n k → ProcessIn s w (n .third)
+  facts-send : (k : ℕ) → 1 ≤ k → k ≤ 3 → factsBy s w (contextOf (channelsOf s w (p .held))) n k → ProcessIn s w (n .third)
   facts-send zero a b f = absurd f
   facts-send (suc zero) a b f = f
   facts-send (suc (suc zero)) a b f = f
@@ -230,8 +227,8 @@ module _ (s w old : List ℕ) (i : ℕ) (p : ProcessWords) (n : TermNode) (u : R
         go (suc (suc (suc (suc (suc (suc (suc (suc zero)))))))) e a b = ruled-as 8 e c
         go (suc (suc (suc (suc (suc (suc (suc (suc (suc k))))))))) e a b = absurd (omega arith)
 
-  facts-last : (k : ℕ) → 11 < k → n .kind ≡ k → factsBy s w (contextOf (channelsOf s w (p .held))) (isSome (linkOf (p .link))) n k → ProcessIn s w (n .second) × ProcessIn s w (n .third)
-  facts-last k l e f = let z : k ≡ suc (suc (suc (suc (suc (suc (suc (suc (suc (suc (suc (suc (k - 12)))))))))))) = omega arith in subst (factsBy s w (contextOf (channelsOf s w (p .held))) (isSome (linkOf (p .link))) n) z f
+  facts-last : (k : ℕ) → 11 < k → n .kind ≡ k → factsBy s w (contextOf (channelsOf s w (p .held))) n k → ProcessIn s w (n .second) × ProcessIn s w (n .third)
+  facts-last k l e f = let z : k ≡ suc (suc (suc (suc (suc (suc (suc (suc (suc (suc (suc (suc (k - 12)))))))))))) = omega arith in subst (factsBy s w (contextOf (channelsOf s w (p .held))) n) z f
 
   pub try-parts : raiseKind < n .kind → ProcessIn s w (n .second) × ProcessIn s w (n .third)
   try-parts l = facts-last (n .kind) l refl (u .facts)

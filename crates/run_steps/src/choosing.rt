@@ -14,13 +14,14 @@ pub(crate) fn was_carried(r: Outcome) -> bool
 {
     match r {
         Outcome::Carried(seen) => return true,
+        Outcome::Uncaught => return true,
         Outcome::NotOpen => return false,
         Outcome::Lacking => return false,
     }
 }
 
-// The step at the first place where one can be carried out; not open where there is no such place. A step that is
-// not carried out leaves the run as it was, so trying is choosing.
+// The step at the first place where one can be carried out, or halts the run; not open where there is no such place. A step that is
+// not taken leaves the run as it was, so trying is choosing.
 pub(crate) fn step_first(text: &[u8], scratch: &[u32], run: &mut [u32]) -> Outcome
     requires { ⌜ RunOf (now text) (now scratch) (now run) ⌝ }
     requires { ⌜ WellFormed (programIn (now text) (now scratch)) (configIn (now text) (now scratch) (now run)) ⌝ }

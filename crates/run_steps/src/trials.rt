@@ -18,6 +18,7 @@ use crate::choosing::was_carried;
 use crate::dispatch::step_at;
 use notation::script::Script;
 use run_alone::outcome::Outcome;
+use run_words::halting::is_halted;
 use run_words::words::copy_words;
 
 // The words of a run.
@@ -42,24 +43,28 @@ pub(crate) fn can_go_on(text: &[u8], scratch: &[u32], run: &[u32]) -> bool
     was_carried(o)
 }
 
-// What a step's outcome says of its place: not open 0, open 1, open but lacking 2.
+// What a step's outcome says of its place, in a run that has not halted: not open 0, open 1, open but lacking 2.
 fn openness(o: Outcome) -> u32
     ensures { λ r. ⌜ r ≡ opennessBy o ⌝ }
 {
     match o {
         Outcome::Carried(seen) => return 1,
+        Outcome::Uncaught => return 1,
         Outcome::NotOpen => return 0,
         Outcome::Lacking => return 2,
     }
 }
 
-// The same of the step at a place.
+// The same of the step at a place: in a halted run none is open.
 pub fn openness_at(text: &[u8], scratch: &[u32], run: &[u32], place: usize) -> u32
     requires { ⌜ RunOf (now text) (now scratch) (now run) ⌝ }
     requires { ⌜ WellFormed (programIn (now text) (now scratch)) (configIn (now text) (now scratch) (now run)) ⌝ }
     requires { ⌜ SmallSignatures (programIn (now text) (now scratch)) ⌝ }
-    ensures { λ r. ⌜ r ≡ openness (step (programIn (now (text .entry)) (now (scratch .entry))) (configIn (now (text .entry)) (now (scratch .entry)) (now (run .entry))) place) ⌝ }
+    ensures { λ r. ⌜ r ≡ openness (configIn (now (text .entry)) (now (scratch .entry)) (now (run .entry)) .halted) (step (programIn (now (text .entry)) (now (scratch .entry))) (configIn (now (text .entry)) (now (scratch .entry)) (now (run .entry))) place) ⌝ }
 {
+    if is_halted(run) {
+        return 0;
+    }
     let mut copy = copy_of(run);
     let o = step_at(text, scratch, &mut copy, place);
     openness(o)

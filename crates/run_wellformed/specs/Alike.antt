@@ -1,21 +1,19 @@
--- Processes of which typing says the same: it looks at what a process does, whether it is linked, and the names, sides and types of what it holds.
-use Prim.Native.Nat.{ℕ, zero, suc, _+_, _≤_, _<_}
+-- Processes of which typing says the same: it looks at what a process does, and the names, sides and types of what it holds.
+use Prim.Native.Nat.{ℕ, suc, _+_, _≤_, _<_}
 use mathlib.Core.Path.{_≡_, refl, sym, _∙_, ap, subst}
 use mathlib.Core.List.{List, [], _∷_}
-use mathlib.Core.Bool.{Bool, true}
 use mathlib.Core.Option.{some, Option·some-injective}
 use native.Mathlib.Omega.{arith}
 use native.Mathlib.Decide.{ℕ-discrete}
 use lib.ListN.{length, getElem?}
 use Rattle.notation.specs.Token.{nameAt}
-use Rattle.calculus.specs.Named.{isSome}
-use Rattle.calculus.specs.Program.{Context, slot}
+use Rattle.calculus.specs.Program.{slot}
 use Rattle.calculus.specs.WellFormed.{contextOf}
 use Rattle.theory_decision.specs.Decide.{typedAs?}
 use Rattle.read_tables.specs.Decode.{processIn}
 use Rattle.read_tables.specs.Program.{plainIn, programIn}
 use Rattle.run_words.specs.ListLaws.{below-length}
-use Rattle.run_words.specs.Raw.{RawEnd, RawProcess, linkOf}
+use Rattle.run_words.specs.Raw.{RawEnd, RawProcess}
 use Rattle.run_words.specs.Decode.{decodedDoing}
 use Rattle.check_contexts.specs.Held.{endsIn}
 use Rattle.run_wellformed.specs.Typing.{typedIn}
@@ -31,9 +29,6 @@ pub record HeldMatch (l m : List RawEnd) : Type 0 where
   pub many : length l ≡ length m
   pub each : (k : ℕ) (e f : RawEnd) → getElem? l k ≡ some e → getElem? m k ≡ some f → EndsMatch e f
 
-pub record LinksMatch (a b : ℕ) : Type 0 where
-  pub is : isSome (linkOf a) ≡ isSome (linkOf b)
-
 pub record TypedAlike (p q : RawProcess) : Type 0 where
   pub is : (s w : List ℕ) → typedIn s w p ≡ typedIn s w q
 
@@ -48,9 +43,9 @@ module _ (s w : List ℕ) where
       let rest : HeldMatch l m = record { many = omega (arith, h .many); each = λ k. h .each (suc k) } in
       λ i. (nameAt s (first .name i), slot (first .side i) (plainIn s w (first .node i))) ∷ context-match l m rest i
 
-pub alike-so : (p q : RawProcess) → p .kind ≡ q .kind → p .pointer ≡ q .pointer → isSome (p .link) ≡ isSome (q .link) → HeldMatch (p .held) (q .held) → TypedAlike p q
-alike-so p q k t l h = record {
-  is = λ s w i. typedAs? (programIn s w) (context-match s w (p .held) (q .held) h i) (l i) (decodedDoing (nameAt s) (plainIn s w) (processIn s w) (k i) (t i));
+pub alike-so : (p q : RawProcess) → p .kind ≡ q .kind → p .pointer ≡ q .pointer → HeldMatch (p .held) (q .held) → TypedAlike p q
+alike-so p q k t h = record {
+  is = λ s w i. typedAs? (programIn s w) (context-match s w (p .held) (q .held) h i) (decodedDoing (nameAt s) (plainIn s w) (processIn s w) (k i) (t i));
 }
 
 -- ── the loop over the ends: the first k match
@@ -74,12 +69,3 @@ module _ (l m : List RawEnd) where
 
   pub matching-all : {k : ℕ} → Matching l m k → length l ≤ k → HeldMatch l m
   matching-all {k} a h = record { many = a .many; each = λ j e f p q. a .each j e f (let b = below-length l j p in omega (arith, b, h)) p q }
-
--- ── links
-pub links-none : (a b : ℕ) → a ≡ 0 → b ≡ 0 → LinksMatch a b
-links-none a b e f = record { is = ap (λ n. isSome (linkOf n)) (e ∙ sym f) }
-
-pub links-both : (a b : ℕ) → (a ≡ 0 → ⊥) → (b ≡ 0 → ⊥) → LinksMatch a b
-links-both zero b h g = absurd (h refl)
-links-both (suc a) zero h g = absurd (g refl)
-links-both (suc a) (suc b) h g = record { is = refl }

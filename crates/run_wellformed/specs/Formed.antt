@@ -18,7 +18,8 @@ use Rattle.calculus.specs.Configuration.{End, Process, Outside, Config}
 use Rattle.calculus.specs.Forest.{joints}
 use Rattle.calculus.specs.WellFormed.{ends, WellFormed}
 use Rattle.theory_derivations.specs.Booleans.{itself, _and_, and-cond, all-iff}
-use Rattle.theory_decision.specs.Lists.{pairwise}
+use Rattle.theory_decision.specs.Lists.{pairwise, implies}
+use Rattle.theory_decision.specs.Halting.{haltFits}
 use Rattle.theory_decision.specs.Circles.{forest?}
 use Rattle.theory_decision.specs.Ends.{endsFit}
 use Rattle.theory_decision.specs.Links.{linksLead, handlersLinked, linkedOnce}
@@ -29,16 +30,17 @@ use Rattle.run_words.specs.Lists.{All}
 use Rattle.run_words.specs.ListLaws.{all-append, all-weaken}
 use Rattle.run_words.specs.ListLaws as laws
 use Rattle.run_words.specs.Raw.{RawEnd, RawProcess, RawConfig, BoundedProcess, BoundedOutside, Bounded}
-use Rattle.run_words.specs.Decode.{decodedEnd, decodedProcess, decodedOutside, decoded}
+use Rattle.run_words.specs.Decode.{decodedEnd, decodedProcess, decodedOutside, decoded, isHalted}
 use Rattle.run_words.specs.Values.{Decided}
 use Rattle.run_joints.specs.Answers.{Answers}
-use Rattle.run_joints.specs.Tests.{all-map}
+use Rattle.run_joints.specs.Tests.{all-map, any-map}
 use Rattle.run_joints.specs.Numbers.{numbersRise, numbersGiven}
 use Rattle.run_joints.specs.Circles.{circleFree}
 use Rattle.run_joints.specs.WellJoined.{wellJoined}
 use Rattle.run_wellformed.specs.OfText.{OfText}
 use Rattle.run_wellformed.specs.Typing.{typedProcess, typedIn}
 use Rattle.run_wellformed.specs.Outward.{outwardIn}
+use Rattle.run_wellformed.specs.Halting.{uncaughtIn, haltIn}
 use Rattle.run_wellformed.specs.Kept.{asEnd, besideIn, outsideEnd, processEnds, rawEnds, ends-in, ends-decoded}
 
 -- the configuration that the numbers of C stand for
@@ -70,7 +72,7 @@ all-both f g l = (
 abbrev Few : Config → Type 0
 Few C = So (leb (length (C .processes)) processPlaces) × So (all (λ (e : End). ltb (e .channel) channelPlaces) (ends C)) × So (leb (C .given) outsideNumbers) × So (all (λ (q : Process). leb (length (q .held)) heldLimit) (C .processes))
 
-split : (p : Program) (C : Config) → So (wellFormed? p C) ↔ (So (all (typedProcess p) (C .processes)) × So (endsFit (ends C)) × So (all (isOutward p) (C .outside)) × So (wellJoined C) × Few C)
+split : (p : Program) (C : Config) → So (wellFormed? p C) ↔ (So (all (typedProcess p) (C .processes)) × So (endsFit (ends C)) × So (all (isOutward p) (C .outside)) × So (haltFits C) × So (wellJoined C) × Few C)
 unfolding wellFormed? wellJoined circleFree numbersRise numbersGiven
 split p C = Iff·trans
     (itself (all (typedProcess p) (C .processes))
@@ -81,12 +83,13 @@ split p C = Iff·trans
     and itself (forest? (joints C))
     and all-both (isOutward p) (isGiven C) (C .outside)
     and itself (rising 0 (map (λ (o : Outside). o .number) (C .outside)))
+    and itself (haltFits C)
     and itself (leb (length (C .processes)) processPlaces)
     and itself (all (λ (e : End). ltb (e .channel) channelPlaces) (ends C))
     and itself (leb (C .given) outsideNumbers)
     and itself (all (λ (q : Process). leb (length (q .held)) heldLimit) (C .processes))) (
-      λ (((((((((((t, e), l), h), m), f), (x, g)), n), a), b), c), d). (t, e, x, joined .1 (((((l, h), m), f), n), g), (a, b, c, d)),
-      λ (t, e, x, j, (a, b, c, d)). let (((((l, h), m), f), n), g) = joined .0 j in (((((((((((t, e), l), h), m), f), (x, g)), n), a), b), c), d),
+      λ ((((((((((((t, e), l), h), m), f), (x, g)), n), z), a), b), c), d). (t, e, x, z, joined .1 (((((l, h), m), f), n), g), (a, b, c, d)),
+      λ (t, e, x, z, j, (a, b, c, d)). let (((((l, h), m), f), n), g) = joined .0 j in ((((((((((((t, e), l), h), m), f), (x, g)), n), z), a), b), c), d),
     )
   where
     joined : So (wellJoined C) ↔ (((((So (linksLead C) × So (handlersLinked C)) × So (linkedOnce C)) × So (forest? (joints C))) × So (numbersRise C)) × So (numbersGiven C))
@@ -140,28 +143,33 @@ module _ (s w : List ℕ) (C : RawConfig) where
   outward-as : all (isOutward (programIn s w)) (configIn s w C .outside) ≡ all (outwardIn s w) (C .outside)
   outward-as = all-map (decodedOutside (nameAt s) (plainIn s w) (processIn s w)) _ (outwardIn s w) (λ o. refl) (C .outside)
 
+  halt-as : haltFits (configIn s w C) ≡ haltIn s w C
+  unfolding haltFits
+  halt-as = ap (implies (isHalted (C .halted))) (any-map (decodedProcess (nameAt s) (plainIn s w) (processIn s w)) _ (uncaughtIn s w) (λ q. refl) (C .processes))
+
   -- all of them pass on what is well formed, and what they all pass on is
   pub record Parts : Type 0 where
     pub typed : So (all (typedIn s w) (C .processes))
     pub fit : So (pairwise (besideIn s w) [] (rawEnds C))
     pub outwards : So (all (outwardIn s w) (C .outside))
+    pub halted : So (haltIn s w C)
     pub joined : So (wellJoined (configIn s w C))
 
   pub parts : Formed s w C → Parts
   parts f =
-      let (t, e, x, j, m) = split (programIn s w) (configIn s w C) .0 (wellFormed?-iff _ _ .1 (f .is)) in
-      record { typed = sym typed-as ∙ t; fit = sym (ends-decoded s w C) ∙ e; outwards = sym outward-as ∙ x; joined = j }
+      let (t, e, x, z, j, m) = split (programIn s w) (configIn s w C) .0 (wellFormed?-iff _ _ .1 (f .is)) in
+      record { typed = sym typed-as ∙ t; fit = sym (ends-decoded s w C) ∙ e; outwards = sym outward-as ∙ x; halted = sym halt-as ∙ z; joined = j }
 
   formed : Bounded C → OfText w C → Parts → Formed s w C
   formed b o p = record {
     bounded = b;
     ofText = o;
-    is = wellFormed?-iff _ _ .0 (split (programIn s w) (configIn s w C) .1 (typed-as ∙ p .typed, ends-decoded s w C ∙ p .fit, outward-as ∙ p .outwards, p .joined, few b));
+    is = wellFormed?-iff _ _ .0 (split (programIn s w) (configIn s w C) .1 (typed-as ∙ p .typed, ends-decoded s w C ∙ p .fit, outward-as ∙ p .outwards, halt-as ∙ p .halted, p .joined, few b));
   }
 
   -- the last test decides
-  pub decided : {r : Bool} → Bounded C → OfText w C → So (all (typedIn s w) (C .processes)) → So (pairwise (besideIn s w) [] (rawEnds C)) → So (all (outwardIn s w) (C .outside))
+  pub decided : {r : Bool} → Bounded C → OfText w C → So (all (typedIn s w) (C .processes)) → So (pairwise (besideIn s w) [] (rawEnds C)) → So (all (outwardIn s w) (C .outside)) → So (haltIn s w C)
       → Answers r wellJoined C → Decided r (Formed s w C)
-  decided b o t f x j =
+  decided b o t f x h j =
       let last = j .is (nameAt s) (plainIn s w) (processIn s w) in
-      record { yes = λ e. formed b o (record { typed = t; fit = f; outwards = x; joined = sym last ∙ e }); no = λ e g. true≢false (sym (parts g .joined) ∙ sym last ∙ e) }
+      record { yes = λ e. formed b o (record { typed = t; fit = f; outwards = x; halted = h; joined = sym last ∙ e }); no = λ e g. true≢false (sym (parts g .joined) ∙ sym last ∙ e) }

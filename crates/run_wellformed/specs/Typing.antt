@@ -2,11 +2,9 @@
 use Prim.Native.Nat.{ℕ, zero, suc, _≤_}
 use mathlib.Core.Path.{_≡_, refl, sym, _∙_, ap}
 use mathlib.Core.List.{List, [], _∷_}
-use mathlib.Core.Bool.{Bool, true, false, cond, not, _&&_}
+use mathlib.Core.Bool.{Bool, true, false, cond, _&&_}
 use mathlib.Core.Option.{Option, some}
 use native.Mathlib.Omega.{arith}
-use borrow.Author.Tests.{ne-eqb}
-use lib.Dec.{eqb}
 use lib.ListN.{length, getElem?}
 use Rattle.notation.specs.Bytes.{same}
 use Rattle.notation.specs.Token.{nameAt}
@@ -20,7 +18,7 @@ use Rattle.theory_decision.specs.Decide.{isFine, typed?, typedAs?}
 use Rattle.read_tables.specs.Decode.{processIn}
 use Rattle.read_tables.specs.Program.{plainIn, programIn}
 use Rattle.run_words.specs.Lists.{removeAt}
-use Rattle.run_words.specs.Raw.{RawEnd, RawProcess, linkOf}
+use Rattle.run_words.specs.Raw.{RawEnd, RawProcess}
 use Rattle.run_words.specs.Decode.{decodedDoing, decodedProcess}
 use Rattle.run_words.specs.Values.{heldIn, held-length}
 use Rattle.run_words.specs.declared.records.End.{End as EndWords}
@@ -34,7 +32,7 @@ use Rattle.check_terms.specs.Next.{contextIn}
 
 -- the test of each process
 abbrev pub typedProcess : Program → Process → Bool
-typedProcess p q = typedAs? p (contextOf (q .held)) (isSome (q .link)) (q .doing)
+typedProcess p q = typedAs? p (contextOf (q .held)) (q .doing)
 
 -- by the numbers that stand for it
 abbrev pub typedIn : List ℕ → List ℕ → RawProcess → Bool
@@ -97,28 +95,24 @@ module _ (s w : List ℕ) (q : RawProcess) where
   pub folding-typed : q .kind ≡ 1 → true ≡ typedIn s w q
   folding-typed e = rw e refl
 
-  pub doing-typed : (q .kind ≡ 1 → ⊥) → typed? (programIn s w) (contextOf (endsIn s w (q .held))) (isSome (q .link)) (processIn s w (q .pointer)) ≡ typedIn s w q
+  pub doing-typed : (q .kind ≡ 1 → ⊥) → typed? (programIn s w) (contextOf (endsIn s w (q .held))) (processIn s w (q .pointer)) ≡ typedIn s w q
   doing-typed d = go (q .kind) d
     where
       go : (k : ℕ) → (k ≡ 1 → ⊥)
-          → typed? (programIn s w) (contextOf (endsIn s w (q .held))) (isSome (q .link)) (processIn s w (q .pointer))
-          ≡ typedAs? (programIn s w) (contextOf (endsIn s w (q .held))) (isSome (q .link)) (decodedDoing (nameAt s) (plainIn s w) (processIn s w) k (q .pointer))
+          → typed? (programIn s w) (contextOf (endsIn s w (q .held))) (processIn s w (q .pointer))
+          ≡ typedAs? (programIn s w) (contextOf (endsIn s w (q .held))) (decodedDoing (nameAt s) (plainIn s w) (processIn s w) k (q .pointer))
       go zero d = refl
       go (suc zero) d = absurd (d refl)
       go (suc (suc k)) d = refl
 
 -- ── a term by its test
 module _ (s w : List ℕ) (h : Held) where
-  pub not-distinct : (link : Bool) (P : Proc) {r : Bool} → Distinct s h r → r ≡ false → false ≡ typed? (programIn s w) (contextIn s w h) link P
-  not-distinct link P d e = sym (ap (λ b. b && isFine (check (programIn s w) (contextIn s w h) link P)) (d .is w ∙ e))
+  pub not-distinct : (P : Proc) {r : Bool} → Distinct s h r → r ≡ false → false ≡ typed? (programIn s w) (contextIn s w h) P
+  not-distinct P d e = sym (ap (λ b. b && isFine (check (programIn s w) (contextIn s w h) P)) (d .is w ∙ e))
 
-  some-link : (link : ℕ) → not (eqb link 0) ≡ isSome (linkOf link)
-  some-link zero = refl
-  some-link (suc link) = ap not (ne-eqb (suc link) 0 (λ e. omega (arith, e)))
-
-  pub fine-typed : (link pointer : ℕ) (v : Verdict) {r b : Bool} {p : ℕ} → Distinct s h r → r ≡ true → p ≡ pointer
-      → verdictOf v ≡ check (programIn s w) (contextIn s w h) (not (eqb link 0)) (processIn s w p) → b ≡ isFine (verdictOf v)
-      → b ≡ typed? (programIn s w) (contextIn s w h) (isSome (linkOf link)) (processIn s w pointer)
-  fine-typed link pointer v d e q c f =
-      sym (ap (λ t. t && isFine (check (programIn s w) (contextIn s w h) (isSome (linkOf link)) (processIn s w pointer))) (d .is w ∙ e)
-      ∙ sym (f ∙ ap isFine (c ∙ (λ i. check (programIn s w) (contextIn s w h) (some-link link i) (processIn s w (q i))))))
+  pub fine-typed : (pointer : ℕ) (v : Verdict) {r b : Bool} {p : ℕ} → Distinct s h r → r ≡ true → p ≡ pointer
+      → verdictOf v ≡ check (programIn s w) (contextIn s w h) (processIn s w p) → b ≡ isFine (verdictOf v)
+      → b ≡ typed? (programIn s w) (contextIn s w h) (processIn s w pointer)
+  fine-typed pointer v d e q c f =
+      sym (ap (λ t. t && isFine (check (programIn s w) (contextIn s w h) (processIn s w pointer))) (d .is w ∙ e)
+      ∙ sym (f ∙ ap isFine (c ∙ ap (λ p. check (programIn s w) (contextIn s w h) (processIn s w p)) q)))

@@ -3,13 +3,12 @@ use run_words::held::end_at;
 use run_words::records::End;
 use run_words::records::Held;
 use run_words::records::Process;
-use run_words::records::UNLINKED;
 ghost use mathlib.Core.Path.{_≡_};
 ghost use mathlib.Core.Bool.{true};
 ghost use Prim.Native.Nat.{_≤_};
 ghost use Rattle.notation.specs.Limits.{heldLimit};
 ghost use Rattle.run_words.specs.Values.{endIn, heldIn, processIn};
-ghost use Rattle.run_wellformed.specs.Alike.{EndsMatch, HeldMatch, LinksMatch, TypedAlike};
+ghost use Rattle.run_wellformed.specs.Alike.{EndsMatch, HeldMatch, TypedAlike};
 
 // Whether two ends have the same name, side and type; their channels may differ.
 fn ends_match(e: End, f: End) -> bool
@@ -42,17 +41,7 @@ fn held_match(h: Held, g: Held) -> bool
     true
 }
 
-// Whether both are links, or neither is.
-fn links_match(a: u32, b: u32) -> bool
-    ensures { λ r. ⌜ (r ≡ true → LinksMatch a b) ⌝ }
-{
-    if a == UNLINKED {
-        return b == UNLINKED;
-    }
-    b != UNLINKED
-}
-
-// Whether two processes do the same, are both linked or not, and hold matching ends.
+// Whether two processes do the same, and hold matching ends.
 pub(crate) fn typed_alike(p: Process, q: Process) -> bool
     requires { ⌜ (p .held .count ≤ heldLimit) × (q .held .count ≤ heldLimit) ⌝ }
     ensures { λ r. ⌜ (r ≡ true → TypedAlike (processIn p) (processIn q)) ⌝ }
@@ -61,9 +50,6 @@ pub(crate) fn typed_alike(p: Process, q: Process) -> bool
         return false;
     }
     if p.pointer != q.pointer {
-        return false;
-    }
-    if !links_match(p.link, q.link) {
         return false;
     }
     let h = p.held;

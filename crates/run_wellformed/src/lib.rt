@@ -7,6 +7,7 @@ ghost use Rattle.run_words.specs.Raw.{rawIn};
 ghost use Rattle.run_words.specs.Values.{Decided};
 ghost use Rattle.run_wellformed.specs.Formed.{Formed};
 use crate::fitting::ends_fit;
+use crate::halting::halt_fits;
 use crate::numbers::numbers_stand;
 use crate::outwards::outside_outward;
 use crate::typing::processes_typed;
@@ -15,6 +16,7 @@ use run_words::bounded::bounded;
 
 mod alike;
 pub mod fitting;
+pub mod halting;
 pub mod numbers;
 pub mod outwards;
 pub mod typing;
@@ -38,6 +40,9 @@ pub fn well_formed(text: &[u8], scratch: &[u32], run: &[u32]) -> bool
         return false;
     }
     if !outside_outward(text, scratch, run) {
+        return false;
+    }
+    if !halt_fits(text, scratch, run) {
         return false;
     }
     well_joined(run)

@@ -4,14 +4,14 @@ ghost use mathlib.Core.Bool.{true};
 ghost use Prim.Native.Nat.{ℕ, _≤_, _<_};
 ghost use lib.ListN.{length};
 ghost use Rattle.notation.specs.Limits.{runWords, heldLimit};
-ghost use Rattle.calculus.specs.Named.{all, isSome};
+ghost use Rattle.calculus.specs.Named.{all};
 ghost use Rattle.theory_decision.specs.Decide.{isFine, typed?};
 ghost use Rattle.read_tables.specs.Decode.{processIn};
 ghost use Rattle.read_tables.specs.Everywhere.{Everywhere};
 ghost use Rattle.read_tables.specs.Program.{programIn};
 ghost use Rattle.read_tables.specs.Roots.{ProcessIn};
 ghost use Rattle.read_tables.specs.Whole.{Tables};
-ghost use Rattle.run_words.specs.Raw.{rawIn, linkOf, BoundedProcess, Bounded};
+ghost use Rattle.run_words.specs.Raw.{rawIn, BoundedProcess, Bounded};
 ghost use Rattle.run_words.specs.Values as runs;
 ghost use Rattle.check_contexts.specs.Held.{HeldIn};
 ghost use Rattle.calculus.specs.Verdict.{verdictOf};
@@ -32,7 +32,6 @@ use run_words::records::FOLDING;
 use run_words::records::Held;
 use run_words::records::NEW;
 use run_words::records::Process;
-use run_words::records::UNLINKED;
 
 // Whether no name comes twice: the first is not among those after it, which are tried likewise.
 fn names_distinct(text: &[u8], h: Held) -> bool
@@ -60,15 +59,15 @@ fn is_fine(v: Verdict) -> bool
     }
 }
 
-// Whether a term is typed by what its process holds, with a link or none.
-fn term_typed(text: &[u8], scratch: &[u32], h: Held, link: u32, pointer: u32) -> bool
+// Whether a term is typed by what its process holds.
+fn term_typed(text: &[u8], scratch: &[u32], h: Held, pointer: u32) -> bool
     requires { ⌜ Tables (now text) (now scratch) × HeldIn (now text) (now scratch) h × ProcessIn (now text) (now scratch) pointer ⌝ }
-    ensures { λ r. ⌜ r ≡ typed? (programIn (now (text .entry)) (now (scratch .entry))) (contextIn (now (text .entry)) (now (scratch .entry)) h) (isSome (linkOf link)) (processIn (now (text .entry)) (now (scratch .entry)) pointer) ⌝ }
+    ensures { λ r. ⌜ r ≡ typed? (programIn (now (text .entry)) (now (scratch .entry))) (contextIn (now (text .entry)) (now (scratch .entry)) h) (processIn (now (text .entry)) (now (scratch .entry)) pointer) ⌝ }
 {
     if !names_distinct(text, h) {
         return false;
     }
-    let v = check_process(text, scratch, h, link != UNLINKED, wide(pointer));
+    let v = check_process(text, scratch, h, wide(pointer));
     is_fine(v)
 }
 
@@ -82,7 +81,7 @@ fn process_typed(text: &[u8], scratch: &[u32], p: Process) -> bool
         return true;
     }
     let h = p.held;
-    term_typed(text, scratch, h, p.link, p.pointer)
+    term_typed(text, scratch, h, p.pointer)
 }
 
 // Whether the process p is typed, where q before it is: the check is spared where both are typed alike.

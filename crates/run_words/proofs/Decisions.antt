@@ -1,20 +1,24 @@
--- Laws of the tests of bounds.
+-- Laws of the tests of bounds, and of the halt.
 use Prim.Native.Nat.{ℕ, zero, suc, _+_, _*_, _≤_, _<_}
 use mathlib.Core.List.{List, [], _∷_}
-use mathlib.Core.Path.{_≡_, sym, subst}
+use mathlib.Core.Path.{_≡_, refl, sym, ap, subst, _∙_}
 use mathlib.Core.Bool.{Bool, true, false}
 use mathlib.Core.Option.{some}
 use native.Mathlib.Omega.{arith}
 use native.Mathlib.Numerals.{add-one}
-use lib.ListN.{length, getElem?, take}
+use borrow.Author.Tests.{lt-ltb}
+use lib.Dec.{ltb}
+use lib.ListN.{length, getD, getElem?, take}
 use lib.Seq.{take-all}
 use Rattle.notation.specs.Limits.{heldLimit, processPlaces, outsideNumbers}
 use Rattle.run_words.specs.Lists.{All}
 use Rattle.run_words.specs.ListLaws.{all-at, length-tab}
-use Rattle.run_words.specs.Raw.{RawConfig, linkOf, linksBelow, endOf, processOf, BoundedEnd, BoundedProcess, BoundedOutside, Bounded, pointerLimit}
+use Rattle.run_words.specs.Raw.{RawConfig, linkOf, linksBelow, endOf, processOf, rawIn, BoundedEnd, BoundedProcess, BoundedOutside, Bounded, pointerLimit}
 use Rattle.run_words.specs.Values.{heldIn, held-length, processIn, Decided}
+use Rattle.run_words.specs.Decode.{isHalted}
 use Rattle.run_words.specs.declared.records.Process.{Process}
 use Rattle.run_words.specs.Bounds.{link-word}
+use Rattle.run_words.specs.SliceLaws.{halted-word}
 
 pub accepted : {P : Type 0} → P → Decided true P
 accepted p = record { yes = λ _. p; no = λ e _. let z : _≡_ {A = ℕ} 0 1 = cc in omega arith }
@@ -63,6 +67,14 @@ module _ (n : ℕ) (w : ℕ → ℕ) (p : Process) (e : processOf w ≡ processI
       (λ q. (subst (BoundedProcess n) e q) .each)
 
 -- ── the configuration
-pub config-decided : (C : RawConfig) {t : Bool} → length (C .processes) ≤ processPlaces → C .given ≤ outsideNumbers → length (C .outside) ≤ outsideNumbers → All (BoundedProcess (length (C .processes))) (C .processes)
+pub config-decided : (C : RawConfig) {t : Bool} → length (C .processes) ≤ processPlaces → C .given ≤ outsideNumbers → length (C .outside) ≤ outsideNumbers → C .halted ≤ 1 → All (BoundedProcess (length (C .processes))) (C .processes)
     → Decided t (All BoundedOutside (C .outside)) → Decided t (Bounded C)
-config-decided C a b c d = decided-by (λ o. record { places = a; processes = d; channels = c; outside = o; given = b }) (λ q. q .outside)
+config-decided C a b c h d = decided-by (λ o. record { places = a; processes = d; channels = c; outside = o; given = b; halted = h }) (λ q. q .outside)
+
+-- the halt, by its word
+pub halt-tested : (ws : List ℕ) → ltb 0 (getD ws 3 0) ≡ isHalted (rawIn ws .halted)
+halt-tested ws = go (getD ws 3 0) ∙ ap isHalted (sym (halted-word ws))
+  where
+    go : (n : ℕ) → ltb 0 n ≡ isHalted n
+    go zero = refl
+    go (suc n) = lt-ltb 0 (suc n) (omega arith)

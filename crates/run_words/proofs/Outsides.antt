@@ -1,5 +1,5 @@
 -- Laws of the outside's channels.
-use Prim.Native.Nat.{ℕ, zero, suc, _+_, _-_, _*_, _≤_, _<_}
+use Prim.Native.Nat.{ℕ, zero, suc, _+_, _*_, _≤_, _<_}
 use mathlib.Core.List.{List, [], _∷_, _++_}
 use mathlib.Core.Path.{_≡_, refl, sym, ap, subst, _∙_}
 use mathlib.Core.Bool.{Bool, true, false, cond}
@@ -18,7 +18,7 @@ use Rattle.run_words.specs.Operations.{withOutside, withGiven, onChannel
 use Rattle.notation.specs.declared.reading.Found.the-variants as found
 use Rattle.run_words.specs.Bounds.{changed-as}
 use Rattle.run_words.specs.RowLaws.{outside-local, rows-same, rows-set, rows-append}
-use Rattle.run_words.specs.SliceLaws.{word, counted-outside, numbered}
+use Rattle.run_words.specs.SliceLaws.{word, counted-outside, numbered, outsides-same}
 use Rattle.run_words.proofs.Slices.{outside-changed}
 use Rattle.run_words.specs.Lists.{All}
 
@@ -36,8 +36,7 @@ given-set ws n l b =
     let new = set ws 1 n in
     let other : (k : ℕ) → (k ≡ 1 → ⊥) → getD new k 0 ≡ getD ws k 0 = λ k p. getD-set-other ws 1 k n 0 p in
     outside-changed ws new (length-set ws 1 n) _ n b (λ k _ p _. other k p) (getD-set-same ws 1 n 0 (omega arith)) (λ k p. other k (omega arith))
-    (ap (λ m. rows outsideOf outsideWords outsidesAt m (word new)) (other 2 (λ z. omega arith))
-    ∙ rows-same outsideOf outsideWords outsidesAt (word ws) (word new) (getD ws 2 0) (λ j h. outside-local _) (λ k p q. other k (omega arith)))
+    (outsides-same ws new (b .channels) (other 2 (λ z. omega arith)) (λ k p q. other k (omega arith)))
 
 module _ (old new : List ℕ) (k : ℕ) (o : RawOutside) (b : Bounded (rawIn old)) (w : Written outsideOf outsideWords old new (outsidesAt + outsideWords * k) o) where
   pub outside-set : k < length (rawIn old .outside) → Changed old new (withOutside (rawIn old) (set (rawIn old .outside) k o))

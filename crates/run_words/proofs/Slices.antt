@@ -10,9 +10,9 @@ use Rattle.notation.specs.Limits.{heldLimit, processPlaces, outsideNumbers, run
 use Rattle.run_words.specs.ListLaws.{all-at}
 use Rattle.run_words.specs.Raw.{RawProcess, RawOutside, linkOf, rows, endOf, processOf, outsideOf, rawIn, BoundedProcess, Bounded, processRow, heldCount, outsidesAt, outsideWords, placesAt, placeWords, heldWords}
 use Rattle.run_words.specs.Values.{heldIn, processIn, valueOf, Changed, Moved, Written}
-use Rattle.run_words.specs.Operations.{single, withProcesses, withOutside, withGiven}
-use Rattle.run_words.specs.RowLaws.{outside-local, rows-same, rows-set}
-use Rattle.run_words.specs.SliceLaws.{word, ends-moved, counted, counted-outside, process-at, processes-local, sixteen}
+use Rattle.run_words.specs.Operations.{single, withProcesses, withOutside, withGiven, withHalted}
+use Rattle.run_words.specs.RowLaws.{rows-set}
+use Rattle.run_words.specs.SliceLaws.{word, ends-moved, counted, process-at, processes-local, sixteen, processesBy, outsidesBy, processes-same, outsides-same}
 use Rattle.run_words.proofs.Rows.{drop-same}
 use Rattle.run_words.proofs.Ends.{ends}
 
@@ -66,23 +66,32 @@ written old b kind pointer link n hs new h d s m =
 -- ── one part of the configuration changed
 module _ (old new : List ℕ) (long : length new ≡ length old) where
   pub processes-changed : (l : List RawProcess) → length (rawIn old .outside) ≤ outsideNumbers → ((k : ℕ) → 1 ≤ k → k < placesAt → getD new k 0 ≡ getD old k 0) → ((k : ℕ) → placesAt + placeWords * processPlaces ≤ k → getD new k 0 ≡ getD old k 0)
-      → rows processOf placeWords placesAt (getD new 0 0) (word new) ≡ l → Changed old new (withProcesses (rawIn old) l)
+      → processesBy new ≡ l → Changed old new (withProcesses (rawIn old) l)
   unfolding rawIn
   processes-changed l c below above e =
-      let o : rows outsideOf outsideWords outsidesAt (getD new 2 0) (word new) ≡ rows outsideOf outsideWords outsidesAt (getD old 2 0) (word old) =
-      ap (λ n. rows outsideOf outsideWords outsidesAt n (word new)) (below 2 (omega arith) (omega arith))
-      ∙ rows-same outsideOf outsideWords outsidesAt (word old) (word new) (getD old 2 0) (λ j l. outside-local _) (λ k p q. below k (omega arith) (omega (arith, counted-outside old))) in
+      let o = outsides-same old new c (below 2 (omega arith) (omega arith)) (λ k p q. below k (omega arith) q) in
       let g : getD new 1 0 ≡ getD old 1 0 = below 1 (omega arith) (omega arith) in
-      record { is = λ i. record { processes = e i; outside = o i; given = g i }; past = drop-same runWords new old long (λ k p. above k (omega arith)); long = long }
+      let h : getD new 3 0 ≡ getD old 3 0 = below 3 (omega arith) (omega arith) in
+      record { is = λ i. record { processes = e i; outside = o i; given = g i; halted = h i }; past = drop-same runWords new old long (λ k p. above k (omega arith)); long = long }
 
   pub outside-changed : (l : List RawOutside) (n : ℕ) → Bounded (rawIn old) → ((k : ℕ) → k < outsidesAt → (k ≡ 1 → ⊥) → (k ≡ 2 → ⊥) → getD new k 0 ≡ getD old k 0) → getD new 1 0 ≡ n → ((k : ℕ) → placesAt ≤ k → getD new k 0 ≡ getD old k 0)
-      → rows outsideOf outsideWords outsidesAt (getD new 2 0) (word new) ≡ l → Changed old new (withGiven (withOutside (rawIn old) l) n)
+      → outsidesBy new ≡ l → Changed old new (withGiven (withOutside (rawIn old) l) n)
   unfolding rawIn
   outside-changed l n b header first above e =
-      let p : rows processOf placeWords placesAt (getD new 0 0) (word new) ≡ rows processOf placeWords placesAt (getD old 0 0) (word old) =
-      ap (λ n. rows processOf placeWords placesAt n (word new)) (header 0 (omega arith) (λ z. omega arith) (λ z. omega arith))
-      ∙ rows-same processOf placeWords placesAt (word old) (word new) (getD old 0 0) (processes-local old (sixteen old b)) (λ k p q. above k p) in
-      record { is = λ i. record { processes = p i; outside = e i; given = first i }; past = drop-same runWords new old long (λ k q. above k (omega arith)); long = long }
+      let p = processes-same old new b (header 0 (omega arith) (λ z. omega arith) (λ z. omega arith)) (λ k p q. above k p) in
+      let h : getD new 3 0 ≡ getD old 3 0 = header 3 (omega arith) (λ z. omega arith) (λ z. omega arith) in
+      record { is = λ i. record { processes = p i; outside = e i; given = first i; halted = h i }; past = drop-same runWords new old long (λ k q. above k (omega arith)); long = long }
+
+  pub halt-changed : (n : ℕ) → Bounded (rawIn old) → ((k : ℕ) → (k ≡ 3 → ⊥) → getD new k 0 ≡ getD old k 0) → getD new 3 0 ≡ n → Changed old new (withHalted (rawIn old) n)
+  unfolding rawIn
+  halt-changed n b other third =
+      let p = processes-same old new b (other 0 (λ z. omega arith)) (λ k p q. other k (omega arith)) in
+      let o = outsides-same old new (b .channels) (other 2 (λ z. omega arith)) (λ k p q. other k (omega arith)) in
+      let g : getD new 1 0 ≡ getD old 1 0 = other 1 (λ z. omega arith) in
+      record { is = λ i. record { processes = p i; outside = o i; given = g i; halted = third i }; past = drop-same runWords new old long (λ k q. other k (omega arith)); long = long }
+
+pub halt-set : (ws : List ℕ) (n : ℕ) → runWords ≤ length ws → Bounded (rawIn ws) → Changed ws (set ws 3 n) (withHalted (rawIn ws) n)
+halt-set ws n l b = halt-changed ws (set ws 3 n) (length-set ws 3 n) n b (λ k p. getD-set-other ws 3 k n 0 p) (getD-set-same ws 3 n 0 (omega arith))
 
 pub stored : (old new : List ℕ) (i : ℕ) (p : RawProcess) → runWords ≤ length old → Bounded (rawIn old) → i < length (rawIn old .processes) → Written processOf placeWords old new (placesAt + placeWords * i) p
     → Changed old new (withProcesses (rawIn old) (set (rawIn old .processes) i p))
@@ -99,7 +108,7 @@ loaded ws i p b h e =
     let at : getElem? (rawIn ws .processes) i ≡ some p = process-at ws i h ∙ ap some e in
     (at, all-at _ (rawIn ws .processes) i (b .processes) at)
 
-pub begun : (old new : List ℕ) (p : RawProcess) → runWords ≤ length old → Written processOf placeWords (set (set (set old 0 1) 1 0) 2 0) new placesAt p → Changed old new (single p)
+pub begun : (old new : List ℕ) (p : RawProcess) → runWords ≤ length old → Written processOf placeWords (set (set (set (set old 0 1) 1 0) 2 0) 3 0) new placesAt p → Changed old new (single p)
 unfolding rawIn
 begun old new p l w =
     let o1 = set old 0 1 in
@@ -107,15 +116,22 @@ begun old new p l w =
     let o3 = set o2 2 0 in
     let l1 : length o1 ≡ length old = length-set old 0 1 in
     let l2 : length o2 ≡ length o1 = length-set o1 1 0 in
-    let zeroth : getD new 0 0 ≡ 1 = w .below 0 (omega arith) ∙ getD-set-other o2 2 0 0 0 (λ z. omega arith) ∙ getD-set-other o1 1 0 0 0 (λ z. omega arith) ∙ getD-set-same old 0 1 0 (omega arith) in
-    let first : getD new 1 0 ≡ 0 = w .below 1 (omega arith) ∙ getD-set-other o2 2 1 0 0 (λ z. omega arith) ∙ getD-set-same o1 1 0 0 (omega arith) in
-    let second : getD new 2 0 ≡ 0 = w .below 2 (omega arith) ∙ getD-set-same o2 2 0 0 (omega arith) in
-    let ps : rows processOf placeWords placesAt (getD new 0 0) (word new) ≡ p ∷ [] = ap (λ n. rows processOf placeWords placesAt n (word new)) zeroth ∙ ap (λ (q : RawProcess). q ∷ []) (w .row) in
-    let os : rows outsideOf outsideWords outsidesAt (getD new 2 0) (word new) ≡ [] = ap (λ n. rows outsideOf outsideWords outsidesAt n (word new)) second in
-    let long : length new ≡ length old = w .long ∙ length-set o2 2 0 ∙ l2 ∙ l1 in
+    let l3 : length o3 ≡ length o2 = length-set o2 2 0 in
+    let zeroth : getD new 0 0 ≡ 1 =
+    w .below 0 (omega arith) ∙ getD-set-other o3 3 0 0 0 (λ z. omega arith) ∙ getD-set-other o2 2 0 0 0 (λ z. omega arith) ∙ getD-set-other o1 1 0 0 0 (λ z. omega arith) ∙ getD-set-same old 0 1 0 (omega arith) in
+    let first : getD new 1 0 ≡ 0 = w .below 1 (omega arith) ∙ getD-set-other o3 3 1 0 0 (λ z. omega arith) ∙ getD-set-other o2 2 1 0 0 (λ z. omega arith) ∙ getD-set-same o1 1 0 0 (omega arith) in
+    let second : getD new 2 0 ≡ 0 = w .below 2 (omega arith) ∙ getD-set-other o3 3 2 0 0 (λ z. omega arith) ∙ getD-set-same o2 2 0 0 (omega arith) in
+    let third : getD new 3 0 ≡ 0 = w .below 3 (omega arith) ∙ getD-set-same o3 3 0 0 (omega arith) in
+    let ps : processesBy new ≡ p ∷ [] = ap (λ n. rows processOf placeWords placesAt n (word new)) zeroth ∙ ap (λ (q : RawProcess). q ∷ []) (w .row) in
+    let os : outsidesBy new ≡ [] = ap (λ n. rows outsideOf outsideWords outsidesAt n (word new)) second in
+    let long : length new ≡ length old = w .long ∙ length-set o3 3 0 ∙ l3 ∙ l2 ∙ l1 in
     record {
-      is = λ i. record { processes = ps i; outside = os i; given = first i };
-      past = drop-same runWords new old long (λ k a. w .above k (omega arith) ∙ getD-set-other o2 2 k 0 0 (omega arith) ∙ getD-set-other o1 1 k 0 0 (omega arith) ∙ getD-set-other old 0 k 1 0
-          (omega arith));
+      is = λ i. record { processes = ps i; outside = os i; given = first i; halted = third i };
+      past = drop-same runWords new old long (λ k a.
+          w .above k (omega arith)
+          ∙ getD-set-other o3 3 k 0 0 (omega arith)
+          ∙ getD-set-other o2 2 k 0 0 (omega arith)
+          ∙ getD-set-other o1 1 k 0 0 (omega arith)
+          ∙ getD-set-other old 0 k 1 0 (omega arith));
       long = long;
     }

@@ -14,7 +14,7 @@ use Rattle.run_words.specs.Lists.{All, removeAt}
 use Rattle.run_words.specs.ListLaws.{all-set, all-append, all-insert, all-remove, all-map, length-insert, length-remove}
 use Rattle.run_words.specs.Raw.{rawIn, RawProcess, RawOutside, RawConfig, linkOf, linksBelow, BoundedProcess, BoundedOutside, Bounded}
 use Rattle.run_words.specs.Values.{Changed}
-use Rattle.run_words.specs.Operations.{moved, movedWord, single, withProcesses, withOutside, withGiven, relinked, inserted, removed, letGo}
+use Rattle.run_words.specs.Operations.{moved, movedWord, single, withProcesses, withOutside, withGiven, withHalted, relinked, inserted, removed, letGo}
 
 -- a change to a bounded configuration
 pub keeps : {old new : List ℕ} {C : RawConfig} → Changed old new C → Bounded C → Changed old new C × Bounded (rawIn new)
@@ -40,19 +40,23 @@ module _ (C : RawConfig) (b : Bounded C) where
     channels = b .channels;
     outside = b .outside;
     given = b .given;
+    halted = b .halted;
   }
 
   pub bounded-outside : (l : List RawOutside) → length l ≤ 32 → All BoundedOutside l → Bounded (withOutside C l)
-  bounded-outside l h a = record { places = b .places; processes = b .processes; channels = h; outside = a; given = b .given }
+  bounded-outside l h a = record { places = b .places; processes = b .processes; channels = h; outside = a; given = b .given; halted = b .halted }
 
   pub bounded-given : (n : ℕ) → n ≤ 32 → Bounded (withGiven C n)
-  bounded-given n h = record { places = b .places; processes = b .processes; channels = b .channels; outside = b .outside; given = h }
+  bounded-given n h = record { places = b .places; processes = b .processes; channels = b .channels; outside = b .outside; given = h; halted = b .halted }
+
+  pub bounded-halted : Bounded (withHalted C 1)
+  bounded-halted = record { places = b .places; processes = b .processes; channels = b .channels; outside = b .outside; given = b .given; halted = omega arith }
 
   pub bounded-set : (i : ℕ) (p : RawProcess) → BoundedProcess (length (C .processes)) p → Bounded (withProcesses C (set (C .processes) i p))
   bounded-set i p h = bounded-processes _ _ (length-set (C .processes) i p) (b .places) (all-set _ (C .processes) i p (b .processes) h)
 
 pub bounded-single : (p : RawProcess) → BoundedProcess 1 p → Bounded (single p)
-bounded-single p b = record { places = omega arith; processes = (b, tt); channels = omega arith; outside = tt; given = omega arith }
+bounded-single p b = record { places = omega arith; processes = (b, tt); channels = omega arith; outside = tt; given = omega arith; halted = omega arith }
 
 -- links move with the places
 pub link-moved : (up : Bool) (i l : ℕ) → linkOf (movedWord up i l) ≡ Option·map (moved up i) (linkOf l)

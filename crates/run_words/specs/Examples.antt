@@ -1,4 +1,4 @@
--- A run slice, decoded: one process, which holds a channel that the outside uses.
+-- A run slice, decoded: one process, which holds a channel that the outside uses; the run has halted.
 use Prim.Native.Nat.{ℕ, _+_, _*_}
 use mathlib.Core.List.{List, [], _∷_, _++_}
 use mathlib.Core.Path.{_≡_, refl}
@@ -9,7 +9,7 @@ use Rattle.run_words.specs.Raw.{RawConfig, runningKind, rawProcess, rawO
 
 words : List ℕ
 words =
-    (1 ∷ 1 ∷ 1 ∷ []) ++ (replicate 13 0
+    (1 ∷ 1 ∷ 1 ∷ 1 ∷ []) ++ (replicate 12 0
     ++ ((0 ∷ (3 * 512 + 7) ∷ []) ++ (replicate 62 0
     ++ ((4 * 5) ∷ 0 ∷ 1 ∷ (12 * 2) ∷ (3 * 512 + 7) ∷ []))))
 
@@ -18,6 +18,7 @@ meant = record {
   processes = rawProcess runningKind 5 (record { name = 12; side = provided; node = 3; channel = 7 } ∷ []) none ∷ [];
   outside = record { number = 0; node = 3; channel = 7 } ∷ [];
   given = 1;
+  halted = 1;
 }
 
 decodes : rawOf (λ k. getD words k 0) ≡ meant

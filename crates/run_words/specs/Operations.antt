@@ -1,5 +1,5 @@
 -- The calculus' operations, on numbers: each is what the calculus' own is once the numbers are decoded.
-use Prim.Native.Nat.{ℕ, zero, suc, _+_, _-_}
+use Prim.Native.Nat.{ℕ, suc, _+_, _-_}
 use mathlib.Core.List.{List, [], _∷_, map}
 use mathlib.Core.Bool.{Bool, true, false, cond, _&&_}
 use mathlib.Core.Option.{Option, some, none, Option·map}
@@ -20,13 +20,16 @@ use Rattle.run_words.specs.declared.records.Far.the-variants as far
 
 -- ── one part of a configuration changed
 abbrev pub withProcesses : RawConfig → List RawProcess → RawConfig
-withProcesses C l = record { processes = l; outside = C .outside; given = C .given }
+withProcesses C l = record { processes = l; outside = C .outside; given = C .given; halted = C .halted }
 
 abbrev pub withOutside : RawConfig → List RawOutside → RawConfig
-withOutside C l = record { processes = C .processes; outside = l; given = C .given }
+withOutside C l = record { processes = C .processes; outside = l; given = C .given; halted = C .halted }
 
 abbrev pub withGiven : RawConfig → ℕ → RawConfig
-withGiven C n = record { processes = C .processes; outside = C .outside; given = n }
+withGiven C n = record { processes = C .processes; outside = C .outside; given = n; halted = C .halted }
+
+abbrev pub withHalted : RawConfig → ℕ → RawConfig
+withHalted C h = record { processes = C .processes; outside = C .outside; given = C .given; halted = h }
 
 abbrev pub onProcesses : (List RawProcess → List RawProcess) → RawConfig → RawConfig
 onProcesses f C = withProcesses C (f (C .processes))
@@ -35,9 +38,9 @@ abbrev pub onOutside : (List RawOutside → List RawOutside) → RawConfig → R
 onOutside f C = withOutside C (f (C .outside))
 
 -- ── a process comes or leaves
--- a run of one process
+-- a run of one process, which goes on
 abbrev pub single : RawProcess → RawConfig
-single p = record { processes = p ∷ []; outside = []; given = 0 }
+single p = record { processes = p ∷ []; outside = []; given = 0; halted = 0 }
 
 abbrev pub relinked : (ℕ → ℕ) → RawProcess → RawProcess
 relinked f p = linkedTo (Option·map f (p .link)) p

@@ -8,7 +8,7 @@ use Rattle.notation.specs.Limits.{textLimit, typeTermLimit, heldLimit, processP
 use Rattle.calculus.specs.Types.{Side, provided, used}
 use Rattle.run_words.specs.Lists.{tab, All}
 
--- ── the words, as in the constants of src/shape.rt
+-- ── the words, as in the constants of src/records.rt
 -- 32 outside channels; 128 processes, of which each has a word for its term with its kind, then its link, how many ends it holds, and the ends
 abbrev pub outsidesAt : ℕ
 outsidesAt = 16
@@ -88,6 +88,7 @@ pub record RawConfig : Type 0 where
   pub processes : List RawProcess
   pub outside : List RawOutside
   pub given : ℕ
+  pub halted : ℕ
 
 -- ── the decode: each from a function that reads its words
 -- a side is a bit
@@ -119,9 +120,9 @@ processOf w = record { kind = w 0 % kindRadix; pointer = w 0 / kindRadix; held =
 abbrev pub outsideOf : (ℕ → ℕ) → RawOutside
 outsideOf w = record { number = w 0; node = w 1 / channelRadix; channel = w 1 % channelRadix }
 
--- a run: how many processes; how many outside numbers were given; how many outside channels
+-- a run: how many processes; how many outside numbers were given; how many outside channels; whether it has halted
 abbrev pub rawOf : (ℕ → ℕ) → RawConfig
-rawOf w = record { processes = rows processOf placeWords placesAt (w 0) w; outside = rows outsideOf outsideWords outsidesAt (w 2) w; given = w 1 }
+rawOf w = record { processes = rows processOf placeWords placesAt (w 0) w; outside = rows outsideOf outsideWords outsidesAt (w 2) w; given = w 1; halted = w 3 }
 
 -- the words of the process at a place, and of the outside's channel at a position
 abbrev pub processRow : List ℕ → ℕ → ℕ → ℕ
@@ -167,3 +168,4 @@ pub record Bounded (C : RawConfig) : Type 0 where
   pub channels : length (C .outside) ≤ outsideNumbers
   pub outside : All BoundedOutside (C .outside)
   pub given : C .given ≤ outsideNumbers
+  pub halted : C .halted ≤ 1

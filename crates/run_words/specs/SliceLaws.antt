@@ -6,10 +6,10 @@ use mathlib.Core.Option.{Option, some}
 use native.Mathlib.Omega.{arith}
 use lib.ListN.{length, getD, getElem?, take}
 use lib.Seq.{getD-take}
-use Rattle.notation.specs.Limits.{heldLimit, runWords}
+use Rattle.notation.specs.Limits.{heldLimit, outsideNumbers, runWords}
 use Rattle.run_words.specs.Lists.{All}
 use Rattle.run_words.specs.ListLaws.{length-tab, at-tab, tab-same, all-at, all-weaken}
-use Rattle.run_words.specs.Raw.{outsidesAt, outsideWords, placesAt, placeWords, endsFrom, endWords, heldWords, kindRadix, linkedTo, linkOf, rows, endOf, processOf, outsideOf, rawIn, processRow, heldCount, Bounded}
+use Rattle.run_words.specs.Raw.{RawProcess, RawOutside, outsidesAt, outsideWords, placesAt, placeWords, endsFrom, endWords, heldWords, kindRadix, linkedTo, linkOf, rows, endOf, processOf, outsideOf, rawIn, processRow, heldCount, Bounded}
 use Rattle.run_words.specs.RowLaws.{Local, end-of, outside-local, rows-same}
 
 abbrev pub word : List ℕ → ℕ → ℕ
@@ -50,6 +50,10 @@ pub numbered : (ws : List ℕ) → rawIn ws .given ≡ getD ws 1 0
 unfolding rawIn
 numbered ws = refl
 
+pub halted-word : (ws : List ℕ) → rawIn ws .halted ≡ getD ws 3 0
+unfolding rawIn
+halted-word ws = refl
+
 pub process-at : (ws : List ℕ) (i : ℕ) → i < length (rawIn ws .processes) → getElem? (rawIn ws .processes) i ≡ some (processOf (processRow ws i))
 unfolding rawIn
 process-at ws i h = at-tab _ (getD ws 0 0) i (omega (arith, counted ws))
@@ -73,17 +77,32 @@ pub held-few : (ws : List ℕ) (i : ℕ) → Bounded (rawIn ws) → i < length (
 held-few ws i b h = held-count ws i heldLimit (sixteen ws b .each) (omega (arith, counted ws))
 
 -- ── words that agree of a run
+-- of its processes; of the outside's channels; of all
+abbrev pub processesBy : List ℕ → List RawProcess
+processesBy ws = rows processOf placeWords placesAt (getD ws 0 0) (word ws)
+
+abbrev pub outsidesBy : List ℕ → List RawOutside
+outsidesBy ws = rows outsideOf outsideWords outsidesAt (getD ws 2 0) (word ws)
+
+module _ (old new : List ℕ) where
+  pub processes-same : Bounded (rawIn old) → getD new 0 0 ≡ getD old 0 0 → ((k : ℕ) → placesAt ≤ k → k < runWords → getD new k 0 ≡ getD old k 0) → processesBy new ≡ processesBy old
+  processes-same b z e =
+      ap (λ n. rows processOf placeWords placesAt n (word new)) z
+      ∙ rows-same processOf placeWords placesAt (word old) (word new) (getD old 0 0) (processes-local old (sixteen old b)) (λ k x y. e k x (omega (arith, b .places, counted old)))
+
+  pub outsides-same : length (rawIn old .outside) ≤ outsideNumbers → getD new 2 0 ≡ getD old 2 0 → ((k : ℕ) → outsidesAt ≤ k → k < placesAt → getD new k 0 ≡ getD old k 0) → outsidesBy new ≡ outsidesBy old
+  outsides-same c z e =
+      ap (λ n. rows outsideOf outsideWords outsidesAt n (word new)) z
+      ∙ rows-same outsideOf outsideWords outsidesAt (word old) (word new) (getD old 2 0) (λ j l. outside-local _) (λ k x y. e k x (omega (arith, counted-outside old)))
+
 pub raw-same : (old new : List ℕ) → Bounded (rawIn old) → ((k : ℕ) → k < runWords → getD new k 0 ≡ getD old k 0) → rawIn new ≡ rawIn old
 unfolding rawIn
 raw-same old new b e =
-    let p : rows processOf placeWords placesAt (getD new 0 0) (word new) ≡ rows processOf placeWords placesAt (getD old 0 0) (word old) =
-    ap (λ n. rows processOf placeWords placesAt n (word new)) (e 0 (omega arith))
-    ∙ rows-same processOf placeWords placesAt (word old) (word new) (getD old 0 0) (processes-local old (sixteen old b)) (λ k x y. e k (omega (arith, b .places, counted old))) in
-    let o : rows outsideOf outsideWords outsidesAt (getD new 2 0) (word new) ≡ rows outsideOf outsideWords outsidesAt (getD old 2 0) (word old) =
-    ap (λ n. rows outsideOf outsideWords outsidesAt n (word new)) (e 2 (omega arith))
-    ∙ rows-same outsideOf outsideWords outsidesAt (word old) (word new) (getD old 2 0) (λ j l. outside-local _) (λ k x y. e k (omega (arith, b .channels, counted-outside old))) in
+    let p = processes-same old new b (e 0 (omega arith)) (λ k _ y. e k y) in
+    let o = outsides-same old new (b .channels) (e 2 (omega arith)) (λ k _ y. e k (omega arith)) in
     let g : getD new 1 0 ≡ getD old 1 0 = e 1 (omega arith) in
-    λ i. record { processes = p i; outside = o i; given = g i }
+    let h : getD new 3 0 ≡ getD old 3 0 = e 3 (omega arith) in
+    λ i. record { processes = p i; outside = o i; given = g i; halted = h i }
 
 -- what lies past them is not read
 pub raw-taken : (ws : List ℕ) → Bounded (rawIn ws) → rawIn (take runWords ws) ≡ rawIn ws

@@ -1,5 +1,5 @@
 // Whether the words of a slice keep the bounds.
-ghost use Prim.Native.Nat.{ℕ, _+_, _*_, _≤_, _<_};
+ghost use Prim.Native.Nat.{_+_, _*_, _≤_, _<_};
 ghost use lib.ListN.{length};
 ghost use Rattle.notation.specs.Limits.{runWords, heldLimit, outsideNumbers, processPlaces};
 ghost use Rattle.run_words.specs.Lists.{All};
@@ -12,6 +12,7 @@ use crate::processes::count;
 use crate::processes::get;
 use crate::records::COUNT;
 use crate::records::GIVEN;
+use crate::records::HALTED;
 use crate::records::HELD_COUNT;
 use crate::records::Held;
 use crate::records::OUTSIDE_COUNT;
@@ -125,6 +126,9 @@ pub fn bounded(run: &[u32]) -> bool
         return false;
     }
     if OUTSIDE_NUMBERS < run[OUTSIDE_COUNT] {
+        return false;
+    }
+    if 1 < run[HALTED] {
         return false;
     }
     if !processes_bounded(run) {

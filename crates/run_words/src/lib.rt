@@ -1,6 +1,7 @@
 pub mod bounded;
 pub mod channels;
 pub mod far;
+pub mod halting;
 pub mod held;
 pub mod outside;
 pub mod places;

@@ -1,6 +1,6 @@
 // Processes come and leave: the places after them move by one, and the links with them.
 ghost use mathlib.Core.Path.{_≡_};
-ghost use Prim.Native.Nat.{ℕ, suc, _+_, _≤_, _<_};
+ghost use Prim.Native.Nat.{suc, _+_, _≤_, _<_};
 ghost use mathlib.Core.List.{map};
 ghost use lib.ListN.{length};
 ghost use Rattle.notation.specs.Limits.{runWords, processPlaces};
@@ -12,6 +12,7 @@ use crate::processes::count;
 use crate::processes::put;
 use crate::records::COUNT;
 use crate::records::GIVEN;
+use crate::records::HALTED;
 use crate::records::LINKS_AT;
 use crate::records::OUTSIDE_COUNT;
 use crate::records::PLACE_WORDS;
@@ -60,6 +61,7 @@ pub fn begin(run: &mut [u32], p: Process)
     run[COUNT] = 1;
     run[GIVEN] = 0;
     run[OUTSIDE_COUNT] = 0;
+    run[HALTED] = 0;
     put(run, PLACES_AT, p);
 }
 

@@ -1,10 +1,12 @@
 // The parts of a run by value, where their words stand, and by what the numbers of one word are told apart; specs/Raw.antt has the same numbers.
-// The header: how many processes there are, how many outside numbers were given, how many channels the outside uses.
+// The header: how many processes there are, how many outside numbers were given, how many channels the outside uses, whether the run has halted (0 or 1).
 pub const COUNT: usize = 0;
 
 pub const GIVEN: usize = 1;
 
 pub const OUTSIDE_COUNT: usize = 2;
+
+pub const HALTED: usize = 3;
 
 // The outside's channels: a number, and a type with a channel.
 pub const OUTSIDES_AT: usize = 16;

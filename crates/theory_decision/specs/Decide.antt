@@ -8,7 +8,7 @@ use lib.ListN.{length}
 use lib.Dec.{leb, ltb}
 use Rattle.notation.specs.Limits.{heldLimit, processPlaces, channelPlaces, outsideNumbers}
 use Rattle.notation.specs.Tree.{Proc}
-use Rattle.calculus.specs.Named.{names, distinct, isSome, all}
+use Rattle.calculus.specs.Named.{names, distinct, all}
 use Rattle.calculus.specs.Program.{Context, Program}
 use Rattle.calculus.specs.Verdict.{Verdict, fine, refused}
 use Rattle.calculus.specs.Declarations.{outward}
@@ -23,6 +23,7 @@ use Rattle.theory_derivations.specs.Rules.{check-iff}
 use Rattle.theory_decision.specs.Lists.{all-law}
 use Rattle.theory_decision.specs.Circles.{forest?, forest?-iff}
 use Rattle.theory_decision.specs.Ends.{endsFit, endsFit-iff}
+use Rattle.theory_decision.specs.Halting.{haltFits, haltFits-iff}
 use Rattle.theory_decision.specs.Links.{places-law, linksLead, linksLead-iff, handlersLinked, handlersLinked-iff, linkedOnce, linkedOnce-iff}
 
 -- ── typing, by the checking pass
@@ -34,21 +35,21 @@ isFine-iff : (v : Verdict) → So (isFine v) ↔ (v ≡ fine)
 isFine-iff fine = (λ _. refl, λ _. refl)
 isFine-iff (refused n at) = (never, refuted)
 
-abbrev pub typed? : Program → Context → Bool → Proc → Bool
-typed? p G link P = distinct (names G) && isFine (check p G link P)
+abbrev pub typed? : Program → Context → Proc → Bool
+typed? p G P = distinct (names G) && isFine (check p G P)
 
-typed?-iff : (p : Program) (G : Context) (link : Bool) (P : Proc) → So (typed? p G link P) ↔ (So (distinct (names G)) × Typed p G link P)
-typed?-iff p G link P = itself (distinct (names G)) and Iff·trans (isFine-iff (check p G link P)) (check-iff p P G link)
+typed?-iff : (p : Program) (G : Context) (P : Proc) → So (typed? p G P) ↔ (So (distinct (names G)) × Typed p G P)
+typed?-iff p G P = itself (distinct (names G)) and Iff·trans (isFine-iff (check p G P)) (check-iff p P G)
 
-abbrev pub typedAs? : Program → Context → Bool → Doing → Bool
-typedAs? p G link (running P) = typed? p G link P
-typedAs? p G link folding = true
-typedAs? p G link (waiting Q) = typed? p G link Q
+abbrev pub typedAs? : Program → Context → Doing → Bool
+typedAs? p G (running P) = typed? p G P
+typedAs? p G folding = true
+typedAs? p G (waiting Q) = typed? p G Q
 
-typedAs?-iff : (p : Program) (G : Context) (link : Bool) (d : Doing) → So (typedAs? p G link d) ↔ TypedAs p G link d
-typedAs?-iff p G link (running P) = typed?-iff p G link P
-typedAs?-iff p G link folding = (λ _. tt, λ _. refl)
-typedAs?-iff p G link (waiting Q) = typed?-iff p G link Q
+typedAs?-iff : (p : Program) (G : Context) (d : Doing) → So (typedAs? p G d) ↔ TypedAs p G d
+typedAs?-iff p G (running P) = typed?-iff p G P
+typedAs?-iff p G folding = (λ _. tt, λ _. refl)
+typedAs?-iff p G (waiting Q) = typed?-iff p G Q
 
 -- ── numbers that rise
 unfoldable pub rising : ℕ → List ℕ → Bool
@@ -63,7 +64,7 @@ rising-iff low (n ∷ l) = Iff·trans (and-cond (leb low n) (rising (suc n) l)) 
 -- ── the clauses in one
 unfoldable pub wellFormed? : Program → Config → Bool
 wellFormed? p C =
-    all (λ q. typedAs? p (contextOf (q .held)) (isSome (q .link)) (q .doing)) (C .processes)
+    all (λ q. typedAs? p (contextOf (q .held)) (q .doing)) (C .processes)
     && endsFit (ends C)
     && linksLead C
     && handlersLinked C
@@ -71,6 +72,7 @@ wellFormed? p C =
     && forest? (joints C)
     && all (λ (o : Outside). outward p (o .type) && ltb (o .number) (C .given)) (C .outside)
     && rising 0 (map (λ (o : Outside). o .number) (C .outside))
+    && haltFits C
     && leb (length (C .processes)) processPlaces
     && all (λ (e : End). ltb (e .channel) channelPlaces) (ends C)
     && leb (C .given) outsideNumbers
@@ -79,7 +81,7 @@ wellFormed? p C =
 pub wellFormed?-iff : (p : Program) (C : Config) → So (wellFormed? p C) ↔ WellFormed p C
 unfolding wellFormed?
 wellFormed?-iff p C = Iff·trans
-    (places-law C _ (λ q. typedAs?-iff p (contextOf (q .held)) (isSome (q .link)) (q .doing))
+    (places-law C _ (λ q. typedAs?-iff p (contextOf (q .held)) (q .doing))
     and endsFit-iff p (ends C)
     and linksLead-iff C
     and handlersLinked-iff C
@@ -87,11 +89,12 @@ wellFormed?-iff p C = Iff·trans
     and forest?-iff (joints C)
     and all-law _ (C .outside) (λ o. itself (outward p (o .type)) and ltb-iff (o .number) (C .given))
     and rising-iff 0 (map (λ (o : Outside). o .number) (C .outside))
+    and haltFits-iff C
     and leb-iff (length (C .processes)) processPlaces
     and all-law _ (ends C) (λ e. ltb-iff (e .channel) channelPlaces)
     and leb-iff (C .given) outsideNumbers
     and places-law C _ (λ q. leb-iff (length (q .held)) heldLimit)) (
-      λ (((((((((((t, (u, o)), l), h), m), f), x), n), c), k), g), r). record {
+      λ ((((((((((((t, (u, o)), l), h), m), f), x), n), z), c), k), g), r). record {
         typed = t;
         once = u;
         agree = o;
@@ -101,10 +104,11 @@ wellFormed?-iff p C = Iff·trans
         forest = f;
         outside = x;
         numbers = n;
+        halt = z;
         processes = c;
         channels = k;
         given = g;
         held = r;
       },
-      λ w. (((((((((((w .typed, (w .once, w .agree)), w .links), w .linked), w .linkedOnce), w .forest), w .outside), w .numbers), w .processes), w .channels), w .given), w .held),
+      λ w. ((((((((((((w .typed, (w .once, w .agree)), w .links), w .linked), w .linkedOnce), w .forest), w .outside), w .numbers), w .halt), w .processes), w .channels), w .given), w .held),
     )

@@ -8,8 +8,8 @@ use mathlib.Core.Option.{Option, some, none, Option·none-ne-some, Option·some-
 use borrow.Author.Tests.{not-false}
 use lib.Dec.{eqb}
 use Rattle.calculus.specs.Named.{all, any}
-use Rattle.calculus.specs.Configuration.{Process, Config, at}
-use Rattle.calculus.specs.WellFormed.{In, isWaiting, Stands}
+use Rattle.calculus.specs.Configuration.{Process, Config, Stands, at}
+use Rattle.calculus.specs.WellFormed.{In, isWaiting}
 use Rattle.theory_derivations.specs.Booleans.{never, itself, eqb-iff, any-iff}
 use Rattle.theory_derivations.specs.Equality.{decides-sym, eqb-decides}
 use Rattle.theory_ends.specs.Lists.{found-in, in-found}

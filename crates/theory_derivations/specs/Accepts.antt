@@ -4,7 +4,6 @@ use native.Mathlib.Omega.{arith}
 use mathlib.Core.Path.{_≡_, refl, sym, _∙_, ap, subst}
 use mathlib.Core.Logic.{_↔_, Iff·rfl, Iff·trans}
 use mathlib.Core.List.{List, [], _∷_, _++_}
-use mathlib.Core.Bool.{Bool, false}
 use mathlib.Core.Option.{Option, some, none, Option·none-ne-some, Option·some-injective}
 use lib.ListN.{length, length-append, getElem?}
 use Rattle.notation.specs.Limits.{heldLimit}
@@ -26,19 +25,19 @@ use Rattle.theory_derivations.specs.Fine.{refuted, then-law}
 use Rattle.theory_derivations.specs.Rules.{check-iff, branches-iff}
 
 -- ── processes
-pub sound : {p : Program} (P : Proc) (G : Context) (link : Bool) → check p G link P ≡ fine → Typed p G link P
-sound {p} P G link = check-iff p P G link .0
+pub sound : {p : Program} (P : Proc) (G : Context) → check p G P ≡ fine → Typed p G P
+sound {p} P G = check-iff p P G .0
 
-pub complete : {p : Program} {P : Proc} {G : Context} {link : Bool} → Typed p G link P → check p G link P ≡ fine
-complete {p} {P} {G} {link} = check-iff p P G link .1
+pub complete : {p : Program} {P : Proc} {G : Context} → Typed p G P → check p G P ≡ fine
+complete {p} {P} {G} = check-iff p P G .1
 
-pub branches-sound : {p : Program} (B : Branches) (G : Context) (link : Bool) (at : ℕ) (c : Name) (r : Alternatives Name)
-    → checkBranches p G link at c r B ≡ fine → TypedBranches p G link c r B
-branches-sound {p} B G link at c r = branches-iff p B G link at c r .0
+pub branches-sound : {p : Program} (B : Branches) (G : Context) (at : ℕ) (c : Name) (r : Alternatives Name)
+    → checkBranches p G at c r B ≡ fine → TypedBranches p G c r B
+branches-sound {p} B G at c r = branches-iff p B G at c r .0
 
-pub branches-complete : {p : Program} {B : Branches} {G : Context} {link : Bool} (at : ℕ) {c : Name} {r : Alternatives Name}
-    → TypedBranches p G link c r B → checkBranches p G link at c r B ≡ fine
-branches-complete {p} {B} {G} {link} at {c} {r} = branches-iff p B G link at c r .1
+pub branches-complete : {p : Program} {B : Branches} {G : Context} (at : ℕ) {c : Name} {r : Alternatives Name}
+    → TypedBranches p G c r B → checkBranches p G at c r B ≡ fine
+branches-complete {p} {B} {G} at {c} {r} = branches-iff p B G at c r .1
 
 -- ── a process of a script: "a signature's 17th name is taken before the body"
 unlessNamed-law : {A B : Type 0} {o : Option Located} {v : Verdict} → (o ≡ none) ↔ A → (v ≡ fine) ↔ B → (unlessNamed o v ≡ fine) ↔ (A × B)
@@ -64,9 +63,9 @@ length-signature xs ys P =
     ∙ sym (length-append (onSide provided (entries xs)) (onSide used (entries ys)))
 
 body-iff : (p : Program) (xs ys : List Entry) (P : Proc)
-    → (unlessNamed (getElem? (channels xs ++ channels ys) heldLimit) (check p (signatureContext (signed xs ys P)) false P) ≡ fine) ↔ TypedBody p (signed xs ys P)
+    → (unlessNamed (getElem? (channels xs ++ channels ys) heldLimit) (check p (signatureContext (signed xs ys P)) P) ≡ fine) ↔ TypedBody p (signed xs ys P)
 body-iff p xs ys P = Iff·trans
-    (unlessNamed-law (none-there-iff (channels xs ++ channels ys) heldLimit) (check-iff p P (signatureContext (signed xs ys P)) false)) (
+    (unlessNamed-law (none-there-iff (channels xs ++ channels ys) heldLimit) (check-iff p P (signatureContext (signed xs ys P)))) (
       λ (l, d). record { room = omega (arith, length-signature xs ys P); body = d },
       λ b. (omega (arith, length-signature xs ys P, b .room), b .body),
     )

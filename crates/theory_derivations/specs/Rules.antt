@@ -3,7 +3,7 @@ use Prim.Native.Nat.{ℕ}
 use mathlib.Core.Path.{_≡_, refl, _∙_, ap}
 use mathlib.Core.Logic.{_↔_, Iff·trans}
 use mathlib.Core.List.{[], _∷_, _++_}
-use mathlib.Core.Bool.{Bool, true, false, and-eq-true-iff}
+use mathlib.Core.Bool.{and-eq-true-iff}
 use mathlib.Core.Option.{Option, some, none}
 use Rattle.notation.specs.Bytes.{same}
 use Rattle.notation.specs.Tree.{Name, unit, Alternatives, Proc, empty, sendUnit, sendChannel, sendLabel, cancel, spawn, recvUnit, recvChannel, recvLabel, fwd, call, raise, try, Branches, branch}
@@ -27,75 +27,73 @@ module _ (p : Program) where
   mutual
     unfolding check checkBranches
 
-    pub check-iff : (P : Proc) (G : Context) (link : Bool) → (check p G link P ≡ fine) ↔ Typed p G link P
-    check-iff (empty at) G link = Iff·trans
+    pub check-iff : (P : Proc) (G : Context) → (check p G P ≡ fine) ↔ Typed p G P
+    check-iff (empty at) G = Iff·trans
         (demand-law _ _ (isNil-iff G) fine-law)
         (λ (e, _). empties e, λ d. elim d [ empties e ↦ (e, tt) ])
-    check-iff (sendUnit at c P) G link = Iff·trans
-        (having-law _ _ (acting p (c .name) G) λ h. demand-law _ _ (isUnitOn-iff provided h) (check-iff P _ link))
+    check-iff (sendUnit at c P) G = Iff·trans
+        (having-law _ _ (acting p (c .name) G) λ h. demand-law _ _ (isUnitOn-iff provided h) (check-iff P _))
         (λ (h, eh, (hs, d)). sends-unit (found eh hs) d, λ d. elim d [ sends-unit eh d ↦ (slot provided unit, eh, (refl, d)) ])
-    check-iff (sendChannel at c a P) G link = Iff·trans
+    check-iff (sendChannel at c a P) G = Iff·trans
         (having-law _ _ (acting p (c .name) G) λ h. having-law _ _ (lookup (a .name) G) λ e.
         demand-law _ _ (not-iff (same (c .name) (a .name))) (having-law _ _ (passing (h .type)) λ t.
-        demand-law _ _ (side-iff (t .sender) h and fitsSlot-iff (t .side) (t .what) e) (check-iff P _ link))) (
+        demand-law _ _ (side-iff (t .sender) h and fitsSlot-iff (t .side) (t .what) e) (check-iff P _))) (
           λ (h, eh, (e, ee, (n, (t, et, ((hs, (es, st)), d))))). sends-channel (h .type) (e .type) t n et (found eh hs) (found ee es) (record { same = st }) d,
           λ d. elim d [ sends-channel T A t n et eh ee st d ↦ (slot (t .sender) T, eh, (slot (t .side) A, ee, (n, (t, et, ((refl, (refl, st .same)), d))))) ],
         )
-    check-iff (sendLabel at c l P) G link = Iff·trans
+    check-iff (sendLabel at c l P) G = Iff·trans
         (having-law _ _ (acting p (c .name) G) λ h. having-law _ _ (choosing (h .type)) λ t.
-        demand-law _ _ (side-iff (t .sender) h) (having-law _ _ (labelled (l .name) (t .labels)) λ A. check-iff P _ link)) (
+        demand-law _ _ (side-iff (t .sender) h) (having-law _ _ (labelled (l .name) (t .labels)) λ A. check-iff P _)) (
           λ (h, eh, (t, et, (hs, (A, el, d)))). sends-label (h .type) A t et (found eh hs) el d,
           λ d. elim d [ sends-label T A t et eh el d ↦ (slot (t .sender) T, eh, (t, et, (refl, (A, el, d)))) ],
         )
-    check-iff (cancel at c P) G link = Iff·trans
-        (having-law _ _ (lookup (c .name) G) λ h. check-iff P _ link) (
+    check-iff (cancel at c P) G = Iff·trans
+        (having-law _ _ (lookup (c .name) G) λ h. check-iff P _) (
           λ (h, eh, d). cancels (isSome-iff (lookup (c .name) G) .1 (h, eh)) d,
           λ d. elim d [ cancels e d ↦ let r = isSome-iff (lookup (c .name) G) .0 e in (r .0, r .1, d) ],
         )
-    check-iff (spawn x A P Q) G link = Iff·trans
+    check-iff (spawn x A P Q) G = Iff·trans
         (demand-law _ _ (itself (neverBoth (x .name) P Q (names G))) (
         demand-law _ _ (mayBring-iff (x .name) G (spawnTakes (x .name) P G) and mayBring-iff (x .name) G (spawnLeaves (x .name) P G))
-        (then-law (check-iff P _ false) (check-iff Q _ link))))
+        (then-law (check-iff P _) (check-iff Q _))))
         (λ (n, ((b, k), (d, e))). spawns n b k d e, λ d. elim d [ spawns n b k d e ↦ (n, ((b, k), (d, e))) ])
-    check-iff (recvUnit at c P) G link = Iff·trans
-        (having-law _ _ (acting p (c .name) G) λ h. demand-law _ _ (isUnitOn-iff used h) (check-iff P _ link))
+    check-iff (recvUnit at c P) G = Iff·trans
+        (having-law _ _ (acting p (c .name) G) λ h. demand-law _ _ (isUnitOn-iff used h) (check-iff P _))
         (λ (h, eh, (hs, d)). recvs-unit (found eh hs) d, λ d. elim d [ recvs-unit eh d ↦ (slot used unit, eh, (refl, d)) ])
-    check-iff (recvChannel at c x P) G link = Iff·trans
+    check-iff (recvChannel at c x P) G = Iff·trans
         (having-law _ _ (acting p (c .name) G) λ h. having-law _ _ (passing (h .type)) λ t.
-        demand-law _ _ (side-iff (other (t .sender)) h) (demand-law _ _ (mayBring-iff (x .name) G G) (check-iff P _ link))) (
+        demand-law _ _ (side-iff (other (t .sender)) h) (demand-law _ _ (mayBring-iff (x .name) G G) (check-iff P _))) (
           λ (h, eh, (t, et, (hs, (b, d)))). recvs-channel (h .type) t et (found eh hs) b d,
           λ d. elim d [ recvs-channel T t et eh b d ↦ (slot (other (t .sender)) T, eh, (t, et, (refl, (b, d)))) ],
         )
-    check-iff (recvLabel at c B) G link = Iff·trans
+    check-iff (recvLabel at c B) G = Iff·trans
         (having-law _ _ (acting p (c .name) G) λ h. having-law _ _ (choosing (h .type)) λ t.
-        demand-law _ _ (side-iff (other (t .sender)) h) (demand-law _ _ (itself (fitting (t .labels) B)) (branches-iff B G link at (c .name) (t .labels)))) (
+        demand-law _ _ (side-iff (other (t .sender)) h) (demand-law _ _ (itself (fitting (t .labels) B)) (branches-iff B G at (c .name) (t .labels)))) (
           λ (h, eh, (t, et, (hs, (f, d)))). recvs-label (h .type) t et (found eh hs) f d,
           λ d. elim d [ recvs-label T t et eh f d ↦ (slot (other (t .sender)) T, eh, (t, et, (refl, (f, d)))) ],
         )
-    check-iff (fwd at x c) G link = Iff·trans
+    check-iff (fwd at x c) G = Iff·trans
         (having-law _ _ (lookup (x .name) G) λ h. having-law _ _ (lookup (c .name) G) λ e.
         demand-law _ _ (side-iff provided h and fitsSlot-iff used (h .type) e)
         (demand-law _ _ (isNil-iff (withoutAll (x .name ∷ c .name ∷ []) G)) fine-law)) (
           λ (h, eh, (e, ee, ((hs, (es, st)), (n, _)))). forwards (h .type) (e .type) (found eh hs) (found ee es) (record { same = decides-sym sameType-decides (h .type) (e .type) ∙ st }) n,
           λ d. elim d [ forwards A B eh ee st n ↦ (slot provided A, eh, (slot used B, ee, ((refl, (refl, decides-sym sameType-decides B A ∙ st .same)), (n, tt)))) ],
         )
-    check-iff (call at q bracket xs ys) G link = Iff·trans
+    check-iff (call at q bracket xs ys) G = Iff·trans
         (demand-law _ _ (itself (all (λ n. isSome (lookup n G)) (namesOf xs ++ namesOf ys))) (having-law _ _ (lookup (q .name) (p .processes)) λ s.
         demand-law _ _ (and-eq-true-iff (listFits G provided (namesOf xs) (s .provides)) (listFits G used (namesOf ys) (s .uses))) (
         demand-law _ _ (itself (distinct (namesOf xs ++ namesOf ys))) (demand-law _ _ (isNil-iff (withoutAll (namesOf xs ++ namesOf ys) G)) fine-law)))) (
           λ (_, (s, es, ((f, g), (u, (n, _))))). calls s es f g u n,
           λ d. elim d [ calls s es f g u n ↦ (lists-held G provided used (namesOf xs) (namesOf ys) (s .provides) (s .uses) f g, (s, es, ((f, g), (u, (n, tt))))) ],
         )
-    check-iff (raise at P) G link = Iff·trans
-        (demand-law _ _ (itself link) (check-iff P G false))
-        (λ (e, d). raises e d, λ d. elim d [ raises e d ↦ (e, d) ])
-    check-iff (try at P Q) G link = Iff·trans
-        (demand-law _ _ (itself (exactlyOne P Q (names G))) (then-law (check-iff P _ true) (check-iff Q _ link)))
+    check-iff (raise at P) G = Iff·trans (check-iff P G) (λ d. raises d, λ d. elim d [ raises d ↦ d ])
+    check-iff (try at P Q) G = Iff·trans
+        (demand-law _ _ (itself (exactlyOne P Q (names G))) (then-law (check-iff P _) (check-iff Q _)))
         (λ (e, (d, f)). tries e d f, λ d. elim d [ tries e d f ↦ (e, (d, f)) ])
 
-    pub branches-iff : (B : Branches) (G : Context) (link : Bool) (at : ℕ) (c : Name) (r : Alternatives Name)
-        → (checkBranches p G link at c r B ≡ fine) ↔ TypedBranches p G link c r B
-    branches-iff Branches.none G link at c r = (λ _. last-branch, λ _. refl)
-    branches-iff (branch l P B) G link at c r = Iff·trans
-        (having-law _ _ (labelled (l .name) r) λ A. then-law (check-iff P _ link) (branches-iff B G link at c r))
+    pub branches-iff : (B : Branches) (G : Context) (at : ℕ) (c : Name) (r : Alternatives Name)
+        → (checkBranches p G at c r B ≡ fine) ↔ TypedBranches p G c r B
+    branches-iff Branches.none G at c r = (λ _. last-branch, λ _. refl)
+    branches-iff (branch l P B) G at c r = Iff·trans
+        (having-law _ _ (labelled (l .name) r) λ A. then-law (check-iff P _) (branches-iff B G at c r))
         (λ (A, el, (d, f)). one-branch A el d f, λ d. elim d [ one-branch A el d f ↦ (A, el, (d, f)) ])

@@ -2,7 +2,7 @@
 use mathlib.Core.Path.{_≡_, sym, _∙_, ap, subst}
 use mathlib.Core.List.{List, [], _∷_, _++_}
 use mathlib.Core.Option.{some, Option·getD, Option·none-ne-some, Option·some-injective}
-use mathlib.Core.Bool.{Bool, true, cond}
+use mathlib.Core.Bool.{true, cond}
 use Rattle.notation.specs.Tree.{Name, Located, Ty, Alternatives, Proc, Branches}
 use Rattle.calculus.specs.Named.{lookup}
 use Rattle.calculus.specs.Types.{Side, used, standing, Passing, passing, Choosing, choosing, labelled}
@@ -18,12 +18,12 @@ use Rattle.theory_ends.specs.Contexts.{context-retyped, context-append, acts}
 use Rattle.theory_preservation.specs.Outward.{outward-standing, outward-passing, outward-choosing}
 
 -- the branch of a label is typed with what the label leads to
-pub branch-typed : {p : Program} {G : Context} {b : Bool} {c : Name} {r : Alternatives Name} {B : Branches} → TypedBranches p G b c r B → (l : Name) (P : Proc) → branchOf l B ≡ some P
-    → (A : Ty Name) × (labelled l r ≡ some A) × Typed p (retyped c A G) b P
+pub branch-typed : {p : Program} {G : Context} {c : Name} {r : Alternatives Name} {B : Branches} → TypedBranches p G c r B → (l : Name) (P : Proc) → branchOf l B ≡ some P
+    → (A : Ty Name) × (labelled l r ≡ some A) × Typed p (retyped c A G) P
 branch-typed last-branch l P e = absurd (Option·none-ne-some P e)
-branch-typed {p} {G} {b} {c} {r} (one-branch {l = m} {P = Q} {B = B} A h d ds) l P e =
-    by-test (λ t. cond t (some Q) (branchOf l B) ≡ some P → (A : Ty Name) × (labelled l r ≡ some A) × Typed p (retyped c A G) b P) l (m .name)
-    (λ z y. (A, ap (λ l. labelled l r) z ∙ h, subst (Typed p (retyped c A G) b) (Option·some-injective _ _ y) d)) (λ _ y. branch-typed ds l P y) e
+branch-typed {p} {G} {c} {r} (one-branch {l = m} {P = Q} {B = B} A h d ds) l P e =
+    by-test (λ t. cond t (some Q) (branchOf l B) ≡ some P → (A : Ty Name) × (labelled l r ≡ some A) × Typed p (retyped c A G) P) l (m .name)
+    (λ z y. (A, ap (λ l. labelled l r) z ∙ h, subst (Typed p (retyped c A G)) (Option·some-injective _ _ y) d)) (λ _ y. branch-typed ds l P y) e
 
 module _ (p : Program) where
   -- ── one end
@@ -50,13 +50,13 @@ module _ (p : Program) where
       record { side = ap (λ (e : End). e .side) (sym z) ∙ a .side; type = ap (λ (e : End). definitionOf (e .type)) (sym z) ∙ a .type }
 
   -- what its holder is typed with then
-  pub typed-on : {A B : Ty Name} {b : Bool} {P : Proc} (c : Name) (l : List (Name × End)) → B ≡ A → Typed p (retyped c A (contextOf l)) b P → Typed p (contextOf (retypedEnd c B l)) b P
-  typed-on {B = B} {b = b} {P = P} c l z d = subst (λ G. Typed p G b P) (ap (λ A. retyped c A (contextOf l)) (sym z) ∙ context-retyped c B l) d
+  pub typed-on : {A B : Ty Name} {P : Proc} (c : Name) (l : List (Name × End)) → B ≡ A → Typed p (retyped c A (contextOf l)) P → Typed p (contextOf (retypedEnd c B l)) P
+  typed-on {B = B} {P = P} c l z d = subst (λ G. Typed p G P) (ap (λ A. retyped c A (contextOf l)) (sym z) ∙ context-retyped c B l) d
 
-  pub typed-taking : {A B : Ty Name} {b : Bool} {P : Proc} (c : Name) (l : List (Name × End)) (x : Name) (d : End) → B ≡ A
-      → Typed p (bringing x (slot (d .side) (d .type)) (retyped c A (contextOf l))) b P → Typed p (contextOf (retypedEnd c B l ++ ((x, d) ∷ []))) b P
-  typed-taking {B = B} {b = b} {P = P} c l x d z t =
-      subst (λ G. Typed p G b P)
+  pub typed-taking : {A B : Ty Name} {P : Proc} (c : Name) (l : List (Name × End)) (x : Name) (d : End) → B ≡ A
+      → Typed p (bringing x (slot (d .side) (d .type)) (retyped c A (contextOf l))) P → Typed p (contextOf (retypedEnd c B l ++ ((x, d) ∷ []))) P
+  typed-taking {B = B} {P = P} c l x d z t =
+      subst (λ G. Typed p G P)
       (ap (λ G. bringing x (slot (d .side) (d .type)) G) (ap (λ A. retyped c A (contextOf l)) (sym z) ∙ context-retyped c B l)
       ∙ sym (context-append (retypedEnd c B l) ((x, d) ∷ []))) t
 

@@ -2,7 +2,7 @@
 use mathlib.Core.Path.{_≡_, refl, sym, _∙_, ap, subst}
 use mathlib.Core.List.{List, [], _∷_, _++_, map, Sublistᴰ·refl, List·Memᴰ·head, List·Memᴰ·tail, List·Memᴰ·not-nil, Memᴰ·of-map, Memᴰ·cast}
 use mathlib.Core.Option.{Option, some, none, Option·some-injective}
-use mathlib.Core.Bool.{Bool, true, and-eq-true-iff}
+use mathlib.Core.Bool.{true, and-eq-true-iff}
 use Prim.Native.Nat.{ℕ, _≤_, _<_}
 use lib.ListN.{length, getElem?}
 use Rattle.notation.specs.Limits.{heldLimit, channelPlaces}
@@ -25,8 +25,7 @@ use Rattle.theory_preservation.specs.Witness.{of-channels, Recast}
 use Rattle.theory_preservation.specs.Roster.{Has, tipOf, Fine, runs-awake}
 use Rattle.theory_preservation.specs.LettingGo.{less}
 use Rattle.theory_preservation.specs.TwoEnds.{key-of-key, held-tip}
-use Rattle.theory_preservation.specs.Invariant.{Inv, hasLink, at-roster, fine-at, inv-set}
-use Rattle.theory_preservation.specs.Weakening.{weakened}
+use Rattle.theory_preservation.specs.Invariant.{Inv, at-roster, fine-at, inv-set}
 
 module _ (p : Program) (l : List (Name × End)) where
   -- the end held under the name a is on the slot's side, and of one type with it
@@ -107,7 +106,7 @@ module _ (p : Program) (l : List (Name × End)) where
       go r (List·Memᴰ·tail j) = let y = r j in record { name = y .name; listed = List·Memᴰ·tail (y .listed); end = y .end; held = y .held; same = y .same; one = y .one }
 
   -- what a process holds after a call, it held before
-  pub called-was : {b : Bool} {o bracket : ℕ} {f : Located} {xs ys : List Located} {s : Signature} → Typed p (contextOf l) b (call o f bracket xs ys) → lookup (f .name) (p .processes) ≡ some s
+  pub called-was : {o bracket : ℕ} {f : Located} {xs ys : List Located} {s : Signature} → Typed p (contextOf l) (call o f bracket xs ys) → lookup (f .name) (p .processes) ≡ some s
       → (x : Name × End) → In x (renamed (namesOf xs ++ namesOf ys) (signatureContext s) l) → Was (namesOf xs ++ namesOf ys) (x .1)
   called-was {xs = xs} {ys = ys} (calls s e′ fx fy _ _) e x i =
       renamed-was (namesOf xs ++ namesOf ys) (signatureContext s) (call-fits (namesOf xs) (namesOf ys) s fx fy) x
@@ -128,7 +127,7 @@ module _ (p : Program) (l : List (Name × End)) where
 
 module _ {p : Program} (B : Bodies p) {C : Config} (I : Inv p C) {i : ℕ} {q : Process} where
   pub call-keeps : {o bracket : ℕ} {f : Located} {xs ys : List Located} {s : Signature} → Runs C i q (call o f bracket xs ys) → lookup (f .name) (p .processes) ≡ some s
-      → Typed p (contextOf (q .held)) (hasLink I q) (call o f bracket xs ys)
+      → Typed p (contextOf (q .held)) (call o f bracket xs ys)
       → Inv p (replaced i (goesOn q (s .body) (renamed (namesOf xs ++ namesOf ys) (signatureContext s) (q .held))) C)
   call-keeps {f = f} {xs = xs} {ys = ys} {s = s₀} r e (calls s e′ fx fy d _) =
       subst (λ s. Inv p (replaced i (goesOn q (s .body) (renamed ns (signatureContext s) (q .held))) C)) (Option·some-injective _ _ (sym e′ ∙ e))
@@ -173,7 +172,7 @@ module _ {p : Program} (B : Bodies p) {C : Config} (I : Inv p C) {i : ℕ} {q : 
 
       fine : Fine p (relinked (I .id) (becoming (running (s .body)) l q))
       fine = record {
-        typed = subst (λ H. Typed p H (hasLink I q) (s .body)) (sym same) (weakened (body .body) _);
+        typed = subst (λ H. Typed p H (s .body)) (sym same) (body .body);
         names = subst NoneTwice (sym (sym (context-names l) ∙ ap names same)) (distinct-iff (names G) .0 (B .names (f .name) s e′));
         keys = renamed-once p (q .held) ns G fits (distinct-iff ns .0 d) (g .keys);
         room = subst (λ n. n ≤ heldLimit) (sym (sym (context-length l) ∙ ap length same)) (body .room);

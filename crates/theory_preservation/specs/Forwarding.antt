@@ -7,7 +7,7 @@ use mathlib.Core.Bool.{false}
 use Prim.Native.Nat.{ℕ, _≤_, _<_}
 use Rattle.notation.specs.Limits.{heldLimit, channelPlaces}
 use Rattle.notation.specs.Tree.{Name}
-use Rattle.calculus.specs.Named.{lookup, isSome}
+use Rattle.calculus.specs.Named.{lookup}
 use Rattle.calculus.specs.Types.{provided, used, other}
 use Rattle.calculus.specs.Program.{Program}
 use Rattle.calculus.specs.Typing.{OneType}
@@ -80,7 +80,7 @@ module _ {p : Program} {S : Roster} {o : List Outside} {given next : ℕ} (G : G
 
       q-fine : Fine p (holding l′ q)
       q-fine = record {
-        typed = subst (λ C. TypedDoing p C (isSome (q .link)) (q .doing)) (sym (rl .context)) (g .typed);
+        typed = subst (λ C. TypedDoing p C (q .doing)) (sym (rl .context)) (g .typed);
         names = subst (NamesDiffer (q .doing)) (sym (rl .names)) (g .names);
         keys = rl .once fresh;
         room = subst (λ n. n ≤ heldLimit) (sym (rl .long)) (g .room);

@@ -1,4 +1,4 @@
--- What keeps the invariant is well formed.
+-- What keeps the invariant is well formed, but for its halt, of which the invariant says nothing.
 use mathlib.Core.Path.{_≡_, refl, sym, _∙_, ap, subst}
 use mathlib.Core.Logic.{_≢_, _⊎_, inl, inr}
 use mathlib.Core.List.{map, List·Memᴰ·append-cases, Memᴰ·of-map}
@@ -8,12 +8,12 @@ use Prim.Native.Nat.{ℕ, _<_}
 use lib.ListN.{getElem?}
 use Rattle.notation.specs.Limits.{channelPlaces}
 use Rattle.notation.specs.Tree.{Name}
-use Rattle.calculus.specs.Named.{names, isSome}
+use Rattle.calculus.specs.Named.{names}
 use Rattle.calculus.specs.Types.{Side, used}
 use Rattle.calculus.specs.Program.{Context, Program}
-use Rattle.calculus.specs.Configuration.{End, end, Doing, running, folding, waiting, Process, relinked, Config}
+use Rattle.calculus.specs.Configuration.{End, end, Doing, running, folding, waiting, Process, relinked, Config, Stands}
 use Rattle.calculus.specs.Forest.{Forest, joints}
-use Rattle.calculus.specs.WellFormed.{In, NoneTwice, contextOf, processEnds, outsideEnds, ends, key, TypedAs, isWaiting, Stands, WellFormed}
+use Rattle.calculus.specs.WellFormed.{In, NoneTwice, contextOf, processEnds, outsideEnds, ends, key, TypedAs, isWaiting, WouldHalt, WellFormed}
 use Rattle.theory_graphs.specs.Moves.{thin}
 use Rattle.theory_ends.specs.Lists.{once-append, map-append, found-below}
 use Rattle.theory_ends.specs.Names.{distinct-iff}
@@ -26,14 +26,10 @@ use Rattle.theory_preservation.specs.TwoEnds.{above, owner, one-type, ke
 use Rattle.theory_preservation.specs.Invariant.{Inv, at-roster, fine-at, handler}
 use Rattle.theory_preservation.specs.Joints.{forest-back, numbers, joints-are, numbers-once, numbers-live}
 
-pub is-some-map : {A B : Type 0} (f : A → B) (o : Option A) → isSome (Option·map f o) ≡ isSome o
-is-some-map f none = refl
-is-some-map f (some x) = refl
-
-typed-as : (p : Program) (G : Context) (b : Bool) (d : Doing) → NamesDiffer d (names G) → TypedDoing p G b d → TypedAs p G b d
-typed-as p G b (running P) n t = (distinct-iff (names G) .1 n, t)
-typed-as p G b folding n t = tt
-typed-as p G b (waiting P) n t = (distinct-iff (names G) .1 n, t)
+typed-as : (p : Program) (G : Context) (d : Doing) → NamesDiffer d (names G) → TypedDoing p G d → TypedAs p G d
+typed-as p G (running P) n t = (distinct-iff (names G) .1 n, t)
+typed-as p G folding n t = tt
+typed-as p G (waiting P) n t = (distinct-iff (names G) .1 n, t)
 
 module _ {p : Program} {C : Config} (I : Inv p C) where
   abbrev S : Roster
@@ -99,11 +95,10 @@ module _ {p : Program} {C : Config} (I : Inv p C) where
           let n = map-eq-some-iff {B = ℕ} (I .id) (b .1 .link) .0 k in
           (b .0, b .1, record { there = b .2 }, n .1 ∙ ap some (I .shows .apart (n .0) h (I .shows .within (b .0) (b .1) (b .2) (n .0) (n .1)) (found-below (C .processes) h e) (n .2)))
 
-  pub inv-well-formed : WellFormed p C
-  inv-well-formed = record {
+  pub inv-well-formed : (C .halted ≡ true → WouldHalt C) → WellFormed p C
+  inv-well-formed halts = record {
     typed = λ i q s. let f = fine-at I i q (s .there) in
-        typed-as p (contextOf (q .held)) (isSome (q .link)) (q .doing) (subst (NamesDiffer (q .doing)) (sym (context-names (q .held))) (f .names))
-        (subst (λ b. TypedDoing p (contextOf (q .held)) b (q .doing)) (is-some-map (I .id) (q .link)) (f .typed));
+        typed-as p (contextOf (q .held)) (q .doing) (subst (NamesDiffer (q .doing)) (sym (context-names (q .held))) (f .names)) (f .typed);
     once = none-held-twice;
     agree = λ e d m n z. let u = end-has e m in let v = end-has d n in one-type G (u .0) (v .0) e d z (u .1) (v .1);
     links = λ i q s h z. let r = handler I i q (s .there) h z in (r .0, record { there = r .1 }, r .2);
@@ -117,6 +112,7 @@ module _ {p : Program} {C : Config} (I : Inv p C) where
         (numbers-live C (I .shows) (W .own) (W .sound) (λ i q e. handler I i q e) id-above (W .K) (W .live)) (W .forest)));
     outside = λ o m. (G .fair .outwards o m, G .fair .below o m);
     numbers = G .fair .rising;
+    halt = halts;
     processes = I .places;
     channels = channels′;
     given = I .numbers;

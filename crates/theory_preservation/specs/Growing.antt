@@ -9,7 +9,7 @@ use native.Mathlib.Omega.{arith}
 use lib.ListN.{length}
 use Rattle.notation.specs.Limits.{heldLimit, channelPlaces}
 use Rattle.notation.specs.Tree.{Name, Ty, Proc}
-use Rattle.calculus.specs.Named.{lookup, kept, names, isSome}
+use Rattle.calculus.specs.Named.{lookup, kept, names}
 use Rattle.calculus.specs.Types.{Side, provided, used}
 use Rattle.calculus.specs.Program.{Program}
 use Rattle.calculus.specs.Typing.{Typed}
@@ -178,7 +178,7 @@ module _ {p : Program} {S : Roster} {o : List Outside} {given next : ℕ} (G : G
   -- ── a process that holds less and one more channel
   with-channel : (r : Process) → Fine p r → (d : Doing) → Goes (r .doing) d → (k : Option ℕ) (t : Name → Bool) (x : Name) (e : End) → lookup x (r .held) ≡ none
       → ¬ In (key e) (map keyAt (r .held)) → length (kept t (r .held)) < heldLimit
-      → e .channel < channelPlaces → TypedDoing p (contextOf (kept t (r .held) ++ ((x, e) ∷ []))) (isSome k) d → Fine p (linkedBy k (becoming d (kept t (r .held) ++ ((x, e) ∷ [])) r))
+      → e .channel < channelPlaces → TypedDoing p (contextOf (kept t (r .held) ++ ((x, e) ∷ []))) d → Fine p (linkedBy k (becoming d (kept t (r .held) ++ ((x, e) ∷ [])) r))
   with-channel r f d w k t x e new nk room lt td =
       fine-more r d k (kept t (r .held)) x e (names-less d sub (w .names (names (r .held)) (f .names))) no-name (sub-once keyAt sub (f .keys))
       (λ m. let y = Memᴰ·of-map keyAt (kept t (r .held)) m in nk (Memᴰ·cast (sym (y .2)) (Memᴰ·map keyAt (sub-in sub (y .1)))))
@@ -224,8 +224,8 @@ module _ {p : Program} {S : Roster} {o : List Outside} {given next : ℕ} (G : G
     abbrev R₁ : Rel
     R₁ = R fork
 
-    pub spawn-good : length (kept t (r .held)) < heldLimit → length (kept rest (r .held)) < heldLimit → Typed p (contextOf (made .held)) false P
-        → Typed p (contextOf (maker .held)) (isSome (r .link)) Q
+    pub spawn-good : length (kept t (r .held)) < heldLimit → length (kept rest (r .held)) < heldLimit → Typed p (contextOf (made .held)) P
+        → Typed p (contextOf (maker .held)) Q
         → Good p (put next (some made) (put u (some maker) S)) o given (suc next)
     spawn-good roomP roomQ tP tQ =
         grown-good fork
@@ -297,13 +297,13 @@ module _ {p : Program} {S : Roster} {o : List Outside} {given next : ℕ} (G : G
     abbrev R₂ : Rel
     R₂ = R fork′
 
-    half : (d : Doing) → NamesDiffer d (names (r .held)) → (k : Option ℕ) (t : Name → Bool) → TypedDoing p (contextOf (kept t (r .held))) (isSome k) d
+    half : (d : Doing) → NamesDiffer d (names (r .held)) → (k : Option ℕ) (t : Name → Bool) → TypedDoing p (contextOf (kept t (r .held))) d
         → Fine p (linkedBy k (becoming d (kept t (r .held)) r))
     half d n k t td =
         let f = fine-less (G .fine u r su) folding (goes-folding (runs-awake wr)) (kept-sub t (r .held)) tt in
         record { typed = td; names = names-less d (kept-sub t (r .held)) n; keys = f .keys; room = f .room; channels = f .channels }
 
-    pub try-good : Typed p (contextOf (kept t₁ (r .held))) true P → Typed p (contextOf (kept t₂ (r .held))) (isSome (r .link)) Q
+    pub try-good : Typed p (contextOf (kept t₁ (r .held))) P → Typed p (contextOf (kept t₂ (r .held))) Q
         → Good p (put u (some tryer) (put next (some waiter) S)) o given (suc next)
     try-good tP tQ =
         grown-good fork′

@@ -3,19 +3,19 @@ use mathlib.Core.Path.{_≡_, refl, sym, _∙_, ap, subst}
 use mathlib.Core.Logic.{_≢_, _⊎_, inl, inr}
 use mathlib.Core.List.{List, Sublistᴰ, Sublistᴰ·refl}
 use mathlib.Core.Option.{Option, some, none, Option·map, Option·none-ne-some}
-use mathlib.Core.Bool.{Bool, true, false}
+use mathlib.Core.Bool.{true, false}
 use Prim.Native.Nat.{ℕ, _≤_, _<_}
 use native.Mathlib.Omega.{arith}
 use lib.ListN.{length, set, getElem?, length-set}
 use Rattle.notation.specs.Limits.{processPlaces}
 use Rattle.notation.specs.Tree.{Name, Proc, raise}
-use Rattle.calculus.specs.Named.{names, isSome, without}
+use Rattle.calculus.specs.Named.{names, without}
 use Rattle.calculus.specs.Program.{Context, Program}
 use Rattle.calculus.specs.Typing.{Typed, raises}
-use Rattle.calculus.specs.Configuration.{End, Doing, running, folding, waiting, Process, Config, withProcesses, replaced, relinked, removed, doingNow, linkedBy, goesOn, foldsUp, becoming}
+use Rattle.calculus.specs.Configuration.{End, Doing, running, folding, waiting, Process, Config, Stands, withProcesses, replaced, relinked, removed, doingNow, linkedBy, goesOn, foldsUp, becoming}
 use Rattle.calculus.specs.Steps.{changedAt, putAt, startedHandler, startedDoing, foldedHandler, handlerStarts}
 use Rattle.calculus.specs.Reduces.{Empty, no-term, no-channel}
-use Rattle.calculus.specs.WellFormed.{contextOf, isWaiting, Stands}
+use Rattle.calculus.specs.WellFormed.{contextOf, isWaiting}
 use Rattle.theory_ends.specs.Names.{without-sub}
 use Rattle.theory_ends.specs.Lists.{length-removed, set-cases, found-below}
 use Rattle.theory_preservation.specs.Mates.{put}
@@ -23,17 +23,17 @@ use Rattle.theory_preservation.specs.Roster.{TypedDoing, NamesDiffer, na
 use Rattle.theory_preservation.specs.LettingGo.{started, left, left-alone}
 use Rattle.theory_preservation.specs.Places.{Shows, shows-set, shows-out, idOut}
 use Rattle.theory_preservation.specs.Growing
-use Rattle.theory_preservation.specs.Invariant.{Inv, hasLink, inv-less, at-roster, fine-at, handler, unlinked}
+use Rattle.theory_preservation.specs.Invariant.{Inv, inv-less, at-roster, fine-at, handler, unlinked}
 
 started-waits-not : (d : Doing) → isWaiting (startedDoing d) ≡ false
 started-waits-not (running P) = refl
 started-waits-not folding = refl
 started-waits-not (waiting P) = refl
 
-started-typed : (p : Program) (H : Context) (c : Bool) (d : Doing) → TypedDoing p H c d → TypedDoing p H c (startedDoing d)
-started-typed p H c (running P) t = t
-started-typed p H c folding t = t
-started-typed p H c (waiting P) t = t
+started-typed : (p : Program) (H : Context) (d : Doing) → TypedDoing p H d → TypedDoing p H (startedDoing d)
+started-typed p H (running P) t = t
+started-typed p H folding t = t
+started-typed p H (waiting P) t = t
 
 started-names : (ns : List Name) (d : Doing) → NamesDiffer d ns → NamesDiffer (startedDoing d) ns
 started-names ns (running P) n = n
@@ -58,8 +58,8 @@ module _ {p : Program} {C : Config} (I : Inv p C) {i : ℕ} {q : Process} (here 
     link-id : Option·map (I .id) (q .link) ≡ some (I .id h)
     link-id = ap (Option·map (I .id)) lk
 
-    started-inv : isWaiting d ≡ false → NamesDiffer d (names (r .held)) → TypedDoing p (contextOf (r .held)) (isSome (Option·map (I .id) (r .link))) d
-        → (d′ : Doing) → isWaiting d′ ≡ false → {l : List (Name × End)} → Sublistᴰ l (q .held) → NamesDiffer d′ (names l) → TypedDoing p (contextOf l) false d′
+    started-inv : isWaiting d ≡ false → NamesDiffer d (names (r .held)) → TypedDoing p (contextOf (r .held)) d
+        → (d′ : Doing) → isWaiting d′ ≡ false → {l : List (Name × End)} → Sublistᴰ l (q .held) → NamesDiffer d′ (names l) → TypedDoing p (contextOf l) d′
         → Inv p (withProcesses (set l₁ i (linkedBy none (becoming d′ l q))) C)
     started-inv wd nd td d′ w′ {l} a n t = record {
       id = I .id;
@@ -71,7 +71,7 @@ module _ {p : Program} {C : Config} (I : Inv p C) {i : ℕ} {q : Process} (here 
       numbers = I .numbers;
     }
 
-    left-inv : isWaiting d ≡ false → NamesDiffer d (names (r .held)) → TypedDoing p (contextOf (r .held)) (isSome (Option·map (I .id) (r .link))) d
+    left-inv : isWaiting d ≡ false → NamesDiffer d (names (r .held)) → TypedDoing p (contextOf (r .held)) d
         → Inv p (withProcesses (removed i l₁) C)
     left-inv wd nd td = record {
       id = idOut s₁ i;
@@ -91,25 +91,25 @@ module _ {p : Program} {C : Config} (I : Inv p C) {i : ℕ} {q : Process} (here 
             go (inr y) = unlinked I i q (here .there) w j s (y .1) z
 
   -- the process does d from now on, holds l and is not linked; its handler, if linked, starts
-  pub starts-keep : isWaiting (q .doing) ≡ false → (d : Doing) → Goes (q .doing) d → {l : List (Name × End)} → Sublistᴰ l (q .held) → TypedDoing p (contextOf l) false d
+  pub starts-keep : isWaiting (q .doing) ≡ false → (d : Doing) → Goes (q .doing) d → {l : List (Name × End)} → Sublistᴰ l (q .held) → TypedDoing p (contextOf l) d
       → Inv p (handlerStarts i (becoming d l q) C)
   starts-keep w d g {l} a t = go (q .link) refl
     where
       go : (o : Option ℕ) → q .link ≡ o → Inv p (replaced i (linkedBy none (becoming d l q)) (withProcesses (changedAt startedHandler o (C .processes)) C))
       go none z =
           subst (λ o. Inv p (replaced i (linkedBy o (becoming d l q)) C)) z
-          (inv-less I i q (here .there) d g a (subst (λ b. TypedDoing p (contextOf l) b d) (sym (ap (λ o. isSome (Option·map (I .id) o)) z)) t) (Sublistᴰ·refl (C .outside)))
+          (inv-less I i q (here .there) d g a t (Sublistᴰ·refl (C .outside)))
       go (some h) z =
           let x = handler I i q (here .there) h z in
           subst (λ o. Inv p (replaced i (linkedBy none (becoming d l q)) (withProcesses (putAt (C .processes) h (Option·map startedHandler o)) C))) (sym (x .1))
           (started-inv w h z (x .0) (x .1) (x .2) (startedDoing (x .0 .doing)) (started-waits-not (x .0 .doing))
           (started-names _ (x .0 .doing) (fine-at I h (x .0) (x .1) .names))
-          (started-typed p _ _ (x .0 .doing) (fine-at I h (x .0) (x .1) .typed)) d (sym (g .waits) ∙ w) a
+          (started-typed p _ (x .0 .doing) (fine-at I h (x .0) (x .1) .typed)) d (sym (g .waits) ∙ w) a
           (names-less d a (g .names _ (fine-at I i q (here .there) .names))) t)
 
-  pub raise-keeps : {o : ℕ} {P : Proc} → q .doing ≡ running (raise o P) → Typed p (contextOf (q .held)) (hasLink I q) (raise o P)
+  pub raise-keeps : {o : ℕ} {P : Proc} → q .doing ≡ running (raise o P) → Typed p (contextOf (q .held)) (raise o P)
       → Inv p (handlerStarts i (goesOn q P (q .held)) C)
-  raise-keeps {P = P} r (raises e t) = starts-keep (runs-awake r) (running P) (runs-on r P) (Sublistᴰ·refl (q .held)) t
+  raise-keeps {P = P} r (raises t) = starts-keep (runs-awake r) (running P) (runs-on r P) (Sublistᴰ·refl (q .held)) t
 
   -- a recv whose far end was given up
   pub lost-keeps : {P : Proc} → q .doing ≡ running P → (c : Name) → Inv p (handlerStarts i (foldsUp q (without c (q .held))) C)

@@ -11,7 +11,6 @@ use native.Mathlib.Omega.{arith}
 use lib.ListN.{length, set, getElem?, length-set}
 use Rattle.notation.specs.Limits.{processPlaces, outsideNumbers}
 use Rattle.notation.specs.Tree.{Name, Proc}
-use Rattle.calculus.specs.Named.{isSome}
 use Rattle.calculus.specs.Program.{Program}
 use Rattle.calculus.specs.Configuration.{End, Doing, running, Process, relinked, Outside, Config, withProcesses, withOutside, withGiven, becoming}
 use Rattle.calculus.specs.Typing.{Typed}
@@ -33,10 +32,6 @@ pub record Inv (p : Program) (C : Config) : Type 0 where
   pub numbers : C .given ≤ outsideNumbers
 
 module _ {p : Program} {C : Config} (I : Inv p C) where
-  -- whether a process has a link, as typing asks it
-  abbrev pub hasLink : Process → Bool
-  hasLink q = isSome (Option·map (I .id) (q .link))
-
   -- the process q at place i, as the roster has it
   module _ (i : ℕ) (q : Process) (at : getElem? (C .processes) i ≡ some q) where
     pub at-roster : I .roster (I .id i) ≡ some (relinked (I .id) q)
@@ -45,8 +40,8 @@ module _ {p : Program} {C : Config} (I : Inv p C) where
     pub fine-at : Fine p (relinked (I .id) q)
     fine-at = I .good .fine (I .id i) (relinked (I .id) q) at-roster
 
-    pub typed-at : (d : Doing) → q .doing ≡ d → TypedDoing p (contextOf (q .held)) (hasLink q) d
-    typed-at d e = subst (TypedDoing p (contextOf (q .held)) (hasLink q)) e (fine-at .typed)
+    pub typed-at : (d : Doing) → q .doing ≡ d → TypedDoing p (contextOf (q .held)) d
+    typed-at d e = subst (TypedDoing p (contextOf (q .held))) e (fine-at .typed)
 
     -- it does d and holds l from now on
     pub inv-set : (d : Doing) (l : List (Name × End)) {o : List Outside} {given : ℕ} → given ≤ outsideNumbers
@@ -62,7 +57,7 @@ module _ {p : Program} {C : Config} (I : Inv p C) where
     }
 
     -- it lets go of some of what it holds, and so does the outside
-    pub inv-less : (d : Doing) → Goes (q .doing) d → {l : List (Name × End)} → Sublistᴰ l (q .held) → TypedDoing p (contextOf l) (hasLink q) d
+    pub inv-less : (d : Doing) → Goes (q .doing) d → {l : List (Name × End)} → Sublistᴰ l (q .held) → TypedDoing p (contextOf l) d
         → {o : List Outside} → Sublistᴰ o (C .outside) → Inv p (withOutside o (withProcesses (set (C .processes) i (becoming d l q)) C))
     inv-less d w {l} s t k = inv-set d l (I .numbers) (lessen (I .good) (record { there = at-roster; goes = w }) s t k)
 
@@ -78,7 +73,7 @@ module _ {p : Program} {C : Config} (I : Inv p C) where
   continuing {i} {q} r P = record { there = at-roster i q (r .stands .there); goes = runs-on (r .runs) P }
 
   -- the term that a process runs is typed with what it holds
-  pub runs-typed : {i : ℕ} {q : Process} {P : Proc} → Runs C i q P → Typed p (contextOf (q .held)) (hasLink q) P
+  pub runs-typed : {i : ℕ} {q : Process} {P : Proc} → Runs C i q P → Typed p (contextOf (q .held)) P
   runs-typed {i} {q} {P} r = typed-at i q (r .stands .there) (running P) (r .runs)
 
   -- no link leads to a process that does not wait

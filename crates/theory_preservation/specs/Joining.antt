@@ -8,10 +8,10 @@ use Rattle.calculus.specs.Named.{lookup}
 use Rattle.calculus.specs.Types.{provided, used, other}
 use Rattle.calculus.specs.Program.{Program}
 use Rattle.calculus.specs.Typing.{OneType, Typed, forwards}
-use Rattle.calculus.specs.Configuration.{End, end, running, folding, Process, process, Config, withOutside, replaced, Holder, relinked, movedOutside, foldsUp}
+use Rattle.calculus.specs.Configuration.{End, end, running, folding, Process, process, Config, Stands, withOutside, replaced, Holder, relinked, movedOutside, foldsUp}
 use Rattle.calculus.specs.Steps.{movedEnd, farMoved}
 use Rattle.calculus.specs.Reduces.{GivesUp}
-use Rattle.calculus.specs.WellFormed.{contextOf, Stands}
+use Rattle.calculus.specs.WellFormed.{contextOf}
 use Rattle.calculus.specs.declared.answers.Seen.{Seen}
 use Rattle.theory_ends.specs.Contexts.{held-plain}
 use Rattle.theory_ends.specs.FarEnds.{HeldFar}
@@ -19,7 +19,7 @@ use Rattle.theory_preservation.specs.Roster.{runs-awake, goes-folding}
 use Rattle.theory_preservation.specs.Forwarding.{forwarded, forwarded-out}
 use Rattle.theory_preservation.specs.Relocating.{Relocated, relocated}
 use Rattle.theory_preservation.specs.Growing
-use Rattle.theory_preservation.specs.Invariant.{Inv, hasLink, at-roster, fine-at, inv-set, inv-two}
+use Rattle.theory_preservation.specs.Invariant.{Inv, at-roster, fine-at, inv-set, inv-two}
 use Rattle.theory_preservation.specs.GivingUp.{folds-up, parts}
 
 -- the far end of e is moved to the channel m
@@ -38,7 +38,7 @@ module _ {p : Program} {C : Config} (I : Inv p C) {i : ℕ} {q : Process} (here 
       pub takes : d .side ≡ used
       pub one : OneType p (e .type) (d .type)
 
-    pub forwards-as : Typed p (contextOf (q .held)) (hasLink I q) (fwd o x c) → ForwarderTyped
+    pub forwards-as : Typed p (contextOf (q .held)) (fwd o x c) → ForwarderTyped
     forwards-as (forwards A B hx hc ab _) =
         let a = held-plain (x .name) (q .held) provided A hx in
         let b = held-plain (c .name) (q .held) used B hc in
@@ -50,14 +50,14 @@ module _ {p : Program} {C : Config} (I : Inv p C) {i : ℕ} {q : Process} (here 
           one = rw (ap (λ (e : End). e .type) (sym ea) ∙ a .type, ap (λ (e : End). e .type) (sym db) ∙ b .type) ab;
         }
 
-    pub forward-keeps : {h : Holder} → Typed p (contextOf (q .held)) (hasLink I q) (fwd o x c) → HeldFar C e h → Inv p (replaced (h .place) (farMoved e d (h .process)) (replaced i (foldsUp q []) C))
+    pub forward-keeps : {h : Holder} → Typed p (contextOf (q .held)) (fwd o x c) → HeldFar C e h → Inv p (replaced (h .place) (farMoved e d (h .process)) (replaced i (foldsUp q []) C))
     forward-keeps {h} t f =
         let m = forwards-as t in
         inv-two I i (h .place) q (h .process) (here .there) (f .stands) folding (h .process .doing) [] _
         (forwarded (I .good) (I .id i) (relinked (I .id) q) (at-roster I i q (here .there)) (runs-awake r) (x .name) (c .name) e d le ld (m .gives) (m .takes) (m .one) (I .id (h .place))
         (relinked (I .id) (h .process)) (at-roster I (h .place) (h .process) (f .stands)) (h .name) (f .end) (f .held) (f .channel) (f .side) _ (far-relocated I e (d .channel) f))
 
-    pub forward-out-keeps : Typed p (contextOf (q .held)) (hasLink I q) (fwd o x c) → Inv p (withOutside (movedOutside (e .channel) (d .channel) (C .outside)) (replaced i (foldsUp q []) C))
+    pub forward-out-keeps : Typed p (contextOf (q .held)) (fwd o x c) → Inv p (withOutside (movedOutside (e .channel) (d .channel) (C .outside)) (replaced i (foldsUp q []) C))
     forward-out-keeps t =
         let m = forwards-as t in
         inv-set I i q (here .there) folding [] (I .numbers)

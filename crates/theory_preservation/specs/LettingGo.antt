@@ -8,7 +8,7 @@ use Prim.Native.Nat.{ℕ}
 use native.Mathlib.Omega.{arith}
 use native.Mathlib.Decide.{ℕ-discrete}
 use Rattle.notation.specs.Tree.{Name}
-use Rattle.calculus.specs.Named.{isSome, names}
+use Rattle.calculus.specs.Named.{names}
 use Rattle.calculus.specs.Program.{Program}
 use Rattle.calculus.specs.Configuration.{End, Doing, Process, Outside, doingNow, linkedBy, becoming}
 use Rattle.calculus.specs.WellFormed.{In, contextOf, isWaiting}
@@ -42,7 +42,7 @@ module _ {p : Program} {S : Roster} {o : List Outside} {given next : ℕ} (G : G
       (λ v e n z t. recast-same p (Has S o) v e t) (λ y i. recast-same p (Has S o) 0 (outsideTip y) (outside refl y (sub-in k i) refl)) (fair-less (G .fair) k)
 
   pub lessen : {u : ℕ} {r : Process} {d : Doing} → Continues S u r d → {l : List (Name × End)} → Sublistᴰ l (r .held)
-      → TypedDoing p (contextOf l) (isSome (r .link)) d → {o′ : List Outside} → Sublistᴰ o′ o → Good p (put u (some (becoming d l r)) S) o′ given next
+      → TypedDoing p (contextOf l) d → {o′ : List Outside} → Sublistᴰ o′ o → Good p (put u (some (becoming d l r)) S) o′ given next
   lessen {u} {r} {d} a {l} s t k =
       less u r (a .there) d l (a .goes .waits) (fine-less (G .fine u r (a .there)) d (a .goes) s t)
       (λ x i. recast-same p (Has S o) u (tipOf (x .1)) (inside r (a .there) (holds x (sub-in s i) refl))) k
@@ -59,7 +59,7 @@ module _ {p : Program} {S : Roster} {o : List Outside} {given next : ℕ} (G : G
 
   -- the process r of v does d from now on, which is no waiting, and holds l, with its link or none
   shrinks-to : (v : ℕ) (r : Process) → S v ≡ some r → (d : Doing) {l : List (Name × End)} → Sublistᴰ l (r .held) → (k : Option ℕ) → isWaiting d ≡ false
-      → ((h : ℕ) → k ≡ some h → r .link ≡ some h) → NamesDiffer d (names l) → TypedDoing p (contextOf l) (isSome k) d
+      → ((h : ℕ) → k ≡ some h → r .link ≡ some h) → NamesDiffer d (names l) → TypedDoing p (contextOf l) d
       → Shrinks v (some (linkedBy k (becoming d l r)))
   shrinks-to v r sv d {l} a k w s n t = one-after (linkedBy k (becoming d l r)) (G .placed v r sv) (fine-holding (G .fine v r sv) d k a n t) here
     where
@@ -73,7 +73,7 @@ module _ {p : Program} {S : Roster} {o : List Outside} {given next : ℕ} (G : G
 
   -- the process r of u, linked to the waiting s of h, goes on without its link, and s without waiting
   module _ (u h : ℕ) (r s : Process) (su : S u ≡ some r) (sh : S h ≡ some s) (w : isWaiting (r .doing) ≡ false) (lk : r .link ≡ some h) (wh : isWaiting (s .doing) ≡ true)
-      (d : Doing) (wd : isWaiting d ≡ false) (nd : NamesDiffer d (names (s .held))) (td : TypedDoing p (contextOf (s .held)) (isSome (s .link)) d) where
+      (d : Doing) (wd : isWaiting d ≡ false) (nd : NamesDiffer d (names (s .held))) (td : TypedDoing p (contextOf (s .held)) d) where
     cut-mates : Mates (put u (some (none, false)) (put h (some (s .link, false)) (λ v. profile (S v))))
     cut-mates = mates-cut (G .mates) u h (s .link) (profile-at u r su false w ∙ ap (λ l. some (l, false)) lk) (profile-at h s sh true wh)
 
@@ -86,7 +86,7 @@ module _ {p : Program} {S : Roster} {o : List Outside} {given next : ℕ} (G : G
         sym (profile-put-two u h x (some (doingNow d s)) S v
         ∙ (λ i. put u (e i) (put h (some (s .link, wd i)) (λ v. profile (S v))) v))
 
-    pub started : (d′ : Doing) → isWaiting d′ ≡ false → {l : List (Name × End)} → Sublistᴰ l (r .held) → NamesDiffer d′ (names l) → TypedDoing p (contextOf l) false d′
+    pub started : (d′ : Doing) → isWaiting d′ ≡ false → {l : List (Name × End)} → Sublistᴰ l (r .held) → NamesDiffer d′ (names l) → TypedDoing p (contextOf l) d′
         → Good p (put u (some (linkedBy none (becoming d′ l r))) (put h (some (doingNow d s)) S)) o given next
     started d′ w′ {l} a n t =
         shrunk-good

@@ -17,7 +17,6 @@ pub mod GivingUp
 pub mod Handlers
 pub mod Making
 pub mod Joining
-pub mod Weakening
 pub mod Calling
 pub mod Outward
 pub mod AfterMessage

@@ -6,7 +6,7 @@ use mathlib.Core.Option.{some, none, Option·map, map-eq-some-iff, Option·none-
 use mathlib.Core.Bool.{Bool, true, false, cond, So, not, false≢true}
 use Prim.Native.Nat.{ℕ, suc, _≤_, _<_}
 use native.Mathlib.Omega.{arith}
-use lib.ListN.{length, set, getElem?, length-set}
+use lib.ListN.{length, set, length-set}
 use Rattle.notation.specs.Limits.{processPlaces, channelPlaces, heldLimit}
 use Rattle.notation.specs.Tree.{Name, Located, Ty, Proc, spawn, try, plain}
 use Rattle.calculus.specs.Named.{kept, names}
@@ -14,8 +14,8 @@ use Rattle.calculus.specs.Types.{provided, used}
 use Rattle.calculus.specs.Program.{slot, Program}
 use Rattle.calculus.specs.Mentions.{mentions, halfMentions, spawnTakes, spawnLeaves, tryTakes, exactlyOne}
 use Rattle.calculus.specs.Typing.{Typed, spawns, tries, bringing}
-use Rattle.calculus.specs.Configuration.{End, end, running, waiting, Process, process, Config, withProcesses, freshChannel, movedUp, relinked, inserted, linkedBy, goesOn}
-use Rattle.calculus.specs.WellFormed.{In, contextOf, Stands}
+use Rattle.calculus.specs.Configuration.{End, end, running, waiting, Process, process, Config, Stands, withProcesses, freshChannel, movedUp, relinked, inserted, linkedBy, goesOn}
+use Rattle.calculus.specs.WellFormed.{In, contextOf}
 use Rattle.theory_derivations.specs.Booleans.{all-iff}
 use Rattle.theory_ends.specs.Lists.{length-inserted, found-below, below-found}
 use Rattle.theory_ends.specs.Names.{names-in}
@@ -26,7 +26,7 @@ use Rattle.theory_preservation.specs.Places.{Shows, shows-set, shows-in,
 use Rattle.theory_preservation.specs.FarEnds.{fresh-unheld}
 use Rattle.theory_preservation.specs.Witness.{Tip}
 use Rattle.theory_preservation.specs.Growing
-use Rattle.theory_preservation.specs.Invariant.{Inv, hasLink, at-roster}
+use Rattle.theory_preservation.specs.Invariant.{Inv, at-roster}
 
 module _ {p : Program} {C : Config} (I : Inv p C) {i : ℕ} {q : Process} (here : Stands C i q) where
   inside : i < length (C .processes)
@@ -39,7 +39,7 @@ module _ {p : Program} {C : Config} (I : Inv p C) {i : ℕ} {q : Process} (here 
       let b = I .good .placed (I .id j) (relinked (I .id) (x .0)) (I .shows .there j (x .0) (x .1)) .1 in omega arith
 
   pub spawn-keeps : {x : Located} {A : Ty Located} {P Q : Proc} {k : ℕ} → q .doing ≡ running (spawn x A P Q) → length (C .processes) < processPlaces → freshChannel C ≡ some k
-      → Typed p (contextOf (q .held)) (hasLink I q) (spawn x A P Q)
+      → Typed p (contextOf (q .held)) (spawn x A P Q)
       → Inv p (withProcesses
       (inserted i (process (running P) (spawnTakes (x .name) P (q .held) ++ ((x .name, end provided k (plain A)) ∷ [])) none)
       (set (C .processes) i (goesOn q Q (spawnLeaves (x .name) P (q .held) ++ ((x .name, end used k (plain A)) ∷ [])))))
@@ -51,8 +51,8 @@ module _ {p : Program} {C : Config} (I : Inv p C) {i : ℕ} {q : Process} (here 
     next = suc (I .next);
     shows = shows-in s₁ i (I .next) (omega (arith, inside, len₁)) (λ j h. new-id j (omega (arith, len₁))) made (λ h z. absurd (Option·none-ne-some h z));
     good = Growing.spawn-good (I .good) (I .id i) (relinked (I .id) q) (at-roster I i q (here .there)) w t n (plain A) k (fresh .1) (fresh .0) (absent-held n (q .held) (bP .new)) P Q
-        (room t (bP .room)) (room (λ m. not (t m)) (bQ .room)) (subst (λ G. Typed p G false P) (sym (half t (end provided k (plain A)))) tP)
-        (subst (λ G. Typed p G (hasLink I q) Q) (sym (half (λ m. not (t m)) (end used k (plain A)))) tQ);
+        (room t (bP .room)) (room (λ m. not (t m)) (bQ .room)) (subst (λ G. Typed p G P) (sym (half t (end provided k (plain A)))) tP)
+        (subst (λ G. Typed p G Q) (sym (half (λ m. not (t m)) (end used k (plain A)))) tQ);
     places = let c = length-inserted i made (set (C .processes) i maker) in omega (arith, len₁);
     numbers = I .numbers;
   }
@@ -85,7 +85,7 @@ module _ {p : Program} {C : Config} (I : Inv p C) {i : ℕ} {q : Process} (here 
       fresh : (k < channelPlaces) × ((v : ℕ) (t : Tip) → Has (I .roster) (C .outside) v t → t .0 .0 ≢ channelKey k)
       fresh = fresh-unheld C (I .shows) k e
 
-  pub try-keeps : {o : ℕ} {P Q : Proc} → q .doing ≡ running (try o P Q) → length (C .processes) < processPlaces → Typed p (contextOf (q .held)) (hasLink I q) (try o P Q)
+  pub try-keeps : {o : ℕ} {P Q : Proc} → q .doing ≡ running (try o P Q) → length (C .processes) < processPlaces → Typed p (contextOf (q .held)) (try o P Q)
       → Inv p (withProcesses
       (set (inserted i (process (waiting Q) (tryTakes Q (q .held)) (Option·map (movedUp i) (q .link))) (C .processes)) i
       (linkedBy (some (suc i)) (goesOn q P (tryTakes P (q .held)))))
@@ -98,7 +98,7 @@ module _ {p : Program} {C : Config} (I : Inv p C) {i : ℕ} {q : Process} (here 
     shows = shows-set s₁ i (omega (arith, inside, len₁)) tryer (λ h z. let y = Option·some-injective _ _ z in omega (arith, inside, len₁));
     good = subst (λ S. Good p S (C .outside) (C .given) (suc (I .next))) same
         (Growing.try-good (I .good) (I .id i) (relinked (I .id) q) (at-roster I i q (here .there)) w (mentions P) (mentions Q) disjoint P Q
-        (subst (λ G. Typed p G true P) (context-kept (mentions P) (q .held)) tP) (subst (λ G. Typed p G (hasLink I q) Q) (context-kept (mentions Q) (q .held)) tQ));
+        (subst (λ G. Typed p G P) (context-kept (mentions P) (q .held)) tP) (subst (λ G. Typed p G Q) (context-kept (mentions Q) (q .held)) tQ));
     places = subst (λ n. n ≤ processPlaces) (sym (length-set (inserted i waiter (C .processes)) i tryer ∙ len₁)) lt;
     numbers = I .numbers;
   }

@@ -9,7 +9,7 @@ use lib.ListN.{length}
 use Rattle.notation.specs.Limits.{heldLimit, channelPlaces}
 use Rattle.notation.specs.Bytes.{same}
 use Rattle.notation.specs.Tree.{Name, Ty}
-use Rattle.calculus.specs.Named.{lookup, without, names, isSome}
+use Rattle.calculus.specs.Named.{lookup, without, names}
 use Rattle.calculus.specs.Types.{used, other}
 use Rattle.calculus.specs.Program.{Program}
 use Rattle.calculus.specs.Declarations.{outward}
@@ -40,7 +40,7 @@ lookup-without {X} c a (x ∷ l) n =
 module _ {p : Program} {S : Roster} {o : List Outside} {given next : ℕ} (G : Good p S o given next) where
   -- the process r of u sends its channel a, of which it has the end d, over c, of which it has the end e, and c then has the type B there
   module _ {u : ℕ} {r : Process} {P : Doing} (t : Continues S u r P) {c a : Name} (ca : c ≢ a) {e d : End} (B : Ty Name) (lc : lookup c (r .held) ≡ some e) (la : lookup a (r .held) ≡ some d)
-      (tP : TypedDoing p (contextOf (retypedEnd c B (without a (r .held)))) (isSome (r .link)) P) where
+      (tP : TypedDoing p (contextOf (retypedEnd c B (without a (r .held)))) P) where
     abbrev left : List (Name × End)
     left = retypedEnd c B (without a (r .held))
 
@@ -111,7 +111,7 @@ module _ {p : Program} {S : Roster} {o : List Outside} {given next : ℕ} (G : G
     -- ── to the process q of w, which takes it as x; c then has the type B′ there, and x the type A
     module _ {B′ A : Ty Name} (bb : OneType p B B′) (da : OneType p (d .type) A) {w : ℕ} {q : Process} {Q : Doing} (t′ : Continues S w q Q) (c′ x : Name) {f : End}
         (lf : lookup c′ (q .held) ≡ some f) (z : f .channel ≡ e .channel) (s : f .side ≡ other (e .side)) (new : lookup x (q .held) ≡ none) (room : length (q .held) < heldLimit)
-        (tQ : TypedDoing p (contextOf (retypedEnd c′ B′ (q .held) ++ ((x, ofType A d) ∷ []))) (isSome (q .link)) Q) where
+        (tQ : TypedDoing p (contextOf (retypedEnd c′ B′ (q .held) ++ ((x, ofType A d) ∷ []))) Q) where
       abbrev kept : List (Name × End)
       kept = retypedEnd c′ B′ (q .held)
 

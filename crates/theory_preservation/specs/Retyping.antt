@@ -8,7 +8,7 @@ use Prim.Native.Nat.{ℕ, _≤_, _<_}
 use native.Mathlib.Omega.{arith}
 use Rattle.notation.specs.Limits.{heldLimit, channelPlaces}
 use Rattle.notation.specs.Tree.{Name, Ty}
-use Rattle.calculus.specs.Named.{lookup, names, isSome}
+use Rattle.calculus.specs.Named.{lookup, names}
 use Rattle.calculus.specs.Types.{other}
 use Rattle.calculus.specs.Program.{Program}
 use Rattle.calculus.specs.Declarations.{outward}
@@ -37,7 +37,7 @@ retyped-channels c A l n h x i =
     subst (λ k. k < n) (ap keyNumber (r .2)) (h (r .0) (r .1))
 
 pub fine-retyped : {p : Program} {r : Process} → Fine p r → (d : Doing) → Goes (r .doing) d → {l : List (Name × End)} → Sublistᴰ l (r .held) → (c : Name) (A : Ty Name)
-    → TypedDoing p (contextOf (retypedEnd c A l)) (isSome (r .link)) d → Fine p (becoming d (retypedEnd c A l) r)
+    → TypedDoing p (contextOf (retypedEnd c A l)) d → Fine p (becoming d (retypedEnd c A l) r)
 fine-retyped {p} {r} f d w {l} s c A t = record {
   typed = t;
   names = subst (NamesDiffer d) (sym (changed-names c _ l)) (names-less d s (w .names (names (r .held)) (f .names)));
@@ -79,7 +79,7 @@ module _ {p : Program} {S : Roster} {o : List Outside} {given next : ℕ} (G : G
 
   -- the process r of u with its end e retyped
   retypes : {u w : ℕ} {r : Process} {d : Doing} (a : Continues S u r d) (c : Name) {e : End} {T A : Ty Name} → Opposite S o u w e → OneType p T A → lookup c (r .held) ≡ some e
-      → TypedDoing p (contextOf (retypedEnd c A (r .held))) (isSome (r .link)) d → Change p (RetypedChannel e T) next u (S u) (some (becoming d (retypedEnd c A (r .held)) r))
+      → TypedDoing p (contextOf (retypedEnd c A (r .held))) d → Change p (RetypedChannel e T) next u (S u) (some (becoming d (retypedEnd c A (r .held)) r))
   retypes {u} {r = r} {d = d} a c {e} {T} {A} m one lc t =
       becomes G (RetypedChannel e T) u r (a .there) d (retypedEnd c A (r .held)) (a .goes .waits) (fine-retyped (G .fine u r (a .there)) d (a .goes) (Sublistᴰ·refl (r .held)) c A t)
       (λ x i. retyped-tip m one (x .1) (entry x (changed-cases key c (ofType A) (r .held) e (G .fine u r (a .there) .keys) lc x i)))
@@ -91,7 +91,7 @@ module _ {p : Program} {S : Roster} {o : List Outside} {given next : ℕ} (G : G
 
   -- ── the rules: a label goes over the channel of e, from the process r of u, and A is what is left for it
   module _ {u : ℕ} {r : Process} {d : Doing} (a : Continues S u r d) (c : Name) {e : End} (A : Ty Name) (lc : lookup c (r .held) ≡ some e)
-      (td : TypedDoing p (contextOf (retypedEnd c A (r .held))) (isSome (r .link)) d) where
+      (td : TypedDoing p (contextOf (retypedEnd c A (r .held))) d) where
     abbrev after : Process
     after = becoming d (retypedEnd c A (r .held)) r
 
@@ -103,7 +103,7 @@ module _ {p : Program} {S : Roster} {o : List Outside} {given next : ℕ} (G : G
 
     -- to the process q of w, whose end f goes on by its own type
     pub chosen : {B : Ty Name} → OneType p A B → {w : ℕ} {q : Process} {d′ : Doing} → Continues S w q d′ → (c′ : Name) {f : End} → lookup c′ (q .held) ≡ some f → f .channel ≡ e .channel
-        → f .side ≡ other (e .side) → TypedDoing p (contextOf (retypedEnd c′ B (q .held))) (isSome (q .link)) d′
+        → f .side ≡ other (e .side) → TypedDoing p (contextOf (retypedEnd c′ B (q .held))) d′
         → Good p (put w (some (becoming d′ (retypedEnd c′ B (q .held)) q)) (put u (some after) S)) o given next
     chosen {B} one {w} {q} {d′} b c′ {f} lf z s t =
         two-good G (retyping (G .witness) (channelKey (e .channel)) (some A)) u w after (becoming d′ (retypedEnd c′ B (q .held)) q)

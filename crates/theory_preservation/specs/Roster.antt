@@ -3,13 +3,13 @@ use mathlib.Core.Path.{_≡_, refl, sym, _∙_, ap, subst}
 use mathlib.Core.Logic.{_≢_, _⊎_, inl, inr}
 use mathlib.Core.List.{List, List·Memᴰ·append-cases, List·Memᴰ·eq-of-singleton, [], map, Sublistᴰ, _++_, _∷_}
 use mathlib.Core.Option.{Option, some, none, Option·none-ne-some, Option·some-injective}
-use mathlib.Core.Bool.{Bool, true, false}
+use mathlib.Core.Bool.{true, false}
 use Prim.Native.Nat.{ℕ, suc, _+_, _≤_, _<_}
 use native.Mathlib.Omega.{arith}
 use lib.ListN.{length}
 use Rattle.notation.specs.Limits.{heldLimit, channelPlaces}
 use Rattle.notation.specs.Tree.{Name, Proc}
-use Rattle.calculus.specs.Named.{names, isSome}
+use Rattle.calculus.specs.Named.{names}
 use Rattle.calculus.specs.Types.{Side, provided, used}
 use Rattle.calculus.specs.Program.{Context, Program}
 use Rattle.calculus.specs.Declarations.{outward}
@@ -65,10 +65,10 @@ pub data Has (S : Roster) (o : List Outside) (v : ℕ) (e : Tip) : Type 0 where
   inside : (r : Process) → S v ≡ some r → Tips v r e → Has S o v e
 
 -- ── one process
-abbrev pub TypedDoing : Program → Context → Bool → Doing → Type 0
-TypedDoing p G link (running P) = Typed p G link P
-TypedDoing p G link folding = Unit {0}
-TypedDoing p G link (waiting Q) = Typed p G link Q
+abbrev pub TypedDoing : Program → Context → Doing → Type 0
+TypedDoing p G (running P) = Typed p G P
+TypedDoing p G folding = Unit {0}
+TypedDoing p G (waiting Q) = Typed p G Q
 
 -- the names that a process holds differ, unless it folds up
 abbrev pub NamesDiffer : Doing → List Name → Type 0
@@ -101,7 +101,7 @@ names-snoc folding ns x n f = tt
 names-snoc (waiting P) ns x n f = once-snoc ns x n f
 
 pub record Fine (p : Program) (r : Process) : Type 0 where
-  pub typed : TypedDoing p (contextOf (r .held)) (isSome (r .link)) (r .doing)
+  pub typed : TypedDoing p (contextOf (r .held)) (r .doing)
   pub names : NamesDiffer (r .doing) (names (r .held))
   pub keys : NoneTwice (map keyAt (r .held))
   pub room : length (r .held) ≤ heldLimit
@@ -110,7 +110,7 @@ pub record Fine (p : Program) (r : Process) : Type 0 where
 -- a process that holds l, and x with the end e beside
 pub fine-more : {p : Program} (r : Process) (d : Doing) (k : Option ℕ) (l : List (Name × End)) (x : Name) (e : End) → NamesDiffer d (names l) → ¬ In x (names l)
     → NoneTwice (map keyAt l) → ¬ In (key e) (map keyAt l) → length l < heldLimit → ((y : Name × End) → In y l → y .1 .channel < channelPlaces) → e .channel < channelPlaces
-    → TypedDoing p (contextOf (l ++ ((x, e) ∷ []))) (isSome k) d → Fine p (linkedBy k (becoming d (l ++ ((x, e) ∷ [])) r))
+    → TypedDoing p (contextOf (l ++ ((x, e) ∷ []))) d → Fine p (linkedBy k (becoming d (l ++ ((x, e) ∷ [])) r))
 unfolding names
 fine-more r d k l x e ns nx ks nk room cs lt t = record {
   typed = t;
@@ -237,7 +237,7 @@ module _ {p : Program} {S : Roster} {o : List Outside} {given next : ℕ} (G : G
 
 -- ── a process that holds less: whatever it does then, and is linked to
 pub fine-holding : {p : Program} {r : Process} → Fine p r → (d : Doing) (k : Option ℕ) {l : List (Name × End)} → Sublistᴰ l (r .held) → NamesDiffer d (names l)
-    → TypedDoing p (contextOf l) (isSome k) d → Fine p (linkedBy k (becoming d l r))
+    → TypedDoing p (contextOf l) d → Fine p (linkedBy k (becoming d l r))
 fine-holding f d k s n t = record {
   typed = t;
   names = n;
@@ -247,6 +247,6 @@ fine-holding f d k s n t = record {
 }
 
 -- with its link
-pub fine-less : {p : Program} {r : Process} → Fine p r → (d : Doing) → Goes (r .doing) d → {l : List (Name × End)} → Sublistᴰ l (r .held) → TypedDoing p (contextOf l) (isSome (r .link)) d
+pub fine-less : {p : Program} {r : Process} → Fine p r → (d : Doing) → Goes (r .doing) d → {l : List (Name × End)} → Sublistᴰ l (r .held) → TypedDoing p (contextOf l) d
     → Fine p (becoming d l r)
 fine-less {r = r} f d w s t = fine-holding f d (r .link) s (names-less d s (w .names (names (r .held)) (f .names))) t

@@ -31,7 +31,7 @@ use Rattle.theory_preservation.specs.Retyping.{chosen, chosen-unheard, c
 use Rattle.theory_preservation.specs.Passing.{lookup-without, passed, passed-unheard, passed-gone, passed-out}
 use Rattle.theory_preservation.specs.FarEnds.{nobody-has}
 use Rattle.theory_preservation.specs.AfterMessage.{branch-typed, after-label, after-channel, typed-end, typed-on, typed-taking, LabelOver, label-over, ChannelOver, channel-over}
-use Rattle.theory_preservation.specs.Invariant.{Inv, hasLink, at-roster, fine-at, typed-at, runs-typed, continuing, inv-set, inv-less, inv-two}
+use Rattle.theory_preservation.specs.Invariant.{Inv, at-roster, fine-at, typed-at, runs-typed, continuing, inv-set, inv-less, inv-two}
 use Rattle.theory_preservation.specs.GivingUp.{gives-up}
 
 module _ {p : Program} {C : Config} (I : Inv p C) where
@@ -72,10 +72,10 @@ module _ {p : Program} {C : Config} (I : Inv p C) where
     abbrev closedBoth : Holder → Proc → Config
     closedBoth h Q = replaced (h .place) (goesOn (h .process) Q (without (h .name) (h .process .held))) (replaced i closer C)
 
-    closes : Typed p (contextOf (q .held)) (hasLink I q) (sendUnit o c P) → {ys : List Outside} → Sublistᴰ ys (C .outside) → Inv p (withOutside ys (replaced i closer C))
+    closes : Typed p (contextOf (q .held)) (sendUnit o c P) → {ys : List Outside} → Sublistᴰ ys (C .outside) → Inv p (withOutside ys (replaced i closer C))
     closes (sends-unit _ t) =
         inv-less I i q (r .stands .there) (running P) (runs-on (r .runs) P) (without-sub (c .name) (q .held))
-        (subst (λ G. Typed p G (hasLink I q) P) (context-without (c .name) (q .held)) t)
+        (subst (λ G. Typed p G P) (context-without (c .name) (q .held)) t)
 
     pub close-met : {o′ : ℕ} {c′ : Located} {Q : Proc} {e : End} {h : Holder} → Holds C q c e (atProcess h) → Answers h c′ (recvUnit o′ c′ Q)
         → Inv p (closedBoth h Q)
@@ -90,10 +90,10 @@ module _ {p : Program} {C : Config} (I : Inv p C) where
         stays : getElem? (replaced i closer C .processes) (h .place) ≡ some (h .process)
         stays = set-off (C .processes) i (h .place) closer (two-places e f an r (c .name) (hd .held)) ∙ f .stands
 
-        go : Typed p (contextOf (h .process .held)) (hasLink J (h .process)) (recvUnit o′ c′ Q) → Inv p (closedBoth h Q)
+        go : Typed p (contextOf (h .process .held)) (recvUnit o′ c′ Q) → Inv p (closedBoth h Q)
         go (recvs-unit _ t) =
             inv-less J (h .place) (h .process) stays (running Q) (runs-on (an .runs) Q) (without-sub (h .name) (h .process .held))
-            (subst (λ G. Typed p G (hasLink J (h .process)) Q)
+            (subst (λ G. Typed p G Q)
             (ap (λ n. without n (contextOf (h .process .held))) (an .name) ∙ context-without (h .name) (h .process .held)) t) (Sublistᴰ·refl (C .outside))
 
     pub close-shown : (e : End) → Inv p (withOutside (letGo (e .channel) (C .outside)) (replaced i closer C))
@@ -115,10 +115,10 @@ module _ {p : Program} {C : Config} (I : Inv p C) where
 
     -- what typing says of the sender, and of another end of one type
     record ChooserTyped : Type 0 where
-      typed : Typed p (contextOf (retypedEnd (c .name) left (q .held))) (hasLink I q) P
+      typed : Typed p (contextOf (retypedEnd (c .name) left (q .held))) P
       over : (B : Ty Name) → OneType p (e .type) B → LabelOver p l (e .type) B
 
-    chooses-on : Typed p (contextOf (q .held)) (hasLink I q) (sendLabel o c l P) → ChooserTyped
+    chooses-on : Typed p (contextOf (q .held)) (sendLabel o c l P) → ChooserTyped
     chooses-on (sends-label T A t ch ac la d) =
         let z = ap choosing (typed-end p (q .held) (c .name) le ac .type) ∙ ch in
         record { typed = typed-on p (c .name) (q .held) (after-label p l (e .type) z la) d; over = λ B one. label-over p l one z la }
@@ -130,11 +130,11 @@ module _ {p : Program} {C : Config} (I : Inv p C) where
         → Inv p (chosenBoth h Q)
     label-met {o′} {c′} {B} {Q} {h} f an br = go (runs-typed I (far-runs e f an))
       where
-        go : Typed p (contextOf (h .process .held)) (hasLink I (h .process)) (recvLabel o′ c′ B) → Inv p (chosenBoth h Q)
+        go : Typed p (contextOf (h .process .held)) (recvLabel o′ c′ B) → Inv p (chosenBoth h Q)
         go (recvs-label T t ch′ ac fit ds) =
             let x = branch-typed ds (l .name) Q br in
             let z = ap choosing (typed-end p (h .process .held) (c′ .name) (far-named e f an) ac .type) ∙ ch′ in
-            let d = subst (λ n. Typed p (retyped n (x .0) (contextOf (h .process .held))) (hasLink I (h .process)) Q) (an .name) (x .2) in
+            let d = subst (λ n. Typed p (retyped n (x .0) (contextOf (h .process .held))) Q) (an .name) (x .2) in
             rw (onward-is p (chooses l) (c .name) (q .held) le, onward-is p (chooses l) (h .name) (h .process .held) (far-end e f an))
             (inv-two I i (h .place) q (h .process) (r .stands .there) (f .stands) (running P) (running Q) _ _
             (chosen (I .good) (continuing I r P) (c .name) left le (ch .typed) (ch .over (f .end .type) (far-one e f an r (c .name) le) .one)
@@ -171,19 +171,19 @@ module _ {p : Program} {C : Config} (I : Inv p C) where
     -- what typing says of the sender, of the end that it passes, and of another end of one type
     record PasserTyped : Type 0 where
       apart : c .name ≢ a .name
-      typed : Typed p (contextOf (retypedEnd (c .name) rest (without (a .name) (q .held)))) (hasLink I q) P
+      typed : Typed p (contextOf (retypedEnd (c .name) rest (without (a .name) (q .held)))) P
       end : End
       found : lookup (a .name) (q .held) ≡ some end
       over : (B : Ty Name) → OneType p (e .type) B → ChannelOver p a (e .type) B (end .type) (end .side)
 
-    passes-on : Typed p (contextOf (q .held)) (hasLink I q) (sendChannel o c a P) → PasserTyped
+    passes-on : Typed p (contextOf (q .held)) (sendChannel o c a P) → PasserTyped
     passes-on (sends-channel T A t ca ps ac la sm d) =
         let g = held-plain (a .name) (q .held) (t .side) A la in
         let z = ap passing (typed-end p (q .held) (c .name) le ac .type) ∙ ps in
         record {
           apart = λ y. false≢true (sym ca ∙ same-iff (c .name) (a .name) .1 y);
           typed = typed-on p (c .name) (without (a .name) (q .held)) (after-channel p a (e .type) z)
-              (subst (λ G. Typed p (retyped (c .name) (t .after) G) (hasLink I q) P) (context-without (a .name) (q .held)) d);
+              (subst (λ G. Typed p (retyped (c .name) (t .after) G) P) (context-without (a .name) (q .held)) d);
           end = g .end;
           found = g .found;
           over = λ B one. rw (g .side) (channel-over p a one z (rw (g .type) sm));
@@ -210,7 +210,7 @@ module _ {p : Program} {C : Config} (I : Inv p C) where
         got : End
         got = ofType (y .passing-there .what) (ps .end)
 
-        go : Typed p (contextOf (h .process .held)) (hasLink I (h .process)) (recvChannel o′ c′ x Q) → Inv p (passedBoth h x Q)
+        go : Typed p (contextOf (h .process .held)) (recvChannel o′ c′ x Q) → Inv p (passedBoth h x Q)
         go (recvs-channel T t pt ac br d) =
             rw (onward-sender, onward-is p (passes a) (h .name) (h .process .held) (far-end e f an), far-end e f an, ps .found, y .goes)
             (inv-two I i (h .place) q (h .process) (r .stands .there) (f .stands) (running P) (running Q) _ _
@@ -223,8 +223,8 @@ module _ {p : Program} {C : Config} (I : Inv p C) where
             same-passing : t ≡ y .passing-there
             same-passing = Option·some-injective _ _ (sym (ap passing (typed-end p (h .process .held) (c′ .name) (far-named e f an) ac .type) ∙ pt) ∙ y .goes)
 
-            own : Typed p (bringing (x .name) (slot (ps .end .side) (y .passing-there .what)) (retyped (h .name) (y .passing-there .after) (contextOf (h .process .held)))) (hasLink I (h .process)) Q
-            own = subst (λ G. Typed p G (hasLink I (h .process)) Q)
+            own : Typed p (bringing (x .name) (slot (ps .end .side) (y .passing-there .what)) (retyped (h .name) (y .passing-there .after) (contextOf (h .process .held)))) Q
+            own = subst (λ G. Typed p G Q)
                 (λ j. bringing (x .name) (slot ((ap (λ (t : Passing). t .side) same-passing ∙ y .side) j) (same-passing j .what))
                 (retyped (an .name j) (same-passing j .after) (contextOf (h .process .held)))) d
 

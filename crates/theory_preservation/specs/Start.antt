@@ -3,7 +3,7 @@ use mathlib.Core.Path.{_≡_, refl, sym, _∙_, ap, subst}
 use mathlib.Core.Logic.{_≢_, _⊎_, inl, inr}
 use mathlib.Core.List.{List, [], _∷_, _++_, map, append-nil, List·Memᴰ·head, List·Memᴰ·tail, List·Memᴰ·not-nil, Memᴰ·of-map}
 use mathlib.Core.Option.{some, none, Option·none-ne-some, Option·some-injective}
-use mathlib.Core.Bool.{true, false, true≢false}
+use mathlib.Core.Bool.{true, false, true≢false, false≢true}
 use Prim.Native.Nat.{ℕ, zero, suc, _+_, _≤_, _<_}
 use native.Mathlib.Omega.{arith}
 use lib.ListN.{length, getElem?}
@@ -165,7 +165,7 @@ module _ (p : Program) (s : Signature) (d : distinct (names (signatureContext s)
 
   start-fine : Fine p q
   start-fine = record {
-    typed = subst (λ G. Typed p G false (s .body)) (sym same-context) (t .body);
+    typed = subst (λ G. Typed p G (s .body)) (sym same-context) (t .body);
     names = subst NoneTwice (ap names (sym same-context) ∙ context-names (startHeld 0 l)) (distinct-iff (names (signatureContext s)) .0 d);
     keys = start-keys 0 l;
     room = subst (λ n. n ≤ heldLimit) (ap length (sym same-context) ∙ context-length (startHeld 0 l)) (t .room);
@@ -216,4 +216,5 @@ module _ (p : Program) (s : Signature) (d : distinct (names (signatureContext s)
       within′ (suc i) r e h z = absurd (Option·none-ne-some r e)
 
   pub start-well-formed : WellFormed p (startConfig s)
-  start-well-formed = inv-well-formed start-inv
+  unfolding startConfig
+  start-well-formed = inv-well-formed start-inv (λ h. absurd (false≢true h))

@@ -8,10 +8,10 @@ use Rattle.notation.specs.Tree.{Name, Located, plain}
 use Rattle.calculus.specs.Named.{lookup, without}
 use Rattle.calculus.specs.Types.{Side, provided, used, other}
 use Rattle.calculus.specs.Program.{Program}
-use Rattle.calculus.specs.Configuration.{End, end, Process, Outside, Config, withOutside, replaced, goesOn, foldsUp, linkedBy, freshChannel, Holder, atProcess, givenUp, farEnd, outsideOf, outsideOfChannel}
+use Rattle.calculus.specs.Configuration.{End, end, Process, Outside, Config, Stands, withOutside, replaced, goesOn, foldsUp, linkedBy, freshChannel, Holder, atProcess, givenUp, farEnd, outsideOf, outsideOfChannel}
 use Rattle.calculus.specs.Steps.{Message, passes, chooses, onward, outsideOnward, handlerStarts, startedHandler, foldedHandler}
 use Rattle.calculus.specs.Reduces.{GivesUp, Sends, close-meets, channel-meets, label-meets, close-shows, label-shows, channel-shows, gone-shows, close-lost, label-lost, channel-lost, Reduces, communicates, spawns, tries, calls, cancels, raises, joins, joins-outside, joins-nobody, nobody-joins, unanswered, folds, leaves}
-use Rattle.calculus.specs.WellFormed.{In, key, Stands, WellFormed}
+use Rattle.calculus.specs.WellFormed.{In, key, WellFormed}
 use Rattle.calculus.specs.declared.answers.Seen.{Seen}
 use Rattle.theory_ends.specs.Lists.{found-in}
 use Rattle.theory_ends.specs.Names.{lookup-in}
@@ -124,7 +124,7 @@ module _ {p : Program} {C : Config} (I : Inv p C) {κ : ℕ × Side} (n : Nobody
   reduces-still {i} (calls {q = q} r e) =
       still-one i _ (λ x m z. let y = called-was p (q .held) (runs-typed I r) e x m in free (r .stands) (y .name, y .end) (y .held) (y .same ∙ z))
   reduces-still {i} (cancels {c = c} r _ g) = still-parted i _ (closed-free (r .stands) c) g
-  reduces-still {i} (raises {q = q} {P = P} r) = still-started i (goesOn q P (q .held)) (free (r .stands))
+  reduces-still {i} (raises {q = q} {P = P} r _) = still-started i (goesOn q P (q .held)) (free (r .stands))
   reduces-still {i} (joins {c = c} {e = e} {d = d} {h = h} r x y _) =
       let t = forwards-as I (r .stands) (r .runs) (x .held) (y .held) (runs-typed I r) in
       let f = far-held C e (x .far) in
@@ -151,7 +151,7 @@ module _ {p : Program} {C : Config} (w : WellFormed p C) where
   given-up-stays {D = D} r {j} {q} {n} {e} s m z = nobody-given-up D e (reduces-still I (given-up-nobody C e z) taken r)
     where
       I : Inv p C
-      I = inv-iff p C .1 w
+      I = inv-iff p C .1 w .0
 
       taken : (k : ℕ) → freshChannel C ≡ some k → k ≢ e .channel
       taken k f h = fresh-unheld C (I .shows) k f .1 (I .id j) (tipOf e) (held-tip (I .good) (I .id j) _ (at-roster I j q (s .there)) (n, e) m) (ap channelKey (sym h))

@@ -33,7 +33,7 @@ reduces-keep B I (spawns r lt k) = spawn-keeps I (r .stands) (r .runs) lt k (run
 reduces-keep B I (tries r lt) = try-keeps I (r .stands) (r .runs) lt (runs-typed I r)
 reduces-keep B I (calls r s) = call-keeps B I r s (runs-typed I r)
 reduces-keep B I (cancels r _ g) = cancel-keeps I (r .stands) (r .runs) g (runs-typed I r)
-reduces-keep B I (raises r) = raise-keeps I (r .stands) (r .runs) (runs-typed I r)
+reduces-keep B I (raises r _) = raise-keeps I (r .stands) (r .runs) (runs-typed I r)
 reduces-keep B {C} I (joins {e = e} r x c _) = forward-keeps I (r .stands) (r .runs) (x .held) (c .held) (runs-typed I r) (far-held C e (x .far))
 reduces-keep B I (joins-outside r x c _) = forward-out-keeps I (r .stands) (r .runs) (x .held) (c .held) (runs-typed I r)
 reduces-keep B I (joins-nobody r x c _) = joined-nobody I (r .stands) (r .runs) (x .held) (c .held)

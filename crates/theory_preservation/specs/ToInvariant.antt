@@ -7,12 +7,12 @@ use mathlib.Core.Bool.{Bool, true}
 use Prim.Native.Nat.{ℕ, suc, pred}
 use native.Mathlib.Omega.{arith}
 use lib.ListN.{length, getElem?}
-use Rattle.calculus.specs.Named.{names, isSome}
+use Rattle.calculus.specs.Named.{names}
 use Rattle.calculus.specs.Types.{used}
 use Rattle.calculus.specs.Program.{Context, Program}
 use Rattle.calculus.specs.Configuration.{end, Doing, running, folding, waiting, Process, relinked, Config}
 use Rattle.calculus.specs.Forest.{Forest, joints}
-use Rattle.calculus.specs.WellFormed.{contextOf, processEnds, outsideEnds, key, TypedAs, isWaiting, WellFormed}
+use Rattle.calculus.specs.WellFormed.{contextOf, processEnds, outsideEnds, key, TypedAs, isWaiting, WouldHalt, WellFormed}
 use Rattle.theory_ends.specs.Lists.{found-below, once-right}
 use Rattle.theory_ends.specs.Names.{distinct-iff}
 use Rattle.theory_ends.specs.Contexts.{context-names}
@@ -24,17 +24,17 @@ use Rattle.theory_preservation.specs.Places.{Shows}
 use Rattle.theory_preservation.specs.Invariant.{Inv}
 use Rattle.theory_preservation.specs.Joints.{forest-along, numbers, joints-are, numbers-once, numbers-all}
 use Rattle.theory_preservation.specs.Seats.{seated, SeatedHas, seat-back, keys-apart, process-keys, has-agree, ownerOf, owner-below, owner-sound}
-use Rattle.theory_preservation.specs.FromInvariant.{is-some-map, inv-well-formed}
+use Rattle.theory_preservation.specs.FromInvariant.{inv-well-formed}
 
-as-typed : (p : Program) (G : Context) (b : Bool) (d : Doing) → TypedAs p G b d → TypedDoing p G b d
-as-typed p G b (running P) t = t .1
-as-typed p G b folding t = tt
-as-typed p G b (waiting P) t = t .1
+as-typed : (p : Program) (G : Context) (d : Doing) → TypedAs p G d → TypedDoing p G d
+as-typed p G (running P) t = t .1
+as-typed p G folding t = tt
+as-typed p G (waiting P) t = t .1
 
-as-names : (p : Program) (G : Context) (b : Bool) (d : Doing) → TypedAs p G b d → NamesDiffer d (names G)
-as-names p G b (running P) t = distinct-iff (names G) .0 (t .0)
-as-names p G b folding t = tt
-as-names p G b (waiting P) t = distinct-iff (names G) .0 (t .0)
+as-names : (p : Program) (G : Context) (d : Doing) → TypedAs p G d → NamesDiffer d (names G)
+as-names p G (running P) t = distinct-iff (names G) .0 (t .0)
+as-names p G folding t = tt
+as-names p G (waiting P) t = distinct-iff (names G) .0 (t .0)
 
 module _ {p : Program} {C : Config} (w : WellFormed p C) where
   handlers : (i : ℕ) (q : Process) → getElem? (C .processes) i ≡ some q → (h : ℕ) → q .link ≡ some h → (r : Process) × (getElem? (C .processes) h ≡ some r) × (isWaiting (r .doing) ≡ true)
@@ -117,9 +117,8 @@ module _ {p : Program} {C : Config} (w : WellFormed p C) where
 
   found-fine : (i : ℕ) (q : Process) → getElem? (C .processes) i ≡ some q → Fine p (relinked suc q)
   found-fine i q e = record {
-    typed = subst (λ b. TypedDoing p (contextOf (q .held)) b (q .doing)) (sym (is-some-map suc (q .link)))
-        (as-typed p (contextOf (q .held)) (isSome (q .link)) (q .doing) (w .typed i q (record { there = e })));
-    names = subst (NamesDiffer (q .doing)) (context-names (q .held)) (as-names p (contextOf (q .held)) (isSome (q .link)) (q .doing) (w .typed i q (record { there = e })));
+    typed = as-typed p (contextOf (q .held)) (q .doing) (w .typed i q (record { there = e }));
+    names = subst (NamesDiffer (q .doing)) (context-names (q .held)) (as-names p (contextOf (q .held)) (q .doing) (w .typed i q (record { there = e })));
     keys = keys-of-process (C .processes) (process-keys w) i q e;
     room = w .held i q (record { there = e });
     channels = λ x m. w .channels (x .1) (Memᴰ·append-left (outsideEnds (C .outside)) (process-end (C .processes) i q e x m));
@@ -151,6 +150,6 @@ module _ {p : Program} {C : Config} (w : WellFormed p C) where
     numbers = w .given;
   }
 
--- the invariant is well-formedness
-pub inv-iff : (p : Program) (C : Config) → Inv p C ↔ WellFormed p C
-inv-iff p C = (inv-well-formed, well-formed-inv)
+-- the invariant, with what is asked of a halted run, is well-formedness
+pub inv-iff : (p : Program) (C : Config) → (Inv p C × (C .halted ≡ true → WouldHalt C)) ↔ WellFormed p C
+inv-iff p C = (λ (I, h). inv-well-formed I h, λ w. (well-formed-inv w, w .halt))

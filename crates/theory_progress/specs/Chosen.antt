@@ -1,4 +1,4 @@
--- The place that run-on chooses: the first whose step is carried out.
+-- The place that run-on chooses: the first whose step is taken.
 use Prim.Native.Nat.{ℕ, suc, _+_, _≤_, _<_}
 use native.Mathlib.Omega.{arith}
 use native.Mathlib.Decide.{ℕ-discrete, decLt}
@@ -9,36 +9,40 @@ use mathlib.Core.Option.{Option, some, none, Option·some-injective, Option·non
 use mathlib.Core.Bool.{Bool, true, false, cond, true≢false, false≢true}
 use lib.ListN.{length}
 use Rattle.calculus.specs.Program.{Program}
-use Rattle.calculus.specs.Configuration.{Process, Config}
-use Rattle.calculus.specs.Steps.{Outcome, carried, notOpen, lacking, stepOf, step}
+use Rattle.calculus.specs.Configuration.{Process, Config, halt}
+use Rattle.calculus.specs.Steps.{Outcome, carried, uncaught, notOpen, lacking, stepOf, step}
 use Rattle.calculus.specs.Runs.{isCarried, firstFrom, choosePlace}
-use Rattle.calculus.specs.Reduces.{Lacks, Open}
+use Rattle.calculus.specs.Reduces.{Lacks, Applies}
 use Rattle.calculus.specs.declared.answers.Seen.{Seen}
 use Rattle.theory_ends.specs.Lists.{past-the-end}
-use Rattle.theory_reductions.specs.CarriedOut.{carried-out}
+use Rattle.calculus.specs.declared.answers.Seen.the-variants.{Nothing}
+use Rattle.theory_reductions.specs.CarriedOut.{carried-out, halts-out}
+use Rattle.theory_reductions.specs.Halting.{Takes, carries-out, halts}
 
 -- ── "Run-on takes the first open place that can be carried out"
--- the step at a place is carried out
-pub record Carries (p : Program) (C : Config) (i : ℕ) : Type 0 where
+-- the step at a place is taken: carried out, or one that halts the run
+pub record Steps (p : Program) (C : Config) (i : ℕ) : Type 0 where
   pub seen : Seen
   pub after : Config
-  pub steps : step p C i ≡ carried seen after
+  pub takes : Takes p C i seen after
 
-pub carries : (p : Program) (C : Config) (i : ℕ) → isCarried (step p C i) ≡ true → Carries p C i
-carries p C i e = go (step p C i) refl e
+pub steps : (p : Program) (C : Config) (i : ℕ) → isCarried (step p C i) ≡ true → Steps p C i
+steps p C i e = go (step p C i) refl e
   where
-    go : (r : Outcome) → step p C i ≡ r → isCarried r ≡ true → Carries p C i
-    go (carried s D) h e = record { seen = s; after = D; steps = h }
+    go : (r : Outcome) → step p C i ≡ r → isCarried r ≡ true → Steps p C i
+    go (carried s D) h e = record { seen = s; after = D; takes = carries-out h }
+    go uncaught h e = record { seen = Nothing; after = halt C; takes = halts h }
     go notOpen h e = absurd (false≢true e)
     go lacking h e = absurd (false≢true e)
 
-pub is-carried : {p : Program} {C : Config} {i : ℕ} → Carries p C i → isCarried (step p C i) ≡ true
-is-carried c = ap isCarried (c .steps)
+pub is-taken : {p : Program} {C : Config} {i : ℕ} {seen : Seen} {D : Config} → Takes p C i seen D → isCarried (step p C i) ≡ true
+is-taken (carries-out e) = ap isCarried e
+is-taken (halts e) = ap isCarried e
 
--- a place that holds a process and whose step is carried out, where none before it is
+-- a place that holds a process and whose step is taken, where none before it is
 pub record First (p : Program) (C : Config) (i : ℕ) : Type 0 where
   pub place : i < length (C .processes)
-  pub carried-out : Carries p C i
+  pub taken : Steps p C i
   pub none-before : (j : ℕ) → j < i → isCarried (step p C j) ≡ false
 
 module _ (p : Program) (C : Config) where
@@ -74,14 +78,14 @@ module _ (p : Program) (C : Config) where
       go false t e r (yes z) = ap (λ j. isCarried (step p C j)) z ∙ t
       go false t e r (no n) = r e (omega arith) (omega arith)
 
-  -- where a place is chosen, its step is carried out, and none before it
+  -- where a place is chosen, its step is taken, and none before it
   pub chosen-first : {i : ℕ} → choosePlace p C ≡ some i → First p C i
   unfolding choosePlace
   chosen-first {i} e =
       let y = first-from 0 (C .processes) e in
-      record { place = (let a = y .1 in omega arith); carried-out = carries p C i (y .2); none-before = λ j h. y .3 j (omega arith) h }
+      record { place = (let a = y .1 in omega arith); taken = steps p C i (y .2); none-before = λ j h. y .3 j (omega arith) h }
 
-  -- where none is chosen, no step can be carried out
+  -- where none is chosen, no step can be taken
   pub none-chosen : choosePlace p C ≡ none → (i : ℕ) → isCarried (step p C i) ≡ false
   unfolding choosePlace step
   none-chosen e i = go (decLt i (length (C .processes)))
@@ -90,15 +94,16 @@ module _ (p : Program) (C : Config) where
       go (yes h) = none-from 0 (C .processes) e i (omega arith) (omega arith)
       go (no n) = ap (λ o. isCarried (stepOf p C i o)) (past-the-end (C .processes) i (omega arith))
 
-  -- an open step that does not lack is carried out
-  pub open-carries : (i : ℕ) → Open p C i → ¬ Lacks C i → Carries p C i
-  open-carries i (inl (s, D, r)) n = record { seen = s; after = D; steps = carried-out p r }
-  open-carries i (inr l) n = absurd (n l)
+  -- where a rule applies and does not lack, the step is taken
+  pub applies-takes : (i : ℕ) → Applies p C i → ¬ Lacks C i → Steps p C i
+  applies-takes i (inl (s, D, r)) n = record { seen = s; after = D; takes = carries-out (carried-out p r) }
+  applies-takes i (inr (inl h)) n = record { seen = Nothing; after = halt C; takes = halts (halts-out p h) }
+  applies-takes i (inr (inr l)) n = absurd (n l)
 
   -- run-on finds a place where there is one
-  pub run-on-finds : (i : ℕ) → Open p C i → ¬ Lacks C i → (j : ℕ) × (choosePlace p C ≡ some j) × First p C j
+  pub run-on-finds : (i : ℕ) → Applies p C i → ¬ Lacks C i → (j : ℕ) × (choosePlace p C ≡ some j) × First p C j
   run-on-finds i o n = go (choosePlace p C) refl
     where
       go : (c : Option ℕ) → choosePlace p C ≡ c → (j : ℕ) × (choosePlace p C ≡ some j) × First p C j
-      go none e = absurd (true≢false (sym (is-carried (open-carries i o n)) ∙ none-chosen e i))
+      go none e = absurd (true≢false (sym (is-taken (applies-takes i o n .takes)) ∙ none-chosen e i))
       go (some j) e = (j, e, chosen-first e)

@@ -7,9 +7,8 @@ use mathlib.Core.List.{List, [], _∷_}
 use lib.ListN.{length}
 use Rattle.notation.specs.Tree.{Name}
 use Rattle.calculus.specs.Program.{Program}
-use Rattle.calculus.specs.Configuration.{End, folding, Process, Config, foldsUp}
+use Rattle.calculus.specs.Configuration.{End, folding, Process, Config, Stands, foldsUp}
 use Rattle.calculus.specs.Steps.{carried, parting, startedDoing, foldedHandler, changedAt, leaving, foldingUp, stepDoing, step}
-use Rattle.calculus.specs.WellFormed.{Stands}
 use Rattle.calculus.specs.declared.answers.Seen.{Seen}
 use Rattle.theory_ends.specs.Lists.{found-below, set-at, length-removed}
 use Rattle.theory_reductions.specs.CarriedOut.{step-at}

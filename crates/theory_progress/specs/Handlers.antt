@@ -7,9 +7,8 @@ use mathlib.Core.Bool.{Bool, true, false, true≢false, false≢true}
 use lib.ListN.{length, getElem?}
 use Rattle.notation.specs.Tree.{Located, Proc, empty, sendUnit, sendChannel, sendLabel, cancel, spawn, recvUnit, recvChannel, recvLabel, fwd, call, raise, try}
 use Rattle.calculus.specs.Program.{Program}
-use Rattle.calculus.specs.Configuration.{Doing, running, folding, waiting, Process, Config}
+use Rattle.calculus.specs.Configuration.{Doing, running, folding, waiting, Process, Config, Stands}
 use Rattle.calculus.specs.Steps.{carried, Wanted, receives, isOpenBy, stepDoing, step}
-use Rattle.calculus.specs.WellFormed.{Stands}
 use Rattle.calculus.specs.Reduces.{Runs, Empty, no-term, no-channel}
 use Rattle.calculus.specs.declared.answers.Seen.{Seen}
 use Rattle.theory_ends.specs.Lists.{found-one}

@@ -10,9 +10,9 @@ use lib.ListN.{length, length-append, getElem?}
 use Rattle.notation.specs.Tree.{Name}
 use Rattle.calculus.specs.Types.{Side, provided, used, other}
 use Rattle.calculus.specs.Program.{Program}
-use Rattle.calculus.specs.Configuration.{End, Process, Config, Holder, Far, atProcess, atOutside, givenUp, farEnd}
+use Rattle.calculus.specs.Configuration.{End, Process, Config, Stands, Holder, Far, atProcess, atOutside, givenUp, farEnd}
 use Rattle.calculus.specs.Forest.{Joint, jointAt, channelJoints, linkJoint, jointsFrom, joints}
-use Rattle.calculus.specs.WellFormed.{In, Stands, WellFormed}
+use Rattle.calculus.specs.WellFormed.{In, WellFormed}
 use Rattle.theory_graphs.specs.Graph.{EndsIn, forest-small}
 use Rattle.theory_ends.specs.Lists.{found-below}
 use Rattle.theory_ends.specs.FarEnds.{stands-at, found-key, HeldFar, FarIs, at-process, at-outside, at-nobody, far-is, far-back, far-found}

@@ -1,4 +1,4 @@
--- Progress: while a process is left, some step is open.
+-- Progress: while a process is left and the run has not halted, some step is open.
 use Prim.Native.Nat.{ℕ, zero, suc, _<_}
 use native.Mathlib.Omega.{arith}
 use native.Mathlib.Decide.{ℕ-discrete, decLt}
@@ -12,9 +12,9 @@ use Rattle.notation.specs.Tree.{Located, Proc}
 use Rattle.calculus.specs.Types.{standing}
 use Rattle.calculus.specs.Program.{Program}
 use Rattle.calculus.specs.Typing.{OneType}
-use Rattle.calculus.specs.Configuration.{End, Process, Config, at, Holder, atProcess}
-use Rattle.calculus.specs.WellFormed.{In, isWaiting, Stands, WellFormed}
-use Rattle.calculus.specs.Reduces.{Runs, Holds, Open}
+use Rattle.calculus.specs.Configuration.{End, Process, Config, Stands, at, Holder, atProcess}
+use Rattle.calculus.specs.WellFormed.{In, isWaiting, WellFormed}
+use Rattle.calculus.specs.Reduces.{Runs, Holds, Applies, Open}
 use Rattle.theory_graphs.specs.Graph.{pigeonhole, Twins}
 use Rattle.theory_ends.specs.Lists.{below-found, past-the-end}
 use Rattle.theory_ends.specs.Names.{lookup-in}
@@ -24,7 +24,7 @@ use Rattle.theory_reductions.specs.CarriedOut.{holder-found}
 use Rattle.theory_progress.specs.Places.{places, length-places, places-below, places-once}
 use Rattle.theory_progress.specs.Joints.{joints-fewer, JointKey, channel, handler, JointKey-discrete, jointKeys, keys-of-joints, link-joint, channel-joint}
 use Rattle.theory_progress.specs.Turns.{Sending, Receiving, one-sending, one-receiving, sending-side, receiving-side, faces, meet}
-use Rattle.theory_progress.specs.Waiting.{Waits, waits-handler, waits-send, waits-receive, open-or-waits}
+use Rattle.theory_progress.specs.Waiting.{Waits, waits-handler, waits-send, waits-receive, applies-or-waits}
 
 abbrev number : JointKey → ℕ
 number (channel k) = k
@@ -34,7 +34,7 @@ abbrev is-channel : JointKey → Bool
 is-channel (channel k) = true
 is-channel (handler h) = false
 
--- ── a place without an open step: no process stands there, or it waits on a joint
+-- ── a place where no rule applies: no process stands there, or it waits on a joint
 data Shut (p : Program) (C : Config) (i : ℕ) : Type 0 where
   nobody : at C i ≡ none → Shut p C i
   waits-on : {q : Process} (k : JointKey) → Stands C i q → Waits p C i q k → Shut p C i
@@ -47,16 +47,16 @@ somebody : (C : Config) {i : ℕ} → i < length (C .processes) → at C i ≢ n
 somebody C {i} b e = let q = below-found (C .processes) i b in Option·none-ne-some (q .0) (sym e ∙ q .1)
 
 module _ {p : Program} {C : Config} (v : WellFormed p C) where
-  open-or-shut : (i : ℕ) → Open p C i ⊎ Shut p C i
-  open-or-shut i = go (at C i) refl
+  applies-or-shut : (i : ℕ) → Applies p C i ⊎ Shut p C i
+  applies-or-shut i = go (at C i) refl
     where
-      stands : {q : Process} → Stands C i q → Open p C i ⊎ ((k : JointKey) × Waits p C i q k) → Open p C i ⊎ Shut p C i
+      stands : {q : Process} → Stands C i q → Applies p C i ⊎ ((k : JointKey) × Waits p C i q k) → Applies p C i ⊎ Shut p C i
       stands s (inl o) = inl o
       stands s (inr (k, w)) = inr (waits-on k s w)
 
-      go : (o : Option Process) → at C i ≡ o → Open p C i ⊎ Shut p C i
+      go : (o : Option Process) → at C i ≡ o → Applies p C i ⊎ Shut p C i
       go none e = inr (nobody e)
-      go (some q) e = let s : Stands C i q = record { there = e } in stands s (open-or-waits v s)
+      go (some q) e = let s : Stands C i q = record { there = e } in stands s (applies-or-waits v s)
 
   -- the joint that a place waits on is one
   channel-in : {i : ℕ} {q : Process} {c : Located} {e : End} {h : Holder} → Stands C i q → Holds C q c e (atProcess h) → In (channel (e .channel)) (jointKeys C)
@@ -87,14 +87,14 @@ module _ {p : Program} {C : Config} (v : WellFormed p C) where
   -- a send meets a recv
   matched : {i j : ℕ} {q r : Process} {P Q : Proc} {c c′ : Located} {e d : End} {h g : Holder} → Runs C i q P → Runs C j r Q
       → Holds C q c e (atProcess h) → Holds C r c′ d (atProcess g) → e .channel ≡ d .channel → OneType p (e .type) (d .type)
-      → Sending (q .held) P c (e .side) (standing (p .types) (e .type)) → Receiving Q c′ (d .side) (standing (p .types) (d .type)) → Open p C i
+      → Sending (q .held) P c (e .side) (standing (p .types) (e .type)) → Receiving Q c′ (d .side) (standing (p .types) (d .type)) → Applies p C i
   matched {r = r} {c′ = c′} {e} a b x y z w m m′ =
       let u = one-sending p w m in
       let f = far-found v e (b .stands) (lookup-in (c′ .name) (r .held) (y .held)) (λ i. (sym z i, faces u m′ i)) in
       inl (meet a (record { held = x .held; far = f }) (record { runs = b .runs; name = refl }) u m′)
 
   both-wait : {i j : ℕ} {q r : Process} {k l : JointKey} → i ≢ j → Stands C i q → Stands C j r → Waits p C i q k → Waits p C j r l → k ≡ l
-      → (n : ℕ) × Open p C n
+      → (n : ℕ) × Applies p C n
   both-wait n s t (waits-handler a) (waits-handler b) z = absurd (n (ap number z))
   both-wait n s t (waits-handler a) (waits-send d b m y) z = absurd (false≢true (ap is-channel z))
   both-wait n s t (waits-handler a) (waits-receive d b m y) z = absurd (false≢true (ap is-channel z))
@@ -112,13 +112,13 @@ module _ {p : Program} {C : Config} (v : WellFormed p C) where
       (j, matched b a y x w (ends-apart (λ f. n (sym f)) t s y x w .one-type) m′ m)
 
   both-shut : {i j : ℕ} → i ≢ j → i < length (C .processes) → j < length (C .processes) → (x : Shut p C i) (y : Shut p C j) → key-of x ≡ key-of y
-      → (n : ℕ) × Open p C n
+      → (n : ℕ) × Applies p C n
   both-shut n a b (nobody e) y z = absurd (somebody C a e)
   both-shut n a b (waits-on k s w) (nobody e) z = absurd (somebody C b e)
   both-shut n a b (waits-on k s w) (waits-on l t u) z = both-wait n s t w u z
 
   -- joints are fewer than places, so where every place is shut two wait on one joint
-  all-shut : C .processes ≢ [] → ((i : ℕ) → Shut p C i) → (n : ℕ) × Open p C n
+  all-shut : C .processes ≢ [] → ((i : ℕ) → Shut p C i) → (n : ℕ) × Applies p C n
   all-shut n f = go (pigeonhole (JointKey-discrete ℕ-discrete) (λ i. key-of (f i)) all-places (jointKeys C) (places-once _) (λ i m. key-in (places-below _ m) (f i)) few)
     where
       all-places : List ℕ
@@ -127,15 +127,15 @@ module _ {p : Program} {C : Config} (v : WellFormed p C) where
       few : length (jointKeys C) < length all-places
       few = rw (length-places, keys-of-joints C) (joints-fewer p C v n)
 
-      go : Twins (λ i. key-of (f i)) all-places → (n : ℕ) × Open p C n
+      go : Twins (λ i. key-of (f i)) all-places → (n : ℕ) × Applies p C n
       go t = both-shut (t .differ) (places-below _ (t .one-in)) (places-below _ (t .two-in)) (f (t .one)) (f (t .two)) (t .agree)
 
-  -- the first n places: one of them has an open step, or all are shut
-  search-open : (n : ℕ) → ((i : ℕ) × Open p C i) ⊎ ((i : ℕ) → i < n → Shut p C i)
-  search-open zero = inr λ i h. absurd (omega arith)
-  search-open (suc n) = go (search-open n) (open-or-shut n)
+  -- the first n places: at one of them a rule applies, or all are shut
+  search-applies : (n : ℕ) → ((i : ℕ) × Applies p C i) ⊎ ((i : ℕ) → i < n → Shut p C i)
+  search-applies zero = inr λ i h. absurd (omega arith)
+  search-applies (suc n) = go (search-applies n) (applies-or-shut n)
     where
-      go : ((i : ℕ) × Open p C i) ⊎ ((i : ℕ) → i < n → Shut p C i) → Open p C n ⊎ Shut p C n → ((i : ℕ) × Open p C i) ⊎ ((i : ℕ) → i < suc n → Shut p C i)
+      go : ((i : ℕ) × Applies p C i) ⊎ ((i : ℕ) → i < n → Shut p C i) → Applies p C n ⊎ Shut p C n → ((i : ℕ) × Applies p C i) ⊎ ((i : ℕ) → i < suc n → Shut p C i)
       go (inl r) d = inl r
       go (inr f) (inl o) = inl (n, o)
       go (inr f) (inr o) = inr λ i h. here i h (ℕ-discrete i n)
@@ -144,14 +144,18 @@ module _ {p : Program} {C : Config} (v : WellFormed p C) where
           here i h (yes e) = subst (Shut p C) (sym e) o
           here i h (no d) = f i (omega arith)
 
--- "Nothing waits forever for a partner that can't come"
-pub some-open : (p : Program) (C : Config) → WellFormed p C → C .processes ≢ [] → (i : ℕ) × Open p C i
-some-open p C v n = go (search-open v (length (C .processes)))
+-- halted or not, a rule applies at some place
+some-applies : (p : Program) (C : Config) → WellFormed p C → C .processes ≢ [] → (i : ℕ) × Applies p C i
+some-applies p C v n = go (search-applies v (length (C .processes)))
   where
-    go : ((i : ℕ) × Open p C i) ⊎ ((i : ℕ) → i < length (C .processes) → Shut p C i) → (i : ℕ) × Open p C i
+    go : ((i : ℕ) × Applies p C i) ⊎ ((i : ℕ) → i < length (C .processes) → Shut p C i) → (i : ℕ) × Applies p C i
     go (inl r) = r
     go (inr f) = all-shut v n λ i. here i (decLt i (length (C .processes)))
       where
         here : (i : ℕ) → Dec (i < length (C .processes)) → Shut p C i
         here i (yes h) = f i h
         here i (no h) = nobody (past-the-end (C .processes) i (omega arith))
+
+-- "Nothing waits forever for a partner that can't come"
+pub some-open : (p : Program) (C : Config) → WellFormed p C → C .processes ≢ [] → C .halted ≡ false → (i : ℕ) × Open p C i
+some-open p C v n g = let o = some-applies p C v n in (o .0, record { going = g; applies = o .1 })

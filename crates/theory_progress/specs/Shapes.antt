@@ -7,9 +7,9 @@ use mathlib.Core.Option.{Option, some, none}
 use lib.ListN.{set}
 use Rattle.notation.specs.Tree.{Name, Located, Proc}
 use Rattle.calculus.specs.Program.{Program}
-use Rattle.calculus.specs.Configuration.{End, Process, Config, Holder, atProcess, givenUp, farEnd, inserted, removed}
-use Rattle.calculus.specs.Steps.{Outcome, carried, notOpen, lacking, Turn, sends, receives, alone, turn, turnOf, startedHandler, foldedHandler, changedAt, farMoved, step}
-use Rattle.calculus.specs.WellFormed.{In, Stands}
+use Rattle.calculus.specs.Configuration.{End, Process, Config, Stands, Holder, atProcess, givenUp, farEnd, inserted, removed}
+use Rattle.calculus.specs.Steps.{Outcome, carried, uncaught, notOpen, lacking, Turn, sends, receives, alone, turn, turnOf, startedHandler, foldedHandler, changedAt, farMoved, step}
+use Rattle.calculus.specs.WellFormed.{In}
 use Rattle.calculus.specs.declared.answers.Seen.{Seen}
 use Rattle.calculus.specs.declared.answers.Seen.the-variants.{Nothing}
 use Rattle.calculus.specs.Reduces.{Holds, Answers, GivesUp, by-process, by-outside, by-nobody, Empty, Sends, close-meets, channel-meets, label-meets, close-shows, label-shows, channel-shows, gone-shows, close-lost, label-lost, channel-lost, Naming, its-own, its-recv, Reduces, communicates, spawns, tries, calls, cancels, raises, joins, joins-outside, joins-nobody, nobody-joins, unanswered, folds, leaves}
@@ -92,7 +92,7 @@ module _ {p : Program} {C : Config} {k : ℕ} where
   reduced (tries r n) = tried-one _ _
   reduced (calls r s) = one _ _ (itself refl)
   reduced (cancels r h g) = gives-up _ (itself refl) g
-  reduced (raises r) = handled _ (by-raise r)
+  reduced (raises r l) = handled _ (by-raise r)
   reduced (joins {x = x} {e = e} {d = d} r h l n) = joined _ _ e d (r .stands) (lookup-in (x .name) _ (h .held)) (holder-stands h)
   reduced (joins-outside r h l n) = one _ _ (itself refl)
   reduced (joins-nobody r h l n) = one _ _ (itself refl)
@@ -104,8 +104,9 @@ module _ {p : Program} {C : Config} {k : ℕ} where
 pub step-shape : (p : Program) (C D : Config) (k : ℕ) (seen : Seen) → step p C k ≡ carried seen D → Shape C k seen (D .processes)
 step-shape p C D k seen e = reduced (step-iff p C k .0 e)
 
--- the configuration that an outcome leaves
+-- the configuration that an outcome leaves, its halt aside
 abbrev pub config-by : Config → Outcome → Config
 config-by C (carried s D) = D
+config-by C uncaught = C
 config-by C notOpen = C
 config-by C lacking = C

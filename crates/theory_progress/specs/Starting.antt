@@ -2,9 +2,8 @@
 use Prim.Native.Nat.{ℕ}
 use mathlib.Core.Path.{_≡_}
 use Rattle.notation.specs.Tree.{Located, Proc, raise}
-use Rattle.calculus.specs.Configuration.{End, Process, Config, givenUp}
+use Rattle.calculus.specs.Configuration.{End, Process, Config, Stands, givenUp}
 use Rattle.calculus.specs.Steps.{Wanted, receives, turn}
-use Rattle.calculus.specs.WellFormed.{Stands}
 use Rattle.calculus.specs.Reduces.{Runs, Holds}
 
 -- a lost recv: a process runs a recv, of one of the three kinds, on a channel whose far end was given up

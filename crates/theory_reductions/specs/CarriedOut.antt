@@ -10,15 +10,14 @@ use Rattle.notation.specs.Limits.{processPlaces}
 use Rattle.notation.specs.Bytes.{same}
 use Rattle.notation.specs.Tree.{Name, Located, Proc}
 use Rattle.calculus.specs.Program.{Program}
-use Rattle.calculus.specs.Configuration.{End, running, Process, Config, Holder, Far, atProcess, atOutside, givenUp, farEnd, replaced}
-use Rattle.calculus.specs.Steps.{Outcome, carried, lacking, Turn, sends, receives, alone, turn, turnOf, afterSend, afterReceive, isGivenUp, parting, joinedTo, joining, send, answering, receive, cancelling, spawning, trying, calling, raising, forwarding, leaving, foldingUp, stepTerm, stepDoing, stepOf, step}
-use Rattle.calculus.specs.WellFormed.{Stands}
+use Rattle.calculus.specs.Configuration.{End, running, Process, Config, Stands, Holder, Far, atProcess, atOutside, givenUp, farEnd, replaced}
+use Rattle.calculus.specs.Steps.{Outcome, carried, uncaught, lacking, Turn, sends, receives, alone, turn, turnOf, afterSend, afterReceive, isGivenUp, parting, joinedTo, joining, send, answering, receive, cancelling, spawning, trying, calling, raising, forwarding, leaving, foldingUp, stepTerm, stepDoing, stepOf, step}
 use Rattle.calculus.specs.declared.answers.Seen.{Seen}
 use Rattle.theory_derivations.specs.Equality.{same-iff}
 use Rattle.theory_derivations.specs.Booleans.{ltb-iff, cond-true}
 use Rattle.theory_ends.specs.Lists.{not-below}
 use Rattle.theory_ends.specs.FarEnds.{stands-at, HeldFar, FarIs, at-process, far-is}
-use Rattle.calculus.specs.Reduces.{Runs, Holds, GivesUp, by-process, by-outside, by-nobody, no-term, no-channel, Sends, close-meets, channel-meets, label-meets, close-shows, label-shows, channel-shows, gone-shows, close-lost, label-lost, channel-lost, Naming, its-own, its-recv, Reduces, communicates, spawns, tries, calls, cancels, raises, joins, joins-outside, joins-nobody, nobody-joins, unanswered, folds, leaves, Lacks, no-number, spawn-no-place, spawn-no-channel, try-no-place}
+use Rattle.calculus.specs.Reduces.{Runs, Holds, GivesUp, by-process, by-outside, by-nobody, no-term, no-channel, Sends, close-meets, channel-meets, label-meets, close-shows, label-shows, channel-shows, gone-shows, close-lost, label-lost, channel-lost, Naming, its-own, its-recv, Reduces, communicates, spawns, tries, calls, cancels, raises, joins, joins-outside, joins-nobody, nobody-joins, unanswered, folds, leaves, Halts, nobody-catches, Lacks, no-number, spawn-no-place, spawn-no-channel, try-no-place}
 use Rattle.theory_reductions.specs.Kinds.{a-close, a-channel, a-label, ActsBy, closes-on, takes-on, picks-on, sends-on, on-its-own, term-acts}
 
 -- ── the step at the place of a process
@@ -119,7 +118,7 @@ module _ (p : Program) {C : Config} {i : ℕ} where
   carried-out (tries r n) = step-runs p r ∙ rw (below n)
   carried-out (calls r s) = step-runs p r ∙ rw s
   carried-out (cancels r k g) = step-runs p r ∙ rw k (parted i _ g)
-  carried-out (raises r) = step-runs p r
+  carried-out (raises r l) = step-runs p r ∙ rw l
   carried-out (joins {q = q} {e = e} {d = d} r k l n) = step-runs p r ∙ rw (k .held, l .held) (joined C i q e d (k .far) (l .far) n)
   carried-out (joins-outside {q = q} {e = e} {d = d} r k l n) = step-runs p r ∙ rw (k .held, l .held) (joined C i q e d (k .far) (l .far) n)
   carried-out (joins-nobody {q = q} {e = e} {d = d} r k l n) = step-runs p r ∙ rw (k .held, l .held) (joined C i q e d (k .far) (l .far) n)
@@ -128,6 +127,10 @@ module _ (p : Program) {C : Config} {i : ℕ} where
   carried-out (folds s d h g) = step-at p s ∙ rw (d, h) (parted i _ g)
   carried-out (leaves s (no-term d)) = step-at p s ∙ rw d
   carried-out (leaves s (no-channel d h)) = step-at p s ∙ rw (d, h)
+
+  pub halts-out : Halts C i → step p C i ≡ uncaught
+  unfolding stepTerm raising
+  halts-out (nobody-catches r l) = step-runs p r ∙ rw l
 
   pub lacks-out : Lacks C i → step p C i ≡ lacking
   unfolding stepTerm spawning trying send

@@ -1,63 +1,86 @@
 -- Demand 2: a script is accepted exactly where the typing rules derive it, and a step is carried out exactly as the reduction rules say.
 use Prim.Native.Nat.{ℕ}
-use mathlib.Core.Path.{_≡_, sym, _∙_, ap}
-use mathlib.Core.Logic.{_↔_, inl, inr}
+use mathlib.Core.Path.{_≡_, refl, sym, _∙_, ap}
+use mathlib.Core.Logic.{_↔_, _⊎_, inl, inr}
 use mathlib.Core.List.{List}
-use mathlib.Core.Option.{Option, some, none, Option·some-injective, Option·none-ne-some}
+use mathlib.Core.Bool.{Bool, true, false, false≢true}
+use mathlib.Core.Option.{Option, some, none}
 use borrow.Author.Tests.{le-leb}
 use Rattle.notation.specs.Limits.{scratchWords, runWords}
 use Rattle.notation.specs.Tree.{Declaration}
-use Rattle.calculus.specs.Program.{programOf}
+use Rattle.calculus.specs.Program.{Program, programOf}
 use Rattle.calculus.specs.Accepted.{accepted, checked}
-use Rattle.calculus.specs.Configuration.{Process, Config, at}
-use Rattle.calculus.specs.Steps.{Outcome, carried, notOpen, lacking, step}
-use Rattle.calculus.specs.Machine.{callStep, Answer, started, stepped, ranOn, reported, surveyed, named, Reply, reply, refusal, onPlace, onStep, textChecked, respond}
-use Rattle.calculus.specs.Demands.{Enough, Answered, Demand2}
-use Rattle.calculus.specs.Reduces.{Reduces, Lacks, Open}
+use Rattle.calculus.specs.Configuration.{Process, Config, halt, at}
+use Rattle.calculus.specs.Steps.{Outcome, carried, uncaught, notOpen, lacking, step}
+use Rattle.calculus.specs.Runs.{isCarried}
+use Rattle.calculus.specs.Machine.{callStep, started, stepped, ranOn, reported, surveyed, named, Reply, reply, refusal, onGoing, onPlace, onStep, textChecked, respond}
+use Rattle.calculus.specs.Demands.{Enough, Answered, AnsweredUncaught, Demand2}
+use Rattle.calculus.specs.Reduces.{Reduces, Halts, Lacks, Applies, Open}
 use Rattle.calculus.specs.declared.answers.Seen.{Seen}
 use Rattle.calculus.specs.declared.answers.Stepped.the-variants as Answers
 use Rattle.theory_derivations.specs.Accepts.{accepts}
-use Rattle.theory_reductions.specs.CarriedOut.{carried-out}
-use Rattle.theory_reductions.specs.StepIff.{step-iff, open-place}
+use Rattle.theory_reductions.specs.CarriedOut.{carried-out, halts-out}
+use Rattle.theory_reductions.specs.StepIff.{step-iff, halts-iff, applies-place}
 
--- what a step's answer says was seen
-abbrev seen-in : Answer → Option Seen
-seen-in (started a) = none
-seen-in (stepped (Answers.Carried s)) = some s
-seen-in (stepped (Answers.Refused n i)) = none
-seen-in (ranOn a) = none
-seen-in (reported a l) = none
-seen-in (surveyed a l) = none
-seen-in (named l n i) = none
+-- the outcome of a step that a reply tells of, if it tells that a step was taken
+abbrev told-in : Reply → Outcome
+told-in r = elim (r .answer) [
+  | started a ↦ notOpen
+  | stepped (Answers.Carried s) ↦ carried s (r .config)
+  | stepped Answers.Uncaught ↦ uncaught
+  | stepped (Answers.Refused n i) ↦ notOpen
+  | ranOn a ↦ notOpen
+  | reported a l ↦ notOpen
+  | surveyed a l ↦ notOpen
+  | named l n i ↦ notOpen
+]
 
 module _ (text : List ℕ) (ds : List Declaration) (e : checked text ≡ accepted ds) (C : Config) (scratch run i : ℕ) (enough : Enough scratch run) where
-  abbrev step-reply : Option Process → Outcome → Reply
-  step-reply q r = onPlace q (refusal C (callStep scratch run i)) (onStep r (refusal C (callStep scratch run i)) (λ seen D. reply (stepped (Answers.Carried seen)) D))
+  abbrev p : Program
+  p = programOf ds
 
-  answer : respond text C (callStep scratch run i) ≡ step-reply (at C i) (step (programOf ds) C i)
+  abbrev step-reply : Bool → Option Process → Outcome → Reply
+  step-reply halted q r =
+      let refuse = refusal C (callStep scratch run i) in
+      onGoing halted refuse (onPlace q refuse (onStep r refuse (λ seen D. reply (stepped (Answers.Carried seen)) D) (reply (stepped Answers.Uncaught) (halt C))))
+
+  answer : respond text C (callStep scratch run i) ≡ step-reply (C .halted) (at C i) (step p C i)
   unfolding respond textChecked
   answer = rw (le-leb scratchWords scratch (enough .scratchEnough), e, le-leb runWords run (enough .runEnough))
 
-  back : (q : Option Process) (r : Outcome) (seen : Seen) (D : Config) → step-reply q r ≡ reply (stepped (Answers.Carried seen)) D → r ≡ carried seen D
-  back none r seen D h = absurd (Option·none-ne-some seen (ap (λ (y : Reply). seen-in (y .answer)) h))
-  back (some q) (carried s E) seen D h =
-      let a = Option·some-injective s seen (ap (λ (y : Reply). seen-in (y .answer)) h) in
-      let b = ap (λ (y : Reply). y .config) h in
-      λ j. carried (a j) (b j)
-  back (some q) notOpen seen D h = absurd (Option·none-ne-some seen (ap (λ (y : Reply). seen-in (y .answer)) h))
-  back (some q) lacking seen D h = absurd (Option·none-ne-some seen (ap (λ (y : Reply). seen-in (y .answer)) h))
+  -- a reply that tells of a step taken answers that very step, in a run that has not halted
+  took : (b : Bool) (q : Option Process) (r : Outcome) {o : Outcome} → isCarried o ≡ true → told-in (step-reply b q r) ≡ o → (b ≡ false) × (r ≡ o)
+  took true q r t h = absurd (false≢true (ap isCarried h ∙ t))
+  took false none r t h = absurd (false≢true (ap isCarried h ∙ t))
+  took false (some q) (carried s D) t h = (refl, h)
+  took false (some q) uncaught t h = (refl, h)
+  took false (some q) notOpen t h = absurd (false≢true (ap isCarried h ∙ t))
+  took false (some q) lacking t h = absurd (false≢true (ap isCarried h ∙ t))
 
-  carried-by-rules : (seen : Seen) (D : Config) → Answered text C scratch run i seen D ↔ Reduces (programOf ds) C i seen D
+  taken : {r : Reply} {o : Outcome} → told-in r ≡ o → isCarried o ≡ true → respond text C (callStep scratch run i) ≡ r → (C .halted ≡ false) × (step p C i ≡ o)
+  taken z t h = took (C .halted) (at C i) (step p C i) t (ap told-in (sym answer ∙ h) ∙ z)
+
+  -- and a rule that applies in such a run is replied to by its outcome
+  replied : {r : Outcome} → C .halted ≡ false → (o : Applies p C i) → step p C i ≡ r → respond text C (callStep scratch run i) ≡ step-reply false (some (applies-place p C i o .0)) r
+  replied {r} g o z = answer ∙ ap (λ b. step-reply b (at C i) (step p C i)) g ∙ ap (step-reply false (at C i)) z ∙ ap (λ q. step-reply false q r) (applies-place p C i o .1)
+
+  carried-by-rules : (seen : Seen) (D : Config) → Answered text C scratch run i seen D ↔ ((C .halted ≡ false) × Reduces p C i seen D)
   carried-by-rules seen D = (
-    λ h. step-iff (programOf ds) C i .0 (back (at C i) (step (programOf ds) C i) seen D (sym answer ∙ h)),
-    λ r.
-        let q = open-place (programOf ds) C i (inl (seen, D, r)) in
-        answer ∙ ap (step-reply (at C i)) (carried-out (programOf ds) r) ∙ ap (λ o. step-reply o (carried seen D)) (q .1),
+    λ h. let t = taken refl refl h in (t .0, step-iff p C i .0 (t .1)),
+    λ (g, r). replied g (inl (seen, D, r)) (carried-out p r),
   )
 
-  chosen : Open (programOf ds) C i → ¬ Lacks C i → (seen : Seen) × (D : Config) × Reduces (programOf ds) C i seen D × Answered text C scratch run i seen D
-  chosen (inl (seen, D, r)) n = (seen, D, r, carried-by-rules seen D .1 r)
-  chosen (inr l) n = absurd (n l)
+  uncaught-by-rules : AnsweredUncaught text C scratch run i ↔ ((C .halted ≡ false) × Halts C i)
+  uncaught-by-rules = (λ h. let t = taken refl refl h in (t .0, halts-iff p C i .0 (t .1)), λ (g, h). replied g (inr (inl h)) (halts-out p h))
+
+  chosen : Open p C i → ¬ Lacks C i
+      → ((seen : Seen) × (D : Config) × Reduces p C i seen D × Answered text C scratch run i seen D) ⊎ (Halts C i × AnsweredUncaught text C scratch run i)
+  chosen o n = go (o .applies)
+    where
+      go : Applies p C i → ((seen : Seen) × (D : Config) × Reduces p C i seen D × Answered text C scratch run i seen D) ⊎ (Halts C i × AnsweredUncaught text C scratch run i)
+      go (inl (seen, D, r)) = inl (seen, D, r, carried-by-rules seen D .1 (o .going, r))
+      go (inr (inl h)) = inr (h, uncaught-by-rules .1 (o .going, h))
+      go (inr (inr l)) = absurd (n l)
 
 pub demand2 : Demand2
-demand2 = record { accepts = accepts; carriedOut = carried-by-rules; chosen = chosen }
+demand2 = record { accepts = accepts; carriedOut = carried-by-rules; uncaught = uncaught-by-rules; chosen = chosen }

@@ -1,4 +1,4 @@
--- Each outcome of a step is told by the rules: what it carries out, that it is not open, or what it lacks.
+-- Each outcome of a step is told by the rules: what it carries out, that it halts the run, that it is not open, or what it lacks.
 use Prim.Native.Nat.{ℕ, _≤_, _<_}
 use mathlib.Core.Path.{_≡_, refl}
 use mathlib.Core.Logic.{_≢_}
@@ -13,19 +13,19 @@ use Rattle.notation.specs.Tree.{Name, Located, Proc, empty, sendUnit, sendChann
 use Rattle.calculus.specs.Named.{lookup}
 use Rattle.calculus.specs.Typing.{namesOf}
 use Rattle.calculus.specs.Program.{Program, Signature}
-use Rattle.calculus.specs.Configuration.{End, Doing, running, folding, waiting, Process, Config, withOutside, at, Holder, Far, atProcess, atOutside, givenUp, farEnd, freshChannel, replaced, goesOn}
-use Rattle.calculus.specs.Steps.{Outcome, carried, notOpen, lacking, onHeld, Message, passes, chooses, Wanted, Turn, receives, turn, onward, afterSend, afterReceive, branchOf, passedEnd, seenAt, outsideAfter, parting, bothTo, meeting, isGivenUp, passedOut, toOutside, unheard, sending, send, answering, receiving, receive, cancelling, placeFor, spawned, spawning, trying, entering, calling, raising, emptied, joinedTo, joining, forwarding, leaving, foldingUp, stepTerm, stepDoing, stepOf, step}
-use Rattle.calculus.specs.WellFormed.{Stands}
+use Rattle.calculus.specs.Configuration.{End, Doing, running, folding, waiting, Process, Config, Stands, withOutside, at, Holder, Far, atProcess, atOutside, givenUp, farEnd, freshChannel, replaced, goesOn}
+use Rattle.calculus.specs.Steps.{Outcome, carried, uncaught, notOpen, lacking, onHeld, Message, passes, chooses, Wanted, Turn, receives, turn, onward, afterSend, afterReceive, branchOf, passedEnd, seenAt, outsideAfter, parting, bothTo, meeting, isGivenUp, passedOut, toOutside, unheard, sending, send, answering, receiving, receive, cancelling, placeFor, spawned, spawning, trying, entering, calling, caughtBy, raising, emptied, joinedTo, joining, forwarding, leaving, foldingUp, stepTerm, stepDoing, stepOf, step}
 use Rattle.calculus.specs.declared.answers.Seen.{Seen}
 use Rattle.theory_derivations.specs.Equality.{same-iff}
 use Rattle.theory_derivations.specs.Booleans.{ltb-iff}
 use Rattle.theory_ends.specs.Lists.{not-below}
-use Rattle.calculus.specs.Reduces.{Runs, Holds, GivesUp, by-process, by-outside, by-nobody, no-term, no-channel, Sends, close-meets, channel-meets, label-meets, close-shows, label-shows, channel-shows, gone-shows, close-lost, label-lost, channel-lost, Naming, its-own, its-recv, Reduces, communicates, spawns, tries, calls, cancels, raises, joins, joins-outside, joins-nobody, nobody-joins, unanswered, folds, leaves, Lacks, no-number, spawn-no-place, spawn-no-channel, try-no-place}
+use Rattle.calculus.specs.Reduces.{Runs, Holds, GivesUp, by-process, by-outside, by-nobody, no-term, no-channel, Sends, close-meets, channel-meets, label-meets, close-shows, label-shows, channel-shows, gone-shows, close-lost, label-lost, channel-lost, Naming, its-own, its-recv, Reduces, communicates, spawns, tries, calls, cancels, raises, joins, joins-outside, joins-nobody, nobody-joins, unanswered, folds, leaves, Halts, nobody-catches, Lacks, no-number, spawn-no-place, spawn-no-channel, try-no-place}
 use Rattle.theory_reductions.specs.Kinds.{SendTerm, a-close, a-channel, a-label, ActsBy, closes-on, takes-on, picks-on, sends-on, on-its-own, acts, at-a-process, at-the-outside}
 use Rattle.theory_reductions.specs.CarriedOut.{holder-stands}
 
 pub data Ruled (p : Program) (C : Config) (i : ℕ) : Outcome → Type 0 where
   ruled-reduces : {seen : Seen} {D : Config} → Reduces p C i seen D → Ruled p C i (carried seen D)
+  ruled-halts : Halts C i → Ruled p C i uncaught
   ruled-shut : Ruled p C i notOpen
   ruled-short : Lacks C i → Ruled p C i lacking
 
@@ -171,7 +171,11 @@ module _ {p : Program} {C : Config} {i : ℕ} {q : Process} where
       go : (y : Option Signature) → lookup (f .name) (p .processes) ≡ y → Ruled p C i (entering C i q (namesOf xs ++ namesOf ys) y)
       go none y = ruled-shut
       go (some s) y = ruled-reduces (calls r y)
-  term-ruled (raise o P) r = ruled-reduces (raises r)
+  term-ruled (raise o P) r = go (q .link) refl
+    where
+      go : (y : Option ℕ) → q .link ≡ y → Ruled p C i (caughtBy y C i (goesOn q P (q .held)))
+      go none y = ruled-halts (nobody-catches r y)
+      go (some h) y = ruled-reduces (raises r y)
   term-ruled (try o P Q) r = place-ruled (λ b. ruled-reduces (tries r b)) (try-no-place r)
 
   folding-ruled : Stands C i q → q .doing ≡ folding → (l : List (Name × End)) → q .held ≡ l → Ruled p C i (foldingUp C i q l)

@@ -11,21 +11,22 @@ use Rattle.calculus.specs.Configuration.{Config}
 use Rattle.calculus.specs.Runs.{report, runOn}
 use Rattle.calculus.specs.WellFormed.{In, NoneTwice}
 use Rattle.calculus.specs.Machine.{Call, callStart, callStep, callRunOn, callReport, callPlaces, callExecName, Answer, started, stepped, ranOn, reported, surveyed, named, Reply, refusal, respond, Exchange, history}
-use Rattle.calculus.specs.declared.answers.Seen.the-variants.{Nothing}
 use Rattle.calculus.specs.declared.answers.RanOn.{RanOn}
 use Rattle.calculus.specs.declared.answers.Stepped.the-variants as steps
 use Rattle.calculus.specs.declared.answers.RanOn.the-variants as runs
 use Rattle.theory_progress.specs.RunOn.{Ended, run-on-ends, quietlyTo}
-use Rattle.theory_safety.specs.Replies.{Replied, refuses, begins, carries-out, runs as ran, reports as reported-open, surveys-places, names, replied, refusal-config}
+use Rattle.theory_safety.specs.Replies.{Replied, refuses, begins, carries-out, halts-run, runs as ran, reports as reported-open, surveys-places, names, replied, refusal-config}
 use Rattle.theory_safety.specs.Safety.{has-begun}
-use Rattle.theory_safety.specs.Outward.{counted}
+use Rattle.theory_safety.specs.Outward.{counted, counted-taken}
 use Rattle.theory_safety.specs.NeverTwice.{numberOf, InOrder, one-step, order-once, order-new, start-once}
 
 -- the number under which an answer shows a channel passed out, before those shown later
 abbrev pub shownIn : Answer → List ℕ → List ℕ
 shownIn (started a) r = r
 shownIn (stepped (steps.Carried seen)) r = numberOf seen r
+shownIn (stepped steps.Uncaught) r = r
 shownIn (stepped (steps.Refused n i)) r = r
+shownIn (ranOn (runs.Uncaught t)) r = r
 shownIn (ranOn (runs.Shown seen t)) r = numberOf seen r
 shownIn (ranOn (runs.Done t)) r = r
 shownIn (ranOn (runs.Full t)) r = r
@@ -60,13 +61,14 @@ shows-none C (callExecName scratch line) n i l = refl
 
 quiet-given : (p : Program) (n : ℕ) (C D : Config) → quietlyTo p n C D → D .given ≡ C .given
 quiet-given p zero C D e = ap (λ (X : Config). X .given) (sym e)
-quiet-given p (suc n) C D (E, c, h) = quiet-given p n E D h ∙ counted p C (c .place) Nothing (c .steps)
+quiet-given p (suc n) C D (E, c, h) = quiet-given p n E D h ∙ counted-taken (c .takes)
 
 module _ (p : Program) (C : Config) (l : List ℕ) (k : ℕ) where
   ran-shows : (budget n : ℕ) (a : RanOn) (D : Config) → Ended p budget n C a D → InOrder (D .given) l k → InOrder (C .given) (shownIn (ranOn a) l) k
-  ran-shows budget zero (runs.Shown seen t) D (b, h) o = absurd h
-  ran-shows budget (suc n) (runs.Shown seen t) D (b, (E, q, c, x)) o =
-      subst (λ g. InOrder g (numberOf seen l) k) (quiet-given p n C E q) (one-step (E .given) (D .given) k seen l (counted p E (c .place) seen (c .steps)) o)
+  ran-shows budget zero (runs.Shown seen t) D (b, h, g) o = absurd h
+  ran-shows budget (suc n) (runs.Shown seen t) D (b, (E, q, c, x), g) o =
+      subst (λ g. InOrder g (numberOf seen l) k) (quiet-given p n C E q) (one-step (E .given) (D .given) k seen l (counted-taken (c .takes)) o)
+  ran-shows budget n (runs.Uncaught t) D h o = subst (λ g. InOrder g l k) (quiet-given p n C D (h .1)) o
   ran-shows budget n (runs.Done t) D h o = subst (λ g. InOrder g l k) (quiet-given p n C D (h .1)) o
   ran-shows budget n (runs.Full t) D h o = subst (λ g. InOrder g l k) (quiet-given p n C D (h .1)) o
   ran-shows budget n (runs.Stopped t) D h o = subst (λ g. InOrder g l k) (quiet-given p n C D (h .1)) o
@@ -76,7 +78,8 @@ module _ (p : Program) (C : Config) (l : List ℕ) (k : ℕ) where
   reply-shows (refuses {c} n i) e o =
       subst (λ x. InOrder (C .given) x k) (sym (shows-none C c n i l)) (subst (λ (D : Config). InOrder (D .given) l k) (refusal-config C c n i) o)
   reply-shows (begins g h) e o = absurd (true≢false e)
-  reply-shows (carries-out {place = place} seen D h) e o = one-step (C .given) (D .given) k seen l (counted p C place seen h) o
+  reply-shows (halts-run g h) e o = o
+  reply-shows (carries-out {place = place} seen D g h) e o = one-step (C .given) (D .given) k seen l (counted p C place seen h) o
   reply-shows (ran {budget = budget}) e o = ran-shows budget _ (runOn p C budget .answer) (runOn p C budget .config) (run-on-ends p C budget) o
   reply-shows reported-open e o = o
   reply-shows surveys-places e o = o

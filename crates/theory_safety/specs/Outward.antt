@@ -9,6 +9,7 @@ use Rattle.calculus.specs.declared.answers.Seen.{Seen}
 use Rattle.calculus.specs.declared.answers.Seen.the-variants.{Nothing, Label, Close, Passed, Cancelled}
 use Rattle.calculus.specs.Reduces.{GivesUp, by-process, by-outside, by-nobody, Sends, close-meets, channel-meets, label-meets, close-shows, label-shows, channel-shows, gone-shows, close-lost, label-lost, channel-lost, Reduces, communicates, spawns, tries, calls, cancels, raises, joins, joins-outside, joins-nobody, nobody-joins, unanswered, folds, leaves}
 use Rattle.theory_reductions.specs.StepIff.{step-iff}
+use Rattle.theory_reductions.specs.Halting.{Takes, carries-out, halts}
 
 -- of g numbers given before a step that shows this, h are given after it: one more where a channel is passed out, whose number is then g
 abbrev pub Counted : ℕ → Seen → ℕ → Type 0
@@ -42,7 +43,7 @@ reduced (spawns r n k) = refl
 reduced (tries r n) = refl
 reduced (calls r s) = refl
 reduced (cancels r k g) = given-up g
-reduced (raises r) = refl
+reduced (raises r l) = refl
 reduced (joins r k l n) = refl
 reduced (joins-outside r k l n) = refl
 reduced (joins-nobody r k l n) = refl
@@ -54,6 +55,11 @@ reduced (leaves s e) = refl
 -- by what the step shows
 pub counted : (p : Program) (C : Config) (i : ℕ) (seen : Seen) {D : Config} → step p C i ≡ carried seen D → Counted (C .given) seen (D .given)
 counted p C i seen e = reduced (step-iff p C i .0 e)
+
+-- and where it halts the run
+pub counted-taken : {p : Program} {C : Config} {i : ℕ} {seen : Seen} {D : Config} → Takes p C i seen D → Counted (C .given) seen (D .given)
+counted-taken {p} {C} {i} (carries-out {seen} e) = counted p C i seen e
+counted-taken (halts e) = refl
 
 -- "a channel passed out takes the next outside number"
 pub passed-next : (p : Program) (C D : Config) (i n m : ℕ) (gone : Bool) → step p C i ≡ carried (Passed n m gone) D

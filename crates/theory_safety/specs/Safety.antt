@@ -7,19 +7,18 @@ use Rattle.notation.specs.Tree.{Declaration}
 use Rattle.calculus.specs.Program.{Program, programOf}
 use Rattle.calculus.specs.Accepted.{accepted, checked}
 use Rattle.calculus.specs.Configuration.{Config}
-use Rattle.calculus.specs.Steps.{carried, step}
 use Rattle.calculus.specs.Runs.{runOn}
 use Rattle.calculus.specs.WellFormed.{In, WellFormed}
 use Rattle.calculus.specs.Machine.{Call, callStart, callStep, callRunOn, callReport, callPlaces, callExecName, Answer, started, stepped, ranOn, reported, surveyed, named, Reply, refusal, respond, idle, Exchange, history}
 use Rattle.calculus.specs.Demands.{Safe, SafeBetween, SafeExchange, PlainDemand3}
-use Rattle.calculus.specs.declared.answers.Seen.{Seen}
 use Rattle.calculus.specs.declared.answers.Started.the-variants as Starts
+use Rattle.theory_reductions.specs.StepIff.{halts-iff}
 use Rattle.theory_progress.specs.Joints.{joints-fewer}
 use Rattle.theory_progress.specs.Progress.{some-open}
 use Rattle.theory_progress.specs.RunOn.{stepsTo, given, run-on-steps}
-use Rattle.theory_preservation.specs.Preserved.{preserved}
+use Rattle.theory_preservation.specs.Preserved.{preserved, halts-preserves, takes-preserves}
 use Rattle.theory_preservation.specs.Accepted.{accepted-bodies, accepted-start}
-use Rattle.theory_safety.specs.Replies.{Replied, refuses, begins, carries-out, runs, reports, surveys-places, names, refusal-config, unchanged-by, replied, refused-where}
+use Rattle.theory_safety.specs.Replies.{Replied, refuses, begins, carries-out, halts-run, runs, reports, surveys-places, names, refusal-config, unchanged-by, replied, refused-where, halted-answers}
 
 pub safe : {p : Program} {C : Config} → WellFormed p C → Safe p C
 safe {p} {C} v = record { wellFormed = v; fewer = joints-fewer p C v; someOpen = some-open p C v }
@@ -53,7 +52,8 @@ refusal-begins-none C (callExecName scratch line) n i = refl
 pub begun-start : {p : Program} {C : Config} {c : Call} {r : Reply} → Replied p C c r → has-begun (r .answer) ≡ true → is-start c ≡ true
 begun-start {C = C} (refuses {c} n i) e = absurd (false≢true (sym (refusal-begins-none C c n i) ∙ e))
 begun-start (begins g h) e = refl
-begun-start (carries-out seen D h) e = absurd (false≢true e)
+begun-start (carries-out seen D g h) e = absurd (false≢true e)
+begun-start (halts-run g h) e = absurd (false≢true e)
 begun-start runs e = absurd (false≢true e)
 begun-start reports e = absurd (false≢true e)
 begun-start surveys-places e = absurd (false≢true e)
@@ -64,12 +64,9 @@ module _ (text : List ℕ) (ds : List Declaration) (ok : checked text ≡ accept
   p = programOf ds
 
   -- ── what every step keeps, every reply keeps
-  step-keeps : (C D : Config) (i : ℕ) (seen : Seen) → WellFormed p C → step p C i ≡ carried seen D → WellFormed p D
-  step-keeps C D i seen v e = preserved p (accepted-bodies text ds ok) C v i seen D e
-
   steps-keep : (n : ℕ) (C D : Config) → WellFormed p C → stepsTo p n C D → WellFormed p D
   steps-keep zero C D v h = subst (WellFormed p) h v
-  steps-keep (suc n) C D v h = steps-keep n (h .1) D (step-keeps C (h .1) (h .2 .place) (h .0) v (h .2 .steps)) (h .3)
+  steps-keep (suc n) C D v h = steps-keep n (h .1) D (takes-preserves p (accepted-bodies text ds ok) v (h .2 .going) (h .2 .takes)) (h .3)
 
   pub run-keeps : (C : Config) → WellFormed p C → (budget : ℕ) → WellFormed p (runOn p C budget .config)
   run-keeps C v budget = steps-keep (given (runOn p C budget .answer)) C _ v (run-on-steps p C budget)
@@ -77,7 +74,8 @@ module _ (text : List ℕ) (ds : List Declaration) (ok : checked text ≡ accept
   pub reply-keeps : {C : Config} {c : Call} {r : Reply} → WellFormed p C → Replied p C c r → WellFormed p (r .config)
   reply-keeps {C} v (refuses {c} n i) = subst (WellFormed p) (sym (refusal-config C c n i)) v
   reply-keeps v (begins {line = line} g e) = accepted-start text ds ok line g e
-  reply-keeps {C} v (carries-out {place = i} seen D e) = step-keeps C D i seen v e
+  reply-keeps {C} v (carries-out {place = i} seen D g e) = preserved p (accepted-bodies text ds ok) C v g i seen D e
+  reply-keeps {C} v (halts-run {place = i} g e) = halts-preserves p v (halts-iff p C i .0 e)
   reply-keeps {C} v (runs {budget = budget}) = run-keeps C v budget
   reply-keeps v reports = v
   reply-keeps v surveys-places = v
@@ -104,7 +102,7 @@ module _ (text : List ℕ) (ds : List Declaration) (ok : checked text ≡ accept
   pub exchange-safe : (C : Config) → WellFormed p C → (c : Call) → SafeExchange p (exchanged C c)
   exchange-safe C v c =
       let r = replied text ds ok C c in
-      record { safe = safe (reply-keeps v r); between = safe-between C v c; refusals = refused-where text ds ok C c; unchanged = unchanged-by r }
+      record { safe = safe (reply-keeps v r); between = safe-between C v c; refusals = refused-where text ds ok C c; unchanged = unchanged-by r; halted = halted-answers text ds ok C c }
 
   -- a start that is carried out, whatever it meets
   pub start-safe : (C : Config) (scratch run line : ℕ) → WellFormed p (respond text C (callStart scratch run line) .config)
@@ -115,6 +113,7 @@ module _ (text : List ℕ) (ds : List Declaration) (ok : checked text ≡ accept
         between = tt;
         refusals = refused-where text ds ok C (callStart scratch run line);
         unchanged = unchanged-by (replied text ds ok C (callStart scratch run line));
+        halted = halted-answers text ds ok C (callStart scratch run line);
       }
 
   history-safe : (C : Config) → WellFormed p C → (calls : List Call) (m : Exchange) → In m (history text C calls) → SafeExchange p m

@@ -82,23 +82,46 @@ returns-5 c =
     refused (λ f. true≢false (sym (parts (entry .args .text .now) (entry .args .scratch .now) (rawIn (entry .args .run .now)) f .outwards) ∙ sym (c .before .outside-outward .ensures) ∙ not-true _
     (c .if5 .taken)))
 
-well-joined-requires : tie.Need-well-joined-requires
-well-joined-requires c κs =
-    let after-if1 = c .before .before .before .before .before .before .before .before in
-    let entry = after-if1 .before .before .before .before .before in
-    (entry .pre .1, after-if1 .before .bounded .ensures .yes (not-false _ (after-if1 .if1 .left)))
+halt-fits-requires : tie.Need-halt-fits-requires
+halt-fits-requires c κs =
+    let after-if2 = c .before .before .before .before .before .before in
+    let entry = after-if2 .before .before .before .before .before .before .before in (
+      entry .pre .0,
+      (
+        entry .pre .1,
+        (
+          after-if2 .before .before .before .bounded .ensures .yes (not-false _ (after-if2 .before .before .if1 .left)),
+          after-if2 .before .numbers-stand .ensures .yes
+              (not-false _ (after-if2 .if2 .left)),
+        ),
+      ),
+    )
 
 returns-6 : tie.Need-returns-6
 returns-6 c =
-    let after-if4 = c .before .before .before in
+    let entry = c .before .before .before .before .before .before .before .before .before .before .before .before .before .before .before in
+    refused (λ f. true≢false (sym (parts (entry .args .text .now) (entry .args .scratch .now) (rawIn (entry .args .run .now)) f .halted) ∙ sym (c .before .halt-fits .ensures) ∙ not-true _
+    (c .if6 .taken)))
+
+well-joined-requires : tie.Need-well-joined-requires
+well-joined-requires c κs =
+    let after-if1 = c .before .before .before .before .before .before .before .before .before .before in
+    let entry = after-if1 .before .before .before .before .before in
+    (entry .pre .1, after-if1 .before .bounded .ensures .yes (not-false _ (after-if1 .if1 .left)))
+
+returns-7 : tie.Need-returns-7
+returns-7 c =
+    let after-if5 = c .before .before .before in
+    let after-if4 = after-if5 .before .before in
     let after-if2 = after-if4 .before .before .before .before in
     let entry = after-if2 .before .before .before .before .before .before .before in
     decided (entry .args .text .now) (entry .args .scratch .now) (rawIn (entry .args .run .now))
     (after-if2 .before .before .before .bounded .ensures .yes (not-false _ (after-if2 .before .before .if1 .left)))
     (after-if2 .before .numbers-stand .ensures .yes (not-false _ (after-if2 .if2 .left)))
     (sym (after-if4 .before .before .before .processes-typed .ensures) ∙ not-false _ (after-if4 .before .before .if3 .left))
-    (after-if4 .before .ends-fit .ensures ∙ not-false _ (after-if4 .if4 .left)) (sym (c .before .before .outside-outward .ensures) ∙ not-false _ (c .before .if5 .left)) (c .well-joined .ensures)
+    (after-if4 .before .ends-fit .ensures ∙ not-false _ (after-if4 .if4 .left)) (sym (after-if5 .before .outside-outward .ensures) ∙ not-false _ (after-if5 .if5 .left))
+    (sym (c .before .before .halt-fits .ensures) ∙ not-false _ (c .before .if6 .left)) (c .well-joined .ensures)
 
 pub well-formed-spec : {M : Type 1} → statement M
 well-formed-spec = tie.close (tie.spec bounded-requires returns numbers-stand-requires returns-2 processes-typed-requires returns-3 ends-fit-requires returns-4 outside-outward-requires returns-5
-    well-joined-requires returns-6)
+    halt-fits-requires returns-6 well-joined-requires returns-7)

@@ -3,11 +3,6 @@ use Rattle.call_words.specs.Words.{seenWords, wordsOf}
 use borrow.Author.Needs.{needs}
 use Rattle.call_words.proofs.words.ran_on_words.Statement.{statement}
 use Rattle.call_words.proofs.words.ran_on_words.Tie as tie
-use Rattle.call_words.proofs.words.ran_on_words.Reads as reads
-use Rattle.call_words.proofs.words.ran_on_words.Lts as lts
-use Rattle.call_words.proofs.words.few_words.Reads as few-words-reads
-use Rattle.call_words.proofs.words.refused_words.Reads as refused-words-reads
-use Rattle.call_words.proofs.words.shown_words.Reads as shown-words-reads
 
 enum-known-answer : tie.Need-enum-known-answer
 enum-known-answer c = search needs
@@ -52,12 +47,22 @@ returns-4 c = λ i. rw (c .few-words3 .ensures, c .before .before .answer4 .give
 enum-known-answer-5 : tie.Need-enum-known-answer-5
 enum-known-answer-5 c = search needs
 
-refused-words-requires : tie.Need-refused-words-requires
-refused-words-requires c κs = search needs
+few-words-requires-4 : tie.Need-few-words-requires-4
+few-words-requires-4 c κs = search needs
 
 returns-5 : tie.Need-returns-5
 unfolding wordsOf ranOnAs seenWords
-returns-5 c = λ i. rw (c .refused-words .ensures, c .before .before .answer5 .given .1)
+returns-5 c = λ i. rw (c .few-words4 .ensures, c .before .before .answer5 .given .1)
+
+enum-known-answer-6 : tie.Need-enum-known-answer-6
+enum-known-answer-6 c = search needs
+
+refused-words-requires : tie.Need-refused-words-requires
+refused-words-requires c κs = search needs
+
+returns-6 : tie.Need-returns-6
+unfolding wordsOf ranOnAs seenWords
+returns-6 c = λ i. rw (c .refused-words .ensures, c .before .before .answer6 .given .1)
 
 pub ran-on-words-spec : {M : Type 1} → statement M
 ran-on-words-spec =
@@ -76,5 +81,8 @@ ran-on-words-spec =
     few-words-requires-3
     returns-4
     enum-known-answer-5
+    few-words-requires-4
+    returns-5
+    enum-known-answer-6
     refused-words-requires
-    returns-5)
+    returns-6)

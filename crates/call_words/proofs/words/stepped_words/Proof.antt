@@ -7,11 +7,6 @@ use Rattle.call_words.specs.Answered.{seen-laid}
 use borrow.Author.Needs.{needs}
 use Rattle.call_words.proofs.words.stepped_words.Statement.{statement}
 use Rattle.call_words.proofs.words.stepped_words.Tie as tie
-use Rattle.call_words.proofs.words.stepped_words.Reads as reads
-use Rattle.call_words.proofs.words.stepped_words.Lts as lts
-use Rattle.call_words.proofs.laying.lay.Reads as lay-reads
-use Rattle.call_words.proofs.words.refused_words.Reads as refused-words-reads
-use Rattle.call_words.proofs.words.seen_words.Reads as seen-words-reads
 
 enum-known-answer : tie.Need-enum-known-answer
 enum-known-answer c = search needs
@@ -36,15 +31,25 @@ returns c = λ i.
     seen-laid s (0 ∷ []) seen refl refl (omega arith) (c .before .before .before .before .seen-words .ensures) (search needs) (c .before .lay .ensures)
     ∙ rw (c .before .before .before .before .before .before .answer .given .1)
 
+enum-told : tie.Need-enum-told
+enum-told c = search needs
+
+few-words-requires : tie.Need-few-words-requires
+few-words-requires c κs = search needs
+
+returns-2 : tie.Need-returns-2
+unfolding wordsOf steppedAs seenWords
+returns-2 c = λ i. rw (c .few-words .ensures, c .before .enum-told .given .1)
+
 enum-known-answer-2 : tie.Need-enum-known-answer-2
 enum-known-answer-2 c = search needs
 
 refused-words-requires : tie.Need-refused-words-requires
 refused-words-requires c κs = search needs
 
-returns-2 : tie.Need-returns-2
+returns-3 : tie.Need-returns-3
 unfolding wordsOf steppedAs seenWords
-returns-2 c = λ i. rw (c .refused-words .ensures, c .before .before .answer2 .given .1)
+returns-3 c = λ i. rw (c .refused-words .ensures, c .before .before .answer2 .given .1)
 
 pub stepped-words-spec : {M : Type 1} → statement M
 stepped-words-spec =
@@ -56,6 +61,9 @@ stepped-words-spec =
     slice-aggregate-lay-2
     lay-requires
     returns
+    enum-told
+    few-words-requires
+    returns-2
     enum-known-answer-2
     refused-words-requires
-    returns-2)
+    returns-3)

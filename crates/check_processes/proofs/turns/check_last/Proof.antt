@@ -5,11 +5,6 @@ use Rattle.check_processes.specs.Process.{ends-so}
 use borrow.Author.Needs.{needs}
 use Rattle.check_processes.proofs.turns.check_last.Statement.{statement}
 use Rattle.check_processes.proofs.turns.check_last.Tie as tie
-use Rattle.check_processes.proofs.turns.check_last.Reads as reads
-use Rattle.check_processes.proofs.turns.check_last.Lts as lts
-use Rattle.check_processes.proofs.rules.ending_refusal.Reads as ending-refusal-reads
-use Rattle.check_processes.proofs.turns.done.Reads as done-reads
-use Rattle.check_processes.proofs.turns.ended.Reads as ended-reads
 
 ending-refusal-requires : tie.Need-ending-refusal-requires
 ending-refusal-requires c κs =
@@ -27,7 +22,7 @@ returns c =
     let entry = c .before .before .before .before .before in
     let ends = end-at (entry .args .text .now) (entry .args .scratch .now) (entry .args .p) (entry .args .n) (entry .pre .2) (entry .pre .3) (entry .pre .4) in
     let context = contextIn (entry .args .text .now) (entry .args .scratch .now) (entry .args .h) in
-    turned-given (c .done .ensures) (ends-so (entry .args .text .now) (entry .args .scratch .now) (entry .args .n) context _ (c .before .before .ending-refusal .ensures) (c .before .ended .ensures) (ends .1 (entry .args .link) context))
+    turned-given (c .done .ensures) (ends-so (entry .args .text .now) (entry .args .scratch .now) (entry .args .n) context _ (c .before .before .ending-refusal .ensures) (c .before .ended .ensures) (ends .1 context))
 
 pub check-last-spec : {M : Type 1} → statement M
 check-last-spec = tie.close (tie.spec ending-refusal-requires ended-requires done-requires returns)

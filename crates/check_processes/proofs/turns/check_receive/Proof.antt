@@ -6,11 +6,6 @@ use Rattle.check_processes.specs.Turns.{turned-choosing, turned-after}
 use borrow.Author.Needs.{needs}
 use Rattle.check_processes.proofs.turns.check_receive.Statement.{statement}
 use Rattle.check_processes.proofs.turns.check_receive.Tie as tie
-use Rattle.check_processes.proofs.turns.check_receive.Reads as reads
-use Rattle.check_processes.proofs.turns.check_receive.Lts as lts
-use Rattle.check_processes.proofs.rules.receive_one.Reads as receive-one-reads
-use Rattle.check_processes.proofs.turns.after.Reads as after-reads
-use Rattle.check_processes.proofs.turns.chooses.Reads as chooses-reads
 
 chooses-requires : tie.Need-chooses-requires
 chooses-requires c κs = search needs
@@ -33,7 +28,7 @@ returns-2 c =
     let entry = c .before .before .before .before .before .before in
     let e = entry .args in
     let receives = receive-at (e .text .now) (e .scratch .now) (e .p) (e .n) (entry .pre .2) (entry .pre .3) (omega (arith, entry .pre .4, c .before .before .if1 .left)) in
-    turned-after (c .after .ensures) (c .before .receive-one .ensures) (receives .2 (e .link) (contextIn (e .text .now) (e .scratch .now) (e .h))) (receives .0)
+    turned-after (c .after .ensures) (c .before .receive-one .ensures) (receives .2 (contextIn (e .text .now) (e .scratch .now) (e .h))) (receives .0)
 
 pub check-receive-spec : {M : Type 1} → statement M
 check-receive-spec =

@@ -6,11 +6,6 @@ use Rattle.check_processes.specs.Process.{some-kind}
 use borrow.Author.Needs.{needs}
 use Rattle.check_processes.proofs.turns.check_send.Statement.{statement}
 use Rattle.check_processes.proofs.turns.check_send.Tie as tie
-use Rattle.check_processes.proofs.turns.check_send.Reads as reads
-use Rattle.check_processes.proofs.turns.check_send.Lts as lts
-use Rattle.check_processes.proofs.rules.send_next.Reads as send-next-reads
-use Rattle.check_processes.proofs.turns.after.Reads as after-reads
-use Rattle.check_terms.proofs.sends.cancel_next.Reads as cancel-next-reads
 
 cancel-next-requires : tie.Need-cancel-next-requires
 cancel-next-requires c κs = search needs
@@ -22,7 +17,7 @@ returns : tie.Need-returns
 returns c =
     let entry = c .before .before .before .before .before .before in
     let cancels = cancel-at (entry .args .text .now) (entry .args .scratch .now) (entry .args .p) (entry .args .n) (entry .pre .2) (c .before .before .if1 .taken) in
-    turned-after (c .after .ensures) (c .before .cancel-next .ensures) (cancels .1 (entry .args .link) (contextIn (entry .args .text .now) (entry .args .scratch .now) (entry .args .h))) (cancels .0)
+    turned-after (c .after .ensures) (c .before .cancel-next .ensures) (cancels .1 (contextIn (entry .args .text .now) (entry .args .scratch .now) (entry .args .h))) (cancels .0)
 
 send-next-requires : tie.Need-send-next-requires
 send-next-requires c κs = search needs
@@ -34,7 +29,7 @@ returns-2 : tie.Need-returns-2
 returns-2 c =
     let entry = c .before .before .before .before .before .before in
     let sends = send-at (entry .args .text .now) (entry .args .scratch .now) (entry .args .p) (entry .args .n) (entry .pre .2) (some-kind (entry .args .text .now) (entry .args .scratch .now) (entry .args .p) (entry .args .n) (entry .pre .2)) (omega (arith, entry .pre .3, c .before .before .if1 .left)) in
-    turned-after (c .after2 .ensures) (c .before .send-next .ensures) (sends .1 (entry .args .link) (contextIn (entry .args .text .now) (entry .args .scratch .now) (entry .args .h))) (sends .0)
+    turned-after (c .after2 .ensures) (c .before .send-next .ensures) (sends .1 (contextIn (entry .args .text .now) (entry .args .scratch .now) (entry .args .h))) (sends .0)
 
 pub check-send-spec : {M : Type 1} → statement M
 check-send-spec =

@@ -10,15 +10,6 @@ use Rattle.check_processes.specs.Turns.{turned-given, turned-halves}
 use borrow.Author.Needs.{needs}
 use Rattle.check_processes.proofs.turns.check_spawn.Statement.{statement}
 use Rattle.check_processes.proofs.turns.check_spawn.Tie as tie
-use Rattle.check_processes.proofs.turns.check_spawn.Reads as reads
-use Rattle.check_processes.proofs.turns.check_spawn.Lts as lts
-use Rattle.check_contexts.proofs.halves.half_takes.Reads as half-takes-reads
-use Rattle.check_contexts.proofs.halves.spawn_half.Reads as spawn-half-reads
-use Rattle.check_processes.proofs.rules.spawn_refusal.Reads as spawn-refusal-reads
-use Rattle.check_processes.proofs.turns.done.Reads as done-reads
-use Rattle.check_processes.proofs.turns.goes_on.Reads as goes-on-reads
-use Rattle.check_processes.proofs.turns.with_half.Reads as with-half-reads
-use Rattle.notation.proofs.words.narrow.Reads as narrow-reads
 
 half-takes-requires : tie.Need-half-takes-requires
 half-takes-requires c κs =
@@ -39,7 +30,7 @@ returns : tie.Need-returns
 returns c =
     let entry = c .before .before .before .before .before .before in
     let e = entry .args in
-    turned-given (c .done .ensures) (spawn-refused (e .text .now) (e .scratch .now) (e .h) (e .link) (e .p) (e .n) (entry .pre .2) (entry .pre .3) _ (c .before .before .spawn-refusal .ensures) (c .before .if1 .taken))
+    turned-given (c .done .ensures) (spawn-refused (e .text .now) (e .scratch .now) (e .h) (e .p) (e .n) (entry .pre .2) (entry .pre .3) _ (c .before .before .spawn-refusal .ensures) (c .before .if1 .taken))
 
 narrow-requires : tie.Need-narrow-requires
 narrow-requires c κs = omega (arith, c .before .before .before .before .before .pre .2 .at)
@@ -82,7 +73,7 @@ returns-2 c =
     let type = subst (TypeIn (e .text .now) (e .scratch .now)) (sym (c .before .before .before .before .narrow2 .ensures)) (spawns .0) in
     let first = half-so (e .text .now) (e .scratch .now) (e .h) (e .n) takes held true (c .before .before .before .before .before .narrow .ensures) (c .before .before .before .before .narrow2 .ensures) (c .before .before .before .spawn-half .ensures) in
     let second = half-so (e .text .now) (e .scratch .now) (e .h) (e .n) takes held false (c .before .before .before .before .before .narrow .ensures) (c .before .before .before .before .narrow2 .ensures) (c .before .before .spawn-half2 .ensures) in
-    turned-halves (c .before .goes-on .ensures) (c .with-half .ensures) (spawn-halves (e .text .now) (e .scratch .now) (e .h) (e .link) (e .p) (e .n) (entry .pre .2) (entry .pre .3) _ (c .before .before .before .before .before .before .before .spawn-refusal .ensures) (c .before .before .before .before .before .before .if1 .left) _ _ first second)
+    turned-halves (c .before .goes-on .ensures) (c .with-half .ensures) (spawn-halves (e .text .now) (e .scratch .now) (e .h) (e .p) (e .n) (entry .pre .2) (entry .pre .3) _ (c .before .before .before .before .before .before .before .spawn-refusal .ensures) (c .before .before .before .before .before .before .if1 .left) _ _ first second)
     (c .before .before .before .spawn-half .ensures .fits takes held type, spawns .1 .1)
     (c .before .before .spawn-half2 .ensures .fits takes held type, spawns .2 .1) (spawns .3)
 

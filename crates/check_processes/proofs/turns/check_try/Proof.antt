@@ -5,14 +5,6 @@ use Rattle.check_processes.specs.Turns.{turned-given, turned-halves}
 use borrow.Author.Needs.{needs}
 use Rattle.check_processes.proofs.turns.check_try.Statement.{statement}
 use Rattle.check_processes.proofs.turns.check_try.Tie as tie
-use Rattle.check_processes.proofs.turns.check_try.Reads as reads
-use Rattle.check_processes.proofs.turns.check_try.Lts as lts
-use Rattle.check_contexts.proofs.halves.divides.Reads as divides-reads
-use Rattle.check_contexts.proofs.halves.half_takes.Reads as half-takes-reads
-use Rattle.check_contexts.proofs.halves.keep.Reads as keep-reads
-use Rattle.check_processes.proofs.turns.done.Reads as done-reads
-use Rattle.check_processes.proofs.turns.goes_on.Reads as goes-on-reads
-use Rattle.check_processes.proofs.turns.with_half.Reads as with-half-reads
 
 half-takes-requires : tie.Need-half-takes-requires
 half-takes-requires c κs =
@@ -36,7 +28,7 @@ returns : tie.Need-returns
 returns c =
     let entry = c .before .before .before .before .before .before .before in
     let e = entry .args in
-    turned-given (c .done .ensures) (try-refused (e .text .now) (e .scratch .now) (e .h) (e .link) (e .p) (e .n) (entry .pre .2) (entry .pre .3) (entry .pre .1) (c .before .before .before .before .half-takes .ensures) (c .before .before .before .half-takes2 .ensures) _ (c .before .before .divides .ensures) (not-true _ (c .before .if1 .taken)))
+    turned-given (c .done .ensures) (try-refused (e .text .now) (e .scratch .now) (e .h) (e .p) (e .n) (entry .pre .2) (entry .pre .3) (entry .pre .1) (c .before .before .before .before .half-takes .ensures) (c .before .before .before .half-takes2 .ensures) _ (c .before .before .divides .ensures) (not-true _ (c .before .if1 .taken)))
 
 keep-requires : tie.Need-keep-requires
 keep-requires c κs = let entry = c .before .before .before .before .before .before in (entry .pre .1 .many, held-bounded (entry .pre .1))
@@ -59,7 +51,7 @@ returns-2 c =
     let first = c .before .before .before .before .before .before .before .half-takes .ensures in
     let second = c .before .before .before .before .before .before .half-takes2 .ensures in
     turned-halves (c .before .goes-on .ensures) (c .with-half .ensures)
-    (try-halves (e .text .now) (e .scratch .now) (e .h) (e .link) (e .p) (e .n) (entry .pre .2) (entry .pre .3) (entry .pre .1) first second
+    (try-halves (e .text .now) (e .scratch .now) (e .h) (e .p) (e .n) (entry .pre .2) (entry .pre .3) (entry .pre .1) first second
     _ (c .before .before .before .before .before .divides .ensures) (not-false _ (c .before .before .before .before .if1 .left)) _ _ (c .before .before .before .keep .ensures) (c .before .before .keep2 .ensures))
     (keeps-so first held (c .before .before .before .keep .ensures) .fits, tries .0 .1)
     (keeps-so second held (c .before .before .keep2 .ensures) .fits, tries .1 .1) (tries .2)

@@ -1,16 +1,12 @@
 use native.Mathlib.Omega.{arith}
 use mathlib.Core.Path.{sym, _∙_}
-use Rattle.interpreter.specs.Told.{small-in, run-in, well-formed-in, step-nobody, step-told}
+use Rattle.interpreter.specs.Told.{small-in, run-in, well-formed-in, step-halted, step-nobody, step-told}
 use borrow.Author.Needs.{needs}
 use Rattle.interpreter.proofs.inside.step_placed.Statement.{statement}
 use Rattle.interpreter.proofs.inside.step_placed.Tie as tie
-use Rattle.interpreter.proofs.inside.step_placed.Reads as reads
-use Rattle.interpreter.proofs.inside.step_placed.Lts as lts
-use Rattle.run_steps.proofs.dispatch.step_at.Reads as step-at-reads
-use Rattle.run_words.proofs.processes.count.Reads as count-reads
 
-count-requires : tie.Need-count-requires
-count-requires c κs = c .before .before .before .before .pre .1 .0
+is-halted-requires : tie.Need-is-halted-requires
+is-halted-requires c κs = c .before .before .before .before .pre .1 .0
 
 same-length : tie.Need-same-length
 same-length c = search needs
@@ -18,66 +14,38 @@ same-length c = search needs
 returns : tie.Need-returns
 returns c =
     let entry = c .before .before .before .before .before .before in
-    step-nobody (entry .pre .0) (entry .pre .1 .0) (entry .pre .1 .1) (omega (arith, c .before .count .ensures, c .if1 .taken))
+    step-halted (entry .pre .0) (entry .pre .1 .0) (entry .pre .1 .1) (sym (c .before .is-halted .ensures) ∙ c .if1 .taken)
 
-step-at-requires : tie.Need-step-at-requires
-step-at-requires c κs =
-    let entry = c .before .before .before .before .before .before .before in
-    (run-in (entry .pre .0) _ (entry .pre .1 .0) (entry .pre .1 .1), (well-formed-in (entry .pre .0) _ (entry .pre .1 .1), small-in (entry .pre .0)))
-
-enum-known-o : tie.Need-enum-known-o
-enum-known-o c = search needs
+count-requires : tie.Need-count-requires
+count-requires c κs = c .before .before .before .before .before .before .before .pre .1 .0
 
 same-length-2 : tie.Need-same-length-2
 same-length-2 c = search needs
 
 returns-2 : tie.Need-returns-2
 returns-2 c =
-    let after-if1 = c .before .before .before .before .before .before .before in
+    let after-if1 = c .before .before .before in
     let entry = after-if1 .before .before .before .before .before .before in
-    step-told (entry .pre .0) (entry .pre .1 .0) (entry .pre .1 .1) (omega (arith, after-if1 .before .count .ensures, after-if1 .if1 .left))
-    (c .before .before .before .before .before .step-at .ensures) (c .before .o .given .1)
+    step-nobody (entry .pre .0) (entry .pre .1 .0) (entry .pre .1 .1) (sym (after-if1 .before .is-halted .ensures) ∙ after-if1 .if1 .left) (omega (arith, c .before .count .ensures, c .if2 .taken))
 
-enum-told : tie.Need-enum-told
-enum-told c = search needs
+step-at-requires : tie.Need-step-at-requires
+step-at-requires c κs =
+    let entry = c .before .before .before .before .before .before .before .before .before .before in
+    (run-in (entry .pre .0) _ (entry .pre .1 .0) (entry .pre .1 .1), (well-formed-in (entry .pre .0) _ (entry .pre .1 .1), small-in (entry .pre .0)))
+
+answer-of-requires : tie.Need-answer-of-requires
+answer-of-requires c κs = search needs
 
 same-length-3 : tie.Need-same-length-3
 same-length-3 c = search needs
 
 returns-3 : tie.Need-returns-3
 returns-3 c =
-    let after-if1 = c .before .before .before .before .before .before in
+    let after-if2 = c .before .before .before .before .before in
+    let after-if1 = after-if2 .before .before .before in
     let entry = after-if1 .before .before .before .before .before .before in
-    step-told (entry .pre .0) (entry .pre .1 .0) (entry .pre .1 .1) (omega (arith, after-if1 .before .count .ensures, after-if1 .if1 .left)) (c .before .before .before .before .step-at .ensures)
-    (c .enum-told .given .1)
-
-enum-told-2 : tie.Need-enum-told-2
-enum-told-2 c = search needs
-
-same-length-4 : tie.Need-same-length-4
-same-length-4 c = search needs
-
-returns-4 : tie.Need-returns-4
-returns-4 c =
-    let after-if1 = c .before .before .before .before .before .before in
-    let entry = after-if1 .before .before .before .before .before .before in
-    step-told (entry .pre .0) (entry .pre .1 .0) (entry .pre .1 .1) (omega (arith, after-if1 .before .count .ensures, after-if1 .if1 .left)) (c .before .before .before .before .step-at .ensures)
-    (c .enum-told2 .given .1)
+    step-told (entry .pre .0) (entry .pre .1 .0) (entry .pre .1 .1) (sym (after-if1 .before .is-halted .ensures) ∙ after-if1 .if1 .left)
+    (omega (arith, after-if2 .before .count .ensures, after-if2 .if2 .left)) (c .before .before .before .step-at .ensures) (c .answer-of .ensures)
 
 pub step-placed-spec : {M : Type 1} → statement M
-step-placed-spec =
-    tie.close
-    (tie.spec
-    count-requires
-    same-length
-    returns
-    step-at-requires
-    enum-known-o
-    same-length-2
-    returns-2
-    enum-told
-    same-length-3
-    returns-3
-    enum-told-2
-    same-length-4
-    returns-4)
+step-placed-spec = tie.close (tie.spec is-halted-requires same-length returns count-requires same-length-2 returns-2 step-at-requires answer-of-requires same-length-3 returns-3)

@@ -3,11 +3,6 @@ use Rattle.print_answers.specs.Parts.{said, shown-put}
 use borrow.Author.Needs.{needs}
 use Rattle.print_answers.proofs.answers.put_ran_on.Statement.{statement}
 use Rattle.print_answers.proofs.answers.put_ran_on.Tie as tie
-use Rattle.print_answers.proofs.answers.put_ran_on.Reads as reads
-use Rattle.print_answers.proofs.answers.put_ran_on.Lts as lts
-use Rattle.print_answers.proofs.answers.put_steps.Reads as put-steps-reads
-use Rattle.print_answers.proofs.parts.put_refused.Reads as put-refused-reads
-use Rattle.print_answers.proofs.parts.put_seen.Reads as put-seen-reads
 
 enum-known-answer : tie.Need-enum-known-answer
 enum-known-answer c = search needs
@@ -82,15 +77,31 @@ returns-4 c = said (ranOnWords (c .before .before .before .before .before .befor
 enum-known-answer-5 : tie.Need-enum-known-answer-5
 enum-known-answer-5 c = search needs
 
-put-refused-requires : tie.Need-put-refused-requires
-put-refused-requires c κs = search needs
+slice-aggregate-put-steps-5 : tie.Need-slice-aggregate-put-steps-5
+slice-aggregate-put-steps-5 c = search needs
+
+put-steps-requires-5 : tie.Need-put-steps-requires-5
+put-steps-requires-5 c κs = search needs
 
 same-length-5 : tie.Need-same-length-5
 same-length-5 c = search needs
 
 returns-5 : tie.Need-returns-5
 unfolding ranOnWords
-returns-5 c = said (ranOnWords (c .before .before .before .before .before .before .before .before .before .args .text .now)) (c .before .before .before .before .before .answer5 .given .1) (c .before .before .put-refused .ensures)
+returns-5 c = said (ranOnWords (c .before .before .before .before .before .before .before .before .before .before .args .text .now)) (c .before .before .before .before .before .before .answer5 .given .1) (c .before .before .put-steps5 .ensures .0)
+
+enum-known-answer-6 : tie.Need-enum-known-answer-6
+enum-known-answer-6 c = search needs
+
+put-refused-requires : tie.Need-put-refused-requires
+put-refused-requires c κs = search needs
+
+same-length-6 : tie.Need-same-length-6
+same-length-6 c = search needs
+
+returns-6 : tie.Need-returns-6
+unfolding ranOnWords
+returns-6 c = said (ranOnWords (c .before .before .before .before .before .before .before .before .before .args .text .now)) (c .before .before .before .before .before .answer6 .given .1) (c .before .before .put-refused .ensures)
 
 pub put-ran-on-spec : {M : Type 1} → statement M
 put-ran-on-spec =
@@ -118,6 +129,11 @@ put-ran-on-spec =
     same-length-4
     returns-4
     enum-known-answer-5
-    put-refused-requires
+    slice-aggregate-put-steps-5
+    put-steps-requires-5
     same-length-5
-    returns-5)
+    returns-5
+    enum-known-answer-6
+    put-refused-requires
+    same-length-6
+    returns-6)

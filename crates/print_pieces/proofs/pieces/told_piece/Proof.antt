@@ -5,10 +5,6 @@ use Rattle.theory_progress.specs.RunOn.{given}
 use borrow.Author.Needs.{needs}
 use Rattle.print_pieces.proofs.pieces.told_piece.Statement.{statement}
 use Rattle.print_pieces.proofs.pieces.told_piece.Tie as tie
-use Rattle.print_pieces.proofs.pieces.told_piece.Reads as reads
-use Rattle.print_pieces.proofs.pieces.told_piece.Lts as lts
-use Rattle.print_pieces.proofs.lines.put_sighting.Reads as put-sighting-reads
-use Rattle.print_pieces.proofs.pieces.ended_piece.Reads as ended-piece-reads
 
 enum-known-answer : tie.Need-enum-known-answer
 enum-known-answer c = search needs
@@ -16,8 +12,8 @@ enum-known-answer c = search needs
 put-sighting-requires : tie.Need-put-sighting-requires
 put-sighting-requires c κs = search needs
 
-add-t17 : tie.Need-add-t17
-add-t17 c = omega (arith, c .before .before .before .before .before .before .before .before .before .pre .1, ap given (c .before .before .before .before .before .answer .given .1))
+add-t19 : tie.Need-add-t19
+add-t19 c = omega (arith, c .before .before .before .before .before .before .before .before .before .pre .1, ap given (c .before .before .before .before .before .answer .given .1))
 
 same-length : tie.Need-same-length
 same-length c = search needs
@@ -79,14 +75,32 @@ same-length-4 c = search needs
 returns-4 : tie.Need-returns-4
 returns-4 c = told-as _ _ _ (c .before .before .before .before .before .before .answer4 .given .1) (c .before .before .ended-piece3 .ensures)
 
+enum-known-answer-5 : tie.Need-enum-known-answer-5
+enum-known-answer-5 c = search needs
+
+slice-aggregate-ended-piece-4 : tie.Need-slice-aggregate-ended-piece-4
+slice-aggregate-ended-piece-4 c = search needs
+
+add-ended-piece-4 : tie.Need-add-ended-piece-4
+add-ended-piece-4 c = omega (arith, c .before .before .before .before .before .before .before .pre .1, ap given (c .before .before .before .answer5 .given .1))
+
+ended-piece-requires-4 : tie.Need-ended-piece-requires-4
+ended-piece-requires-4 c κs = search needs
+
+same-length-5 : tie.Need-same-length-5
+same-length-5 c = search needs
+
+returns-5 : tie.Need-returns-5
+returns-5 c = told-as _ _ _ (c .before .before .before .before .before .before .answer5 .given .1) (c .before .before .ended-piece4 .ensures)
+
 enum-told : tie.Need-enum-told
 enum-told c = search needs
 
-add-t34 : tie.Need-add-t34
-add-t34 c = search needs
+add-t41 : tie.Need-add-t41
+add-t41 c = search needs
 
-returns-5 : tie.Need-returns-5
-returns-5 c = told-as _ _ _ (c .enum-told .given .1) (wrote-none _ _)
+returns-6 : tie.Need-returns-6
+returns-6 c = told-as _ _ _ (c .enum-told .given .1) (wrote-none _ _)
 
 pub told-piece-spec : {M : Type 1} → statement M
 told-piece-spec =
@@ -94,7 +108,7 @@ told-piece-spec =
     (tie.spec
     enum-known-answer
     put-sighting-requires
-    add-t17
+    add-t19
     same-length
     returns
     enum-known-answer-2
@@ -115,6 +129,12 @@ told-piece-spec =
     ended-piece-requires-3
     same-length-4
     returns-4
+    enum-known-answer-5
+    slice-aggregate-ended-piece-4
+    add-ended-piece-4
+    ended-piece-requires-4
+    same-length-5
+    returns-5
     enum-told
-    add-t34
-    returns-5)
+    add-t41
+    returns-6)

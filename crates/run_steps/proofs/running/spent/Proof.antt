@@ -11,7 +11,7 @@ count-requires c κs = search needs
 returns : tie.Need-returns
 returns c =
     let entry = c .before .before .before .before .before in
-    spent-done (entry .args .text .now) (entry .args .scratch .now) (entry .args .run .now) (entry .args .taken) (sym (c .before .count .ensures) ∙ c .if1 .taken)
+    spent-done (entry .args .text .now) (entry .args .scratch .now) (entry .args .run .now) (entry .args .taken) (entry .pre .1 .1 .1) (sym (c .before .count .ensures) ∙ c .if1 .taken)
 
 can-go-on-requires : tie.Need-can-go-on-requires
 can-go-on-requires c κs = search needs
@@ -19,13 +19,13 @@ can-go-on-requires c κs = search needs
 returns-2 : tie.Need-returns-2
 returns-2 c =
     let entry = c .before .before .before .before .before .before .before in
-    spent-stopped (entry .args .text .now) (entry .args .scratch .now) (entry .args .run .now) (entry .args .taken)
+    spent-stopped (entry .args .text .now) (entry .args .scratch .now) (entry .args .run .now) (entry .args .taken) (entry .pre .1 .1 .1)
     (omega (arith, c .before .before .if1 .left, c .before .before .before .count .ensures)) (sym (c .before .can-go-on .ensures) ∙ c .if2 .taken)
 
 returns-3 : tie.Need-returns-3
 returns-3 c =
     let entry = c .before .before .before .before .before .before .before in
-    spent-full (entry .args .text .now) (entry .args .scratch .now) (entry .args .run .now) (entry .args .taken)
+    spent-full (entry .args .text .now) (entry .args .scratch .now) (entry .args .run .now) (entry .args .taken) (entry .pre .1 .1 .1)
     (omega (arith, c .before .before .if1 .left, c .before .before .before .count .ensures)) (sym (c .before .can-go-on .ensures) ∙ c .if2 .left)
 
 pub spent-spec : {M : Type 1} → statement M

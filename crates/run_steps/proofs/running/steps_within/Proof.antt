@@ -4,12 +4,9 @@ use borrow.Author.Needs.{needs}
 use native.Mathlib.Omega.{arith}
 use Rattle.run_steps.specs.Dispatch.{small-signatures}
 use Rattle.run_steps.specs.Choosing.{wasCarried}
-use Rattle.run_steps.specs.Running.{Running, running-start, ends-done, ends-full, ends-shown, running-on}
+use Rattle.run_steps.specs.Running.{Running, running-start, ends-done, ends-full, ends-uncaught, ends-shown, running-on}
 use Rattle.run_steps.proofs.running.steps_within.Statement.{statement}
 use Rattle.run_steps.proofs.running.steps_within.Tie as tie
-use Rattle.run_steps.proofs.choosing.step_first.Reads as step-first-reads
-use Rattle.run_steps.proofs.running.shows.Reads as shows-reads
-use Rattle.run_words.proofs.processes.count.Reads as count-reads
 
 abbrev Inv-loop : tie.InvT-loop
 Inv-loop text scratch run₀ budget taken₀ run taken = Running text scratch run₀ run budget taken × (taken ≤ budget)
@@ -20,7 +17,7 @@ abbrev μ-loop : tie.MeasureT-loop
 loop-holds : tie.Need-loop-holds Inv-loop μ-loop
 loop-holds c =
     let entry = c .before .before .before in
-    (running-start (entry .args .text .now) (entry .args .scratch .now) (entry .args .run .now) (entry .args .budget) (entry .pre .0) (entry .pre .1 .0), omega arith)
+    (running-start (entry .args .text .now) (entry .args .scratch .now) (entry .args .run .now) (entry .args .budget) (entry .pre .0) (entry .pre .1 .0) (entry .pre .1 .1 .1), omega arith)
 
 count-requires : tie.Need-count-requires Inv-loop μ-loop
 count-requires c κs = c .before .before .loop .inv .0 .becomes .run .wide
@@ -40,7 +37,7 @@ returns c =
 step-first-requires : tie.Need-step-first-requires Inv-loop μ-loop
 step-first-requires c κs = (
   c .before .before .before .before .before .loop .inv .0 .becomes .run,
-  (c .before .before .before .before .before .loop .inv .0 .formed, small-signatures (c .before .before .before .before .before .before .before .before .before .pre .1 .1)),
+  (c .before .before .before .before .before .loop .inv .0 .formed, small-signatures (c .before .before .before .before .before .before .before .before .before .pre .1 .1 .0)),
 )
 
 enum-known-o : tie.Need-enum-known-o Inv-loop μ-loop
@@ -63,7 +60,7 @@ returns-2 c =
     record {
       is = ends-shown (entry .args .text .now) (entry .args .scratch .now) (entry .args .run .now) (entry .args .budget) (loop .taken) (loop .inv .0)
           (after-if1 .before .before .before .loop-test .taken) (omega (arith, after-if1 .if1 .left, after-if1 .before .count .ensures)) (c .before .before .before .o .given .1)
-          (c .before .before .before .before .before .before .before .step-first .ensures) (entry .pre .1 .1) (sym (c .before .shows .ensures) ∙ c .if2 .taken);
+          (c .before .before .before .before .before .before .before .step-first .ensures) (entry .pre .1 .1 .0) (sym (c .before .shows .ensures) ∙ c .if2 .taken);
     }
 
 loop-less : tie.Need-loop-less Inv-loop μ-loop
@@ -77,12 +74,15 @@ loop-again c =
     let entry = after-if1 .before .before .before .before .before .before .before .before in (
       running-on (entry .args .text .now) (entry .args .scratch .now) (entry .args .run .now) (entry .args .budget) (loop .taken) (loop .inv .0) (loop-test .taken)
           (omega (arith, after-if1 .if1 .left, after-if1 .before .count .ensures)) (c .before .before .before .o .given .1) (c .before .before .before .before .before .before .before .step-first .ensures)
-          (entry .pre .1 .1) (sym (c .before .shows .ensures) ∙ c .if2 .left),
+          (entry .pre .1 .1 .0) (sym (c .before .shows .ensures) ∙ c .if2 .left),
       omega (arith, loop-test .taken),
     )
 
 enum-told : tie.Need-enum-told Inv-loop μ-loop
 enum-told c = search needs
+
+add-t17 : tie.Need-add-t17 Inv-loop μ-loop
+add-t17 c = search needs
 
 same-length-3 : tie.Need-same-length-3 Inv-loop μ-loop
 same-length-3 c = search needs
@@ -93,9 +93,8 @@ returns-3 c =
     let loop = after-if1 .before .before .before .before .loop in
     let entry = after-if1 .before .before .before .before .before .before .before .before in
     record {
-      is = ends-full (entry .args .text .now) (entry .args .scratch .now) (entry .args .run .now) (entry .args .budget) (loop .taken) (loop .inv .0)
-          (after-if1 .before .before .before .loop-test .taken) (omega (arith, after-if1 .if1 .left, after-if1 .before .count .ensures)) (c .before .before .before .before .step-first .ensures)
-          (ap wasCarried (c .enum-told .given .1));
+      is = ends-uncaught (entry .args .text .now) (entry .args .scratch .now) (entry .args .run .now) (entry .args .budget) (loop .taken) (loop .inv .0)
+          (after-if1 .before .before .before .loop-test .taken) (omega (arith, after-if1 .if1 .left, after-if1 .before .count .ensures)) (c .enum-told .given .1) (c .before .before .before .before .step-first .ensures);
     }
 
 enum-told-2 : tie.Need-enum-told-2 Inv-loop μ-loop
@@ -115,11 +114,28 @@ returns-4 c =
           (ap wasCarried (c .enum-told2 .given .1));
     }
 
+enum-told-3 : tie.Need-enum-told-3 Inv-loop μ-loop
+enum-told-3 c = search needs
+
 same-length-5 : tie.Need-same-length-5 Inv-loop μ-loop
 same-length-5 c = search needs
 
 returns-5 : tie.Need-returns-5 Inv-loop μ-loop
 returns-5 c =
+    let after-if1 = c .before .before .before .before .before .before in
+    let loop = after-if1 .before .before .before .before .loop in
+    let entry = after-if1 .before .before .before .before .before .before .before .before in
+    record {
+      is = ends-full (entry .args .text .now) (entry .args .scratch .now) (entry .args .run .now) (entry .args .budget) (loop .taken) (loop .inv .0)
+          (after-if1 .before .before .before .loop-test .taken) (omega (arith, after-if1 .if1 .left, after-if1 .before .count .ensures)) (c .before .before .before .before .step-first .ensures)
+          (ap wasCarried (c .enum-told3 .given .1));
+    }
+
+same-length-6 : tie.Need-same-length-6 Inv-loop μ-loop
+same-length-6 c = search needs
+
+returns-6 : tie.Need-returns-6 Inv-loop μ-loop
+returns-6 c =
     let entry = c .before .before .before .before .before in
     record {
       is = subst (Running (entry .args .text .now) (entry .args .scratch .now) (entry .args .run .now) _ (entry .args .budget)) (omega (arith, c .before .loop .inv .1, c .loop-test .left))
@@ -145,10 +161,14 @@ steps-within-spec =
     loop-less
     loop-again
     enum-told
+    add-t17
     same-length-3
     returns-3
     enum-told-2
     same-length-4
     returns-4
+    enum-told-3
     same-length-5
-    returns-5)
+    returns-5
+    same-length-6
+    returns-6)

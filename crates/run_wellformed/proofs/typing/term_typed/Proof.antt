@@ -12,7 +12,7 @@ names-distinct-requires c κs = c .before .before .pre .1 .many
 returns : tie.Need-returns
 returns c =
     let entry = c .before .before .before .before in
-    not-distinct (entry .args .text .now) (entry .args .scratch .now) (entry .args .h) _ _ (c .before .names-distinct .ensures) (not-true _ (c .if1 .taken))
+    not-distinct (entry .args .text .now) (entry .args .scratch .now) (entry .args .h) _ (c .before .names-distinct .ensures) (not-true _ (c .if1 .taken))
 
 wide-requires : tie.Need-wide-requires
 wide-requires c κs = search needs
@@ -28,7 +28,7 @@ is-fine-requires c κs = search needs
 returns-2 : tie.Need-returns-2
 returns-2 c =
     let entry = c .before .before .before .before .before .before .before in
-    fine-typed (entry .args .text .now) (entry .args .scratch .now) (entry .args .h) (entry .args .link) (entry .args .pointer) (c .before .check-process .result)
+    fine-typed (entry .args .text .now) (entry .args .scratch .now) (entry .args .h) (entry .args .pointer) (c .before .check-process .result)
     (c .before .before .before .before .names-distinct .ensures) (not-false _ (c .before .before .before .if1 .left)) (c .before .before .wide .ensures .0) (c .before .check-process .ensures)
     (c .is-fine .ensures)
 

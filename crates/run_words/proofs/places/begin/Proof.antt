@@ -17,6 +17,9 @@ slice-write-run-2 c = simp length-set (omega arith)
 slice-write-run-3 : tie.Need-slice-write-run-3
 slice-write-run-3 c = simp length-set (omega arith)
 
+slice-write-run-4 : tie.Need-slice-write-run-4
+slice-write-run-4 c = simp length-set (omega arith)
+
 put-requires : tie.Need-put-requires
 put-requires c κs =
     let s = c .before .before in
@@ -35,4 +38,4 @@ returns c =
 pub begin-spec : {M : Type 1} → statement M
 begin-spec =
     tie.close
-    (tie.spec slice-write-run slice-write-run-2 slice-write-run-3 put-requires same-length returns)
+    (tie.spec slice-write-run slice-write-run-2 slice-write-run-3 slice-write-run-4 put-requires same-length returns)

@@ -19,10 +19,10 @@ use Rattle.check_processes.proofs.process.+check_branches+check_choice+
 use Rattle.check_processes.proofs.process.+check_branches+check_choice+check_half+check_on+check_process.Proof.Measures.{check-branches-at, check-process-below}
 
 abbrev Inv-loop : check-branches-lts.InvT-loop
-Inv-loop text scratch h link at c e m d k i₀ i = CheckedTo text scratch h link at c e m d k i
+Inv-loop text scratch h at c e m d k i₀ i = CheckedTo text scratch h at c e m d k i
 
 abbrev μ-loop : check-branches-lts.MeasureT-loop
-μ-loop text scratch h link at c e m d k i₀ i = k - i
+μ-loop text scratch h at c e m d k i₀ i = k - i
 
 pub check-branches-met : {M : Type 1} (t : ℕ) → check-branches-lts.Closed (branch-reads.Asked, branch-reads.Learnt, labelled-reads.Asked, labelled-reads.Learnt, narrow-reads.Asked, narrow-reads.Learnt, retype-end-reads.Asked, retype-end-reads.Learnt, check-process-below t, check-process.Post) (check-branches-at t) check-branches.Post M
 check-branches-met t =

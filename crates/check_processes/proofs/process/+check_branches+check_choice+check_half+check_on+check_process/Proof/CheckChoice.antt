@@ -34,8 +34,8 @@ check-choice-met t =
     let scratch = e .scratch .now in
     let context = contextIn text scratch (e .h) in
     let n = e .n in
-    sym (choose-at (e .text .now) (e .scratch .now) (e .p) (e .n) (entry .pre .1 .2) (entry .pre .1 .3) .2 (e .link) context ∙
-    ap (λ o. choosing-with (n .at) o (λ r. checkBranches (programIn text scratch) context (e .link) (n .at) (nameAt text (n .first)) r (branchesIn text scratch (n .second) (n .third)))) (sym (c .before .before .before .labels-offered .ensures .is) ∙ ap (offerOf text scratch) (c .before .o .given .1))))
+    sym (choose-at (e .text .now) (e .scratch .now) (e .p) (e .n) (entry .pre .1 .2) (entry .pre .1 .3) .2 context ∙
+    ap (λ o. choosing-with (n .at) o (λ r. checkBranches (programIn text scratch) context (n .at) (nameAt text (n .first)) r (branchesIn text scratch (n .second) (n .third)))) (sym (c .before .before .before .labels-offered .ensures .is) ∙ ap (offerOf text scratch) (c .before .o .given .1))))
     -- enum-known-o-2
     (λ c. search needs)
     -- check-branches-requires
@@ -52,5 +52,5 @@ check-choice-met t =
     let scratch = e .scratch .now in
     let context = contextIn text scratch (e .h) in
     let n = e .n in
-    c .check-branches .ensures ∙ sym (choose-at (e .text .now) (e .scratch .now) (e .p) (e .n) (entry .pre .1 .2) (entry .pre .1 .3) .2 (e .link) context ∙
-    ap (λ o. choosing-with (n .at) o (λ r. checkBranches (programIn text scratch) context (e .link) (n .at) (nameAt text (n .first)) r (branchesIn text scratch (n .second) (n .third)))) (sym (c .before .before .before .before .labels-offered .ensures .is) ∙ ap (offerOf text scratch) (c .before .before .o2 .given .1))))
+    c .check-branches .ensures ∙ sym (choose-at (e .text .now) (e .scratch .now) (e .p) (e .n) (entry .pre .1 .2) (entry .pre .1 .3) .2 context ∙
+    ap (λ o. choosing-with (n .at) o (λ r. checkBranches (programIn text scratch) context (n .at) (nameAt text (n .first)) r (branchesIn text scratch (n .second) (n .third)))) (sym (c .before .before .before .before .labels-offered .ensures .is) ∙ ap (offerOf text scratch) (c .before .before .o2 .given .1))))

@@ -1,5 +1,4 @@
 -- CheckHalf: each need of its walk.
-use borrow.Author.Needs.{needs}
 use Prim.Native.Nat.{ℕ}
 use native.Mathlib.Omega.{arith}
 use mathlib.Core.Path.{sym, _∙_}
@@ -19,6 +18,6 @@ check-half-met t =
     let part = entry .pre .1 .1 (c .if1 .taken) in
     (omega (arith, half-there (e .text .now) (e .scratch .now) (e .halved) (e .p) (c .if1 .taken) (entry .pre .0)), (entry .pre .1 .0, part .0, part .1)))
     -- returns
-    (λ c. let e = c .before .before .before .before .args in c .check-process .ensures ∙ sym (half-so (e .text .now) (e .scratch .now) (e .h) (e .link) (e .p) (c .before .if1 .taken)))
+    (λ c. let e = c .before .before .before .before .args in c .check-process .ensures ∙ sym (half-so (e .text .now) (e .scratch .now) (e .h) (e .p) (c .before .if1 .taken)))
     -- returns-2
-    (λ c. let e = c .before .before .before .args in sym (half-none (e .text .now) (e .scratch .now) (e .h) (e .link) (e .p) (c .if1 .left)))
+    (λ c. let e = c .before .before .before .args in sym (half-none (e .text .now) (e .scratch .now) (e .h) (e .p) (c .if1 .left)))

@@ -19,19 +19,19 @@ use Rattle.check_processes.proofs.process.check_process.Reads as check-
 use Rattle.check_processes.proofs.process.check_process.Kinds as check-process-kinds
 
 abbrev pub μ-check-branches : Measures 2 check-branches-kinds.ps ℕ
-μ-check-branches κs a = 8 * branchesTerms (branchesIn (a .0 .now) (a .1 .0 .now) (a .1 .1 .1 .1 .1 .1 .1 .1 .0) (a .1 .1 .1 .1 .1 .1 .1 .1 .1 .0)) + 9
+μ-check-branches κs a = 8 * branchesTerms (branchesIn (a .0 .now) (a .1 .0 .now) (a .1 .1 .1 .1 .1 .1 .1 .0) (a .1 .1 .1 .1 .1 .1 .1 .1 .0)) + 9
 
 abbrev pub μ-check-choice : Measures 2 check-choice-kinds.ps ℕ
-μ-check-choice κs a = 8 * processTerms (processIn (a .0 .now) (a .1 .0 .now) (a .1 .1 .1 .1 .0)) + 3
+μ-check-choice κs a = 8 * processTerms (processIn (a .0 .now) (a .1 .0 .now) (a .1 .1 .1 .0)) + 3
 
 abbrev pub μ-check-half : Measures 2 check-half-kinds.ps ℕ
-μ-check-half κs a = cond (a .1 .1 .0) (8 * processTerms (processIn (a .0 .now) (a .1 .0 .now) (a .1 .1 .1 .1 .1 .0)) + 9) 0
+μ-check-half κs a = cond (a .1 .1 .0) (8 * processTerms (processIn (a .0 .now) (a .1 .0 .now) (a .1 .1 .1 .1 .0)) + 9) 0
 
 abbrev pub μ-check-on : Measures 2 check-on-kinds.ps ℕ
 μ-check-on κs a = 8 * turnTerms (a .0 .now) (a .1 .0 .now) (a .1 .1 .0) + 7
 
 abbrev pub μ-check-process : Measures 2 check-process-kinds.ps ℕ
-μ-check-process κs a = 8 * processTerms (processIn (a .0 .now) (a .1 .0 .now) (a .1 .1 .1 .1 .0)) + 8
+μ-check-process κs a = 8 * processTerms (processIn (a .0 .now) (a .1 .0 .now) (a .1 .1 .1 .0)) + 8
 
 abbrev pub check-branches-at : ℕ → In 2 check-branches-kinds.ps
 check-branches-at t = and 2 check-branches-kinds.ps (is 2 check-branches-kinds.ps μ-check-branches t) check-branches.Pre
