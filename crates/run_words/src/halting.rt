@@ -1,4 +1,4 @@
-// Whether the run has halted.
+// The halt: a word of the run by itself.
 ghost use mathlib.Core.Path.{_≡_};
 ghost use Prim.Native.Nat.{_≤_};
 ghost use lib.ListN.{length};
@@ -9,7 +9,7 @@ ghost use Rattle.run_words.specs.Operations.{withHalted};
 ghost use Rattle.run_words.specs.Decode.{isHalted};
 use crate::records::HALTED;
 
-// Whether it has.
+// Whether the run has halted.
 pub fn is_halted(run: &[u32]) -> bool
     requires { ⌜ runWords ≤ length (now run) ⌝ }
     ensures { λ r. ⌜ r ≡ isHalted (rawIn (now (run .entry)) .halted) ⌝ }
@@ -17,7 +17,7 @@ pub fn is_halted(run: &[u32]) -> bool
     0 < run[HALTED]
 }
 
-// From now on it has.
+// The run halts, and all else stays as it is.
 pub fn set_halted(run: &mut [u32])
     requires { ⌜ runWords ≤ length (now run) ⌝ }
     requires { ⌜ Bounded (rawIn (now run)) ⌝ }
