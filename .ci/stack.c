@@ -22,10 +22,10 @@ static uint32_t run[EPASS_RUN_WORDS];
 static uint32_t answer[EPASS_ANSWER_WORDS];
 
 /* The call that is measured. */
-static enum { NOTHING, START, STEP, RUN_ON, REPORT, PLACES, EXEC_NAME, CALLS } call;
+static enum { NOTHING, START, STEP, RUN_ON, REPORT, PLACES, EXEC_NAME, WARNING, CALLS } call;
 static uint32_t number, refusal;
 
-static const char *const names[CALLS] = {"", "epass_start", "epass_step", "epass_run_on", "epass_report", "epass_places", "epass_exec_name"};
+static const char *const names[CALLS] = {"", "epass_start", "epass_step", "epass_run_on", "epass_report", "epass_places", "epass_exec_name", "epass_warning"};
 static size_t most[CALLS];
 
 static void on_the_stack(void)
@@ -48,6 +48,9 @@ static void on_the_stack(void)
         break;
     case EXEC_NAME:
         refusal = epass_exec_name(text, text_length, scratch, EPASS_SCRATCH_WORDS, number, answer, EPASS_ANSWER_WORDS);
+        break;
+    case WARNING:
+        refusal = epass_warning(text, text_length, scratch, EPASS_SCRATCH_WORDS, number, answer, EPASS_ANSWER_WORDS);
         break;
     default:
         break;
@@ -73,11 +76,13 @@ static void measure(int which, uint32_t with)
 }
 
 /* A run of the text's first exec line: a few steps, one at a time and at each place in turn, then all the others at once. Run-on without
- * a budget is tried before each, since its test of the run goes deepest where the most is left to do. */
+ * a budget is tried before each, since its test of the run goes deepest where the most is left to do. Before it a warning is asked for that is not there, so that
+ * every recv is looked at. */
 static void measure_text(void)
 {
     uint32_t step, count = 1;
     measure(EXEC_NAME, 0);
+    measure(WARNING, UINT32_MAX);
     measure(START, 0);
     for (step = 0; step < STEPS && count != 0; step++) {
         measure(REPORT, 0);

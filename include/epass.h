@@ -88,7 +88,12 @@ enum epass_answer {
     EPASS_PLACES_STEPS = 2,
     /* Of an exec's name: where it stands in the text, and its length. */
     EPASS_NAME_AT = 1,
-    EPASS_NAME_LENGTH = 2
+    EPASS_NAME_LENGTH = 2,
+    /* Of a warning: 1, or 0 where there is none of that number; then where the process's name stands and its length, the channel's at the recv, and the label's, the apostrophe counted. */
+    EPASS_WARNING_TOLD = 1,
+    EPASS_WARNING_PROCESS = 2,
+    EPASS_WARNING_CHANNEL = 4,
+    EPASS_WARNING_LABEL = 6
 };
 
 /* What was seen: its kind, then the outside channel's number, then what came over it. */
@@ -98,7 +103,7 @@ enum epass_seen {
     EPASS_SEEN_CLOSE = 2, /* number */
     EPASS_SEEN_PASSED = 3, /* number; the number that the passed channel has from then on; 1 where it was given up already, else 0 */
     EPASS_SEEN_CANCELLED = 4, /* number */
-    EPASS_STEP_UNCAUGHT = 5 /* of a step alone, and no sighting: its raise found no handler, and the run has halted */
+    EPASS_STEP_UNCAUGHT = 5 /* of a step alone, and no sighting: its raise, or the label that a recv leaves out, found no handler, and the run has halted */
 };
 
 /* How a run-on ended. */
@@ -127,7 +132,7 @@ uint32_t epass_start(const uint8_t *EPASS_RESTRICT text, size_t text_length, uin
                      uint32_t *EPASS_RESTRICT run, size_t run_length, uint32_t line, uint32_t *EPASS_RESTRICT answer, size_t answer_length);
 
 /*
- * Carries out the step at a place; places are numbered from 0. A raise without a handler halts the run and leaves all else as it is: from
+ * Carries out the step at a place; places are numbered from 0. A raise without a handler, or a label that its recv leaves out, halts the run and leaves all else as it is: from
  * then on a step is refused (22), run-on answers EPASS_END_UNCAUGHT and no step is open, until the run is begun anew.
  */
 uint32_t epass_step(const uint8_t *EPASS_RESTRICT text, size_t text_length, uint32_t *EPASS_RESTRICT scratch, size_t scratch_length,
@@ -149,6 +154,13 @@ uint32_t epass_places(const uint8_t *EPASS_RESTRICT text, size_t text_length, ui
 uint32_t epass_exec_name(const uint8_t *EPASS_RESTRICT text, size_t text_length, uint32_t *EPASS_RESTRICT scratch, size_t scratch_length,
                          uint32_t line, uint32_t *EPASS_RESTRICT answer, size_t answer_length);
 
+/*
+ * A warning: a recv leaves out a label of its type. They are numbered from 0, in text order; a number past the last is answered, not refused.
+ * Where such a label comes, the process folds up and its handler starts; without a handler the run halts. No run is lent.
+ */
+uint32_t epass_warning(const uint8_t *EPASS_RESTRICT text, size_t text_length, uint32_t *EPASS_RESTRICT scratch, size_t scratch_length,
+                       uint32_t number, uint32_t *EPASS_RESTRICT answer, size_t answer_length);
+
 /* A refusal's sentence; for a number that is none, a sentence that says so. */
 static inline const char *epass_refusal_sentence(uint32_t refusal)
 {
@@ -165,7 +177,7 @@ static inline const char *epass_refusal_sentence(uint32_t refusal)
     case EPASS_EXEC_WRONG: return "an exec process uses a channel, or the outside could not use what it provides";
     case EPASS_NOT_HELD: return "a term acts on a channel that is not held";
     case EPASS_TYPE_WRONG: return "side, type, sent label, list length or a repeated name breaks the rule";
-    case EPASS_BRANCHES_WRONG: return "the branch labels are not those of the type";
+    case EPASS_BRANCHES_WRONG: return "a branch's label is none of the type's";
     case EPASS_LEFT_OVER: return "a channel is left over, or mentioned in both or neither half where that is barred";
     case EPASS_NO_LINK: return "never given: a raise needs no link in the text";
     case EPASS_HELD_FULL: return "a 17th channel is held, or a new name is already held";

@@ -68,7 +68,7 @@ impl fmt::Display for Seen<'_> {
     fn fmt(&self, f: &mut fmt::Formatter<'_>) -> fmt::Result {
         write!(f, "#{} ", self.number())?;
         match *self {
-            Seen::Label { label, .. } => label.iter().try_for_each(|&b| fmt::Write::write_char(f, b as char)),
+            Seen::Label { label, .. } => put(f, label),
             Seen::Close { .. } => f.write_str("()"),
             Seen::Passed { passed, given_up, .. } => {
                 write!(f, "#{passed}")?;
@@ -82,12 +82,58 @@ impl fmt::Display for Seen<'_> {
     }
 }
 
+/// A recv leaves out a label of its type: where that comes, its process folds up and its handler starts; without a handler the run halts.
+#[derive(Clone, Copy, Debug, PartialEq, Eq, Hash)]
+pub struct Warning<'t> {
+    /// The process's name.
+    pub process: &'t [u8],
+    /// The channel's name, as the recv has it.
+    pub channel: &'t [u8],
+    /// The label, as it stands in the type, from its apostrophe on.
+    pub label: &'t [u8],
+    /// Where the recv names its channel: its offset in the text.
+    pub at: usize,
+}
+
+impl<'t> Warning<'t> {
+    /// What an answer tells of a text, if there is such a warning.
+    pub(crate) fn told(text: &'t [u8], answer: &Answer) -> Option<Warning<'t>> {
+        if answer[..2] != [0, 1] {
+            return None;
+        }
+        let part = |word: usize| &text[answer[word] as usize..][..answer[word + 1] as usize];
+        Some(Warning {
+            process: part(2),
+            channel: part(4),
+            label: part(6),
+            at: answer[4] as usize,
+        })
+    }
+}
+
+/// As the program prints it.
+impl fmt::Display for Warning<'_> {
+    fn fmt(&self, f: &mut fmt::Formatter<'_>) -> fmt::Result {
+        f.write_str("Warning: process ")?;
+        put(f, self.process)?;
+        f.write_str(", channel ")?;
+        put(f, self.channel)?;
+        f.write_str(", missing ")?;
+        put(f, self.label)
+    }
+}
+
+/// Names have letters, digits and underscores alone.
+fn put(f: &mut fmt::Formatter<'_>, name: &[u8]) -> fmt::Result {
+    name.iter().try_for_each(|&b| fmt::Write::write_char(f, b as char))
+}
+
 /// What a step did.
 #[derive(Clone, Copy, Debug, PartialEq, Eq, Hash)]
 pub enum Step<'t> {
     /// It was carried out, and showed this, if anything.
     Carried(Option<Seen<'t>>),
-    /// Its raise found no handler, and the run has halted.
+    /// Its raise, or the label that a recv leaves out, found no handler, and the run has halted.
     Uncaught,
 }
 

@@ -72,6 +72,15 @@ extern "C" {
         answer: *mut u32,
         answer_length: usize,
     ) -> u32;
+    fn epass_warning(
+        text: *const u8,
+        text_length: usize,
+        scratch: *mut u32,
+        scratch_length: usize,
+        number: u32,
+        answer: *mut u32,
+        answer_length: usize,
+    ) -> u32;
 }
 
 /// An entry that is lent a run and takes a number.
@@ -80,6 +89,13 @@ pub enum Numbered {
     Start,
     Step,
     RunOn,
+}
+
+/// A function that is lent no run and takes a number.
+#[derive(Clone, Copy)]
+pub enum OfText {
+    ExecName,
+    Warning,
 }
 
 /// An entry that only reads a run.
@@ -133,16 +149,20 @@ fn read_into(entry: Reading, text: &[u8], scratch: &mut [u32], run: &[u32], answ
     }
 }
 
-/// Asks where the name of an exec line stands, likewise.
-fn exec_name_into(text: &[u8], scratch: &mut [u32], line: u32, answer: &mut [u32]) -> u32 {
+/// Asks a text for the name of an exec line or a warning, likewise.
+fn ask_into(what: OfText, text: &[u8], scratch: &mut [u32], number: u32, answer: &mut [u32]) -> u32 {
+    let call = match what {
+        OfText::ExecName => epass_exec_name,
+        OfText::Warning => epass_warning,
+    };
     // SAFETY: as above; no run is lent.
     unsafe {
-        epass_exec_name(
+        call(
             text.as_ptr(),
             text.len(),
             scratch.as_mut_ptr(),
             scratch.len(),
-            line,
+            number,
             answer.as_mut_ptr(),
             answer.len(),
         )
@@ -163,9 +183,9 @@ pub fn read(entry: Reading, text: &[u8], scratch: &mut [u32], run: &[u32]) -> An
     answer
 }
 
-/// The answer to where the name of an exec line stands.
-pub fn exec_name(text: &[u8], scratch: &mut [u32], line: u32) -> Answer {
+/// The answer of a function that is lent no run.
+pub fn ask(what: OfText, text: &[u8], scratch: &mut [u32], number: u32) -> Answer {
     let mut answer = [0; ANSWER_WORDS];
-    exec_name_into(text, scratch, line, &mut answer);
+    ask_into(what, text, scratch, number, &mut answer);
     answer
 }

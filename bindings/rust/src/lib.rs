@@ -25,6 +25,8 @@
 //!
 //! A raise that finds no handler is answered, not refused: the step is [`Step::Uncaught`], and the run has halted until it is begun anew.
 //!
+//! A recv may leave out labels of its type: [`Script::warnings`] tells which. Where one comes, its process acts as by a raise and folds up.
+//!
 //! # Memory
 //!
 //! There is no heap. Scratch and run are slices of words that are owned (an array) or lent (a `&mut [u32]`): everything that is
@@ -42,7 +44,7 @@ mod refusal;
 mod run;
 mod script;
 
-pub use answers::{End, Place, Places, RanOn, Report, Seen, Step};
+pub use answers::{End, Place, Places, RanOn, Report, Seen, Step, Warning};
 pub use refusal::{Reason, Refusal};
 pub use run::Run;
 pub use script::Script;

@@ -52,7 +52,7 @@ reasons! {
     ExecWrong = 9, "an exec process uses a channel, or the outside could not use what it provides";
     NotHeld = 10, "a term acts on a channel that is not held";
     TypeWrong = 11, "side, type, sent label, list length or a repeated name breaks the rule";
-    BranchesWrong = 12, "the branch labels are not those of the type";
+    BranchesWrong = 12, "a branch's label is none of the type's";
     LeftOver = 13, "a channel is left over, or mentioned in both or neither half where that is barred";
     NoLink = 14, "never given: a raise needs no link in the text";
     HeldFull = 15, "a 17th channel is held, or a new name is already held";

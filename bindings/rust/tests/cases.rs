@@ -63,6 +63,9 @@ fn print_text(out: &mut String, text: &[u8]) {
             return;
         }
     };
+    for warning in script.warnings() {
+        writeln!(out, "{warning}").unwrap();
+    }
     let mut line = 0;
     while script.exec_name(line).is_ok() {
         print_line(out, &mut script, line).unwrap();

@@ -10,6 +10,8 @@ use Rattle.calculus.specs.Starred.{around, Case}
 -- A lost recv starts the handler, which then folds up neither with its process nor when that leaves.
 -- A cancel by the process's own term wakes nobody: the handler waits, and folds up when its process leaves.
 -- Whether a raise is caught is decided when it runs: a called process inherits the link, and the spawned half has none, however it stands in the text; a halt stops the others too.
+-- A label that is left out: the sender goes on, the handler starts, and the receiver folds up with its own end still held; without a link the sender stays, and either place halts the run.
+-- What is left out is told in the order of the type, a recv before those inside it, of processes that nobody executes too.
 -- (A cancelled recv is no close: the fifth starred case.)
 abbrev pub astray : List Case
 astray =
@@ -36,6 +38,18 @@ astray =
     ∷ record {
       text = around (bytes "try (c : 1 <- (raise send c ()); recv c (() => )) catch (send x ())");
       output = bytes "Executing process m:\nuncaught after 3 steps\n";
+    }
+    ∷ record {
+      text = bytes "type f = +{'run : 1, 'jam : 1}\nproc m (x : 1, y : 1) [] = c : f <- (send c 'jam; send c ()); try (recv c ('run => recv c (() => send x ()))) catch (send y ())\nexec m\n";
+      output = bytes "Warning: process m, channel c, missing 'jam\nExecuting process m:\n#0 -> cancelled\n#1 -> ()\ndone after 10 steps\n";
+    }
+    ∷ record {
+      text = bytes "type w = &{'go : 1, 'stop : 1}\nproc m (x : 1) [] = s : w <- (recv s ('go => send s ())); send s 'stop; recv s (() => send x ())\nexec m\n";
+      output = bytes "Warning: process m, channel s, missing 'stop\nExecuting process m:\nuncaught after 2 steps\n";
+    }
+    ∷ record {
+      text = bytes "type t = +{'d : 1, 'b : 1, 'c : 1, 'a : 1}\nproc p () [c : t, e : t] = recv c ('c => cancel c; recv e ('a => cancel e | 'b => cancel e))\n";
+      output = bytes "Warning: process p, channel c, missing 'd\nWarning: process p, channel c, missing 'b\nWarning: process p, channel c, missing 'a\nWarning: process p, channel e, missing 'd\nWarning: process p, channel e, missing 'c\n";
     }
     ∷ []
 

@@ -1,7 +1,7 @@
 -- Refusals 10 to 15: the first term in text order, then the lowest number, at the term's first byte.
 use Prim.Native.Nat.{ℕ}
 use mathlib.Core.List.{List, [], _∷_, _++_}
-use mathlib.Core.Bool.{Bool, not, _&&_}
+use mathlib.Core.Bool.{Bool, true, not, _&&_}
 use mathlib.Core.Option.{Option, some, none}
 use lib.ListN.{length, getElem?}
 use lib.Dec.{ltb}
@@ -13,12 +13,17 @@ use Rattle.calculus.specs.Types.{Side, provided, used, other, sameSide, 
 use Rattle.calculus.specs.Program.{Slot, slot, Context, Program, signatureContext, entries, programOf}
 use Rattle.calculus.specs.Declarations.{channels, isNil}
 use Rattle.calculus.specs.Mentions.{spawnTakes, spawnLeaves, tryTakes, neverBoth, exactlyOne}
-use Rattle.calculus.specs.Typing.{acting, retyped, bringing, fitting, namesOf, listFits, withoutAll}
+use Rattle.calculus.specs.Typing.{acting, retyped, bringing, namesOf, listFits, withoutAll}
 use Rattle.calculus.specs.Verdict.{Verdict, fine, refused, andThen, demand, having}
 
 -- a name may join H where G is held: 15 otherwise
 abbrev pub mayBring : Name → Context → Context → Bool
 mayBring x G H = not (isSome (lookup x G)) && ltb (length H) heldLimit
+
+-- "A branch's label is none of the type's": 12, before what its branches are refused for
+unfoldable pub fitting : Alternatives Name → Branches → Bool
+fitting r Branches.none = true
+fitting r (branch l P B) = isSome (labelled (l .name) r) && fitting r B
 
 abbrev pub isUnitOn : Side → Slot → Bool
 isUnitOn s h = sameSide (h .side) s && atLeaf (shape (h .type))

@@ -11,6 +11,7 @@ pub mod Accepted
 pub mod Configuration
 pub mod Steps
 pub mod Reduces
+pub mod Warnings
 pub mod Runs
 pub mod Printed
 pub mod Machine

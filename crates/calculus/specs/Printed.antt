@@ -17,10 +17,12 @@ use Rattle.calculus.specs.Typing
 use Rattle.calculus.specs.Checking
 use Rattle.calculus.specs.Configuration
 use Rattle.calculus.specs.Steps
+use Rattle.calculus.specs.Warnings
 use Rattle.calculus.specs.Runs
 use Rattle.calculus.specs.Program.{Signature, Program, programOf}
 use Rattle.calculus.specs.Accepted.{Checked, accepted, faulty, checked}
 use Rattle.calculus.specs.Configuration.{Config}
+use Rattle.calculus.specs.Warnings.{Warning, warnings}
 use Rattle.calculus.specs.Runs.{startConfig, lineSignature, execOf, runOn}
 use Rattle.calculus.specs.declared.answers.Seen.{Seen}
 use Rattle.calculus.specs.declared.answers.Seen.the-variants.{Nothing, Label, Close, Passed, Cancelled}
@@ -87,11 +89,19 @@ abbrev pub allExecs : List ℕ → Program → List Located → List ℕ
 allExecs s p [] = []
 allExecs s p (n ∷ ns) = execLines s p (n .name) (lineSignature p (some n)) ++ allExecs s p ns
 
+-- "`Warning: process P, channel C, missing 'l`"
+abbrev pub warningLine : Warning → List ℕ
+warningLine w = line (bytes "Warning: process " ++ (w .process .name ++ (bytes ", channel " ++ (w .channel .name ++ (bytes ", missing '" ++ w .label)))))
+
+abbrev pub warningLines : List Warning → List ℕ
+warningLines [] = []
+warningLines (w ∷ ws) = warningLine w ++ warningLines ws
+
 abbrev pub printedOf : List ℕ → Checked → List ℕ
-printedOf s (accepted ds) = allExecs s (programOf ds) (programOf ds .execs)
+printedOf s (accepted ds) = warningLines (warnings ds) ++ allExecs s (programOf ds) (programOf ds .execs)
 printedOf s (faulty n at) = line (bytes "refused " ++ (decimal n ++ (bytes " at " ++ decimal at)))
 
 -- to unfold it is to unfold all that it is made of, so that it computes
 unfoldable pub printed : List ℕ → List ℕ
-unfolding readNow plain Named.lookup Named.without Named.changed Named.kept Named.names Named.distinct Types.sameType Types.passing Types.choosing Types.labelled Types.labelsOf programOf faults Declarations.repeats Declarations.typeRepeats Declarations.processRepeats Declarations.repeated Declarations.typeUndefined Declarations.processUndefined Declarations.undefined Declarations.bareNames Declarations.hasOther Declarations.reachOther Declarations.outward Declarations.wrongExecs Declarations.declared Mentions.mentions Mentions.halfMentions Mentions.spawnTakes Mentions.spawnLeaves Mentions.tryTakes Mentions.neverBoth Mentions.exactlyOne Typing.fitting Typing.listFits Typing.withoutAll Checking.check Checking.typed checked Configuration.heldAs Configuration.holderFrom Configuration.outsideOf Configuration.farEnd Configuration.channelsHeld Configuration.freshChannel Configuration.inserted Configuration.removed Configuration.letGo Configuration.changedOutside Steps.afterMessage Steps.afterSend Steps.afterReceive Steps.parting Steps.send Steps.receive Steps.cancelling Steps.spawning Steps.trying Steps.calling Steps.raising Steps.movedEnd Steps.forwarding Steps.leaving Steps.foldingUp Steps.stepTerm Steps.step Runs.startConfig Runs.execOf Runs.firstFrom Runs.choosePlace Runs.runFrom Runs.runOn digits sighting runLines
+unfolding readNow plain Named.lookup Named.without Named.changed Named.kept Named.names Named.distinct Types.sameType Types.passing Types.choosing Types.labelled programOf faults Declarations.repeats Declarations.typeRepeats Declarations.processRepeats Declarations.repeated Declarations.typeUndefined Declarations.processUndefined Declarations.undefined Declarations.bareNames Declarations.hasOther Declarations.reachOther Declarations.outward Declarations.wrongExecs Declarations.declared Mentions.mentions Mentions.halfMentions Mentions.spawnTakes Mentions.spawnLeaves Mentions.tryTakes Mentions.neverBoth Mentions.exactlyOne Typing.listFits Typing.withoutAll Checking.fitting Checking.check Checking.typed checked Configuration.heldAs Configuration.holderFrom Configuration.outsideOf Configuration.farEnd Configuration.channelsHeld Configuration.freshChannel Configuration.inserted Configuration.removed Configuration.letGo Configuration.changedOutside Steps.afterMessage Steps.afterSend Steps.afterReceive Steps.parting Steps.send Steps.receive Steps.cancelling Steps.spawning Steps.trying Steps.calling Steps.raising Steps.movedEnd Steps.forwarding Steps.leaving Steps.foldingUp Steps.stepTerm Steps.step Warnings.leftOut Warnings.missing Warnings.warnings Runs.startConfig Runs.execOf Runs.firstFrom Runs.choosePlace Runs.runFrom Runs.runOn digits sighting runLines
 printed s = printedOf s (checked s)

@@ -106,11 +106,17 @@ abbrev pub branchOf : Name → Branches → Option Proc
 branchOf l Branches.none = none
 branchOf l (branch m P B) = cond (same l (m .name)) (some P) (branchOf l B)
 
--- the receiver afterwards, where its term wants the message: c is its own name for the channel, d the end that is passed
-abbrev pub takesClose : Wanted → Name → Process → Option Process
-takesClose (onClose P) c q = some (goesOn q P (without c (q .held)))
-takesClose (onChannel x P) c q = none
-takesClose (onLabel B) c q = none
+-- what a message makes of its receiver: it goes on; it has left out the label, and folds up as by a raise; or its term wants another message
+pub data Received : Type 0 where
+  takes : Process → Received
+  leavesOut : Process → Received
+  refuses : Received
+
+-- c is the receiver's own name for the channel, d the end that is passed
+abbrev pub takesClose : Wanted → Name → Process → Received
+takesClose (onClose P) c q = takes (goesOn q P (without c (q .held)))
+takesClose (onChannel x P) c q = refuses
+takesClose (onLabel B) c q = refuses
 
 -- x is the end d that came over the receiver's own end e
 abbrev pub bound : Program → Name → Option End → Option End → List (Name × End)
@@ -118,17 +124,22 @@ bound p x none d = []
 bound p x (some e) none = []
 bound p x (some e) (some d) = (x, comesOver p (e .type) d) ∷ []
 
-abbrev pub takesChannel : Program → Located → Wanted → Name → Option End → Process → Option Process
-takesChannel p a (onClose P) c d q = none
-takesChannel p a (onChannel x P) c d q = some (goesOn q P (onward p (passes a) c (q .held) ++ bound p (x .name) (lookup c (q .held)) d))
-takesChannel p a (onLabel B) c d q = none
+abbrev pub takesChannel : Program → Located → Wanted → Name → Option End → Process → Received
+takesChannel p a (onClose P) c d q = refuses
+takesChannel p a (onChannel x P) c d q = takes (goesOn q P (onward p (passes a) c (q .held) ++ bound p (x .name) (lookup c (q .held)) d))
+takesChannel p a (onLabel B) c d q = refuses
 
-abbrev pub takesLabel : Program → Located → Wanted → Name → Process → Option Process
-takesLabel p l (onClose P) c q = none
-takesLabel p l (onChannel x P) c q = none
-takesLabel p l (onLabel B) c q = Option·map (λ P. goesOn q P (onward p (chooses l) c (q .held))) (branchOf (l .name) B)
+-- either way it has l from now on: its own end is of the type of the label
+abbrev pub byBranch : Option Proc → Process → List (Name × End) → Received
+byBranch none q l = leavesOut (foldsUp q l)
+byBranch (some P) q l = takes (goesOn q P l)
 
-unfoldable pub afterReceive : Program → Message → Wanted → Name → Option End → Process → Option Process
+abbrev pub takesLabel : Program → Located → Wanted → Name → Process → Received
+takesLabel p l (onClose P) c q = refuses
+takesLabel p l (onChannel x P) c q = refuses
+takesLabel p l (onLabel B) c q = byBranch (branchOf (l .name) B) q (onward p (chooses l) c (q .held))
+
+unfoldable pub afterReceive : Program → Message → Wanted → Name → Option End → Process → Received
 afterReceive p closing w c d q = takesClose w c q
 afterReceive p (passes a) w c d q = takesChannel p a w c d q
 afterReceive p (chooses l) w c d q = takesLabel p l w c q
@@ -153,7 +164,7 @@ outsideAfter givenUp k o = o
 unfoldable pub parting : Config → ℕ → Process → End → Outcome
 parting C i q e = carried (seenAt (farEnd C e)) (withOutside (outsideAfter (farEnd C e) (e .channel) (C .outside)) (replaced i q C))
 
--- ── a handler: it starts by a raise or a lost recv of the process that is linked to it, and folds up when that process leaves
+-- ── a handler: it starts by a raise, a lost recv or a label left out of the process that is linked to it, and folds up when that process leaves
 abbrev pub startedDoing : Doing → Doing
 startedDoing (running P) = running P
 startedDoing folding = folding
@@ -177,10 +188,16 @@ changedAt f (some j) l = putAt l j (Option·map f (getElem? l j))
 abbrev pub handlerStarts : ℕ → Process → Config → Config
 handlerStarts i q C = replaced i (linkedBy none q) (withProcesses (changedAt startedHandler (q .link) (C .processes)) C)
 
--- ── "A matching send and recv on one channel step together"
-abbrev pub bothTo : Config → ℕ → Process → ℕ → Option Process → Outcome
-bothTo C i p′ j none = notOpen
-bothTo C i p′ j (some q′) = carried Nothing (replaced j q′ (replaced i p′ C))
+-- the process q at place i acts as by a raise: "the handler starts"; without a link it "halts the run"
+abbrev pub caughtBy : Option ℕ → Config → ℕ → Process → Outcome
+caughtBy none C i q = uncaught
+caughtBy (some h) C i q = carried Nothing (handlerStarts i q C)
+
+-- ── "A matching send and recv on one channel step together". "When a label comes that its recv leaves out: the sender goes on, and the receiver acts in that same step as by a raise and folds up"
+abbrev pub bothTo : Config → ℕ → Process → ℕ → Received → Outcome
+bothTo C i p′ j (takes q′) = carried Nothing (replaced j q′ (replaced i p′ C))
+bothTo C i p′ j (leavesOut q′) = caughtBy (q′ .link) (replaced i p′ C) j q′
+bothTo C i p′ j refuses = notOpen
 
 abbrev pub meeting : Program → Config → ℕ → Process → Process → Message → Holder → Turn → Outcome
 meeting p C i q q′ m h (sends c′ m′ P) = notOpen
@@ -295,10 +312,6 @@ unfoldable pub calling : Program → Config → ℕ → Process → Located → 
 calling p C i q f xs ys = entering C i q (namesOf xs ++ namesOf ys) (lookup (f .name) (p .processes))
 
 -- ── alone: raise. "the handler starts"; "a raise without a link halts the run"
-abbrev pub caughtBy : Option ℕ → Config → ℕ → Process → Outcome
-caughtBy none C i q = uncaught
-caughtBy (some h) C i q = carried Nothing (handlerStarts i q C)
-
 unfoldable pub raising : Config → ℕ → Process → Proc → Outcome
 raising C i q P = caughtBy (q .link) C i (goesOn q P (q .held))
 

@@ -1,6 +1,6 @@
 -- Types without offsets: when two are equal, what a name stands for, and what goes over a channel.
 use Prim.Native.Nat.{ℕ}
-use mathlib.Core.List.{List, [], _∷_}
+use mathlib.Core.List.{List}
 use mathlib.Core.Bool.{Bool, true, false, cond, _&&_}
 use mathlib.Core.Option.{Option, some, none, Option·getD}
 use lib.Dec.{eqb}
@@ -131,7 +131,3 @@ choosing (with r) = some (record { sender = used; labels = r })
 unfoldable pub labelled : Name → Alternatives Name → Option (Ty Name)
 labelled l Alternatives.none = none
 labelled l (alternative m A r) = cond (same l m) (some A) (labelled l r)
-
-unfoldable pub labelsOf : Alternatives Name → List Name
-labelsOf Alternatives.none = []
-labelsOf (alternative l A r) = l ∷ labelsOf r

@@ -1,17 +1,16 @@
 -- The typing rules of the scope, one constructor for each, in its order and words.
 -- `Typed p G P`: with the channels of G held, oldest first, P is typed in the program p. Whether a process has a link does not count: that is found when it runs.
-use Prim.Native.Nat.{ℕ, suc, _≤_, _<_}
+use Prim.Native.Nat.{ℕ, _≤_, _<_}
 use mathlib.Core.Path.{_≡_}
 use mathlib.Core.List.{List, [], _∷_, _++_}
-use mathlib.Core.Bool.{Bool, true, false, cond, _&&_}
+use mathlib.Core.Bool.{Bool, true, false, _&&_}
 use mathlib.Core.Option.{Option, some, none, Option·map}
 use lib.ListN.{length}
-use lib.Dec.{eqb}
 use Rattle.notation.specs.Limits.{heldLimit}
 use Rattle.notation.specs.Bytes.{same}
 use Rattle.notation.specs.Tree.{Name, Located, Ty, unit, Alternatives, Proc, empty, sendUnit, sendChannel, sendLabel, cancel, spawn, recvUnit, recvChannel, recvLabel, fwd, call, raise, try, Branches, branch, plain}
-use Rattle.calculus.specs.Named.{lookup, without, changed, names, isSome, all, distinct}
-use Rattle.calculus.specs.Types.{Side, provided, used, other, sameSide, sameType, standing, Passing, passing, Choosing, choosing, labelled, labelsOf}
+use Rattle.calculus.specs.Named.{lookup, without, changed, names, isSome, distinct}
+use Rattle.calculus.specs.Types.{Side, provided, used, other, sameSide, sameType, standing, Passing, passing, Choosing, choosing, labelled}
 use Rattle.calculus.specs.Program.{Slot, slot, Context, Signature, Program, signatureContext}
 use Rattle.calculus.specs.Mentions.{spawnTakes, spawnLeaves, tryTakes, neverBoth, exactlyOne}
 
@@ -35,18 +34,6 @@ pub record OneType (p : Program) (A B : Ty Name) : Type 0 where
   pub same : sameType A B ≡ true
 
 -- ── parts of rules, as tests
-abbrev pub labelNames : Branches → List Name
-labelNames Branches.none = []
-labelNames (branch l P B) = l .name ∷ labelNames B
-
-abbrev pub times : Name → List Name → ℕ
-times n [] = 0
-times n (m ∷ ms) = cond (same n m) (suc (times n ms)) (times n ms)
-
--- "each label of the type once, in whatever order", and no other
-unfoldable pub fitting : Alternatives Name → Branches → Bool
-fitting r B = all (λ l. eqb (times l (labelNames B)) 1) (labelsOf r) && eqb (length (labelNames B)) (length (labelsOf r))
-
 abbrev pub namesOf : List Located → List Name
 namesOf [] = []
 namesOf (n ∷ ns) = n .name ∷ namesOf ns
@@ -107,11 +94,10 @@ mutual
         → labelled (l .name) (t .labels) ≡ some A
         → Typed p (retyped (c .name) A G) P
         → Typed p G (sendLabel at c l P)
-    -- `recv c` with labels: + used or & provided, each label of the type once, in whatever order.
+    -- `recv c` with labels: + used or & provided, each branch's label one of the type's, in whatever order; labels of the type may be left out.
     recvs-label : {G : Context} {at : ℕ} {c : Located} {B : Branches} (T : Ty Name) (t : Choosing)
         → choosing T ≡ some t
         → acting p (c .name) G ≡ some (slot (other (t .sender)) T)
-        → fitting (t .labels) B ≡ true
         → TypedBranches p G (c .name) (t .labels) B
         → Typed p G (recvLabel at c B)
     -- `fwd x c`: x provided, c used, equal types, no other channel held; the link may be.
@@ -157,7 +143,7 @@ mutual
         → G ≡ []
         → Typed p G (empty at)
 
-  -- each branch goes on with the type of its label
+  -- each branch's label is one of the type's, and it goes on with the type of its label
   pub data TypedBranches (p : Program) : Context → Name → Alternatives Name → Branches → Type 0 where
     last-branch : {G : Context} {c : Name} {r : Alternatives Name}
         → TypedBranches p G c r Branches.none

@@ -52,3 +52,10 @@ pub struct Places {
     pub answer: Surveyed,
     pub steps: [u32; 128],
 }
+
+// A warning of a script: where the names of its process and of the recv's channel stand, and the missing label's apostrophe; or that there is none of that number.
+pub enum Warned {
+    Missing(usize, usize, usize),
+    Nothing,
+    Refused(u32, usize),
+}

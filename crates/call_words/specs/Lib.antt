@@ -2,3 +2,4 @@ pub mod Words
 pub mod Laying
 pub mod Answered
 pub mod Exported
+pub mod Warned

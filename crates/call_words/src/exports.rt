@@ -2,6 +2,7 @@
 ghost use mathlib.Core.List.{[]};
 ghost use Rattle.interpreter.specs.Entries.{toStart, toStep, toRunOn, toReport, toPlaces, toName};
 ghost use Rattle.call_words.specs.Exported.{Exported};
+ghost use Rattle.call_words.specs.Warned.{WarningExported};
 use crate::laying::ANSWER_WORDS;
 use crate::laying::tell;
 use crate::words::name_words;
@@ -10,12 +11,14 @@ use crate::words::ran_on_words;
 use crate::words::report_words;
 use crate::words::started_words;
 use crate::words::stepped_words;
+use crate::words::warned_words;
 use interpreter::entries::places;
 use interpreter::entries::report;
 use interpreter::entries::run_on;
 use interpreter::entries::start;
 use interpreter::entries::step;
 use interpreter::names::exec_place;
+use interpreter::warnings::warning;
 
 // Returned where the answer has too few words; then no slice is touched.
 const ANSWER_SHORT: u32 = 255;
@@ -119,4 +122,20 @@ pub extern "C" fn epass_exec_name(
     let mut at: usize = 0;
     let place = exec_place(text, scratch, line, &mut number, &mut at);
     tell(answer, name_words(text, place, number, at))
+}
+
+#[no_mangle]
+pub extern "C" fn epass_warning(
+    text: &[u8],
+    scratch: &mut [u32],
+    number: u32,
+    answer: &mut [u32],
+) -> u32
+    ensures { λ r. ⌜ WarningExported (now (text .entry)) (now (scratch .entry)) number (now (answer .entry)) r (now (scratch .exit)) (now (answer .exit)) ⌝ }
+{
+    if answer.len() < ANSWER_WORDS {
+        return ANSWER_SHORT;
+    }
+    let told = warning(text, scratch, number);
+    tell(answer, warned_words(text, told))
 }

@@ -5,8 +5,10 @@ ghost use Prim.Native.Nat.{ℕ, _+_, _≤_};
 ghost use lib.ListN.{length, getD};
 ghost use Rattle.notation.specs.Token.{nameAt};
 ghost use Rattle.calculus.specs.Machine.{started, stepped, ranOn, named};
+ghost use Rattle.calculus.specs.declared.answers.Warned.the-variants.{Missing};
 ghost use Rattle.interpreter.specs.Entries.{counted, placesCounted, reportAnswer, placesAnswer};
 ghost use Rattle.call_words.specs.Words.{asWord, seenWords, wordsOf, padded, filled};
+ghost use Rattle.call_words.specs.Warned.{warnedWords};
 use crate::laying::ANSWER_WORDS;
 use crate::laying::lay;
 use calculus::answers::Places;
@@ -17,6 +19,7 @@ use calculus::answers::Seen;
 use calculus::answers::Started;
 use calculus::answers::Stepped;
 use calculus::answers::Surveyed;
+use calculus::answers::Warned;
 use notation::token::name_length;
 
 const LAST_WORD: usize = 4294967295;
@@ -32,10 +35,13 @@ fn as_word(n: usize) -> u32
 }
 
 // The length of the label whose apostrophe stands at `at`, that one counted.
-fn label_length(text: &[u8], at: u32) -> u32
+fn label_length(text: &[u8], at: usize) -> u32
     ensures { λ r. ⌜ r ≡ asWord (1 + length (nameAt (now (text .entry)) (at + 1))) ⌝ }
 {
-    let n = name_length(text, at as usize + 1);
+    if text.len() <= at {
+        return 1;
+    }
+    let n = name_length(text, at + 1);
     as_word(1 + n)
 }
 
@@ -45,7 +51,7 @@ fn seen_words(text: &[u8], seen: Seen) -> [u32; 4]
 {
     match seen {
         Seen::Nothing => return [0, 0, 0, 0],
-        Seen::Label(n, at) => return [1, n, at, label_length(text, at)],
+        Seen::Label(n, at) => return [1, n, at, label_length(text, at as usize)],
         Seen::Close(n) => return [2, n, 0, 0],
         Seen::Passed(n, m, gone) => return [3, n, m, gone as u32],
         Seen::Cancelled(n) => return [4, n, 0, 0],
@@ -164,4 +170,41 @@ pub(crate) fn name_words(text: &[u8], place: usize, number: u32, at: usize) -> [
         return few_words(0, as_word(place), as_word(n));
     }
     refused_words(number, at)
+}
+
+// The length of the name that stands at `at`.
+fn name_word(text: &[u8], at: usize) -> u32
+    ensures { λ r. ⌜ r ≡ asWord (length (nameAt (now (text .entry)) at)) ⌝ }
+{
+    as_word(name_length(text, at))
+}
+
+// A warning: where its three names stand, and how long they are.
+fn missing_words(text: &[u8], process: usize, channel: usize, label: usize) -> [u32; 7]
+    ensures { λ r. ⌜ 0 ∷ r ≡ warnedWords (now (text .entry)) (Missing process channel label) ⌝ }
+{
+    [
+        1,
+        as_word(process),
+        name_word(text, process),
+        as_word(channel),
+        name_word(text, channel),
+        as_word(label),
+        label_length(text, label),
+    ]
+}
+
+pub(crate) fn warned_words(text: &[u8], answer: Warned) -> [u32; ANSWER_WORDS]
+    ensures { λ r. ⌜ r ≡ padded (warnedWords (now (text .entry)) answer) ⌝ }
+{
+    match answer {
+        Warned::Missing(process, channel, label) => {
+            let mut words = [0u32; ANSWER_WORDS];
+            let told = missing_words(text, process, channel, label);
+            lay(&mut words, 1, &told);
+            return words;
+        }
+        Warned::Nothing => return few_words(0, 0, 0),
+        Warned::Refused(n, at) => return refused_words(n, at),
+    }
 }

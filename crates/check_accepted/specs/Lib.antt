@@ -1,2 +1,5 @@
 pub mod Texts
 pub mod Verdicts
+pub mod FewWarnings
+pub mod WarningNames
+pub mod Warnings

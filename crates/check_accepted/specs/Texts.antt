@@ -3,20 +3,21 @@ use Prim.Native.Nat.{ℕ}
 use mathlib.Core.Path.{_≡_, sym, _∙_, ap, subst}
 use mathlib.Core.List.{List}
 use Rattle.notation.specs.Tree.{Declaration}
-use Rattle.notation.specs.Reader.{got}
-use Rattle.notation.specs.Scripts.{readText}
 use Rattle.notation.specs.Tables.{nothing, tables, afterScript, FitsTables, Within}
-use Rattle.notation.specs.declared.reading.Cursor.{Cursor}
 use Rattle.calculus.specs.Program.{programOf}
 use Rattle.calculus.specs.Accepted.{accepted, checked}
 use Rattle.calculus.specs.Demands.{Derivable}
-use Rattle.theory_derivations.specs.Accepts.{accepts}
+use Rattle.calculus.specs.Checking.{typed}
+use Rattle.calculus.specs.Verdict.{fine}
+use Rattle.calculus.specs.Warnings.{warnings}
+use Rattle.theory_derivations.specs.Accepts.{typed-iff, accepts}
 use Rattle.calculus.specs.Typing.{Bodies}
 use Rattle.theory_preservation.specs.Accepted.{accepted-bodies}
 use Rattle.read_tables.specs.Program.{programIn, program-sorted}
 use Rattle.read_tables.specs.Scripts.{sorted}
 use Rattle.read_tables.specs.Decode.{scriptIn}
 use Rattle.read_tables.specs.Whole.{Tables, text-decoded}
+use Rattle.check_declarations.specs.Sorted.{typed-sorted, warnings-sorted}
 use Rattle.read_tables.specs.Everywhere.{Everywhere, text-everywhere}
 
 module _ (s : List ℕ) (ds : List Declaration) (ok : checked s ≡ accepted ds) (fits : FitsTables s) where
@@ -34,6 +35,13 @@ module _ (s : List ℕ) (ds : List Declaration) (ok : checked s ≡ accepted ds)
 
   pub tables-everywhere : Everywhere s (tables s)
   tables-everywhere = text-everywhere s ds (derivable .cursor) (derivable .read) within
+
+  -- nothing is at fault in the script of the tables, and its warnings are the text's
+  pub script-fine : typed (scriptIn s (tables s)) ≡ fine
+  script-fine = ap typed (decoded .0) ∙ typed-sorted ds ∙ typed-iff ds .1 (derivable .derivation)
+
+  pub script-warnings : warnings (scriptIn s (tables s)) ≡ warnings ds
+  script-warnings = ap warnings (decoded .0) ∙ warnings-sorted ds
 
   pub program-is : programIn s (tables s) ≡ programOf ds
   unfolding programIn
@@ -68,3 +76,9 @@ module _ {s w : List ℕ} (t : TextIn s w) where
 
   pub bodies-in : Bodies (programIn s w)
   bodies-in = over (λ x. Bodies (programIn s x)) (bodies-typed s (t .script) (t .accepts) (t .fits))
+
+  pub typed-in : typed (scriptIn s w) ≡ fine
+  typed-in = over (λ x. typed (scriptIn s x) ≡ fine) (script-fine s (t .script) (t .accepts) (t .fits))
+
+  pub warnings-in : warnings (scriptIn s w) ≡ warnings (t .script)
+  warnings-in = over (λ x. warnings (scriptIn s x) ≡ warnings (t .script)) (script-warnings s (t .script) (t .accepts) (t .fits))

@@ -1,4 +1,4 @@
--- How declarations of different kinds are mixed does not matter: what refusals 6 to 15 say of a script they say of it sorted, as the tables hold it.
+-- How declarations of different kinds are mixed does not matter: what refusals 6 to 15 and the warnings say of a script they say of it sorted, as the tables hold it.
 use Prim.Native.Nat.{ℕ, min}
 use mathlib.Core.Path.{_≡_, refl, sym, _∙_, ap}
 use mathlib.Core.List.{List, [], _∷_, _++_, append-nil, append-assoc}
@@ -11,6 +11,7 @@ use Rattle.calculus.specs.Program.{Program, programOf}
 use Rattle.calculus.specs.Declarations.{gather, typeName, processName, repeats, ownRepeats, repeated, ownUndefined, undefined, ownBareName, bareNames, breaking, wrongExecs, declared}
 use Rattle.calculus.specs.Checking.{checkDeclaration, checkDeclarations, typed}
 use Rattle.calculus.specs.Verdict.{Verdict, fine, refused, andThen, lower, faults}
+use Rattle.calculus.specs.Warnings.{ownWarnings, warnings}
 use Rattle.read_tables.specs.Program.{program-sorted}
 use Rattle.read_tables.specs.Scripts.{ownType, ownProc, ownExec, sorted}
 use Rattle.read_tables.specs.Scripts as scripts
@@ -83,7 +84,7 @@ module _ (f : Declaration → List ℕ) where
 
 -- ── the names of one kind keep their order
 module _ {X : Type 0} where
-  gather-append : (f : Declaration → List X) (x y : List Declaration) → gather f (x ++ y) ≡ gather f x ++ gather f y
+  pub gather-append : (f : Declaration → List X) (x y : List Declaration) → gather f (x ++ y) ≡ gather f x ++ gather f y
   gather-append f [] y = refl
   gather-append f (a ∷ x) y = ap (_++_ (f a)) (gather-append f x y) ∙ sym (append-assoc (f a) (gather f x) (gather f y))
 
@@ -119,12 +120,20 @@ type-names ds =
     let execs = of-kind typeName nothing ownExec (by-kind (λ a. gather typeName (ownExec a) ≡ []) (λ n A. refl) (λ n xs ys P. refl) (λ n. refl)) ds ∙ gather-nothing ds in
     in-kinds typeName ds ∙ (λ j. types j ++ (processes j ++ execs j)) ∙ append-nil (gather typeName ds)
 
+-- of processes alone
+of-processes : {X : Type 0} (f : Declaration → List X) → ((n : Located) (A : Ty Located) → f (declareType n A) ≡ []) → ((n : Located) → f (declareExec n) ≡ []) → (ds : List Declaration) → gather f (sorted ds) ≡ gather f ds
+of-processes f t e ds =
+    let types = of-kind f nothing ownType (by-kind (λ a. gather f (ownType a) ≡ []) (λ n A. append-nil (f (declareType n A)) ∙ t n A) (λ n xs ys P. refl) (λ n. refl)) ds ∙ gather-nothing ds in
+    let processes = of-kind f f ownProc (by-kind (λ a. gather f (ownProc a) ≡ f a) (λ n A. sym (t n A)) (λ n xs ys P. append-nil (f (declareProc n xs ys P))) (λ n. sym (e n))) ds in
+    let execs = of-kind f nothing ownExec (by-kind (λ a. gather f (ownExec a) ≡ []) (λ n A. refl) (λ n xs ys P. refl) (λ n. append-nil (f (declareExec n)) ∙ e n)) ds ∙ gather-nothing ds in
+    in-kinds f ds ∙ (λ j. types j ++ (processes j ++ execs j)) ∙ append-nil (gather f ds)
+
 process-names : (ds : List Declaration) → gather processName (sorted ds) ≡ gather processName ds
-process-names ds =
-    let types = of-kind processName nothing ownType (by-kind (λ a. gather processName (ownType a) ≡ []) (λ n A. refl) (λ n xs ys P. refl) (λ n. refl)) ds ∙ gather-nothing ds in
-    let processes = of-kind processName processName ownProc (by-kind (λ a. gather processName (ownProc a) ≡ processName a) (λ n A. refl) (λ n xs ys P. refl) (λ n. refl)) ds in
-    let execs = of-kind processName nothing ownExec (by-kind (λ a. gather processName (ownExec a) ≡ []) (λ n A. refl) (λ n xs ys P. refl) (λ n. refl)) ds ∙ gather-nothing ds in
-    in-kinds processName ds ∙ (λ j. types j ++ (processes j ++ execs j)) ∙ append-nil (gather processName ds)
+process-names = of-processes processName (λ n A. refl) (λ n. refl)
+
+pub warnings-sorted : (ds : List Declaration) → warnings (sorted ds) ≡ warnings ds
+unfolding warnings
+warnings-sorted ds = ap (λ p. gather (ownWarnings p) (sorted ds)) (program-sorted ds) ∙ of-processes (ownWarnings (programOf ds)) (λ n A. refl) (λ n. refl) ds
 
 -- ── the four passes
 repeated-sorted : (ds : List Declaration) → faults 6 (repeated (sorted ds)) ≡ faults 6 (repeated ds)

@@ -4,3 +4,4 @@ pub mod Process
 pub mod Turns
 pub mod Spawns
 pub mod Branches
+pub mod Missing

@@ -1,12 +1,13 @@
 -- What the rules ask of one term, by the kind of its node.
 use Prim.Native.Nat.{ℕ, zero, suc, _+_, _<_, _≤_}
 use mathlib.Core.Path.{_≡_, refl, sym, _∙_, ap, subst}
-use mathlib.Core.List.{List}
+use mathlib.Core.List.{List, []}
 use mathlib.Core.Bool.{Bool, true, false, cond, _&&_}
 use native.Mathlib.Omega.{arith}
 use lib.Dec.{eqb}
 use borrow.Author.Tests.{eqb-true, eqb-false}
 use Rattle.notation.specs.Limits.{textLimit, processTermLimit}
+use Rattle.notation.specs.Reader.{nameIn}
 use Rattle.notation.specs.Sizes.{processTerms, branchesTerms}
 use Rattle.notation.specs.Token.{nameAt}
 use Rattle.notation.specs.Tables.{termNode}
@@ -17,16 +18,17 @@ use Rattle.calculus.specs.Types.{provided, used}
 use Rattle.calculus.specs.Mentions.{spawnTakes, spawnLeaves, tryTakes, neverBoth, exactlyOne}
 use Rattle.calculus.specs.Program.{slot, Context, Program}
 use Rattle.calculus.specs.Typing.{bringing, namesOf}
-use Rattle.calculus.specs.Checking.{mayBring, check, checkBranches}
-use Rattle.calculus.specs.Verdict.{Verdict, fine, andThen, demand}
+use Rattle.calculus.specs.Checking.{mayBring, check}
+use Rattle.calculus.specs.Warnings.{missing}
 use Rattle.read_tables.specs.Decode.{argumentsAt, processIn}
 use Rattle.read_tables.specs.Names.{CallAt}
 use Rattle.read_tables.specs.Program.{plainIn, programIn}
 use Rattle.read_tables.specs.Roots.{Cases, _or_, atKind, processCases, TypeIn, ProcessIn, BranchesIn, branchesIn}
+use Rattle.check_terms.specs.Findings.{Finding, lacking, found, both, found-both}
 use Rattle.check_terms.specs.Next.{Step, go, granted, resume, demand-asks}
-use Rattle.check_terms.specs.Rules.{closes, passes, chooses, givesUp, receives, check-send-unit, check-send-channel, check-send-label, check-cancel, check-recv-unit, check-recv-channel}
-use Rattle.check_processes.specs.Offers.{offeredBy, choosing-with, check-recv-label}
-use Rattle.check_terms.specs.Endings.{forwards, calls, check-fwd, check-call}
+use Rattle.check_terms.specs.Rules.{closes, passes, chooses, givesUp, receives, found-send-unit, found-send-channel, found-send-label, found-cancel, found-recv-unit, found-recv-channel}
+use Rattle.check_processes.specs.Offers.{offeredBy, choosing-with, branchesFound, found-recv-label}
+use Rattle.check_terms.specs.Endings.{forwards, calls, found-fwd, found-call}
 
 -- the node n of the process at the pointer p
 pub record NodeIn (s w : List ℕ) (p : ℕ) (n : TermNode) : Type 0 where
@@ -86,7 +88,7 @@ within Cases.none k e = absurd e
 within (C or r) zero e = omega arith
 within (C or r) (suc k) e = omega (arith, within r k e)
 
--- ── the check of the process at a node, by the node's kind
+-- ── what is found of the process at a node, by the node's kind
 module _ (s w : List ℕ) (p : ℕ) (n : TermNode) (t : NodeIn s w p n) where
   abbrev A : Proc
   A = processIn s w p
@@ -113,7 +115,7 @@ module _ (s w : List ℕ) (p : ℕ) (n : TermNode) (t : NodeIn s w p n) where
 
   -- the rule's step, then the rest
   abbrev Over : (Context → Step) → Type 0
-  Over step = (G : Context) → check P G A ≡ resume (n .at) (step G) (λ H. check P H (processIn s w (n .third)))
+  Over step = (G : Context) → found P G A ≡ resume (n .at) (step G) (λ H. found P H (processIn s w (n .third)))
 
   abbrev Sends : ℕ → Type 0
   Sends k = Part (n .third) × Over (sendStep s w (node k))
@@ -121,9 +123,9 @@ module _ (s w : List ℕ) (p : ℕ) (n : TermNode) (t : NodeIn s w p n) where
   sends : (k : ℕ) → Said k → 1 ≤ k → k ≤ 3 → Sends k
   unfolding sendStep
   sends zero e l h = absurd e
-  sends (suc zero) (f, e) l h = (f, λ G. ap (check P G) e ∙ check-send-unit P G (n .at) _ _)
-  sends (suc (suc zero)) (f, e) l h = (f, λ G. ap (check P G) e ∙ check-send-channel P G (n .at) _ _ _)
-  sends (suc (suc (suc zero))) (f, e) l h = (f, λ G. ap (check P G) e ∙ check-send-label P G (n .at) _ _ _)
+  sends (suc zero) (f, e) l h = (f, λ G. ap (found P G) e ∙ found-send-unit P G (n .at) _ _)
+  sends (suc (suc zero)) (f, e) l h = (f, λ G. ap (found P G) e ∙ found-send-channel P G (n .at) _ _ _)
+  sends (suc (suc (suc zero))) (f, e) l h = (f, λ G. ap (found P G) e ∙ found-send-label P G (n .at) _ _ _)
   sends (suc (suc (suc (suc k)))) e l h = absurd (omega (arith, h))
 
   pub send-at : 1 ≤ n .kind → n .kind ≤ 3 → Sends (n .kind)
@@ -133,7 +135,7 @@ module _ (s w : List ℕ) (p : ℕ) (n : TermNode) (t : NodeIn s w p n) where
   Cancels = Part (n .third) × Over (givesUp (nameAt s (n .first)))
 
   cancels : Said 4 → Cancels
-  cancels (f, e) = (f, λ G. ap (check P G) e ∙ check-cancel P G (n .at) _ _)
+  cancels (f, e) = (f, λ G. ap (found P G) e ∙ found-cancel P G (n .at) _ _)
 
   pub cancel-at : n .kind ≡ 4 → Cancels
   cancel-at z = cancels (said 4 z)
@@ -143,11 +145,11 @@ module _ (s w : List ℕ) (p : ℕ) (n : TermNode) (t : NodeIn s w p n) where
 
   receives-unit : Said 6 → Receives 6
   unfolding receiveStep
-  receives-unit (f, e) = (f, λ z. absurd (omega (arith, z)), λ G. ap (check P G) e ∙ check-recv-unit P G (n .at) _ _)
+  receives-unit (f, e) = (f, λ z. absurd (omega (arith, z)), λ G. ap (found P G) e ∙ found-recv-unit P G (n .at) _ _)
 
   receives-channel : Said 7 → Receives 7
   unfolding receiveStep
-  receives-channel (b, (f, e)) = (f, λ _. b, λ G. ap (check P G) e ∙ check-recv-channel P G (n .at) _ _ _)
+  receives-channel (b, (f, e)) = (f, λ _. b, λ G. ap (found P G) e ∙ found-recv-channel P G (n .at) _ _ _)
 
   pub receive-at : 6 ≤ n .kind → n .kind ≤ 7 → Receives (n .kind)
   receive-at = either Receives 6 (n .kind) (λ z. receives-unit (said 6 z)) (λ z. receives-channel (said 7 z))
@@ -155,41 +157,41 @@ module _ (s w : List ℕ) (p : ℕ) (n : TermNode) (t : NodeIn s w p n) where
   abbrev Ends : ℕ → Type 0
   Ends k =
       ((k ≡ 9 → ⊥) → CallAt s (n .second) (argumentsAt s (n .second) .0) (argumentsAt s (n .second) .1))
-      × ((G : Context) → check P G A ≡ resume (n .at) (endStep s w (node k) G) (λ _. fine))
+      × ((G : Context) → found P G A ≡ resume (n .at) (endStep s w (node k) G) (λ _. lacking []))
 
   ends-fwd : Said 9 → Ends 9
   unfolding endStep
-  ends-fwd e = (λ no. absurd (no refl), λ G. ap (check P G) e ∙ check-fwd P G (n .at) _ _)
+  ends-fwd e = (λ no. absurd (no refl), λ G. ap (found P G) e ∙ found-fwd P G (n .at) _ _)
 
   ends-call : Said 10 → Ends 10
   unfolding endStep
-  ends-call (c, e) = (λ _. c, λ G. ap (check P G) e ∙ check-call P G (n .at) _ _ _ _)
+  ends-call (c, e) = (λ _. c, λ G. ap (found P G) e ∙ found-call P G (n .at) _ _ _ _)
 
   pub end-at : 9 ≤ n .kind → n .kind ≤ 10 → Ends (n .kind)
   end-at = either Ends 9 (n .kind) (λ z. ends-fwd (said 9 z)) (λ z. ends-call (said 10 z))
 
   abbrev Raises : Type 0
-  Raises = Part (n .third) × ((G : Context) → check P G A ≡ check P G (processIn s w (n .third)))
+  Raises = Part (n .third) × ((G : Context) → found P G A ≡ found P G (processIn s w (n .third)))
 
   raises : Said 11 → Raises
-  unfolding check
-  raises (f, e) = (f, λ G. ap (check P G) e)
+  unfolding check missing
+  raises (f, e) = (f, λ G. ap (found P G) e)
 
   pub raise-at : n .kind ≡ 11 → Raises
   raise-at z = raises (said 11 z)
 
-  abbrev spawnRest : Context → Verdict
-  spawnRest H = andThen (check P (halfContext s w n H true) (processIn s w (n .second))) (check P (halfContext s w n H false) (processIn s w (n .third)))
+  abbrev spawnRest : Context → Finding
+  spawnRest H = both (found P (halfContext s w n H true) (processIn s w (n .second))) (found P (halfContext s w n H false) (processIn s w (n .third)))
 
   abbrev Spawns : Type 0
   Spawns =
       TypeIn s w (n .first) × Part (n .second) × Part (n .third) × HalvesOf (n .second) (n .third)
-      × ((G : Context) → check P G A ≡ resume (n .at) (spawnStep s w n G) spawnRest)
+      × ((G : Context) → found P G A ≡ resume (n .at) (spawnStep s w n G) spawnRest)
 
   spawns : Said 5 → Spawns
-  unfolding check spawnStep processTerms
+  unfolding check missing spawnStep processTerms
   spawns (y, f, (g, e)) =
-      (y, f, g, omega (arith, ap processTerms e), λ G. ap (check P G) e ∙ demand-asks 13 (n .at) (apart? s w n G) _ (granted 15 (joins? s w n G) (go G)) spawnRest (demand-asks 15 (n .at) (joins? s w n G) _ (go G) spawnRest refl))
+      (y, f, g, omega (arith, ap processTerms e), λ G. ap (found P G) e ∙ demand-asks 13 (n .at) (apart? s w n G) _ _ (granted 15 (joins? s w n G) (go G)) spawnRest (demand-asks 15 (n .at) (joins? s w n G) _ _ (go G) spawnRest (found-both P (halfContext s w n G true) (halfContext s w n G false) (processIn s w (n .second)) (processIn s w (n .third)))))
 
   pub spawn-at : n .kind ≡ 5 → Spawns
   spawn-at z = spawns (said 5 z)
@@ -198,22 +200,26 @@ module _ (s w : List ℕ) (p : ℕ) (n : TermNode) (t : NodeIn s w p n) where
   Chooses =
       (branchesTerms (branchesIn s w (n .second) (n .third)) < processTerms A)
       × BranchesIn s w (n .second) (n .third)
-      × ((G : Context) → check P G A ≡ choosing-with (n .at) (offeredBy s w n G) (λ r. checkBranches P G (n .at) (nameAt s (n .first)) r (branchesIn s w (n .second) (n .third))))
+      × ((G : Context) → found P G A ≡ choosing-with (n .at) (offeredBy s w n G) (branchesFound P G (n .at) (nameIn s (n .first)) (branchesIn s w (n .second) (n .third))))
 
   choosing-one : Said 8 → Chooses
-  choosing-one (l, f, e) = (l, f, λ G. ap (check P G) e ∙ check-recv-label P G (n .at) _ _)
+  choosing-one (l, f, e) = (l, f, λ G. ap (found P G) e ∙ found-recv-label P G (n .at) _ _)
 
   pub choose-at : n .kind ≡ 8 → Chooses
   choose-at z = choosing-one (said 8 z)
 
+  abbrev tryRest : Context → Finding
+  tryRest H = both (found P (tryTakes (processIn s w (n .second)) H) (processIn s w (n .second))) (found P (tryTakes (processIn s w (n .third)) H) (processIn s w (n .third)))
+
   abbrev Tries : Type 0
   Tries =
       Part (n .second) × Part (n .third) × HalvesOf (n .second) (n .third)
-      × ((G : Context) → check P G A ≡ demand 13 (n .at) (exactlyOne (processIn s w (n .second)) (processIn s w (n .third)) (names G)) (andThen (check P (tryTakes (processIn s w (n .second)) G) (processIn s w (n .second))) (check P (tryTakes (processIn s w (n .third)) G) (processIn s w (n .third)))))
+      × ((G : Context) → found P G A ≡ resume (n .at) (granted 13 (exactlyOne (processIn s w (n .second)) (processIn s w (n .third)) (names G)) (go G)) tryRest)
 
   tries : Said 12 → Tries
-  unfolding check processTerms
-  tries (f, (g, e)) = (f, g, omega (arith, ap processTerms e), λ G. ap (check P G) e)
+  unfolding check missing processTerms
+  tries (f, (g, e)) =
+      (f, g, omega (arith, ap processTerms e), λ G. ap (found P G) e ∙ demand-asks 13 (n .at) (exactlyOne (processIn s w (n .second)) (processIn s w (n .third)) (names G)) _ _ (go G) tryRest (found-both P (tryTakes (processIn s w (n .second)) G) (tryTakes (processIn s w (n .third)) G) (processIn s w (n .second)) (processIn s w (n .third))))
 
   thirteen-kinds : n .kind < 13
   thirteen-kinds = within (processCases s w n A) (n .kind) (t .says)

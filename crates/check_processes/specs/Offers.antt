@@ -1,7 +1,7 @@
 -- What the typing rule of a recv with labels asks of its channel and its branches.
 use Prim.Native.Nat.{ℕ, _<_}
 use mathlib.Core.Path.{_≡_, refl, sym, _∙_, ap, subst}
-use mathlib.Core.List.{List}
+use mathlib.Core.List.{List, _++_}
 use mathlib.Core.Bool.{Bool, true, false, not}
 use mathlib.Core.Option.{Option, some, none}
 use Rattle.notation.specs.Token.{nameAt}
@@ -9,9 +9,10 @@ use Rattle.notation.specs.Tree.{Name, Located, Alternatives, Branches, recvLabe
 use Rattle.notation.specs.declared.reading.TermNode.{TermNode}
 use Rattle.calculus.specs.Types.{other, sameSide, Choosing, choosing}
 use Rattle.calculus.specs.Program.{Slot, Context, Program}
-use Rattle.calculus.specs.Typing.{acting, fitting}
-use Rattle.calculus.specs.Checking.{check, checkBranches}
-use Rattle.calculus.specs.Verdict.{Verdict, refused, demand, having}
+use Rattle.calculus.specs.Typing.{acting}
+use Rattle.calculus.specs.Checking.{fitting, check, checkBranches}
+use Rattle.calculus.specs.Verdict.{Verdict, demand, having}
+use Rattle.calculus.specs.Warnings.{Missing, leftOut, missingOn, onTyped, missing, branchesMissing}
 use Rattle.run_words.specs.Raw.{sideOf}
 use Rattle.run_words.specs.declared.records.End.{End as EndWords}
 use Rattle.run_words.specs.declared.records.Held.{Held}
@@ -21,6 +22,7 @@ use Rattle.check_types.specs.Acting.{choosingOf, chosenIn, ChoosingIn}
 use Rattle.check_types.specs.declared.messages.Choosing.{Choosing as ChoosingWords}
 use Rattle.check_types.specs.declared.messages.Choosing.the-variants.{Chooses}
 use Rattle.check_types.specs.declared.messages.Choosing.the-variants as NoChoosing
+use Rattle.check_terms.specs.Findings.{Finding, refusal, finding, found}
 use Rattle.check_terms.specs.Next.{contextIn}
 use Rattle.check_terms.specs.Acting.{slotIn, different-sides, equal-sides, other-so}
 use Rattle.check_processes.specs.declared.choices.Offer.{Offer}
@@ -39,11 +41,11 @@ abbrev allowed : ℕ → Bool → Offered → Offered
 allowed n true t = t
 allowed n false t = refuses n
 
-abbrev pub choosing-with : ℕ → Offered → (Alternatives Name → Verdict) → Verdict
-choosing-with at (refuses n) k = refused n at
+abbrev pub choosing-with : ℕ → Offered → (Alternatives Name → Finding) → Finding
+choosing-with at (refuses n) k = refusal n at
 choosing-with at (offers r) k = k r
 
--- "+ used or & provided, each label of the type once, in whatever order"
+-- "+ used or & provided, each branch's label one of the type's, in whatever order"
 abbrev offeredOn : Branches → Slot → Choosing → Offered
 offeredOn B h t = allowed 11 (sameSide (h .side) (other (t .sender))) (allowed 12 (fitting (t .labels) B) (offers (t .labels)))
 
@@ -53,23 +55,27 @@ offeredAt B h = wanting 11 (choosing (h .type)) (offeredOn B h)
 unfoldable pub offered : Program → Name → Branches → Context → Offered
 offered p c B G = wanting 10 (acting p c G) (offeredAt B)
 
-pub check-recv-label : (p : Program) (G : Context) (at : ℕ) (c : Located) (B : Branches) → check p G (recvLabel at c B) ≡ choosing-with at (offered p (c .name) B G) (λ r. checkBranches p G at (c .name) r B)
-unfolding check offered
-check-recv-label p G at c B =
-    having-so 10 (acting p (c .name) G) _ (offeredAt B) λ h.
-    having-so 11 (choosing (h .type)) _ (offeredOn B h) λ t.
-    demand-so 11 (sameSide (h .side) (other (t .sender))) _ (allowed 12 (fitting (t .labels) B) (offers (t .labels))) (demand-so 12 (fitting (t .labels) B) _ (offers (t .labels)) refl)
+-- what is found of the branches B for the labels r: what the recv leaves out itself comes before what they do
+abbrev pub branchesFound : Program → Context → ℕ → Located → Branches → Alternatives Name → Finding
+branchesFound p G at c B r = finding (checkBranches p G at (c .name) r B) (missingOn c (leftOut r B) ++ branchesMissing p G (c .name) r B)
+
+pub found-recv-label : (p : Program) (G : Context) (at : ℕ) (c : Located) (B : Branches) → found p G (recvLabel at c B) ≡ choosing-with at (offered p (c .name) B G) (branchesFound p G at c B)
+unfolding check missing offered
+found-recv-label p G at c B =
+    having-so 10 (acting p (c .name) G) _ _ (offeredAt B) λ h.
+    having-so 11 (choosing (h .type)) _ _ (offeredOn B h) λ t.
+    demand-so 11 (sameSide (h .side) (other (t .sender))) _ _ (allowed 12 (fitting (t .labels) B) (offers (t .labels))) (demand-so 12 (fitting (t .labels) B) _ _ (offers (t .labels)) refl)
   where
-    k : Alternatives Name → Verdict
-    k r = checkBranches p G at (c .name) r B
+    k : Alternatives Name → Finding
+    k = branchesFound p G at c B
 
-    having-so : {X : Type 0} (n : ℕ) (o : Option X) (v : X → Verdict) (t : X → Offered) → ((x : X) → v x ≡ choosing-with at (t x) k) → having n at o v ≡ choosing-with at (wanting n o t) k
-    having-so n none v t f = refl
-    having-so n (some x) v t f = f x
+    having-so : {X : Type 0} (n : ℕ) (o : Option X) (v : X → Verdict) (m : X → List Missing) (t : X → Offered) → ((x : X) → finding (v x) (m x) ≡ choosing-with at (t x) k) → finding (having n at o v) (onTyped o m) ≡ choosing-with at (wanting n o t) k
+    having-so n none v m t f = refl
+    having-so n (some x) v m t f = f x
 
-    demand-so : (n : ℕ) (b : Bool) (v : Verdict) (t : Offered) → v ≡ choosing-with at t k → demand n at b v ≡ choosing-with at (allowed n b t) k
-    demand-so n true v t e = e
-    demand-so n false v t e = refl
+    demand-so : (n : ℕ) (b : Bool) (v : Verdict) (m : List Missing) (t : Offered) → finding v m ≡ choosing-with at t k → finding (demand n at b v) m ≡ choosing-with at (allowed n b t) k
+    demand-so n true v m t e = e
+    demand-so n false v m t e = refl
 
 -- ── the code's answer
 abbrev pub offerOf : List ℕ → List ℕ → Offer → Offered
@@ -103,12 +109,12 @@ module _ (s w : List ℕ) (h : Held) (n : TermNode) where
     abbrev tests : Choosing → Offered
     tests = offeredOn B (slotIn s w e)
 
-    found : offeredBy s w n G ≡ wanting 11 (choosingOf s w t) tests
+    seen : offeredBy s w n G ≡ wanting 11 (choosingOf s w t) tests
     unfolding offered
-    found = ap (λ o. wanting 10 o (offeredAt B)) f ∙ ap (λ k. wanting 11 (choosing (plainIn s w k)) tests) (sym z) ∙ ap (λ o. wanting 11 o tests) (g .is)
+    seen = ap (λ o. wanting 10 o (offeredAt B)) f ∙ ap (λ k. wanting 11 (choosing (plainIn s w k)) tests) (sym z) ∙ ap (λ o. wanting 11 o tests) (g .is)
 
     pub offers-nothing : t ≡ NoChoosing.Nothing → Offers s w h n (offer.Refused 11)
-    offers-nothing q = record { is = sym (found ∙ ap (λ u. wanting 11 (choosingOf s w u) tests) q); labels = tt }
+    offers-nothing q = record { is = sym (seen ∙ ap (λ u. wanting 11 (choosingOf s w u) tests) q); labels = tt }
 
     module _ (sender a m : ℕ) (q : t ≡ Chooses sender a m) where
       there : chosenIn s w (Chooses sender a m)
@@ -121,7 +127,7 @@ module _ (s w : List ℕ) (h : Held) (n : TermNode) where
       labels = plains (alternativesIn s w a m)
 
       both : (x y : Bool) → not (sameSide (sideOf (e .side)) (sideOf sender)) ≡ x → fitting labels B ≡ y → offeredBy s w n G ≡ allowed 11 x (allowed 12 y (offers labels))
-      both x y u v = found ∙ ap (λ c. wanting 11 (choosingOf s w c) tests) q ∙ λ j. allowed 11 ((other-so (e .side) (sideOf sender) ∙ u) j) (allowed 12 (v j) (offers labels))
+      both x y u v = seen ∙ ap (λ c. wanting 11 (choosingOf s w c) tests) q ∙ λ j. allowed 11 ((other-so (e .side) (sideOf sender) ∙ u) j) (allowed 12 (v j) (offers labels))
 
       pub offers-own-end : e .side ≡ sender → Offers s w h n (offer.Refused 11)
       offers-own-end u = record { is = sym (both false (fitting labels B) (ap not (equal-sides (e .side) sender b (there .0) u)) refl); labels = tt }

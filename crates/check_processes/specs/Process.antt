@@ -26,6 +26,8 @@ use Rattle.read_tables.specs.Decode.{processIn}
 use Rattle.read_tables.specs.Program.{programIn}
 use Rattle.read_tables.specs.Roots.{atKind, processCases, ProcessIn, process-root}
 use Rattle.read_tables.specs.Whole.{Tables}
+use Rattle.calculus.specs.Warnings.{missing}
+use Rattle.check_terms.specs.Findings.{Finding, refusal, lacking, finding, found}
 use Rattle.check_terms.specs.Next.{Step, stop, go, asking, granted, resume, contextIn}
 use Rattle.check_terms.specs.Endings.{numberOf, verdictBy, joins, forwards, calls, none-left, some-left}
 use Rattle.check_processes.specs.Nodes.{NodeIn, endStep, spawnStep, apart?, joins?}
@@ -36,14 +38,14 @@ refused-by at (suc n) z = refl
 
 -- ── an empty process
 module _ (s w : List ℕ) (h : Held) (p : ℕ) (t : Tables s w) (a : ProcessIn s w p) (b : processTermLimit ≤ p) where
-  empty-by : (c : Bool) → isNil (contextIn s w h) ≡ c → check (programIn s w) (contextIn s w h) (processIn s w p) ≡ demand 13 (p - processTermLimit) c fine
-  unfolding check
-  empty-by c e = ap (check (programIn s w) (contextIn s w h)) (process-root s w (t .within) p a .none b) ∙ ap (λ d. demand 13 (p - processTermLimit) d fine) e
+  empty-by : (c : Bool) → isNil (contextIn s w h) ≡ c → found (programIn s w) (contextIn s w h) (processIn s w p) ≡ finding (demand 13 (p - processTermLimit) c fine) []
+  unfolding check missing
+  empty-by c e = ap (found (programIn s w) (contextIn s w h)) (process-root s w (t .within) p a .none b) ∙ ap (λ d. finding (demand 13 (p - processTermLimit) d fine) []) e
 
-  pub empty-fine : h .count ≡ 0 → fine ≡ check (programIn s w) (contextIn s w h) (processIn s w p)
+  pub empty-fine : h .count ≡ 0 → lacking [] ≡ found (programIn s w) (contextIn s w h) (processIn s w p)
   empty-fine z = sym (empty-by true (none-left s w h z))
 
-  pub empty-left : (h .count ≡ 0 → ⊥) → refused 13 (p - processTermLimit) ≡ check (programIn s w) (contextIn s w h) (processIn s w p)
+  pub empty-left : (h .count ≡ 0 → ⊥) → refusal 13 (p - processTermLimit) ≡ found (programIn s w) (contextIn s w h) (processIn s w p)
   empty-left z = sym (empty-by false (some-left s w h z))
 
 pub node-in : (s w : List ℕ) (p : ℕ) (n : TermNode) → Tables s w → ProcessIn s w p → p < processTermLimit → TermOf w p n → NodeIn s w p n
@@ -95,13 +97,13 @@ end-no-zero s w n G = either (eqb (n .kind) 9) _ _ (forwards-no-zero _ _ G) (cal
     either true x y p q = p
     either false x y p q = q
 
-by-number : (at : ℕ) (t : Step) → NoZero t → resume at t (λ _. fine) ≡ verdictBy at (numberOf t)
+by-number : (at : ℕ) (t : Step) → NoZero t → resume at t (λ _. lacking []) ≡ finding (verdictBy at (numberOf t)) []
 by-number at (stop zero) h = absurd (omega arith)
 by-number at (stop (suc n)) h = refl
 by-number at (go G) h = refl
 
-pub ends-so : (s w : List ℕ) (n : TermNode) (G : Context) (x : ℕ) {u v : calculus.Verdict} → x ≡ numberOf (endStep s w n G) → u ≡ verdictBy (n .at) x → v ≡ resume (n .at) (endStep s w n G) (λ _. fine) → u ≡ v
-ends-so s w n G x e p q = p ∙ ap (verdictBy (n .at)) e ∙ sym (q ∙ by-number (n .at) (endStep s w n G) (end-no-zero s w n G))
+pub ends-so : (s w : List ℕ) (n : TermNode) (G : Context) (x : ℕ) (u : calculus.Verdict) {v : Finding} → x ≡ numberOf (endStep s w n G) → u ≡ verdictBy (n .at) x → v ≡ resume (n .at) (endStep s w n G) (λ _. lacking []) → finding u [] ≡ v
+ends-so s w n G x u e p q = ap (λ y. finding y []) (p ∙ ap (verdictBy (n .at)) e) ∙ sym (q ∙ by-number (n .at) (endStep s w n G) (end-no-zero s w n G))
 
 -- ── two halves: the first that is at fault, else the second
 pub then-refused : {u : calculus.Verdict} (v : calculus.Verdict) (r : Verdict) (n i : ℕ) → r ≡ verdict.Refused n i → verdictOf r ≡ u → verdictOf r ≡ andThen u v
@@ -111,11 +113,11 @@ pub then-fine : {u x : calculus.Verdict} (v : calculus.Verdict) (r : Verdict) �
 then-fine v r e q p = p ∙ ap (λ y. andThen y v) (sym (ap verdictOf e) ∙ q)
 
 -- ── a spawn
-module _ (s w : List ℕ) (n : TermNode) (G : Context) (at : ℕ) (k : Context → calculus.Verdict) where
+module _ (s w : List ℕ) (n : TermNode) (G : Context) (at : ℕ) (k : Context → Finding) where
   abbrev by : Bool → Bool → Step
   by a b = granted 13 a (granted 15 b (go G))
 
-  stops-by : (a b : Bool) → (numberOf (by a b) ≡ 0 → ⊥) → refused (numberOf (by a b)) at ≡ resume at (by a b) k
+  stops-by : (a b : Bool) → (numberOf (by a b) ≡ 0 → ⊥) → refusal (numberOf (by a b)) at ≡ resume at (by a b) k
   stops-by true true z = absurd (z refl)
   stops-by true false z = refl
   stops-by false b z = refl
@@ -125,9 +127,9 @@ module _ (s w : List ℕ) (n : TermNode) (G : Context) (at : ℕ) (k : Context �
   goes-by true false z = absurd (omega arith)
   goes-by false b z = absurd (omega arith)
 
-  pub spawn-stops : (r : ℕ) → r ≡ numberOf (spawnStep s w n G) → (r ≡ 0 → ⊥) → refused r at ≡ resume at (spawnStep s w n G) k
+  pub spawn-stops : (r : ℕ) → r ≡ numberOf (spawnStep s w n G) → (r ≡ 0 → ⊥) → refusal r at ≡ resume at (spawnStep s w n G) k
   unfolding spawnStep
-  spawn-stops r e z = ap (λ m. refused m at) e ∙ stops-by (apart? s w n G) (joins? s w n G) (λ q. z (e ∙ q))
+  spawn-stops r e z = ap (λ m. refusal m at) e ∙ stops-by (apart? s w n G) (joins? s w n G) (λ q. z (e ∙ q))
 
   pub spawn-goes : (r : ℕ) → r ≡ numberOf (spawnStep s w n G) → r ≡ 0 → resume at (spawnStep s w n G) k ≡ k G
   unfolding spawnStep

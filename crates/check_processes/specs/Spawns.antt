@@ -13,10 +13,7 @@ use Rattle.notation.specs.Tree.{Name, Proc}
 use Rattle.notation.specs.declared.reading.TermNode.{TermNode}
 use Rattle.calculus.specs.Named.{lookup, isSome, names, kept}
 use Rattle.calculus.specs.Mentions.{spawnTakes, spawnLeaves, tryTakes, neverBoth, exactlyOne}
-use Rattle.calculus.specs.Checking.{check}
 use Rattle.calculus.specs.Program.{slot, Context}
-use Rattle.calculus.specs.Verdict.{refused, andThen, demand}
-use Rattle.calculus.specs.Verdict as calculus
 use Rattle.calculus.specs.Typing.{bringing}
 use Rattle.calculus.specs.Configuration.{End}
 use Rattle.calculus.specs.WellFormed.{contextOf}
@@ -29,12 +26,13 @@ use Rattle.check_contexts.specs.Marks.{ALL}
 use Rattle.check_contexts.specs.declared.marks.Marks.{Marks}
 use Rattle.check_contexts.specs.Halves.{halfSide, wanted, takes, Takes, Keeps, keeps-so, Picks, Fair, fair-both, fair-each, Divides, HasRoom, has-room, SpawnHalf, spawn-takes, spawn-leaves, try-takes, never-shared, shared-once}
 use Rattle.check_contexts.specs.declared.halves.Half.the-variants.{OfSpawn, OfTry}
+use Rattle.check_terms.specs.Findings.{Finding, refusal, found, both}
 use Rattle.check_terms.specs.Next.{go, granted, resume, contextIn}
 use Rattle.check_terms.specs.Endings.{numberOf}
 use Rattle.check_terms.specs.Sends.{count-so}
 use Rattle.check_processes.specs.Nodes.{NodeIn, apart?, joins?, spawnStep, halfContext, spawn-at, try-at}
 use Rattle.check_processes.specs.Process.{spawn-stops, spawn-goes}
-use Rattle.check_processes.specs.Turns.{verdictAt}
+use Rattle.check_processes.specs.Turns.{foundAt}
 
 -- ── a split of what is held is a split of the context
 context-takes : (x : Name) (P : Proc) (l : List (Name × End)) → contextOf (spawnTakes x P l) ≡ spawnTakes x P (contextOf l)
@@ -175,44 +173,40 @@ module _ (s w : List ℕ) (h : Held) (p : ℕ) (n : TermNode) (t : NodeIn s w p 
   abbrev context : Context
   context = contextIn s w h
 
-  abbrev first? : Context → calculus.Verdict
-  first? H = check (programIn s w) (halfContext s w n H true) (processIn s w (n .second))
+  abbrev first? : Context → Finding
+  first? H = found (programIn s w) (halfContext s w n H true) (processIn s w (n .second))
 
-  abbrev second? : Context → calculus.Verdict
-  second? H = check (programIn s w) (halfContext s w n H false) (processIn s w (n .third))
+  abbrev second? : Context → Finding
+  second? H = found (programIn s w) (halfContext s w n H false) (processIn s w (n .third))
 
-  spawn-said : verdictAt s w h p ≡ resume (n .at) (spawnStep s w n context) (λ H. andThen (first? H) (second? H))
+  spawn-said : foundAt s w h p ≡ resume (n .at) (spawnStep s w n context) (λ H. both (first? H) (second? H))
   spawn-said = spawn-at s w p n t z .4 context
 
-  pub spawn-refused : (r : ℕ) → r ≡ numberOf (spawnStep s w n context) → (r ≡ 0 → ⊥) → refused r (n .at) ≡ verdictAt s w h p
-  spawn-refused r e d = spawn-stops s w n context (n .at) (λ H. andThen (first? H) (second? H)) r e d ∙ sym spawn-said
+  pub spawn-refused : (r : ℕ) → r ≡ numberOf (spawnStep s w n context) → (r ≡ 0 → ⊥) → refusal r (n .at) ≡ foundAt s w h p
+  spawn-refused r e d = spawn-stops s w n context (n .at) (λ H. both (first? H) (second? H)) r e d ∙ sym spawn-said
 
   pub spawn-halves : (r : ℕ) → r ≡ numberOf (spawnStep s w n context) → r ≡ 0 → (a b : Held) → contextIn s w a ≡ halfContext s w n context true → contextIn s w b ≡ halfContext s w n context false
-      → andThen (verdictAt s w a (n .second)) (verdictAt s w b (n .third)) ≡ verdictAt s w h p
+      → both (foundAt s w a (n .second)) (foundAt s w b (n .third)) ≡ foundAt s w h p
   spawn-halves r e o a b f g =
-      (λ j. andThen (check (programIn s w) (f j) (processIn s w (n .second))) (check (programIn s w) (g j) (processIn s w (n .third))))
-      ∙ sym (spawn-said ∙ spawn-goes s w n context (n .at) (λ H. andThen (first? H) (second? H)) r e o)
+      (λ j. both (found (programIn s w) (f j) (processIn s w (n .second))) (found (programIn s w) (g j) (processIn s w (n .third))))
+      ∙ sym (spawn-said ∙ spawn-goes s w n context (n .at) (λ H. both (first? H) (second? H)) r e o)
 
 -- ── what a try's checks come to
 module _ (s w : List ℕ) (h : Held) (p : ℕ) (n : TermNode) (t : NodeIn s w p n) (z : 12 ≤ n .kind) where
-  abbrev main? : calculus.Verdict
-  main? = check (programIn s w) (tryTakes (processIn s w (n .second)) (contextIn s w h)) (processIn s w (n .second))
-
-  abbrev handler? : calculus.Verdict
-  handler? = check (programIn s w) (tryTakes (processIn s w (n .third)) (contextIn s w h)) (processIn s w (n .third))
+  abbrev halves? : Context → Finding
+  halves? H = both (found (programIn s w) (tryTakes (processIn s w (n .second)) H) (processIn s w (n .second))) (found (programIn s w) (tryTakes (processIn s w (n .third)) H) (processIn s w (n .third)))
 
   module _ (u : HeldIn s w h) {a b : Marks} (f : Takes s w h (OfTry (n .second)) ALL a) (g : Takes s w h (OfTry (n .third)) ALL b) (r : Bool) (d : Divides (h .count) a b true r) where
-    try-said : verdictAt s w h p ≡ demand 13 (n .at) r (andThen main? handler?)
-    try-said = try-at s w p n t z .3 (contextIn s w h) ∙ ap (λ c. demand 13 (n .at) c (andThen main? handler?)) (sym (tried-once s w h (n .second) (n .third) r (fair-each f u g d)))
+    try-by : (c : Bool) → r ≡ c → resume (n .at) (granted 13 c (go (contextIn s w h))) halves? ≡ foundAt s w h p
+    try-by c e =
+        sym (try-at s w p n t z .3 (contextIn s w h)
+        ∙ ap (λ c. resume (n .at) (granted 13 c (go (contextIn s w h))) halves?) (sym (tried-once s w h (n .second) (n .third) r (fair-each f u g d)) ∙ e))
 
-    try-by : (c : Bool) → r ≡ c → demand 13 (n .at) c (andThen main? handler?) ≡ verdictAt s w h p
-    try-by c e = sym (try-said ∙ ap (λ c. demand 13 (n .at) c (andThen main? handler?)) e)
-
-    pub try-refused : r ≡ false → refused 13 (n .at) ≡ verdictAt s w h p
+    pub try-refused : r ≡ false → refusal 13 (n .at) ≡ foundAt s w h p
     try-refused e = try-by false e
 
     pub try-halves : r ≡ true → (x y : Held) → Picks h a true x → Picks h b true y
-        → andThen (verdictAt s w x (n .second)) (verdictAt s w y (n .third)) ≡ verdictAt s w h p
+        → both (foundAt s w x (n .second)) (foundAt s w y (n .third)) ≡ foundAt s w h p
     try-halves e x y k l =
-        (λ j. andThen (check (programIn s w) (tried s w h (n .second) x (keeps-so f u k) j) (processIn s w (n .second))) (check (programIn s w) (tried s w h (n .third) y (keeps-so g u l) j) (processIn s w (n .third))))
+        (λ j. both (found (programIn s w) (tried s w h (n .second) x (keeps-so f u k) j) (processIn s w (n .second))) (found (programIn s w) (tried s w h (n .third) y (keeps-so g u l) j) (processIn s w (n .third))))
         ∙ try-by true e

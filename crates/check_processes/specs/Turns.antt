@@ -1,7 +1,7 @@
 -- What one term of a process comes to: what follows it, or the verdict.
 use Prim.Native.Nat.{ℕ, suc, _+_, _*_, _<_, _≤_}
 use mathlib.Core.Path.{_≡_, refl, sym, _∙_, ap, subst}
-use mathlib.Core.List.{List}
+use mathlib.Core.List.{List, []}
 use mathlib.Core.Bool.{Bool, true, false, cond, false≢true}
 use native.Mathlib.Omega.{arith}
 use lib.Dec.{eqb}
@@ -13,11 +13,13 @@ use Rattle.calculus.specs.Verdict.{fine, andThen, verdictOf}
 use Rattle.calculus.specs.Verdict as calculus
 use Rattle.calculus.specs.declared.verdict.Verdict.{Verdict}
 use Rattle.calculus.specs.declared.verdict.Verdict.the-variants as verdict
+use Rattle.calculus.specs.Warnings.{Missing, missing}
 use Rattle.run_words.specs.declared.records.Held.{Held}
 use Rattle.read_tables.specs.Decode.{processIn}
 use Rattle.read_tables.specs.Program.{programIn}
 use Rattle.read_tables.specs.Roots.{ProcessIn}
 use Rattle.check_contexts.specs.Held.{HeldIn}
+use Rattle.check_terms.specs.Findings.{Finding, lacking, finding, found, both, verdictIn, lackedIn, none-both, verdict-found, verdict-both, lacked-found}
 use Rattle.check_terms.specs.Next.{Step, stop, go, resume, contextIn, Goes}
 use Rattle.check_terms.specs.declared.next.Next.{Next}
 use Rattle.check_processes.specs.declared.turns.Turn.{Turn}
@@ -61,18 +63,37 @@ halvedBy half from t = record {
   from = from;
 }
 
--- ── the verdict of the process at a pointer, of a first half, and what a turn leaves
+-- ── what is found of the process at a pointer, of a first half, and after a turn
+abbrev pub foundAt : List ℕ → List ℕ → Held → ℕ → Finding
+foundAt s w h p = found (programIn s w) (contextIn s w h) (processIn s w p)
+
+abbrev pub halfFound : List ℕ → List ℕ → Bool → Held → ℕ → Finding
+halfFound s w halved h p = cond halved (foundAt s w h p) (lacking [])
+
+abbrev pub restFound : List ℕ → List ℕ → Turn → Finding
+restFound s w r = cond (r .on) (foundAt s w (r .held) (r .rest)) (cond (r .choice) (foundAt s w (r .held) (r .rest)) (finding (verdictOf (r .verdict)) []))
+
+abbrev pub foundAfter : List ℕ → List ℕ → Turn → Finding
+foundAfter s w r = both (halfFound s w (r .halved) (r .half) (r .from)) (restFound s w r)
+
+-- the verdict on it, and the labels that it leaves out
 abbrev pub verdictAt : List ℕ → List ℕ → Held → ℕ → calculus.Verdict
 verdictAt s w h p = check (programIn s w) (contextIn s w h) (processIn s w p)
 
 abbrev pub halfVerdict : List ℕ → List ℕ → Bool → Held → ℕ → calculus.Verdict
-halfVerdict s w halved h p = cond halved (verdictAt s w h p) fine
-
-abbrev pub restVerdict : List ℕ → List ℕ → Turn → calculus.Verdict
-restVerdict s w r = cond (r .on) (verdictAt s w (r .held) (r .rest)) (cond (r .choice) (verdictAt s w (r .held) (r .rest)) (verdictOf (r .verdict)))
+halfVerdict s w halved h p = verdictIn (halfFound s w halved h p)
 
 abbrev pub verdictAfter : List ℕ → List ℕ → Turn → calculus.Verdict
-verdictAfter s w r = andThen (halfVerdict s w (r .halved) (r .half) (r .from)) (restVerdict s w r)
+verdictAfter s w r = verdictIn (foundAfter s w r)
+
+abbrev pub missingAt : List ℕ → List ℕ → Held → ℕ → List Missing
+missingAt s w h p = missing (programIn s w) (contextIn s w h) (processIn s w p)
+
+abbrev pub halfMissing : List ℕ → List ℕ → Bool → Held → ℕ → List Missing
+halfMissing s w halved h p = lackedIn (halfFound s w halved h p)
+
+abbrev pub missingAfter : List ℕ → List ℕ → Turn → List Missing
+missingAfter s w r = lackedIn (foundAfter s w r)
 
 -- a choice at p
 pub record ChoiceAt (s w : List ℕ) (h : Held) (p : ℕ) (n : TermNode) : Type 0 where
@@ -93,28 +114,45 @@ restTerms s w r = cond (r .on) (processTerms (processIn s w (r .rest))) (cond (r
 abbrev pub turnTerms : List ℕ → List ℕ → Turn → ℕ
 turnTerms s w r = cond (r .halved) (suc (processTerms (processIn s w (r .from)))) 0 + restTerms s w r
 
--- a turn of the process at p
+-- a turn of the process at p: after it the same is found
 pub record Turned (s w : List ℕ) (h : Held) (p : ℕ) (r : Turn) : Type 0 where
-  pub is : verdictAfter s w r ≡ verdictAt s w h p
+  pub is : foundAfter s w r ≡ foundAt s w h p
   pub stands : TurnIn s w r
   pub fewer : turnTerms s w r ≤ processTerms (processIn s w p)
   pub less : r .on ≡ true → processTerms (processIn s w (r .rest)) < processTerms (processIn s w p)
 
+pub turned-verdict : {s w : List ℕ} {h : Held} {p : ℕ} {r : Turn} → Turned s w h p r → verdictAfter s w r ≡ verdictAt s w h p
+turned-verdict {s} {w} {h} {p} t = ap verdictIn (t .is) ∙ verdict-found (verdictAt s w h p) (missingAt s w h p)
+
+pub turned-missing : {s w : List ℕ} {h : Held} {p : ℕ} {r : Turn} → Turned s w h p r → verdictAt s w h p ≡ fine → missingAfter s w r ≡ missingAt s w h p
+turned-missing {s} {w} {h} {p} t f = ap lackedIn (t .is) ∙ lacked-found (missingAt s w h p) f
+
 not-both : {b : Bool} {A : Type 0} → b ≡ false → b ≡ true → A
 not-both e q = absurd (false≢true (sym e ∙ q))
 
--- the verdict after a turn with no first half
-whole-is : (s w : List ℕ) (r : Turn) → r .halved ≡ false → verdictAfter s w r ≡ restVerdict s w r
-whole-is s w r e = ap (λ c. andThen (cond c (verdictAt s w (r .half) (r .from)) fine) (restVerdict s w r)) e
+-- what is found after a turn with no first half
+whole-is : (s w : List ℕ) (r : Turn) → r .halved ≡ false → foundAfter s w r ≡ restFound s w r
+whole-is s w r e = ap (λ c. both (halfFound s w c (r .half) (r .from)) (restFound s w r)) e ∙ none-both (restFound s w r)
 
-rest-given : (s w : List ℕ) (r : Turn) (v : Verdict) → Given v r → restVerdict s w r ≡ verdictOf v
-rest-given s w r v g = λ j. cond (g .ends j) (verdictAt s w (r .held) (r .rest)) (cond (g .no-choice j) (verdictAt s w (r .held) (r .rest)) (verdictOf (g .verdict j)))
+-- what a turn leaves: a process that follows, a choice, or a verdict
+module _ (s w : List ℕ) (r : Turn) where
+  pub rest-on : r .on ≡ true → restFound s w r ≡ foundAt s w (r .held) (r .rest)
+  rest-on z = ap (λ c. cond c (foundAt s w (r .held) (r .rest)) (cond (r .choice) (foundAt s w (r .held) (r .rest)) (finding (verdictOf (r .verdict)) []))) z
 
-rest-onward : (s w : List ℕ) (r : Turn) (h : Held) (rest : ℕ) → Onward h rest r → restVerdict s w r ≡ verdictAt s w h rest
-rest-onward s w r h rest o = λ j. cond (o .on j) (verdictAt s w (o .held j) (o .resting j)) (cond (r .choice) (verdictAt s w (o .held j) (o .resting j)) (verdictOf (r .verdict)))
+  pub rest-choice : r .on ≡ false → r .choice ≡ true → restFound s w r ≡ foundAt s w (r .held) (r .rest)
+  rest-choice z c = λ j. cond (z j) (foundAt s w (r .held) (r .rest)) (cond (c j) (foundAt s w (r .held) (r .rest)) (finding (verdictOf (r .verdict)) []))
 
-rest-choosing : (s w : List ℕ) (r : Turn) (h : Held) (p : ℕ) (n : TermNode) → Choosing h p n r → restVerdict s w r ≡ verdictAt s w h p
-rest-choosing s w r h p n o = λ j. cond (o .ends j) (verdictAt s w (o .held j) (o .resting j)) (cond (o .choice j) (verdictAt s w (o .held j) (o .resting j)) (verdictOf (r .verdict)))
+  pub rest-done : r .on ≡ false → r .choice ≡ false → restFound s w r ≡ finding (verdictOf (r .verdict)) []
+  rest-done z c = λ j. cond (z j) (foundAt s w (r .held) (r .rest)) (cond (c j) (foundAt s w (r .held) (r .rest)) (finding (verdictOf (r .verdict)) []))
+
+  rest-given : (v : Verdict) → Given v r → restFound s w r ≡ finding (verdictOf v) []
+  rest-given v g = rest-done (g .ends) (g .no-choice) ∙ ap (λ x. finding (verdictOf x) []) (g .verdict)
+
+  rest-onward : (h : Held) (rest : ℕ) → Onward h rest r → restFound s w r ≡ foundAt s w h rest
+  rest-onward h rest o = rest-on (o .on) ∙ λ j. foundAt s w (o .held j) (o .resting j)
+
+  rest-choosing : (h : Held) (p : ℕ) (n : TermNode) → Choosing h p n r → restFound s w r ≡ foundAt s w h p
+  rest-choosing h p n o = rest-choice (o .ends) (o .choice) ∙ λ j. foundAt s w (o .held j) (o .resting j)
 
 -- how many terms there are after each
 terms-given : (s w : List ℕ) (r : Turn) (v : Verdict) → Given v r → turnTerms s w r ≡ 0
@@ -135,7 +173,7 @@ part-as : {s w : List ℕ} {h k : Held} {p q : ℕ} → k ≡ h → q ≡ p → 
 part-as {s} {w} e z (f, a) = (subst (HeldIn s w) (sym e) f, subst (ProcessIn s w) (sym z) a)
 
 module _ {s w : List ℕ} {h : Held} {p : ℕ} {r : Turn} where
-  pub turned-given : {v : Verdict} → Given v r → verdictOf v ≡ verdictAt s w h p → Turned s w h p r
+  pub turned-given : {v : Verdict} → Given v r → finding (verdictOf v) [] ≡ foundAt s w h p → Turned s w h p r
   turned-given {v} g q = record {
     is = whole-is s w r (g .whole) ∙ rest-given s w r v g ∙ q;
     stands = record { goes = λ z. not-both (g .ends) z; halves = λ z. not-both (g .whole) z; chooses = λ _ z. not-both (g .no-choice) z };
@@ -143,7 +181,7 @@ module _ {s w : List ℕ} {h : Held} {p : ℕ} {r : Turn} where
     less = λ z. not-both (g .ends) z;
   }
 
-  pub turned-onward : {k : Held} {rest : ℕ} → Onward k rest r → verdictAt s w k rest ≡ verdictAt s w h p → HeldIn s w k → ProcessIn s w rest
+  pub turned-onward : {k : Held} {rest : ℕ} → Onward k rest r → foundAt s w k rest ≡ foundAt s w h p → HeldIn s w k → ProcessIn s w rest
       → processTerms (processIn s w rest) < processTerms (processIn s w p) → Turned s w h p r
   turned-onward {k} {rest} o q f a b = record {
     is = whole-is s w r (o .whole) ∙ rest-onward s w r k rest o ∙ q;
@@ -167,10 +205,10 @@ module _ {s w : List ℕ} {h : Held} {p : ℕ} {r : Turn} where
   }
 
   -- two halves
-  pub turned-halves : {t : Turn} {a b : Held} {first second : ℕ} → Onward b second t → r ≡ halvedBy a first t → andThen (verdictAt s w a first) (verdictAt s w b second) ≡ verdictAt s w h p
+  pub turned-halves : {t : Turn} {a b : Held} {first second : ℕ} → Onward b second t → r ≡ halvedBy a first t → both (foundAt s w a first) (foundAt s w b second) ≡ foundAt s w h p
       → HeldIn s w a × ProcessIn s w first → HeldIn s w b × ProcessIn s w second → suc (processTerms (processIn s w first)) + processTerms (processIn s w second) ≤ processTerms (processIn s w p) → Turned s w h p r
   turned-halves {t} {a} {b} {first} {second} o e q f g n = subst (Turned s w h p) (sym e) (record {
-    is = ap (andThen (verdictAt s w a first)) (rest-onward s w t b second o) ∙ q;
+    is = ap (both (foundAt s w a first)) (rest-onward s w t b second o) ∙ q;
     stands = record { goes = λ _. part-as (o .held) (o .resting) g; halves = λ _. f; chooses = λ z. not-both z (o .on) };
     fewer = omega (arith, n, terms-onward s w t b second o);
     less = λ _. omega (arith, n, ap (λ i. processTerms (processIn s w i)) (o .resting));
@@ -183,11 +221,11 @@ pub data Follows (x : Next) (at rest : ℕ) (r : Turn) : Type 0 where
 
 -- the same of the process at p, whose rule's step it is
 pub turned-after : {s w : List ℕ} {h : Held} {p : ℕ} {x : Next} {at rest : ℕ} {r : Turn} {t : Step} → Follows x at rest r → Goes s w x t
-    → verdictAt s w h p ≡ resume at t (λ H. check (programIn s w) H (processIn s w rest)) → (processTerms (processIn s w rest) < processTerms (processIn s w p)) × ProcessIn s w rest → Turned s w h p r
+    → foundAt s w h p ≡ resume at t (λ H. found (programIn s w) H (processIn s w rest)) → (processTerms (processIn s w rest) < processTerms (processIn s w p)) × ProcessIn s w rest → Turned s w h p r
 turned-after {s} {w} {h} {p} {x} {at} {rest} {r} {t} f g q (b, a) = by-follows f
   where
-    by : (c : Bool) → eqb (x .refusal) 0 ≡ c → verdictAt s w h p ≡ resume at (cond c (go (contextIn s w (x .held))) (stop (x .refusal))) (λ H. check (programIn s w) H (processIn s w rest))
-    by c e = q ∙ ap (λ y. resume at y (λ H. check (programIn s w) H (processIn s w rest))) (sym (g .is) ∙ ap (λ d. cond d (go (contextIn s w (x .held))) (stop (x .refusal))) e)
+    by : (c : Bool) → eqb (x .refusal) 0 ≡ c → foundAt s w h p ≡ resume at (cond c (go (contextIn s w (x .held))) (stop (x .refusal))) (λ H. found (programIn s w) H (processIn s w rest))
+    by c e = q ∙ ap (λ y. resume at y (λ H. found (programIn s w) H (processIn s w rest))) (sym (g .is) ∙ ap (λ d. cond d (go (contextIn s w (x .held))) (stop (x .refusal))) e)
 
     by-follows : Follows x at rest r → Turned s w h p r
     by-follows (goes z o) = turned-onward o (sym (by true (eq-eqb _ _ z))) (g .fits z) a b
@@ -206,25 +244,29 @@ pub check-begin : {s w : List ℕ} {t : Turn} → TurnIn s w t → Checking s w 
 check-begin a = record { is = refl; stands = a; fewer = omega arith }
 
 module _ {s w : List ℕ} {t₀ t : Turn} (u : Checking s w t₀ t) (x : Verdict) (e : verdictOf x ≡ halfVerdict s w (t .halved) (t .half) (t .from)) where
+  -- the first half, then what the turn leaves
+  in-parts : andThen (halfVerdict s w (t .halved) (t .half) (t .from)) (verdictIn (restFound s w t)) ≡ verdictAfter s w t₀
+  in-parts = sym (verdict-both (halfFound s w (t .halved) (t .half) (t .from)) (restFound s w t)) ∙ u .is
+
   pub half-refused : {n i : ℕ} → x ≡ verdict.Refused n i → verdictOf x ≡ verdictAfter s w t₀
-  half-refused {n} {i} q = then-refused (restVerdict s w t) x n i q e ∙ u .is
+  half-refused {n} {i} q = then-refused (verdictIn (restFound s w t)) x n i q e ∙ in-parts
 
   module _ (q : x ≡ verdict.Fine) where
     -- the first half is fine, so what follows decides
-    rest-is : restVerdict s w t ≡ verdictAfter s w t₀
-    rest-is = then-fine (restVerdict s w t) x q e refl ∙ u .is
+    rest-is : {y : Finding} → restFound s w t ≡ y → verdictIn y ≡ verdictAfter s w t₀
+    rest-is z = ap verdictIn (sym z) ∙ then-fine (verdictIn (restFound s w t)) x q e refl ∙ in-parts
 
     module _ (z : t .on ≡ false) where
       pub check-done : t .choice ≡ false → verdictOf (t .verdict) ≡ verdictAfter s w t₀
-      check-done c = sym (λ j. cond (z j) (verdictAt s w (t .held) (t .rest)) (cond (c j) (verdictAt s w (t .held) (t .rest)) (verdictOf (t .verdict)))) ∙ rest-is
+      check-done c = sym (verdict-found (verdictOf (t .verdict)) []) ∙ rest-is (rest-done s w t z c)
 
       pub choice-is : {v : calculus.Verdict} → t .choice ≡ true → v ≡ verdictAt s w (t .held) (t .rest) → v ≡ verdictAfter s w t₀
-      choice-is c y = y ∙ sym (λ j. cond (z j) (verdictAt s w (t .held) (t .rest)) (cond (c j) (verdictAt s w (t .held) (t .rest)) (verdictOf (t .verdict)))) ∙ rest-is
+      choice-is c y = y ∙ sym (verdict-found (verdictAt s w (t .held) (t .rest)) (missingAt s w (t .held) (t .rest))) ∙ rest-is (rest-choice s w t z c)
 
     module _ {r : Turn} (z : t .on ≡ true) (v : Turned s w (t .held) (t .rest) r) where
       pub check-next : Checking s w t₀ r
       check-next = record {
-        is = v .is ∙ sym (ap (λ c. cond c (verdictAt s w (t .held) (t .rest)) (cond (t .choice) (verdictAt s w (t .held) (t .rest)) (verdictOf (t .verdict)))) z) ∙ rest-is;
+        is = ap verdictIn (v .is) ∙ rest-is (rest-on s w t z);
         stands = v .stands;
         fewer = omega (arith, v .fewer, u .fewer, rest-terms);
       }
@@ -260,8 +302,14 @@ module _ (s w : List ℕ) where
   half-there halved p z e = sym (ap (λ b. cond b (8 * processTerms (processIn s w p) + 9) 0) z) ∙ e
 
   module _ (h : Held) (p : ℕ) {halved : Bool} where
-    pub half-so : halved ≡ true → halfVerdict s w halved h p ≡ verdictAt s w h p
-    half-so z = ap (λ b. halfVerdict s w b h p) z
+    pub half-so : halved ≡ true → halfFound s w halved h p ≡ foundAt s w h p
+    half-so z = ap (λ b. halfFound s w b h p) z
 
-    pub half-none : halved ≡ false → halfVerdict s w halved h p ≡ fine
-    half-none z = ap (λ b. halfVerdict s w b h p) z
+    pub half-verdict : halved ≡ true → halfVerdict s w halved h p ≡ verdictAt s w h p
+    half-verdict z = ap verdictIn (half-so z) ∙ verdict-found (verdictAt s w h p) (missingAt s w h p)
+
+    pub half-missing : halved ≡ true → verdictAt s w h p ≡ fine → halfMissing s w halved h p ≡ missingAt s w h p
+    half-missing z f = ap lackedIn (half-so z) ∙ lacked-found (missingAt s w h p) f
+
+    pub half-none : halved ≡ false → halfFound s w halved h p ≡ lacking []
+    half-none z = ap (λ b. halfFound s w b h p) z

@@ -15,11 +15,13 @@ use Rattle.calculus.specs.Declarations.{isNil}
 use Rattle.calculus.specs.Typing.{namesOf, listFits, withoutAll}
 use Rattle.calculus.specs.Checking.{fitsSlot, check}
 use Rattle.calculus.specs.Verdict.{Verdict, fine, refused}
+use Rattle.calculus.specs.Warnings.{missing}
 use Rattle.run_words.specs.Raw.{sideOf}
 use Rattle.run_words.specs.declared.records.End.{End as EndWords}
 use Rattle.run_words.specs.declared.records.Held.{Held}
 use Rattle.read_tables.specs.Program.{plainIn}
 use Rattle.check_contexts.specs.Held.{Drops}
+use Rattle.check_terms.specs.Findings.{Finding, lacking, found}
 use Rattle.check_terms.specs.Next.{Step, stop, go, asking, granted, resume, contextIn, asking-none, asking-some, having-asks, demand-asks}
 use Rattle.check_terms.specs.Acting.{slotIn, different-sides, equal-sides}
 use Rattle.check_terms.specs.Sends.{dropped, count-so}
@@ -51,34 +53,24 @@ calls p q xs ys G =
     granted 11 (listFits G provided xs (s .provides) && listFits G used ys (s .uses))
     (granted 11 (distinct (xs ++ ys)) (granted 13 (isNil (withoutAll (xs ++ ys) G)) (go G))))
 
--- ── the check of such a term is the rule's step
-abbrev ended : Context → Verdict
-ended G = fine
+-- ── what is found of such a term is the rule's step: no label is left out
+abbrev ended : Context → Finding
+ended G = lacking []
 
-pub check-fwd : (p : Program) (G : Context) (at : ℕ) (x c : Located) → check p G (fwd at x c) ≡ resume at (forwards (x .name) (c .name) G) ended
-unfolding check forwards
-check-fwd p G at x c =
-    having-asks 10 at (lookup (x .name) G) _ _ ended λ h.
-    having-asks 10 at (lookup (c .name) G) _ _ ended λ e.
-    demand-asks 11 at (joins h e) _ _ ended (demand-asks 13 at (isNil (withoutAll (x .name ∷ c .name ∷ []) G)) _ _ ended refl)
+pub found-fwd : (p : Program) (G : Context) (at : ℕ) (x c : Located) → found p G (fwd at x c) ≡ resume at (forwards (x .name) (c .name) G) ended
+unfolding check missing forwards
+found-fwd p G at x c =
+    having-asks 10 at (lookup (x .name) G) _ _ _ ended λ h.
+    having-asks 10 at (lookup (c .name) G) _ _ _ ended λ e.
+    demand-asks 11 at (joins h e) _ _ _ ended (demand-asks 13 at (isNil (withoutAll (x .name ∷ c .name ∷ []) G)) _ _ _ ended refl)
 
-pub check-call : (p : Program) (G : Context) (at : ℕ) (q : Located) (bracket : ℕ) (xs ys : List Located) → check p G (call at q bracket xs ys) ≡ resume at (calls p (q .name) (namesOf xs) (namesOf ys) G) ended
-unfolding check calls
-check-call p G at q bracket xs ys =
-    demand-asks 10 at (all (λ n. isSome (lookup n G)) (namesOf xs ++ namesOf ys)) _ _ ended
-    (having-asks 11 at (lookup (q .name) (p .processes)) _ _ ended λ s.
-    demand-asks 11 at (listFits G provided (namesOf xs) (s .provides) && listFits G used (namesOf ys) (s .uses)) _ _ ended
-    (demand-asks 11 at (distinct (namesOf xs ++ namesOf ys)) _ _ ended (demand-asks 13 at (isNil (withoutAll (namesOf xs ++ namesOf ys) G)) _ _ ended refl)))
-
--- a refusal's number is no 0
-abbrev Numbered : Step → Type 0
-Numbered (stop n) = 0 < n
-Numbered (go G) = 0 < 1
-
-pub ends-by : (at : ℕ) (t : Step) → Numbered t → resume at t ended ≡ verdictBy at (numberOf t)
-ends-by at (stop zero) h = absurd (omega arith)
-ends-by at (stop (suc n)) h = refl
-ends-by at (go G) h = refl
+pub found-call : (p : Program) (G : Context) (at : ℕ) (q : Located) (bracket : ℕ) (xs ys : List Located) → found p G (call at q bracket xs ys) ≡ resume at (calls p (q .name) (namesOf xs) (namesOf ys) G) ended
+unfolding check missing calls
+found-call p G at q bracket xs ys =
+    demand-asks 10 at (all (λ n. isSome (lookup n G)) (namesOf xs ++ namesOf ys)) _ _ _ ended
+    (having-asks 11 at (lookup (q .name) (p .processes)) _ _ _ ended λ s.
+    demand-asks 11 at (listFits G provided (namesOf xs) (s .provides) && listFits G used (namesOf ys) (s .uses)) _ _ _ ended
+    (demand-asks 11 at (distinct (namesOf xs ++ namesOf ys)) _ _ _ ended (demand-asks 13 at (isNil (withoutAll (namesOf xs ++ namesOf ys) G)) _ _ _ ended refl)))
 
 -- ── the ways through the code of fwd
 module _ (s w : List ℕ) (x c : EndWords) (p : x .side < 2) (q : c .side < 2) where

@@ -1,3 +1,4 @@
+pub mod Findings
 pub mod Next
 pub mod Rules
 pub mod Acting

@@ -7,10 +7,12 @@ use mathlib.Core.Option.{Option, some, none}
 use lib.Dec.{eqb}
 use borrow.Author.Tests.{eq-eqb}
 use Rattle.calculus.specs.Program.{Context}
-use Rattle.calculus.specs.Verdict.{Verdict, fine, refused, demand, having}
+use Rattle.calculus.specs.Verdict.{Verdict, demand, having}
+use Rattle.calculus.specs.Warnings.{Missing, onTyped}
 use Rattle.calculus.specs.WellFormed.{contextOf}
 use Rattle.run_words.specs.declared.records.Held.{Held}
 use Rattle.check_contexts.specs.Held.{channelsOf, HeldIn}
+use Rattle.check_terms.specs.Findings.{Finding, refusal, finding}
 use Rattle.check_terms.specs.declared.next.Next.{Next}
 
 pub data Step : Type 0 where
@@ -26,9 +28,9 @@ abbrev pub granted : ℕ → Bool → Step → Step
 granted n true t = t
 granted n false t = stop n
 
--- the verdict on a term whose first token stands at an offset, with that on its rest
-abbrev pub resume : ℕ → Step → (Context → Verdict) → Verdict
-resume at (stop n) k = refused n at
+-- what is found of a term whose first token stands at an offset, with what is found of its rest
+abbrev pub resume : ℕ → Step → (Context → Finding) → Finding
+resume at (stop n) k = refusal n at
 resume at (go G) k = k G
 
 -- ── the code's answers
@@ -69,11 +71,16 @@ granted-not n t e = ap (λ c. granted n c t) e
 pub granted-so : (n : ℕ) {b : Bool} (t : Step) → b ≡ true → granted n b t ≡ t
 granted-so n t e = ap (λ c. granted n c t) e
 
--- a verdict in terms of a step
-pub having-asks : {X : Type 0} (n at : ℕ) (o : Option X) (v : X → Verdict) (k : X → Step) (f : Context → Verdict) → ((x : X) → v x ≡ resume at (k x) f) → having n at o v ≡ resume at (asking n o k) f
-having-asks n at none v k f h = refl
-having-asks n at (some x) v k f h = h x
+-- what is found in terms of a step: what the rest needs, the labels may need too
+module _ {X : Type 0} (n at : ℕ) where
+  pub having-asks : (o : Option X) (v : X → Verdict) (m : List Missing) (k : X → Step) (f : Context → Finding) → ((x : X) → finding (v x) m ≡ resume at (k x) f) → finding (having n at o v) m ≡ resume at (asking n o k) f
+  having-asks none v m k f h = refl
+  having-asks (some x) v m k f h = h x
 
-pub demand-asks : (n at : ℕ) (b : Bool) (v : Verdict) (t : Step) (f : Context → Verdict) → v ≡ resume at t f → demand n at b v ≡ resume at (granted n b t) f
-demand-asks n at true v t f h = h
-demand-asks n at false v t f h = refl
+  pub typed-asks : (o : Option X) (v : X → Verdict) (m : X → List Missing) (k : X → Step) (f : Context → Finding) → ((x : X) → finding (v x) (m x) ≡ resume at (k x) f) → finding (having n at o v) (onTyped o m) ≡ resume at (asking n o k) f
+  typed-asks none v m k f h = refl
+  typed-asks (some x) v m k f h = h x
+
+pub demand-asks : (n at : ℕ) (b : Bool) (v : Verdict) (m : List Missing) (t : Step) (f : Context → Finding) → finding v m ≡ resume at t f → finding (demand n at b v) m ≡ resume at (granted n b t) f
+demand-asks n at true v m t f h = h
+demand-asks n at false v m t f h = refl

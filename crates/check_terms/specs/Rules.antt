@@ -1,4 +1,4 @@
--- What the typing rules ask of one term that goes on, one definition for each; the check of such a term is the rule's step, then the rest.
+-- What the typing rules ask of one term that goes on, one definition for each; what is found of such a term is the rule's step, then the rest.
 use Prim.Native.Nat.{ℕ}
 use mathlib.Core.Path.{_≡_, refl}
 use mathlib.Core.Bool.{Bool, true, false, cond, not, _&&_}
@@ -10,8 +10,10 @@ use Rattle.calculus.specs.Types.{Side, provided, used, other, sameSide, Passing
 use Rattle.calculus.specs.Program.{Slot, slot, Context, Program}
 use Rattle.calculus.specs.Typing.{acting, retyped, bringing}
 use Rattle.calculus.specs.Checking.{mayBring, isUnitOn, fitsSlot, check}
-use Rattle.calculus.specs.Verdict.{Verdict, demand, having}
-use Rattle.check_terms.specs.Next.{Step, go, asking, granted, resume, having-asks, demand-asks}
+use Rattle.calculus.specs.Verdict.{demand, having}
+use Rattle.calculus.specs.Warnings.{onTyped, missing}
+use Rattle.check_terms.specs.Findings.{Finding, finding, found}
+use Rattle.check_terms.specs.Next.{Step, go, asking, granted, resume, having-asks, typed-asks, demand-asks}
 
 -- ── a close
 unfoldable pub closes : Program → Side → Name → Context → Step
@@ -59,67 +61,74 @@ receives p c x G =
     asking 10 (acting p c G) λ h.
     asking 11 (takesFrom h) λ t. granted 15 (mayBring x G G) (go (bringing x (slot (t .side) (t .what)) (retyped c (t .after) G)))
 
--- ── the check of a term is the rule's step, then the rest
+-- ── what is found of a term is the rule's step, then the rest
 module _ (p : Program) (G : Context) (at : ℕ) where
-  abbrev rest : Proc → Context → Verdict
-  rest P H = check p H P
+  abbrev rest : Proc → Context → Finding
+  rest P H = found p H P
 
-  pub check-send-unit : (c : Located) (P : Proc) → check p G (sendUnit at c P) ≡ resume at (closes p provided (c .name) G) (rest P)
-  unfolding check closes
-  check-send-unit c P = having-asks 10 at (acting p (c .name) G) _ _ (rest P) λ h. demand-asks 11 at (isUnitOn provided h) _ _ (rest P) refl
+  pub found-send-unit : (c : Located) (P : Proc) → found p G (sendUnit at c P) ≡ resume at (closes p provided (c .name) G) (rest P)
+  unfolding check missing closes
+  found-send-unit c P = having-asks 10 at (acting p (c .name) G) _ _ _ (rest P) λ h. demand-asks 11 at (isUnitOn provided h) _ _ _ (rest P) refl
 
-  pub check-recv-unit : (c : Located) (P : Proc) → check p G (recvUnit at c P) ≡ resume at (closes p used (c .name) G) (rest P)
-  unfolding check closes
-  check-recv-unit c P = having-asks 10 at (acting p (c .name) G) _ _ (rest P) λ h. demand-asks 11 at (isUnitOn used h) _ _ (rest P) refl
+  pub found-recv-unit : (c : Located) (P : Proc) → found p G (recvUnit at c P) ≡ resume at (closes p used (c .name) G) (rest P)
+  unfolding check missing closes
+  found-recv-unit c P = having-asks 10 at (acting p (c .name) G) _ _ _ (rest P) λ h. demand-asks 11 at (isUnitOn used h) _ _ _ (rest P) refl
 
-  pub check-cancel : (c : Located) (P : Proc) → check p G (cancel at c P) ≡ resume at (givesUp (c .name) G) (rest P)
-  unfolding check givesUp
-  check-cancel c P = having-asks 10 at (lookup (c .name) G) _ _ (rest P) λ h. refl
+  pub found-cancel : (c : Located) (P : Proc) → found p G (cancel at c P) ≡ resume at (givesUp (c .name) G) (rest P)
+  unfolding check missing givesUp
+  found-cancel c P = having-asks 10 at (lookup (c .name) G) _ _ _ (rest P) λ h. refl
 
   -- a thing and a test of it are one thing asked for
   pass-so : (c : Name) (h e : Slot) (K : Ty Name → Context) (P : Proc) (o : Option Passing)
-      → having 11 at o (λ t. demand 11 at (sameSide (h .side) (t .sender) && fitsSlot (t .side) (t .what) e) (rest P (K (t .after)))) ≡ resume at (asking 11 (passedBy h e o) λ A. go (K A)) (rest P)
+      → finding (having 11 at o (λ t. demand 11 at (sameSide (h .side) (t .sender) && fitsSlot (t .side) (t .what) e) (check p (K (t .after)) P))) (onTyped o λ t. missing p (K (t .after)) P)
+      ≡ resume at (asking 11 (passedBy h e o) λ A. go (K A)) (rest P)
   pass-so c h e K P none = refl
   pass-so c h e K P (some t) = test (sameSide (h .side) (t .sender) && fitsSlot (t .side) (t .what) e)
     where
-      test : (b : Bool) → demand 11 at b (rest P (K (t .after))) ≡ resume at (asking 11 (cond b (some (t .after)) none) λ A. go (K A)) (rest P)
+      test : (b : Bool) → finding (demand 11 at b (check p (K (t .after)) P)) (missing p (K (t .after)) P) ≡ resume at (asking 11 (cond b (some (t .after)) none) λ A. go (K A)) (rest P)
       test true = refl
       test false = refl
 
-  pub check-send-channel : (c a : Located) (P : Proc) → check p G (sendChannel at c a P) ≡ resume at (passes p (c .name) (a .name) G) (rest P)
-  unfolding check passes
-  check-send-channel c a P =
-      having-asks 10 at (acting p (c .name) G) _ _ (rest P) λ h.
-      having-asks 10 at (lookup (a .name) G) _ _ (rest P) λ e.
-      demand-asks 11 at (not (same (c .name) (a .name))) _ _ (rest P)
+  pub found-send-channel : (c a : Located) (P : Proc) → found p G (sendChannel at c a P) ≡ resume at (passes p (c .name) (a .name) G) (rest P)
+  unfolding check missing passes
+  found-send-channel c a P =
+      typed-asks 10 at (acting p (c .name) G) _ _ _ (rest P) λ h.
+      having-asks 10 at (lookup (a .name) G) _ _ _ (rest P) λ e.
+      demand-asks 11 at (not (same (c .name) (a .name))) _ _ _ (rest P)
       (pass-so (c .name) h e (λ A. retyped (c .name) A (without (a .name) G)) P (passing (h .type)))
 
   choose-so : (c : Name) (h : Slot) (l : Name) (P : Proc) (o : Option Choosing)
-      → having 11 at o (λ t. demand 11 at (sameSide (h .side) (t .sender)) (having 11 at (labelled l (t .labels)) λ A. rest P (retyped c A G))) ≡ resume at (asking 11 (chosenBy h l o) λ A. go (retyped c A G)) (rest P)
+      → finding (having 11 at o (λ t. demand 11 at (sameSide (h .side) (t .sender)) (having 11 at (labelled l (t .labels)) λ A. check p (retyped c A G) P))) (onTyped o λ t. onTyped (labelled l (t .labels)) λ A. missing p (retyped c A G) P)
+      ≡ resume at (asking 11 (chosenBy h l o) λ A. go (retyped c A G)) (rest P)
   choose-so c h l P none = refl
   choose-so c h l P (some t) = test (sameSide (h .side) (t .sender)) (labelled l (t .labels))
     where
-      test : (b : Bool) (o : Option (Ty Name)) → demand 11 at b (having 11 at o λ A. rest P (retyped c A G)) ≡ resume at (asking 11 (cond b o none) λ A. go (retyped c A G)) (rest P)
+      test : (b : Bool) (o : Option (Ty Name))
+          → finding (demand 11 at b (having 11 at o λ A. check p (retyped c A G) P)) (onTyped o λ A. missing p (retyped c A G) P)
+          ≡ resume at (asking 11 (cond b o none) λ A. go (retyped c A G)) (rest P)
       test true none = refl
       test true (some A) = refl
       test false o = refl
 
-  pub check-send-label : (c l : Located) (P : Proc) → check p G (sendLabel at c l P) ≡ resume at (chooses p (c .name) (l .name) G) (rest P)
-  unfolding check chooses
-  check-send-label c l P = having-asks 10 at (acting p (c .name) G) _ _ (rest P) λ h. choose-so (c .name) h (l .name) P (choosing (h .type))
+  pub found-send-label : (c l : Located) (P : Proc) → found p G (sendLabel at c l P) ≡ resume at (chooses p (c .name) (l .name) G) (rest P)
+  unfolding check missing chooses
+  found-send-label c l P = typed-asks 10 at (acting p (c .name) G) _ _ _ (rest P) λ h. choose-so (c .name) h (l .name) P (choosing (h .type))
+
+  abbrev taking : Name → Name → Passing → Context
+  taking c x t = bringing x (slot (t .side) (t .what)) (retyped c (t .after) G)
 
   take-so : (c x : Name) (h : Slot) (P : Proc) (o : Option Passing)
-      → having 11 at o (λ t. demand 11 at (sameSide (h .side) (other (t .sender))) (demand 15 at (mayBring x G G) (rest P (bringing x (slot (t .side) (t .what)) (retyped c (t .after) G)))))
-      ≡ resume at (asking 11 (takenBy h o) λ t. granted 15 (mayBring x G G) (go (bringing x (slot (t .side) (t .what)) (retyped c (t .after) G)))) (rest P)
+      → finding (having 11 at o (λ t. demand 11 at (sameSide (h .side) (other (t .sender))) (demand 15 at (mayBring x G G) (check p (taking c x t) P)))) (onTyped o λ t. missing p (taking c x t) P)
+      ≡ resume at (asking 11 (takenBy h o) λ t. granted 15 (mayBring x G G) (go (taking c x t))) (rest P)
   take-so c x h P none = refl
   take-so c x h P (some t) = test (sameSide (h .side) (other (t .sender)))
     where
       test : (b : Bool)
-          → demand 11 at b (demand 15 at (mayBring x G G) (rest P (bringing x (slot (t .side) (t .what)) (retyped c (t .after) G))))
-          ≡ resume at (asking 11 (cond b (some t) none) λ u. granted 15 (mayBring x G G) (go (bringing x (slot (u .side) (u .what)) (retyped c (u .after) G)))) (rest P)
-      test true = demand-asks 15 at (mayBring x G G) _ _ (rest P) refl
+          → finding (demand 11 at b (demand 15 at (mayBring x G G) (check p (taking c x t) P))) (missing p (taking c x t) P)
+          ≡ resume at (asking 11 (cond b (some t) none) λ u. granted 15 (mayBring x G G) (go (taking c x u))) (rest P)
+      test true = demand-asks 15 at (mayBring x G G) _ _ _ (rest P) refl
       test false = refl
 
-  pub check-recv-channel : (c x : Located) (P : Proc) → check p G (recvChannel at c x P) ≡ resume at (receives p (c .name) (x .name) G) (rest P)
-  unfolding check receives
-  check-recv-channel c x P = having-asks 10 at (acting p (c .name) G) _ _ (rest P) λ h. take-so (c .name) (x .name) h P (passing (h .type))
+  pub found-recv-channel : (c x : Located) (P : Proc) → found p G (recvChannel at c x P) ≡ resume at (receives p (c .name) (x .name) G) (rest P)
+  unfolding check missing receives
+  found-recv-channel c x P = typed-asks 10 at (acting p (c .name) G) _ _ _ (rest P) λ h. take-so (c .name) (x .name) h P (passing (h .type))

@@ -191,14 +191,14 @@ module _ (s w : List ℕ) where
   pub checking-start : (n : ℕ) → n ≡ tallyIn w .processes → Checking n 0
   checking-start n e = let y : tallyIn w .processes ≡ n - 0 = omega arith in record { upto = omega arith; rest = processes-only ∙ ap (from 0) y }
 
-  here : (n i : ℕ) → Checking n i → i < n → typed (scriptIn s w) ≡ andThen (checkDeclaration (programIn s w) (procDeclaration s w i)) (from (i + 1) (n - (i + 1)))
-  here n i t l = let y : n - i ≡ suc (n - (i + 1)) = omega arith in t .rest ∙ ap (from i) y
+  pub checking-here : (n i : ℕ) → Checking n i → i < n → typed (scriptIn s w) ≡ andThen (checkDeclaration (programIn s w) (procDeclaration s w i)) (from (i + 1) (n - (i + 1)))
+  checking-here n i t l = let y : n - i ≡ suc (n - (i + 1)) = omega arith in t .rest ∙ ap (from i) y
 
   pub checking-on : (n i : ℕ) → Checking n i → i < n → checkDeclaration (programIn s w) (procDeclaration s w i) ≡ fine → (j : ℕ) → j ≡ i + 1 → Checking n j
-  checking-on n i t l e j z = rw z (record { upto = omega arith; rest = here n i t l ∙ ap (λ v. andThen v (from (i + 1) (n - (i + 1)))) e })
+  checking-on n i t l e j z = rw z (record { upto = omega arith; rest = checking-here n i t l ∙ ap (λ v. andThen v (from (i + 1) (n - (i + 1)))) e })
 
   pub checking-stops : (n i : ℕ) → Checking n i → i < n → (m o : ℕ) → checkDeclaration (programIn s w) (procDeclaration s w i) ≡ refused m o → refused m o ≡ typed (scriptIn s w)
-  checking-stops n i t l m o e = sym (here n i t l ∙ ap (λ v. andThen v (from (i + 1) (n - (i + 1)))) e)
+  checking-stops n i t l m o e = sym (checking-here n i t l ∙ ap (λ v. andThen v (from (i + 1) (n - (i + 1)))) e)
 
   pub checking-end : (n i : ℕ) → Checking n i → n ≤ i → fine ≡ typed (scriptIn s w)
   checking-end n i t l = let y : n - i ≡ 0 = omega (arith, t .upto) in sym (t .rest ∙ ap (from i) y)

@@ -27,7 +27,7 @@ ghost use Rattle.read_tables.specs.Whole.{Tables, SignatureIn};
 ghost use Rattle.check_text.specs.Bodies.{SignatureHeld};
 
 // What a process's signature has it hold: provided channels first.
-fn signature_held(text: &[u8], scratch: &[u32], e: Declared) -> Held
+pub(crate) fn signature_held(text: &[u8], scratch: &[u32], e: Declared) -> Held
     requires { ⌜ Tables (now text) (now scratch) × SignatureIn (now text) (now scratch) (asEntry e) × (e .first + e .provided < sumLimit) × (e .provided ≤ heldLimit) × (e .used ≤ heldLimit - e .provided) ⌝ }
     ensures { λ r. ⌜ SignatureHeld (now (text .entry)) (now (scratch .entry)) (asEntry e) r ⌝ }
 {

@@ -1,2 +1,3 @@
 pub mod bodies;
 pub mod check;
+pub mod warnings;

@@ -1,88 +1,58 @@
--- Branches against alternatives: as many, and each label of the type once.
-use Prim.Native.Nat.{ℕ, zero, suc, _+_, _-_, _≤_}
+-- Branches against alternatives: the label of each is one of the type's.
+use Prim.Native.Nat.{ℕ, _-_, _≤_}
 use mathlib.Core.Path.{_≡_, refl, sym, _∙_, ap}
 use mathlib.Core.List.{List}
-use mathlib.Core.Bool.{Bool, true, false, cond, _&&_}
-use borrow.Author.Tests.{eq-eqb, ne-eqb}
-use lib.Dec.{eqb}
-use lib.ListN.{length}
-use Rattle.notation.specs.Token.{nameAt}
-use Rattle.notation.specs.Tree.{Name, plains}
-use Rattle.calculus.specs.Named.{all}
-use Rattle.calculus.specs.Types.{labelsOf}
-use Rattle.calculus.specs.Typing.{times, labelNames, fitting}
-use Rattle.notation.specs.Tables.{Area}
-use Rattle.notation.specs.Limits.{typeTermLimit}
+use mathlib.Core.Bool.{Bool, true, false, _&&_}
+use mathlib.Core.Option.{Option·map}
+use Rattle.notation.specs.Tree.{plains}
+use Rattle.notation.specs.Tables.{Area, branchRoom}
+use Rattle.notation.specs.declared.reading.Found.{Found}
+use Rattle.notation.specs.declared.reading.Found.the-variants.{At, Nothing}
+use Rattle.calculus.specs.Named.{isSome}
+use Rattle.calculus.specs.Checking.{fitting}
 use Rattle.read_tables.specs.declared.access.Labelled.{Labelled}
-use Rattle.read_tables.specs.Access.{AlternativeOf}
-use Rattle.read_tables.specs.Roots.{AlternativesIn, alternativesIn, branchesIn}
+use Rattle.read_tables.specs.Access.{BranchOf}
+use Rattle.read_tables.specs.Program.{plainIn}
+use Rattle.read_tables.specs.Roots.{alternativesIn, BranchesIn, branchesIn}
+use Rattle.read_tables.specs.Search.{placeOf}
 use Rattle.read_tables.specs.Whole.{Tables}
-use Rattle.check_types.specs.Alternatives.{Begins, first-there, first-in}
+use Rattle.check_types.specs.Alternatives.{BeginsBranch, first-branch-there, first-branch-in}
+use Rattle.check_types.specs.Labels.{LeadsTo}
 
--- as many labels as alternatives, as many as branches
-alternatives-many : (s w : List ℕ) (e n : ℕ) → length (labelsOf (plains (alternativesIn s w e n))) ≡ n
-unfolding plains labelsOf
-alternatives-many s w e zero = refl
-alternatives-many s w e (suc n) = ap suc (alternatives-many s w (e - 1) n)
+-- a test that has come to m branches before the place d
+module _ (s w : List ℕ) (e n d₀ m₀ : ℕ) where
+  abbrev fits : ℕ → ℕ → Bool
+  fits d m = fitting (plains (alternativesIn s w e n)) (branchesIn s w d m)
 
-branches-many : (s w : List ℕ) (d m : ℕ) → length (labelNames (branchesIn s w d m)) ≡ m
-branches-many s w d zero = refl
-branches-many s w d (suc m) = ap suc (branches-many s w (d - 1) m)
+  pub record Fitting (d m : ℕ) : Type 0 where
+    pub there : BranchesIn s w d m
+    pub rest : fits d₀ m₀ ≡ fits d m
 
-and-false : (b : Bool) → b && false ≡ false
-and-false true = refl
-and-false false = refl
+  pub fit-start : BranchesIn s w d₀ m₀ → Fitting d₀ m₀
+  fit-start b = record { there = b; rest = refl }
 
-and-true : (b : Bool) → b && true ≡ b
-and-true true = refl
-and-true false = refl
+  module _ (d m : ℕ) (f : Fitting d m) (h : m ≡ 0 → ⊥) where
+    pub fit-there : Tables s w → Area w × (1 ≤ d) × (d ≤ branchRoom)
+    fit-there = first-branch-there s w d m (f .there) h
 
--- a test that has come to n alternatives before the place e
-module _ (s w : List ℕ) (e₀ n₀ d m : ℕ) where
-  abbrev once : Name → Bool
-  once l = eqb (times l (labelNames (branchesIn s w d m))) 1
+    -- what the first label that is left leads to
+    module _ (b : Labelled) (o : BranchOf w d b) {r : Found} (t : LeadsTo s w (b .at) e n r) where
+      first : BeginsBranch s w d m b
+      first = first-branch-in s w d m (f .there) h b o
 
-  abbrev allOnce : ℕ → ℕ → Bool
-  allOnce e n = all once (labelsOf (plains (alternativesIn s w e n)))
-
-  abbrev fits : Bool
-  fits = fitting (plains (alternativesIn s w e₀ n₀)) (branchesIn s w d m)
-
-  many : fits ≡ (allOnce e₀ n₀ && eqb m n₀)
-  unfolding fitting
-  many i = allOnce e₀ n₀ && eqb (branches-many s w d m i) (alternatives-many s w e₀ n₀ i)
-
-  pub fit-not-many : (n₀ ≡ m → ⊥) → false ≡ fits
-  fit-not-many h = sym (many ∙ ap (λ b. allOnce e₀ n₀ && b) (ne-eqb m n₀ λ e. h (sym e)) ∙ and-false (allOnce e₀ n₀))
-
-  pub record Fitting (e n : ℕ) : Type 0 where
-    pub there : AlternativesIn s w e n
-    pub rest : fits ≡ allOnce e n
-
-  pub fit-start : n₀ ≡ m → AlternativesIn s w e₀ n₀ → Fitting e₀ n₀
-  fit-start h a =
-      record { there = a; rest = many ∙ ap (λ b. allOnce e₀ n₀ && b) (eq-eqb m n₀ (sym h)) ∙ and-true (allOnce e₀ n₀) }
-
-  module _ (e n : ℕ) (f : Fitting e n) (h : n ≡ 0 → ⊥) where
-    pub fit-there : Tables s w → Area w × (1 ≤ e) × (e ≤ typeTermLimit)
-    fit-there = first-there s w e n (f .there) h
-
-    -- the first label that is left comes r times
-    module _ (a : Labelled) (o : AlternativeOf w e a) {r : ℕ} (t : r ≡ times (nameAt s (a .at + 1)) (labelNames (branchesIn s w d m))) where
-      first : Begins s w e n a
-      first = first-in s w e n (f .there) h a o
-
-      tested : (q : Bool) → eqb r 1 ≡ q → fits ≡ cond q (allOnce (e - 1) (n - 1)) false
-      unfolding labelsOf
+      tested : (q : Found) → r ≡ q → fits d₀ m₀ ≡ (isSome (Option·map (plainIn s w) (placeOf q)) && fits (d - 1) (m - 1))
+      unfolding fitting
       tested q y =
-          f .rest ∙ ap (λ l. all once (labelsOf l)) (first .is) ∙ ap (λ b. cond b (allOnce (e - 1) (n - 1)) false) (ap (λ k. eqb k 1) (sym t) ∙ y)
+          f .rest
+          ∙ ap (fitting (plains (alternativesIn s w e n))) (first .is)
+          ∙ ap (λ x. isSome x && fits (d - 1) (m - 1)) (t .is ∙ ap (λ x. Option·map (plainIn s w) (placeOf x)) y)
 
-      pub fit-not : (r ≡ 1 → ⊥) → false ≡ fits
-      fit-not y = sym (tested false (ne-eqb r 1 y))
+      pub fit-not : r ≡ Nothing → false ≡ fits d₀ m₀
+      fit-not y = sym (tested Nothing y)
 
-      pub fit-on : r ≡ 1 → Fitting (e - 1) (n - 1)
-      fit-on y = record { there = first .rest; rest = tested true (eq-eqb r 1 y) }
+      pub fit-on : (j : ℕ) → r ≡ At j → Fitting (d - 1) (m - 1)
+      fit-on j y = record { there = first .rest; rest = tested (At j) y }
 
-  pub fit-end : (e n : ℕ) → Fitting e n → n ≡ 0 → true ≡ fits
-  unfolding plains labelsOf
-  fit-end e n f z = sym (f .rest ∙ ap (allOnce e) z)
+  pub fit-end : (d m : ℕ) → Fitting d m → m ≡ 0 → true ≡ fits d₀ m₀
+  unfolding fitting
+  fit-end d m f z = sym (f .rest ∙ ap (fits d) z)

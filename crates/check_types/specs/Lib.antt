@@ -3,5 +3,7 @@ pub mod Acting
 pub mod Alternatives
 pub mod Labels
 pub mod Equality
-pub mod BranchTimes
 pub mod LabelsFit
+pub mod Branches
+pub mod Sought
+pub mod LeftOut

@@ -26,7 +26,7 @@ use Rattle.interpreter.specs.Entries.{Request, called, callAs, useOf, is
 use Rattle.interpreter.specs.Past.{refusalTo, refuse, isLent, onLent, pastRun, refusal-is, reply-refused, reply-accepted, lent-short, lent-past, untouched}
 
 -- ── the scratch words, as the check leaves them
-scratch-is : (s w x : List ℕ) (r : Verdict) → TextChecked s w r x → x ≡ scratchAfter s w
+pub scratch-is : (s w x : List ℕ) (r : Verdict) → TextChecked s w r x → x ≡ scratchAfter s w
 scratch-is s w x r t = go (leb scratchWords (length w)) refl
   where
     go : (b : Bool) → leb scratchWords (length w) ≡ b → x ≡ cond b (wordsIn s (checked s) ++ drop scratchWords w) w

@@ -11,6 +11,7 @@ pub mod Surveying
 pub mod Starting
 pub mod Told
 pub mod Naming
+pub mod Warns
 pub mod Calls
 pub mod Unread
 pub mod Numbers

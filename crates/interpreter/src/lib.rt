@@ -3,3 +3,4 @@ mod inside;
 pub mod names;
 mod places;
 mod reports;
+pub mod warnings;

@@ -4,8 +4,10 @@ use mathlib.Core.Path.{_≡_, refl, sym, _∙_, ap}
 use mathlib.Core.List.{List, [], _∷_, _++_, append-assoc, append-nil}
 use mathlib.Core.Bool.{Bool, true, false}
 use native.Mathlib.Omega.{arith}
+use lib.ListN.{length}
 use Rattle.notation.specs.Bytes.{bytes}
 use Rattle.notation.specs.Token.{nameAt}
+use Rattle.notation.proofs.Names.{name-fits}
 use Rattle.calculus.specs.Printed.{decimal, line, shows, secondLine, sighting, ending}
 use Rattle.calculus.specs.declared.answers.Seen.{Seen}
 use Rattle.calculus.specs.declared.answers.Seen.the-variants.{Nothing, Label, Close, Passed, Cancelled}
@@ -65,11 +67,23 @@ module _ (s : List ℕ) {seen : Seen} where
   unfolding sighting
   sees-cancelled n e p = appended-as (ap (sighting s) (sym e)) p
 
--- ── headers, endings, refusals
-pub header-put : {name x o a b c : List ℕ} {at i j r : ℕ} → Appended o a at i (bytes "Executing process ") → x ≡ name → Appended a b i j x → Appended b c j r (bytes ":" ++ (10 ∷ [])) → Appended o c at r (line (bytes "Executing process " ++ (name ++ bytes ":")))
-header-put {name} p m q u =
-    let e : name ++ (bytes ":" ++ (10 ∷ [])) ≡ (name ++ bytes ":") ++ (10 ∷ []) = sym (append-assoc name (bytes ":") (10 ∷ [])) in
-    appended-as (ap (λ l. bytes "Executing process " ++ l) e) (appended-on p (appended-on (appended-as m q) u))
+-- ── names, headers, endings, refusals
+pub named-put : {words name x o a b : List ℕ} {i r n : ℕ} → Appended o a 0 i words → x ≡ name → Appended a b i r x → length x ≤ n → Appended o b 0 r (words ++ name) × (r ≤ length words + n)
+named-put p m q h = (appended-on p (appended-as m q), omega (arith, p .ends, q .ends, h))
+
+pub header-put : {name o a b : List ℕ} {at i r : ℕ} → Appended o a at i (bytes "Executing process " ++ name) → Appended a b i r (bytes ":" ++ (10 ∷ [])) → Appended o b at r (line (bytes "Executing process " ++ (name ++ bytes ":")))
+header-put {name} p q = appended-as (ap (λ l. bytes "Executing process " ++ l) (sym (append-assoc name (bytes ":") (10 ∷ [])))) (appended-on p q)
+
+-- past the end of the text there is the empty name
+no-bytes : (l : List ℕ) → length l ≤ 0 → l ≡ []
+no-bytes [] h = refl
+no-bytes (x ∷ l) h = absurd (omega arith)
+
+pub past-same : (s : List ℕ) (at : ℕ) → length s ≤ at → nameAt s at ≡ nameAt s (at + 1)
+past-same s at h = no-bytes (nameAt s at) (omega (arith, h, name-fits s at)) ∙ sym (no-bytes (nameAt s (at + 1)) (omega (arith, h, name-fits s (at + 1))))
+
+pub missing-put : {name x o a b c : List ℕ} {at i j r : ℕ} → Appended o a at i (bytes ", missing '") → x ≡ name → Appended a b i j x → Appended b c j r (10 ∷ []) → Appended o c at r (line (bytes ", missing '" ++ name))
+missing-put p m q u = appended-on (appended-on p (appended-as m q)) u
 
 pub ending-put : (word : List ℕ) (steps : ℕ) {o a b c d : List ℕ} {at i j k r : ℕ} → Appended o a at i word → Appended a b i j (bytes " after ") → Appended b c j k (decimal steps) → Appended c d k r (bytes " steps" ++ (10 ∷ [])) → Appended o d at r (ending word steps)
 ending-put word steps p q u v =

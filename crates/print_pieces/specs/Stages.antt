@@ -19,7 +19,7 @@ use Rattle.notation.specs.Tree.{Declaration}
 use Rattle.calculus.specs.Accepted.{Checked, accepted, faulty, checked}
 use Rattle.calculus.specs.Configuration.{Config}
 use Rattle.calculus.specs.Printed
-use Rattle.calculus.specs.Printed.{stepLimit, decimal, sighting, showing, runLines, execLines, allExecs, printedOf, printed}
+use Rattle.calculus.specs.Printed.{stepLimit, decimal, sighting, showing, runLines, execLines, allExecs, warningLines, printedOf, printed}
 use Rattle.calculus.specs.Program.{Signature, Program}
 use Rattle.calculus.specs.Runs.{startConfig, lineSignature, execOf, runOn}
 use Rattle.calculus.specs.WellFormed.{WellFormed}
@@ -38,13 +38,13 @@ use Rattle.read_tables.specs.Program.{programIn}
 use Rattle.run_alone.specs.Run.{configIn, Becomes}
 use Rattle.run_steps.specs.Running.{RunsOn}
 use Rattle.run_steps.specs.Starting.{BeginsBy, Begins, execs-many, exec-name}
-use Rattle.check_accepted.specs.Texts.{TextIn, tables-in, program-in}
+use Rattle.check_accepted.specs.Texts.{TextIn, tables-in, program-in, warnings-in}
 use Rattle.check_accepted.specs.Verdicts.{refused-so, fine-so}
 use Rattle.print_bytes.specs.Writing.{Appended}
 use Rattle.print_pieces.specs.RunLines.{given-within, shown-steps, fuel-enough}
-use Rattle.print_pieces.specs.Pieces.{left, leftIn, RunningIn, GoingBy, Going, turns, isLeft, First, Next, Wrote, toldLines, toldStage, Turn, Linked, written, PiecesPrinted}
+use Rattle.print_pieces.specs.Pieces.{left, warningsIn, leftIn, RunningIn, GoingBy, Going, turnsIn, isLeft, First, Next, Still, Wrote, toldLines, toldStage, Turn, Linked, written, PiecesPrinted}
 use Rattle.print_pieces.specs.declared.pieces.Stage.{Stage}
-use Rattle.print_pieces.specs.declared.pieces.Stage.the-variants.{Exec, Running, Finished}
+use Rattle.print_pieces.specs.declared.pieces.Stage.the-variants.{Warning, Channel, Label, Exec, Running, Finished}
 use Rattle.print_pieces.specs.declared.pieces.Piece.{Piece}
 
 abbrev piece : ℕ → Stage → Piece
@@ -89,7 +89,7 @@ text-short s w t = go (leb (length s) textLimit) refl
         absurd (false≢true z)
 
 -- ── the first piece
-printed-by : (s : List ℕ) (c : Checked) → checked s ≡ c → printed s ≡ printedOf s c
+pub printed-by : (s : List ℕ) (c : Checked) → checked s ≡ c → printed s ≡ printedOf s c
 unfolding printed
 printed-by s c e = ap (printedOf s) e
 
@@ -116,9 +116,11 @@ module _ (s w x : List ℕ) (v : Verdict) (t : TextChecked s w v x) (long : leng
       fits = enough .2;
     }
 
-    pub first-fine : (out : List ℕ) → First s x out (record { length = 0; stage = Exec 0 })
+    pub first-fine : (out : List ℕ) → First s x out (record { length = 0; stage = Warning 0 })
     first-fine out = record {
-      is = λ ws. printed-by s (accepted (first-text .script)) (first-text .accepts) ∙ ap (λ (p : Program). allExecs s p (p .execs)) (sym (program-in first-text));
+      is = λ ws.
+          printed-by s (accepted (first-text .script)) (first-text .accepts)
+          ∙ λ i. warningLines (sym (warnings-in first-text) i) ++ allExecs s (sym (program-in first-text) i) (sym (program-in first-text) i .execs);
       within = omega arith;
       going = λ ws. record { is = first-text };
     }
@@ -128,7 +130,7 @@ abbrev some-of : {A : Type 0} → A → Option A → A
 some-of d none = d
 some-of d (some x) = x
 
-next-of : {A : Type 0} (l : List A) (k : ℕ) (x : A) → getElem? l k ≡ some x → drop k l ≡ x ∷ drop (suc k) l
+pub next-of : {A : Type 0} (l : List A) (k : ℕ) (x : A) → getElem? l k ≡ some x → drop k l ≡ x ∷ drop (suc k) l
 next-of [] k x e = absurd (Option·none-ne-some x e)
 next-of (y ∷ l) zero x e = ap (λ z. z ∷ l) (ap (some-of x) e)
 next-of (y ∷ l) (suc k) x e = next-of l k x e
@@ -156,7 +158,7 @@ module _ (s w : List ℕ) (t : TextIn s w) (line : ℕ) where
         ∙ ap (λ x. execLines s P (nameAt s at) (lineSignature P x) ++ allExecs s P (drop (suc line) (P .execs))) (sym (exec-name s w line at below o))
         ∙ ap (λ k. execLines s P (nameAt s at) (execOf P line) ++ allExecs s P (drop k (P .execs))) (sym (add-one line))
 
-    fewer : turns P (Running line 0) < turns P (Exec line)
+    fewer : turnsIn s w (Running line 0) < turnsIn s w (Exec line)
     fewer = omega (arith, below, execs-many s w)
 
     module _ {ws vs : List ℕ} {b : Bool} (g : Begins s w ws vs b (execOf P line)) where
@@ -219,7 +221,7 @@ module _ (s w ws : List ℕ) (line taken : ℕ) (r : RunningIn s w ws line taken
   abbrev after : List ℕ
   after = allExecs s Q (drop (line + 1) (Q .execs))
 
-  told-left : (a : RanOn) → A ≡ a → showing s taken a (λ u. runLines budget s Q u D) ++ after ≡ toldLines s taken a ++ left s Q D (toldStage line taken a)
+  told-left : (a : RanOn) → A ≡ a → showing s taken a (λ u. runLines budget s Q u D) ++ after ≡ toldLines s taken a ++ left s (warningsIn s w) Q D (toldStage line taken a)
   told-left (Shown seen n) e =
       let b = shown-steps Q (configIn s w ws) budget seen n e in
       append-assoc (sighting s seen) (runLines budget s Q (taken + n) D) after
@@ -249,7 +251,7 @@ module _ (s w ws : List ℕ) (line taken : ℕ) (r : RunningIn s w ws line taken
     told-going (Uncaught n) e = record { is = r .text }
     told-going (Refused n i) e = record { is = r .text }
 
-  told-falls : (a : RanOn) → A ≡ a → turns Q (toldStage line taken a) < turns Q (Running line taken)
+  told-falls : (a : RanOn) → A ≡ a → turnsIn s w (toldStage line taken a) < turnsIn s w (Running line taken)
   told-falls (Shown seen n) e = let b = shown-steps Q (configIn s w ws) budget seen n e in omega (arith, b, r .steps)
   told-falls (Done n) e = omega arith
   told-falls (Full n) e = omega arith
@@ -272,15 +274,35 @@ module _ (s w ws : List ℕ) (line taken : ℕ) (r : RunningIn s w ws line taken
         is =
             ap (λ b. showing s taken b (λ u. runLines budget s Q u D) ++ after) e
             ∙ told-left a e
-            ∙ λ i. sym (u .is) i ++ left s Q (sym (z .becomes .is) i) (sym (u .then) i);
+            ∙ λ i. sym (u .is) i ++ left s (warningsIn s w) Q (sym (z .becomes .is) i) (sym (u .then) i);
         within = u .within;
         going = subst (Going s w vs) (sym (u .then)) (told-going vs (z .becomes) a e);
-        falls = λ _. subst (λ y. turns Q y < turns Q (Running line taken)) (sym (u .then)) (told-falls a e);
+        falls = λ _. subst (λ y. turnsIn s w y < turnsIn s w (Running line taken)) (sym (u .then)) (told-falls a e);
       }
 
 -- ── a stage
 pub next-as : {s w ws vs out : List ℕ} {a b : Stage} {r : Piece} → a ≡ b → Next s w ws vs out b r → Next s w ws vs out a r
 next-as {s} {w} {ws} {vs} {out} {r = r} e n = subst (λ x. Next s w ws vs out x r) (sym e) n
+
+-- a piece that leaves the run alone, by its bytes and the stage after it
+pub wrote-next : {s w out : List ℕ} {r : Piece} {l : List ℕ} {a b : Stage} → Wrote out r l b → ((ws : List ℕ) → leftIn s w ws a ≡ l ++ leftIn s w ws b) → ((ws : List ℕ) → Going s w ws b) → turnsIn s w b < turnsIn s w a → Still s w out a r
+wrote-next {s} {w} {a = a} u e g f = record {
+  is = λ ws. record {
+    is = e ws ∙ λ i. sym (u .is) i ++ leftIn s w ws (sym (u .then) i);
+    within = u .within;
+    going = subst (Going s w ws) (sym (u .then)) (g ws);
+    falls = λ _. subst (λ y. turnsIn s w y < turnsIn s w a) (sym (u .then)) f;
+  };
+}
+
+pub going-warning : {s w ws : List ℕ} {a : Stage} (k : ℕ) → a ≡ Warning k → Going s w ws a → TextIn s w
+going-warning {s} {w} {ws} k e g = subst (GoingBy s w ws) e (g .is)
+
+pub going-channel : {s w ws : List ℕ} {a : Stage} (next channel label : ℕ) → a ≡ Channel next channel label → Going s w ws a → TextIn s w
+going-channel {s} {w} {ws} next channel label e g = subst (GoingBy s w ws) e (g .is)
+
+pub going-label : {s w ws : List ℕ} {a : Stage} (next label : ℕ) → a ≡ Label next label → Going s w ws a → TextIn s w
+going-label {s} {w} {ws} next label e g = subst (GoingBy s w ws) e (g .is)
 
 pub going-exec : {s w ws : List ℕ} {a : Stage} (line : ℕ) → a ≡ Exec line → Going s w ws a → TextIn s w
 going-exec {s} {w} {ws} line e g = subst (GoingBy s w ws) e (g .is)
@@ -292,13 +314,16 @@ pub next-none : (s w ws out : List ℕ) {a : Stage} → a ≡ Finished → Next 
 next-none s w ws out e = next-as e (record { is = refl; within = omega arith; going = record { is = tt }; falls = λ h. h })
 
 -- while something is left, a turn is
-left-turns : (p : Program) (a : Stage) → isLeft a ≡ true → 0 < turns p a
-left-turns p (Exec line) e = omega arith
-left-turns p (Running line taken) e = omega arith
-left-turns p Finished e = absurd (false≢true e)
+left-turns : (s w : List ℕ) (a : Stage) → isLeft a ≡ true → 0 < turnsIn s w a
+left-turns s w (Warning k) e = omega arith
+left-turns s w (Channel next channel label) e = omega arith
+left-turns s w (Label next label) e = omega arith
+left-turns s w (Exec line) e = omega arith
+left-turns s w (Running line taken) e = omega arith
+left-turns s w Finished e = absurd (false≢true e)
 
-pub next-falls : {s w ws vs out : List ℕ} {a : Stage} {r : Piece} {b : Bool} → Next s w ws vs out a r → b ≡ isLeft a → b ≡ true → turns (programIn s w) (r .stage) < turns (programIn s w) a
-next-falls {s} {w} {a = a} n e q = n .falls (left-turns (programIn s w) a (sym e ∙ q))
+pub next-falls : {s w ws vs out : List ℕ} {a : Stage} {r : Piece} {b : Bool} → Next s w ws vs out a r → b ≡ isLeft a → b ≡ true → turnsIn s w (r .stage) < turnsIn s w a
+next-falls {s} {w} {a = a} n e q = n .falls (left-turns s w a (sym e ∙ q))
 
 -- ── every list of pieces
 linked-written : (s w ws : List ℕ) (stage : Stage) (ts : List Turn) → Linked s w ws stage ts → written ts ≡ leftIn s w ws stage

@@ -4,6 +4,7 @@ use notation::token::name_of;
 use print_bytes::writing::put;
 use print_bytes::writing::put_decimal;
 ghost use mathlib.Core.List.{_++_};
+ghost use mathlib.Core.Path.{_≡_};
 ghost use Prim.Native.Nat.{_+_, _≤_};
 ghost use lib.ListN.{length};
 ghost use Rattle.notation.specs.Bytes.{bytes};
@@ -88,14 +89,43 @@ pub(crate) fn put_sighting(text: &[u8], out: &mut [u8], seen: Seen) -> usize
     }
 }
 
+// Words, and the name that stands at `name`.
+pub(crate) fn put_named(text: &[u8], out: &mut [u8], words: &[u8], name: usize) -> usize
+    requires { ⌜ length (now words) + length (now text) ≤ length (now out) ⌝ }
+    ensures { λ r. ⌜ Appended (now (out .entry)) (now (out .exit)) 0 r (now (words .entry) ++ nameAt (now (text .entry)) name) ⌝ }
+    ensures { λ r. ⌜ r ≤ length (now (words .entry)) + length (now (text .entry)) ⌝ }
+{
+    let a = put(out, 0, words);
+    put(out, a, name_of(text, name))
+}
+
 // The header of an exec whose process's name stands at `name`.
 pub(crate) fn put_header(text: &[u8], out: &mut [u8], name: usize) -> usize
     requires { ⌜ length (now text) + 20 ≤ length (now out) ⌝ }
     ensures { λ r. ⌜ Appended (now (out .entry)) (now (out .exit)) 0 r (line (bytes "Executing process " ++ (nameAt (now (text .entry)) name ++ bytes ":"))) ⌝ }
 {
-    let a = put(out, 0, b"Executing process ");
-    let b = put(out, a, name_of(text, name));
-    put(out, b, b":\n")
+    let a = put_named(text, out, b"Executing process ", name);
+    put(out, a, b":\n")
+}
+
+// The name of the label whose apostrophe stands at `label`.
+fn label_name(text: &[u8], label: usize) -> &[u8]
+    ensures { λ r. ⌜ now r ≡ nameAt (now (text .entry)) (label + 1) ⌝ }
+{
+    if label < text.len() {
+        return name_of(text, label + 1);
+    }
+    name_of(text, label)
+}
+
+// The end of a warning's line: the label whose apostrophe stands at `label`.
+pub(crate) fn put_missing(text: &[u8], out: &mut [u8], label: usize) -> usize
+    requires { ⌜ length (now text) + 12 ≤ length (now out) ⌝ }
+    ensures { λ r. ⌜ Appended (now (out .entry)) (now (out .exit)) 0 r (line (bytes ", missing '" ++ nameAt (now (text .entry)) (label + 1))) ⌝ }
+{
+    let a = put(out, 0, b", missing '");
+    let b = put(out, a, label_name(text, label));
+    put(out, b, b"\n")
 }
 
 pub(crate) fn put_ending(out: &mut [u8], word: &[u8], steps: u32) -> usize

@@ -1,8 +1,11 @@
 // Raise: a process goes on without its handler, or halts the run.
-ghost use Rattle.calculus.specs.Steps.{raising};
+ghost use Prim.Native.Nat.{_<_};
+ghost use lib.ListN.{length};
+ghost use Rattle.calculus.specs.Steps.{caughtBy, raising};
 ghost use Rattle.read_tables.specs.Decode.{processIn};
 ghost use Rattle.read_tables.specs.Roots.{ProcessIn};
-ghost use Rattle.run_alone.specs.Run.{configIn, processAs, RunOf, StandsAt, Carries};
+ghost use Rattle.run_words.specs.Raw.{rawIn, linkOf};
+ghost use Rattle.run_alone.specs.Run.{configIn, processAs, RunOf, ProcessOf, StandsAt, Carries};
 use crate::handlers::start_handler;
 use crate::outcome::Outcome;
 use calculus::answers::Seen;
@@ -10,6 +13,27 @@ use run_words::halting::set_halted;
 use run_words::records::Process;
 use run_words::records::RUNNING;
 use run_words::records::UNLINKED;
+
+// The process p at a place acts as by a raise: the handler starts, and the process stands there without link; where there is no link the run halts.
+pub fn act_as_raise(
+    text: &[u8],
+    scratch: &[u32],
+    run: &mut [u32],
+    place: usize,
+    p: Process,
+) -> Outcome
+    requires { ⌜ RunOf (now text) (now scratch) (now run) ⌝ }
+    requires { ⌜ place < length (rawIn (now run) .processes) ⌝ }
+    requires { ⌜ ProcessOf (now text) (now scratch) (length (rawIn (now run) .processes)) p ⌝ }
+    ensures { λ r. ⌜ Carries (now (text .entry)) (now (scratch .entry)) (now (run .entry)) (now (run .exit)) r (caughtBy (linkOf (p .link)) (configIn (now (text .entry)) (now (scratch .entry)) (now (run .entry))) place (processAs (now (text .entry)) (now (scratch .entry)) p)) ⌝ }
+{
+    if p.link == UNLINKED {
+        set_halted(run);
+        return Outcome::Uncaught;
+    }
+    start_handler(text, scratch, run, place, p);
+    Outcome::Carried(Seen::Nothing)
+}
 
 // Raise: the handler starts, and the process goes on with the term at a pointer, without link; where there is no link the run halts.
 pub fn raise(
@@ -25,13 +49,8 @@ pub fn raise(
     requires { ⌜ ProcessIn (now text) (now scratch) pointer ⌝ }
     ensures { λ r. ⌜ Carries (now (text .entry)) (now (scratch .entry)) (now (run .entry)) (now (run .exit)) r (raising (configIn (now (text .entry)) (now (scratch .entry)) (now (run .entry))) place (processAs (now (text .entry)) (now (scratch .entry)) p) (processIn (now (text .entry)) (now (scratch .entry)) pointer)) ⌝ }
 {
-    if p.link == UNLINKED {
-        set_halted(run);
-        return Outcome::Uncaught;
-    }
     let mut q = p;
     q.kind = RUNNING;
     q.pointer = pointer;
-    start_handler(text, scratch, run, place, q);
-    Outcome::Carried(Seen::Nothing)
+    act_as_raise(text, scratch, run, place, q)
 }

@@ -1,28 +1,25 @@
 -- "A matching send and recv on one channel step together": a process that receives, and what its sender's message does to it.
-use Prim.Native.Nat.{_+_, _-_, _<_, _≤_, suc, zero, ℕ}
-use Rattle.calculus.specs.Configuration.{Config, End, Holder, Process, end, goesOn, replaced}
+use Prim.Native.Nat.{_+_, _<_, _≤_, suc, zero, ℕ}
+use Rattle.calculus.specs.Configuration.{Config, End, Holder, Process, end, goesOn, halt, replaced}
 use Rattle.calculus.specs.Named.{lookup}
 use Rattle.calculus.specs.Program.{Program}
-use Rattle.calculus.specs.Steps.{Message, Outcome, Turn, afterReceive, alone, bothTo, bound, branchOf, meeting, notOpen, onChannel, onClose, onLabel, onward, passedEnd, passedType, receives, sending, sends, takesChannel, takesClose, takesLabel, turnOf}
+use Rattle.calculus.specs.Steps.{Message, Outcome, Received, Turn, afterReceive, alone, bothTo, bound, byBranch, caughtBy, handlerStarts, leavesOut, meeting, notOpen, onChannel, onClose, onLabel, onward, passedEnd, passedType, receives, sending, sends, takes, takesChannel, takesClose, takesLabel, turnOf}
 use Rattle.calculus.specs.Types.{passing, standing}
 use Rattle.calculus.specs.declared.answers.Seen.the-variants.{Nothing}
 use Rattle.check_contexts.specs.Halves.{append-nil}
 use Rattle.check_contexts.specs.Held.{Brings, Drops, EndIn, FoundIn, HeldIn, Sees, channelsOf, endFound}
 use Rattle.check_contexts.specs.declared.held.Lookup.{Lookup}
+use Rattle.check_types.specs.Branches.{BranchIs}
 use Rattle.notation.specs.Bytes.{same}
 use Rattle.notation.specs.Reader.{labelIn, nameIn}
-use Rattle.notation.specs.Tables.{Area}
 use Rattle.notation.specs.Token.{nameAt}
-use Rattle.notation.specs.Tree.{Name, Proc}
+use Rattle.notation.specs.Tree.{Name}
 use Rattle.notation.specs.declared.reading.Found.{Found}
 use Rattle.notation.specs.declared.reading.TermNode.{TermNode}
-use Rattle.read_tables.specs.Access.{BranchOf, branch-there}
 use Rattle.read_tables.specs.Decode.{processIn}
 use Rattle.read_tables.specs.Program.{plainIn, programIn}
-use Rattle.read_tables.specs.Roots.{BranchesIn, FirstBranch, ProcessIn, branchesIn}
+use Rattle.read_tables.specs.Roots.{branchesIn}
 use Rattle.read_tables.specs.Search.{placeOf}
-use Rattle.read_tables.specs.Whole.{Tables}
-use Rattle.read_tables.specs.declared.access.Labelled.{Labelled}
 use Rattle.run_messages.specs.Kinds.{recvChannelKind, recvLabelKind, recvOver, recvUnitKind, sendChannelKind, sendLabelKind, sendUnitKind}
 use Rattle.run_alone.specs.Changes.{places-after, places-in, stored, then}
 use Rattle.run_alone.specs.Forwarding.{farOf}
@@ -34,7 +31,7 @@ use Rattle.run_messages.specs.Messages.{Heard, MovesOn, SendNode, TypeAf
 use Rattle.run_messages.specs.declared.messages.Receiver.{Receiver}
 use Rattle.run_messages.specs.declared.messages.Sending.{Sending}
 use Rattle.run_words.specs.DecodeLaws.{atProcess}
-use Rattle.run_words.specs.Raw.{Bounded, rawIn, sideOf}
+use Rattle.run_words.specs.Raw.{Bounded, linkOf, rawIn, sideOf}
 use Rattle.run_words.specs.Values.{Changed, endIn}
 use Rattle.run_words.specs.declared.records.End.{End as EndWords}
 use Rattle.run_words.specs.declared.records.Held.{Held}
@@ -42,7 +39,7 @@ use Rattle.run_words.specs.declared.records.Process.{Process as ProcessWords}
 use lib.ListN.{length, length-set, set}
 use mathlib.Core.Bool.{Bool, cond, false, true}
 use mathlib.Core.List.{List, [], _++_, _∷_}
-use mathlib.Core.Option.{Option, Option·map, some}
+use mathlib.Core.Option.{Option, Option·map, none, some}
 use mathlib.Core.Path.{_∙_, _≡_, ap, refl, subst, sym}
 use native.Mathlib.Omega.{arith}
 use Rattle.calculus.specs.Configuration as calculus
@@ -105,61 +102,46 @@ module _ (s w : List ℕ) (h : Held) (t : HeldIn s w h) (own passed : Lookup) (a
 pub found-in : {s w : List ℕ} {f : Lookup} {d : EndWords} → f ≡ lookups.Found d → FoundIn s w f → EndIn s w (endIn d) × (d .side < 2)
 found-in {s} {w} e o = subst (FoundIn s w) e o
 
--- ── the branch of a label: a search that has come to n branches before the place e
-pub record BranchIs (s w : List ℕ) (at e n : ℕ) (r : Found) : Type 0 where
-  pub is : branchOf (nameAt s (at + 1)) (branchesIn s w e n) ≡ Option·map (λ x. processIn s w x) (placeOf r)
-  pub process : (x : ℕ) → r ≡ found.At x → ProcessIn s w x
+-- ── the label of a send is left out: the sender goes on where the receiver has a link, else it stays
+abbrev pub senderOn : Option ℕ → ℕ → Process → Config → Config
+senderOn none i q C = C
+senderOn (some h) i q C = replaced i q C
 
-abbrev processThere : List ℕ → List ℕ → Found → Type 0
-processThere s w (found.At x) = ProcessIn s w x
-processThere s w found.Nothing = Unit
+module _ (s w old mid : List ℕ) (i : ℕ) (q : Process) where
+  -- it goes on or stays, by the word of the link
+  pub stays-on : (link : ℕ) → link ≡ 0 → RunOf s w old → Becomes s w old old (senderOn (linkOf link) i q (configIn s w old))
+  stays-on link z t = record { is = ap (λ l. senderOn (linkOf l) i q (configIn s w old)) (sym z); run = t; past = refl; long = refl }
 
-module _ (s w : List ℕ) (at e₀ n₀ : ℕ) where
-  abbrev reached : ℕ → ℕ → Option Proc
-  reached e n = branchOf (nameAt s (at + 1)) (branchesIn s w e n)
+  pub goes-on : (link : ℕ) → (link ≡ 0 → ⊥) → Becomes s w old mid (replaced i q (configIn s w old)) → Becomes s w old mid (senderOn (linkOf link) i q (configIn s w old))
+  goes-on zero z b = absurd (z refl)
+  goes-on (suc h) z b = b
 
-  pub record Searching (e n : ℕ) : Type 0 where
-    pub there : BranchesIn s w e n
-    pub rest : reached e₀ n₀ ≡ reached e n
+  on-many : (link : Option ℕ) → length (senderOn link i q (configIn s w old) .processes) ≡ length (rawIn old .processes)
+  on-many none = places-in s w old
+  on-many (some h) = length-set (configIn s w old .processes) i q ∙ places-in s w old
 
-  pub search-start : BranchesIn s w e₀ n₀ → Searching e₀ n₀
-  search-start b = record { there = b; rest = refl }
+  -- a process by value may stand at a place as before
+  pub stand-on : (link : Option ℕ) → Becomes s w old mid (senderOn link i q (configIn s w old)) → {j : ℕ} {r : ProcessWords} → j < length (rawIn old .processes) → ProcessOf s w (length (rawIn old .processes)) r
+      → (j < length (rawIn mid .processes)) × ProcessOf s w (length (rawIn mid .processes)) r
+  stand-on link b {j} {r} l o = let many = sym (places-after b ∙ on-many link) in (subst (λ n. j < n) many l, subst (λ n. ProcessOf s w n r) many o)
 
-  module _ (e n : ℕ) (l : Searching e n) (h : n ≡ 0 → ⊥) where
-    more : n ≡ suc (n - 1)
-    more = omega (arith, h)
-
-    still : BranchesIn s w e (suc (n - 1))
-    still = subst (BranchesIn s w e) more (l .there)
-
-    pub search-there : Tables s w → Area w × (1 ≤ e) × (e ≤ 1640)
-    search-there t = let (a, b) = branch-there s w t e (n - 1) still in (t .area, a, b)
-
-    module _ (a : Labelled) (o : BranchOf w e a) {b : Bool} (t : b ≡ same (nameAt s (at + 1)) (nameAt s (a .at + 1))) where
-      begins : FirstBranch s w e (n - 1) (a .at) (a .number)
-      begins = o .says s (n - 1) still
-
-      tested : (q : Bool) → b ≡ q → reached e₀ n₀ ≡ cond q (some (processIn s w (a .number))) (reached (e - 1) (n - 1))
-      tested q y =
-          l .rest ∙ ap (reached e) more ∙ ap (branchOf (nameAt s (at + 1))) (begins .is) ∙ ap (λ p. cond p (some (processIn s w (a .number))) (reached (e - 1) (n - 1))) (sym t ∙ y)
-
-      pub search-found : b ≡ true → BranchIs s w at e₀ n₀ (found.At (a .number))
-      search-found y = record { is = tested true y; process = λ x q. subst (processThere s w) q (begins .process) }
-
-      pub search-on : b ≡ false → Searching (e - 1) (n - 1)
-      search-on y = record { there = begins .rest; rest = tested false y }
-
-  pub search-end : (e n : ℕ) → Searching e n → n ≡ 0 → BranchIs s w at e₀ n₀ found.Nothing
-  search-end e n l z = record { is = l .rest ∙ ap (reached e) z; process = λ x q. subst (processThere s w) q tt }
+  -- and then the receiver acts as by a raise
+  pub caught-on : (new : List ℕ) (o : OutcomeWords) (link : Option ℕ) (j : ℕ) (r : Process) → Becomes s w old mid (senderOn link i q (configIn s w old)) → Carries s w mid new o (caughtBy link (configIn s w mid) j r) → Carries s w old new o (caughtBy link (replaced i q (configIn s w old)) j r)
+  caught-on new o none j r b c = record { is = (c .is .0, then halt b (c .is .1)) }
+  caught-on new o (some h) j r b c = record { is = (c .is .0, then (handlerStarts j r) b (c .is .1)) }
 
 -- ── the receiver afterwards
--- the sender is as its send left it, and the receiver goes on with the term at a pointer and what it holds now
-abbrev pub bothOn : List ℕ → List ℕ → List ℕ → Sending → Receiver → ℕ → Held → Outcome
-bothOn s w old sent to pointer held = bothTo (configIn s w old) (sent .place) (processAs s w (sent .after)) (to .place) (some (processAs s w (values.runningOn pointer held (to .process))))
-
 module _ (s w old : List ℕ) (sent : Sending) (to : Receiver) where
-  abbrev pub bothBy : Option Process → Outcome
+  abbrev pub bothBy : Received → Outcome
   bothBy o = bothTo (configIn s w old) (sent .place) (processAs s w (sent .after)) (to .place) o
+
+  -- the sender is as its send left it, and the receiver goes on with the term at a pointer and what it holds now
+  abbrev pub bothOn : ℕ → Held → Outcome
+  bothOn pointer held = bothBy (takes (processAs s w (values.runningOn pointer held (to .process))))
+
+  -- the receiver leaves out the label, and folds up with what it holds now
+  abbrev pub leftOut : Held → Outcome
+  leftOut held = bothBy (leavesOut (processAs s w (values.foldingUp held (to .process))))
 
   abbrev receiver : Process
   receiver = processAs s w (to .process)
@@ -168,10 +150,10 @@ module _ (s w old : List ℕ) (sent : Sending) (to : Receiver) where
   abbrev over : ℕ → List (Name × End)
   over k = onward (programIn s w) (messageBy s (sent .term .second) k) (nameAt s (to .name)) (channelsOf s w (to .process .held))
 
-  module _ {new : List ℕ} {o : OutcomeWords} (h : Held) (pointer : ℕ) (b : Carries s w old new o (bothOn s w old sent to pointer h)) where
+  module _ {new : List ℕ} {o : OutcomeWords} (h : Held) (pointer : ℕ) (b : Carries s w old new o (bothOn pointer h)) where
     -- the receiver has the channels of l
-    with-held : (l : _) → channelsOf s w h ≡ l → Carries s w old new o (bothBy (some (goesOn receiver (processIn s w pointer) l)))
-    with-held l e = subst (λ m. Carries s w old new o (bothBy (some (goesOn receiver (processIn s w pointer) m)))) e b
+    with-held : (l : _) → channelsOf s w h ≡ l → Carries s w old new o (bothBy (takes (goesOn receiver (processIn s w pointer) l)))
+    with-held l e = subst (λ m. Carries s w old new o (bothBy (takes (goesOn receiver (processIn s w pointer) m)))) e b
 
     pub hears-close : Drops s (to .process .held) (to .name) h → Carries s w old new o (bothBy (takesClose (onClose (processIn s w pointer)) (nameAt s (to .name)) receiver))
     hears-close d = with-held _ (d .is w)
@@ -182,15 +164,20 @@ module _ (s w old : List ℕ) (sent : Sending) (to : Receiver) where
     hears-channel {name} z f g c d =
         with-held _ (d .is ∙ λ j. (c .is ∙ ap over z) j ++ bound (programIn s w) (nameAt s name) (sym (g .is w) j) (sym (f .is w) j))
 
-    pub hears-label : {e n : ℕ} {k : Found} → sent .term .kind ≡ sendLabelKind → BranchIs s w (sent .term .second) e n k → k ≡ found.At pointer → MovesOn s w (to .process .held) (sent .term) (to .name) h
-        → Carries s w old new o (bothBy (takesLabel (programIn s w) (labelIn s (sent .term .second)) (onLabel (branchesIn s w e n)) (nameAt s (to .name)) receiver))
-    hears-label y f z c =
-        subst (λ p. Carries s w old new o (bothBy (Option·map (λ P. goesOn receiver P (over 3)) p))) (sym (f .is ∙ ap (λ y. Option·map (λ x. processIn s w x) (placeOf y)) z)) (with-held _ (c .is ∙ ap over y))
+  -- a label: by its branch, with what the receiver holds now
+  module _ {e n : ℕ} {k : Found} (h : Held) (y : sent .term .kind ≡ sendLabelKind) (f : BranchIs s w (sent .term .second) e n k) (c : MovesOn s w (to .process .held) (sent .term) (to .name) h) where
+    abbrev labelTaken : Received
+    labelTaken = takesLabel (programIn s w) (labelIn s (sent .term .second)) (onLabel (branchesIn s w e n)) (nameAt s (to .name)) receiver
 
-  pub hears-nothing : {e n : ℕ} {k : Found} → BranchIs s w (sent .term .second) e n k → k ≡ found.Nothing
-      → Carries s w old old NotOpen (bothBy (takesLabel (programIn s w) (labelIn s (sent .term .second)) (onLabel (branchesIn s w e n)) (nameAt s (to .name)) receiver))
-  hears-nothing f z =
-      subst (λ o. Carries s w old old NotOpen (bothBy (Option·map (λ P. goesOn receiver P (over 3)) o))) (sym (f .is ∙ ap (λ y. Option·map (λ x. processIn s w x) (placeOf y)) z)) (record { is = (refl, refl) })
+    by-branch : (r : Found) → k ≡ r → byBranch (Option·map (λ x. processIn s w x) (placeOf r)) receiver (channelsOf s w h) ≡ labelTaken
+    by-branch r z = sym λ j. byBranch ((f .is ∙ ap (λ v. Option·map (λ x. processIn s w x) (placeOf v)) z) j) receiver (sym (c .is ∙ ap over y) j)
+
+    module _ {new : List ℕ} {o : OutcomeWords} where
+      pub hears-label : (pointer : ℕ) → k ≡ found.At pointer → Carries s w old new o (bothOn pointer h) → Carries s w old new o (bothBy labelTaken)
+      hears-label pointer z b = subst (λ v. Carries s w old new o (bothBy v)) (by-branch (found.At pointer) z) b
+
+      pub hears-nothing : k ≡ found.Nothing → Carries s w old new o (leftOut h) → Carries s w old new o (bothBy labelTaken)
+      hears-nothing z b = subst (λ v. Carries s w old new o (bothBy v)) (by-branch found.Nothing z) b
 
 -- a process that receives on the channel of the message, whatever its name for it
 abbrev pub metBy : Program → Config → ℕ → Process → Process → Message → Holder → Turn → Outcome

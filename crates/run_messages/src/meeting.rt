@@ -1,6 +1,6 @@
-// A send meets a recv: the receiver takes the message, and both go on.
+// A send meets a recv: the receiver takes the message, and both go on; or it leaves out the label, and folds up as by a raise.
 ghost use mathlib.Core.Path.{_≡_};
-ghost use Prim.Native.Nat.{_<_, _+_, ℕ};
+ghost use Prim.Native.Nat.{_<_, _+_};
 ghost use Rattle.calculus.specs.WellFormed.{WellFormed};
 ghost use Rattle.read_tables.specs.Program.{programIn};
 ghost use Rattle.run_words.specs.declared.records.Far.the-variants as far;
@@ -8,12 +8,12 @@ ghost use Rattle.run_messages.specs.Kinds.{recvChannelKind, recvLabelKin
 ghost use Rattle.run_alone.specs.Run.{configIn, processAs, RunOf, Carries, ProcessOf, Becomes};
 ghost use Rattle.run_alone.specs.Forwarding.{farRaw};
 ghost use Rattle.notation.specs.Limits.{heldLimit, textLimit};
-ghost use Rattle.read_tables.specs.Roots.{ProcessIn, BranchesIn};
+ghost use Rattle.read_tables.specs.Roots.{ProcessIn};
 ghost use Rattle.run_messages.specs.Sending.{SendingIn, sendingBy};
-ghost use Rattle.run_messages.specs.Meeting.{ReceiverIn, heardBy, bothSet, bothOn, BringsOver, BranchIs};
+ghost use Rattle.run_messages.specs.Meeting.{ReceiverIn, heardBy, bothSet, bothOn, senderOn, leftOut, BringsOver};
 ghost use lib.ListN.{length};
 ghost use Rattle.read_tables.specs.Whole.{Tables};
-ghost use Rattle.run_words.specs.Raw.{rawIn};
+ghost use Rattle.run_words.specs.Raw.{rawIn, linkOf};
 ghost use Rattle.check_contexts.specs.Held.{HeldIn, FoundIn};
 use crate::messages::Receiver;
 use crate::messages::Sending;
@@ -25,19 +25,21 @@ use check_contexts::held::Lookup;
 use check_contexts::held::bring_end;
 use check_contexts::held::drop_end;
 use check_contexts::held::find_end;
-use check_types::acting::labels_equal;
+use check_types::branches::branch_of;
 use notation::kinds::RECV_UNIT;
 use notation::kinds::SEND_LABEL;
 use notation::kinds::SEND_UNIT;
 use notation::reading::Found;
-use read_tables::access::branch;
 use run_alone::outcome::Outcome;
+use run_alone::raising::act_as_raise;
 use run_words::held::end_at;
 use run_words::processes::load;
 use run_words::processes::store;
+use run_words::records::FOLDING;
 use run_words::records::Held;
 use run_words::records::Process;
 use run_words::records::RUNNING;
+use run_words::records::UNLINKED;
 
 // The recv of what a send sends is of a kind so much higher.
 pub(crate) const RECEIVES: usize = RECV_UNIT - SEND_UNIT;
@@ -147,26 +149,43 @@ fn hear_channel(
     go_on(text, scratch, run, sent, to, t.third, held)
 }
 
-// The process of the label whose apostrophe stands at `at`, among the n branches before the place e.
-fn branch_of(text: &[u8], scratch: &[u32], at: usize, e: usize, n: usize) -> Found
-    requires { ⌜ Tables (now text) (now scratch) × BranchesIn (now text) (now scratch) e n ⌝ }
-    ensures { λ r. ⌜ BranchIs (now (text .entry)) (now (scratch .entry)) at e n r ⌝ }
+// The sender goes on as its send left it, where the receiver has this link; where it has none the run halts, "and the sender stays too".
+fn sender_goes_on(text: &[u8], scratch: &[u32], run: &mut [u32], sent: Sending, link: u32)
+    requires { ⌜ RunOf (now text) (now scratch) (now run) ⌝ }
+    requires { ⌜ SendingIn (now text) (now scratch) (now run) sent ⌝ }
+    ensures { λ o. ⌜ Becomes (now (text .entry)) (now (scratch .entry)) (now (run .entry)) (now (run .exit)) (senderOn (linkOf link) (sent .place) (processAs (now (text .entry)) (now (scratch .entry)) (sent .after)) (configIn (now (text .entry)) (now (scratch .entry)) (now (run .entry)))) ⌝ }
 {
-    let mut place = e;
-    let mut left = n;
-    while left != 0 {
-        let b = branch(scratch, place);
-        let there = b.at;
-        if labels_equal(text, at, there) {
-            return Found::At(b.number);
-        }
-        place -= 1;
-        left -= 1;
+    if link == UNLINKED {
+        return;
     }
-    Found::Nothing
+    let q = sent.after;
+    store(run, sent.place, q);
 }
 
-// The receiver goes on with the branch of the label.
+// A label has come that the receiver leaves out: it "acts in that same step as by a raise and folds up", with what it holds now.
+fn leave_out(
+    text: &[u8],
+    scratch: &[u32],
+    run: &mut [u32],
+    sent: Sending,
+    to: Receiver,
+    held: Held,
+) -> Outcome
+    requires { ⌜ RunOf (now text) (now scratch) (now run) ⌝ }
+    requires { ⌜ SendingIn (now text) (now scratch) (now run) sent ⌝ }
+    requires { ⌜ ReceiverIn (now text) (now scratch) (now run) to ⌝ }
+    requires { ⌜ HeldIn (now text) (now scratch) held ⌝ }
+    ensures { λ o. ⌜ Carries (now (text .entry)) (now (scratch .entry)) (now (run .entry)) (now (run .exit)) o (leftOut (now (text .entry)) (now (scratch .entry)) (now (run .entry)) sent to held) ⌝ }
+{
+    let r = to.process;
+    let mut q = r;
+    q.kind = FOLDING;
+    q.held = held;
+    sender_goes_on(text, scratch, run, sent, r.link);
+    act_as_raise(text, scratch, run, to.place, q)
+}
+
+// The receiver goes on with the branch of the label, or leaves it out; either way its own end is of the type of the label.
 fn hear_label(text: &[u8], scratch: &[u32], run: &mut [u32], sent: Sending, to: Receiver) -> Outcome
     requires { ⌜ RunOf (now text) (now scratch) (now run) ⌝ }
     requires { ⌜ SendingIn (now text) (now scratch) (now run) sent ⌝ }
@@ -176,13 +195,13 @@ fn hear_label(text: &[u8], scratch: &[u32], run: &mut [u32], sent: Sending, to: 
 {
     let n = sent.term;
     let t = to.term;
-    let f = branch_of(text, scratch, n.second, t.second, t.third);
-    let Found::At(pointer) = f else {
-        return Outcome::NotOpen;
-    };
     let r = to.process;
     let h = r.held;
     let held = move_on(text, scratch, h, n, to.name);
+    let f = branch_of(text, scratch, n.second, t.second, t.third);
+    let Found::At(pointer) = f else {
+        return leave_out(text, scratch, run, sent, to, held);
+    };
     go_on(text, scratch, run, sent, to, pointer, held)
 }
 

@@ -165,7 +165,7 @@ fn idle() -> TermNode
 }
 
 // The node of the term at a pointer, where a process runs it and it acts on the channel whose name is the one at `x`.
-pub(crate) fn turn_on(text: &[u8], scratch: &[u32], kind: u32, pointer: u32, x: usize) -> TermNode
+pub fn turn_on(text: &[u8], scratch: &[u32], kind: u32, pointer: u32, x: usize) -> TermNode
     requires { ⌜ Tables (now text) (now scratch) ⌝ }
     requires { ⌜ ((kind ≡ foldingKind → ⊥) → ProcessIn (now text) (now scratch) pointer) ⌝ }
     ensures { λ t. ⌜ Heard (now (text .entry)) (now (scratch .entry)) x (doingAs (now (text .entry)) (now (scratch .entry)) kind pointer) t ⌝ }

@@ -40,7 +40,7 @@ use Rattle.run_joints.specs.WellJoined.{wellJoined}
 use Rattle.run_wellformed.specs.OfText.{OfText}
 use Rattle.run_wellformed.specs.Typing.{typedProcess, typedIn}
 use Rattle.run_wellformed.specs.Outward.{outwardIn}
-use Rattle.run_wellformed.specs.Halting.{uncaughtIn, haltIn}
+use Rattle.run_wellformed.specs.Halting.{haltsIn, haltIn}
 use Rattle.run_wellformed.specs.Kept.{asEnd, besideIn, outsideEnd, processEnds, rawEnds, ends-in, ends-decoded}
 
 -- the configuration that the numbers of C stand for
@@ -145,7 +145,7 @@ module _ (s w : List ℕ) (C : RawConfig) where
 
   halt-as : haltFits (configIn s w C) ≡ haltIn s w C
   unfolding haltFits
-  halt-as = ap (implies (isHalted (C .halted))) (any-map (decodedProcess (nameAt s) (plainIn s w) (processIn s w)) _ (uncaughtIn s w) (λ q. refl) (C .processes))
+  halt-as = ap (implies (isHalted (C .halted))) (any-map (decodedProcess (nameAt s) (plainIn s w) (processIn s w)) _ (haltsIn s w C) (λ q. refl) (C .processes))
 
   -- all of them pass on what is well formed, and what they all pass on is
   pub record Parts : Type 0 where

@@ -5,19 +5,22 @@ use mathlib.Core.List.{List, [], _∷_}
 use mathlib.Core.Logic.{_⊎_, inl, inr}
 use native.Mathlib.Omega.{arith}
 use Rattle.notation.specs.From.{ProcessFrom}
-use Rattle.notation.specs.Limits.{processTermLimit, textLimit}
+use lib.ListN.{length}
+use Rattle.notation.specs.Limits.{processTermLimit, textLimit, runWords}
 use Rattle.notation.specs.Sizes.{processTerms}
 use Rattle.notation.specs.Tree.{Proc, empty, sendUnit, sendChannel, sendLabel, cancel, spawn, recvUnit, recvChannel, recvLabel, fwd, call, raise, try}
 use Rattle.read_tables.specs.Decode.{tallyIn}
 use Rattle.read_tables.specs.Everywhere.{Everywhere}
 use Rattle.read_tables.specs.Roots.{TypeIn, ProcessIn}
 use Rattle.read_tables.specs.Stands.{ProcessAt}
+use Rattle.read_tables.specs.Whole.{Tables}
 use Rattle.run_words.specs.Lists.{All}
 use Rattle.run_words.specs.ListLaws.{all-weaken}
-use Rattle.run_words.specs.Raw.{RawEnd, RawProcess, RawOutside, RawConfig, BoundedEnd, BoundedProcess}
+use Rattle.run_words.specs.Raw.{RawEnd, RawProcess, RawOutside, RawConfig, BoundedEnd, BoundedProcess, Bounded, rawIn}
 use Rattle.run_words.specs.Values.{heldIn, processIn}
 use Rattle.run_words.specs.declared.records.Process.{Process}
 use Rattle.check_contexts.specs.Held.{EndIn, HeldIn}
+use Rattle.run_alone.specs.Run.{Fits, RunOf}
 
 module _ (w : List ℕ) where
   abbrev pub Node : ℕ → Type 0
@@ -58,6 +61,22 @@ module _ (s w : List ℕ) (t : Everywhere s w) where
 
   pub held-in : {n : ℕ} (p : Process) → p .held .count ≤ 16 → BoundedProcess n (processIn p) → ProcessOf w (processIn p) → HeldIn s w (p .held)
   held-in p m b a = record { many = m; each = ends-in (heldIn (p .held)) (b .each) (a .held) }
+
+  processes-fit : (n : ℕ) (l : List RawProcess) → All (BoundedProcess n) l → All (ProcessOf w) l → All (Fits s w) l
+  processes-fit n [] b a = tt
+  processes-fit n (p ∷ l) b a = (
+    record { term = λ d. pointer-in (a .0 .term d); held = ends-in (p .held) (b .0 .each) (a .0 .held) },
+    processes-fit n l (b .1) (a .1),
+  )
+
+  pub run-of : (ws : List ℕ) → Tables s w → runWords ≤ length ws → Bounded (rawIn ws) → OfText w (rawIn ws) → RunOf s w ws
+  run-of ws u l b o = record {
+    tables = u;
+    wide = l;
+    bounds = b;
+    processes = processes-fit _ (rawIn ws .processes) (b .processes) (o .processes);
+    outside = all-weaken (OutsideOf w) (λ (o : RawOutside). TypeIn s w (o .node)) (λ o h. t .nodes (o .node) h) (rawIn ws .outside) (o .outside);
+  }
 
 -- ── and what stands in the tables is of the text
 module _ (s w : List ℕ) where

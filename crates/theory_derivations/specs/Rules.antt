@@ -3,7 +3,7 @@ use Prim.Native.Nat.{ℕ}
 use mathlib.Core.Path.{_≡_, refl, _∙_, ap}
 use mathlib.Core.Logic.{_↔_, Iff·trans}
 use mathlib.Core.List.{[], _∷_, _++_}
-use mathlib.Core.Bool.{and-eq-true-iff}
+use mathlib.Core.Bool.{true, and-eq-true-iff}
 use mathlib.Core.Option.{Option, some, none}
 use Rattle.notation.specs.Bytes.{same}
 use Rattle.notation.specs.Tree.{Name, unit, Alternatives, Proc, empty, sendUnit, sendChannel, sendLabel, cancel, spawn, recvUnit, recvChannel, recvLabel, fwd, call, raise, try, Branches, branch}
@@ -11,9 +11,9 @@ use Rattle.calculus.specs.Named.{lookup, names, isSome, all, distinct}
 use Rattle.calculus.specs.Types.{provided, used, other, passing, choosing, labelled}
 use Rattle.calculus.specs.Program.{slot, Context, Program}
 use Rattle.calculus.specs.Mentions.{spawnTakes, spawnLeaves, neverBoth, exactlyOne}
-use Rattle.calculus.specs.Typing.{acting, fitting, namesOf, listFits, withoutAll, Typed, TypedBranches, sends-unit, recvs-unit, sends-channel, recvs-channel, sends-label, recvs-label, forwards, calls, spawns, tries, raises, cancels, empties, last-branch, one-branch}
+use Rattle.calculus.specs.Typing.{acting, namesOf, listFits, withoutAll, Typed, TypedBranches, sends-unit, recvs-unit, sends-channel, recvs-channel, sends-label, recvs-label, forwards, calls, spawns, tries, raises, cancels, empties, last-branch, one-branch}
 use Rattle.calculus.specs.Verdict.{fine}
-use Rattle.calculus.specs.Checking.{check, checkBranches}
+use Rattle.calculus.specs.Checking.{fitting, check, checkBranches}
 use Rattle.theory_derivations.specs.Booleans.{itself, not-iff, _and_, isNil-iff, isSome-iff}
 use Rattle.theory_derivations.specs.Equality.{sameType-decides, decides-sym}
 use Rattle.theory_derivations.specs.Fine.{fine-law, then-law, demand-law, having-law}
@@ -24,6 +24,12 @@ found : {X : Type 0} {o : Option X} {x y : X} → o ≡ some x → x ≡ y → o
 found e h = e ∙ ap some h
 
 module _ (p : Program) where
+  -- the branches of a derivation have labels of the type
+  branches-fit : {G : Context} {c : Name} {r : Alternatives Name} (B : Branches) → TypedBranches p G c r B → fitting r B ≡ true
+  unfolding fitting
+  branches-fit Branches.none d = refl
+  branches-fit {r = r} (branch l P B) (one-branch A el d f) = and-eq-true-iff (isSome (labelled (l .name) r)) (fitting r B) .1 (isSome-iff (labelled (l .name) r) .1 (A, el), branches-fit B f)
+
   mutual
     unfolding check checkBranches
 
@@ -69,8 +75,8 @@ module _ (p : Program) where
     check-iff (recvLabel at c B) G = Iff·trans
         (having-law _ _ (acting p (c .name) G) λ h. having-law _ _ (choosing (h .type)) λ t.
         demand-law _ _ (side-iff (other (t .sender)) h) (demand-law _ _ (itself (fitting (t .labels) B)) (branches-iff B G at (c .name) (t .labels)))) (
-          λ (h, eh, (t, et, (hs, (f, d)))). recvs-label (h .type) t et (found eh hs) f d,
-          λ d. elim d [ recvs-label T t et eh f d ↦ (slot (other (t .sender)) T, eh, (t, et, (refl, (f, d)))) ],
+          λ (h, eh, (t, et, (hs, (_, d)))). recvs-label (h .type) t et (found eh hs) d,
+          λ d. elim d [ recvs-label T t et eh d ↦ (slot (other (t .sender)) T, eh, (t, et, (refl, (branches-fit B d, d)))) ],
         )
     check-iff (fwd at x c) G = Iff·trans
         (having-law _ _ (lookup (x .name) G) λ h. having-law _ _ (lookup (c .name) G) λ e.

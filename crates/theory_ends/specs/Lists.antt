@@ -4,7 +4,7 @@ use native.Mathlib.Omega.{arith}
 use native.Mathlib.Decide.{ℕ-discrete, decLe}
 use mathlib.Core.Path.{_≡_, refl, sym, _∙_, ap, subst}
 use mathlib.Core.Logic.{_↔_, _≢_, _⊎_, inl, inr}
-use mathlib.Core.List.{List, [], _∷_, _++_, map, List·Memᴰ·head, List·Memᴰ·tail, List·Memᴰ·not-nil, List·Memᴰ·cases-cons, List·Memᴰ·append-cases, List·Memᴰ·eq-of-singleton, Memᴰ·map, Memᴰ·of-map, Memᴰ·cast, Memᴰ·append-left, Memᴰ·append-right, Sublistᴰ, Sublistᴰ·slnil, Sublistᴰ·cons, Sublistᴰ·cons-cons}
+use mathlib.Core.List.{List, [], _∷_, _++_, map, List·Memᴰ·head, List·Memᴰ·tail, List·Memᴰ·not-nil, List·Memᴰ·cases-cons, List·Memᴰ·append-cases, List·Memᴰ·eq-of-singleton, Memᴰ·map, Memᴰ·of-map, Memᴰ·cast, Memᴰ·append-left, Memᴰ·append-right, cons-ne-nil, Sublistᴰ, Sublistᴰ·slnil, Sublistᴰ·cons, Sublistᴰ·cons-cons}
 use mathlib.Core.Option.{Option·map, some, none, Option·some-injective, Option·none-ne-some, Option·some-ne-none}
 use mathlib.Core.Bool.{Bool, true, false, true≢false}
 use lib.ListN.{length, take, drop, set, getElem?, length-map}
@@ -71,6 +71,20 @@ module _ {A : Type 0} where
   set-at [] i a h = absurd (omega arith)
   set-at (x ∷ l) zero a h = refl
   set-at (x ∷ l) (suc i) a h = set-at l i a (omega arith)
+
+  -- two lists make none
+  pub nil-left : (l m : List A) → l ++ m ≡ [] → l ≡ []
+  nil-left [] m e = refl
+  nil-left (x ∷ l) m e = absurd (cons-ne-nil _ _ e)
+
+  pub nil-right : (l m : List A) → l ++ m ≡ [] → m ≡ []
+  nil-right [] m e = e
+  nil-right (x ∷ l) m e = absurd (cons-ne-nil _ _ e)
+
+  pub set-twice : (l : List A) (i : ℕ) (a b : A) → set (set l i a) i b ≡ set l i b
+  set-twice [] i a b = refl
+  set-twice (x ∷ l) zero a b = refl
+  set-twice (x ∷ l) (suc i) a b = ap (λ r. x ∷ r) (set-twice l i a b)
 
   pub set-off : (l : List A) (i j : ℕ) (a : A) → j ≢ i → getElem? (set l i a) j ≡ getElem? l j
   set-off [] i j a n = refl

@@ -21,6 +21,7 @@ use Rattle.theory_derivations.specs.Booleans.{isSome-iff, any-iff, isNil-iff}
 use Rattle.theory_derivations.specs.Equality.{same-iff}
 use Rattle.theory_derivations.specs.Fine.{refuted}
 use Rattle.theory_derivations.specs.Accepts.{accepts}
+use Rattle.theory_ends.specs.Lists.{nil-left, nil-right}
 use Rattle.theory_ends.specs.Names.{lookup-in, distinct-iff, names-append}
 use Rattle.calculus.specs.Typing.{Bodies}
 use Rattle.theory_preservation.specs.Start.{start-well-formed}
@@ -34,14 +35,6 @@ faults-none n (i ∷ l) e = refuted e
 both-fine : (u v : Verdict) → andThen u v ≡ fine → (u ≡ fine) × (v ≡ fine)
 both-fine fine v e = (refl, e)
 both-fine (refused n at) v e = refuted e
-
-nil-left : {A : Type 0} (l m : List A) → l ++ m ≡ [] → l ≡ []
-nil-left [] m e = refl
-nil-left (x ∷ l) m e = absurd (cons-ne-nil _ _ e)
-
-nil-right : {A : Type 0} (l m : List A) → l ++ m ≡ [] → m ≡ []
-nil-right [] m e = e
-nil-right (x ∷ l) m e = absurd (cons-ne-nil _ _ e)
 
 -- ── the names of a signature
 repeats-none : (before : List Name) (ns : List Located) → repeats before ns ≡ [] → NoneTwice (namesOf ns) × ((x : Name) → In x (namesOf ns) → ¬ In x before)
@@ -148,12 +141,22 @@ module _ (text : List ℕ) (ds : List Declaration) (a : checked text ≡ accepte
   line-exec (m ∷ l) zero s e = (m, List·Memᴰ·head refl, e)
   line-exec (m ∷ l) (suc line) s e = let r = line-exec l line s e in (r .0, List·Memᴰ·tail (r .1), r .2)
 
-  pub accepted-start : (line : ℕ) (s : Signature) → execOf p line ≡ some s → WellFormed p (startConfig s)
+  -- an exec's process: "An exec process uses nothing. Its provided types reach only 1, * and +"
+  pub record ExecProcess (s : Signature) : Type 0 where
+    pub name : Name
+    pub declared : lookup name (p .processes) ≡ some s
+    pub uses-nothing : s .uses ≡ []
+    pub outwards : all (outward p) (entryTypes (s .provides)) ≡ true
+
+  pub exec-process : (line : ℕ) (s : Signature) → execOf p line ≡ some s → ExecProcess s
   unfolding execOf wrongExecs
-  accepted-start line s e =
+  exec-process line s e =
       let n = line-exec (p .execs) line s e in
       let k = ap (keepsRule p) (sym (n .2)) ∙ keeps-rule (p .execs) (passes .2) (n .0) (n .1) in
       let r = and-eq-true-iff (isNil (s .uses)) (all (outward p) (entryTypes (s .provides))) .0 k in
-      let d = signature-names (n .0 .name) s (n .2) in
-      let u = isNil-iff (s .uses) .0 (r .0) in
-      start-well-formed p s d u (r .1) (accepted-bodies .typed (n .0 .name) s (n .2))
+      record { name = n .0 .name; declared = n .2; uses-nothing = isNil-iff (s .uses) .0 (r .0); outwards = r .1 }
+
+  pub accepted-start : (line : ℕ) (s : Signature) → execOf p line ≡ some s → WellFormed p (startConfig s)
+  accepted-start line s e =
+      let x = exec-process line s e in
+      start-well-formed p s (signature-names (x .name) s (x .declared)) (x .uses-nothing) (x .outwards) (accepted-bodies .typed (x .name) s (x .declared))

@@ -105,6 +105,13 @@ module _ (p : Program) (l : List (Name × End)) where
       go r (List·Memᴰ·head e) = subst (Was (a ∷ ns)) (ap (λ (x : Name × End). x .1) (sym e)) (given-was a ns (s .1) (f .0))
       go r (List·Memᴰ·tail j) = let y = r j in record { name = y .name; listed = List·Memᴰ·tail (y .listed); end = y .end; held = y .held; same = y .same; one = y .one }
 
+  -- after a call the body has what its signature says
+  pub called-context : {o bracket : ℕ} {f : Located} {xs ys : List Located} {s : Signature} → Typed p (contextOf l) (call o f bracket xs ys) → lookup (f .name) (p .processes) ≡ some s
+      → contextOf (renamed (namesOf xs ++ namesOf ys) (signatureContext s) l) ≡ signatureContext s
+  called-context {xs = xs} {ys = ys} (calls s e′ fx fy _ _) e =
+      subst (λ s. contextOf (renamed (namesOf xs ++ namesOf ys) (signatureContext s) l) ≡ signatureContext s) (Option·some-injective _ _ (sym e′ ∙ e))
+      (renamed-context (namesOf xs ++ namesOf ys) (signatureContext s) (call-fits (namesOf xs) (namesOf ys) s fx fy))
+
   -- what a process holds after a call, it held before
   pub called-was : {o bracket : ℕ} {f : Located} {xs ys : List Located} {s : Signature} → Typed p (contextOf l) (call o f bracket xs ys) → lookup (f .name) (p .processes) ≡ some s
       → (x : Name × End) → In x (renamed (namesOf xs ++ namesOf ys) (signatureContext s) l) → Was (namesOf xs ++ namesOf ys) (x .1)

@@ -6,7 +6,7 @@ use mathlib.Core.List.{List, [], _∷_, _++_, map, Sublistᴰ, List·Memᴰ·hea
 use mathlib.Core.Option.{Option, some, none, Option·map}
 use lib.ListN.{take, drop, set, getElem?, take-append-drop}
 use Rattle.notation.specs.Tree.{Name}
-use Rattle.calculus.specs.Configuration.{End, Process, relinked, movedUp, movedDown, inserted, removed}
+use Rattle.calculus.specs.Configuration.{End, Doing, Process, relinked, movedUp, movedDown, inserted, removed}
 use Rattle.calculus.specs.Steps.{putAt, changedAt}
 use Rattle.calculus.specs.WellFormed.{In}
 use Rattle.theory_derivations.specs.Booleans.{each-cons}
@@ -54,24 +54,25 @@ module _ {A : Type 0} (Q : A → Type 0) where
   each-out : (n : ℕ) (l : List A) → Each Q l → Each Q (takeOut n l)
   each-out n l f = each-append (take n l) (drop (suc n) l) (each-take n l f) (each-drop (suc n) l f)
 
--- ── what holds of what each process holds
-module _ (Q : List (Name × End) → Type 0) where
-  abbrev pub EachHolds : List Process → Type 0
-  EachHolds l = Each (λ (q : Process). Q (q .held)) l
+-- ── what holds of what each process does and holds
+module _ (Q : Doing → List (Name × End) → Type 0) where
+  abbrev pub EachProcess : List Process → Type 0
+  EachProcess l = Each (λ (q : Process). Q (q .doing) (q .held)) l
 
-  pub each-inserted : (i : ℕ) (q : Process) (l : List Process) → EachHolds l → Q (q .held) → EachHolds (inserted i q l)
+  pub each-inserted : (i : ℕ) (q : Process) (l : List Process) → EachProcess l → Q (q .doing) (q .held) → EachProcess (inserted i q l)
   unfolding inserted
   each-inserted i q l f u = each-in _ (suc i) q (map (relinked (movedUp i)) l) (each-map _ (relinked (movedUp i)) (λ r v. v) l f) u
 
-  pub each-removed : (i : ℕ) (l : List Process) → EachHolds l → EachHolds (removed i l)
+  pub each-removed : (i : ℕ) (l : List Process) → EachProcess l → EachProcess (removed i l)
   unfolding removed
   each-removed i l f = each-out _ i (map (relinked (movedDown i)) l) (each-map _ (relinked (movedDown i)) (λ r v. v) l f)
 
-  -- a process goes on with what it holds
-  pub each-changed-at : (g : Process → Process) → ((q : Process) → g q .held ≡ q .held) → (o : Option ℕ) (l : List Process) → EachHolds l → EachHolds (changedAt g o l)
-  each-changed-at g same none l f = f
-  each-changed-at g same (some j) l f = go (getElem? l j) (λ q e. f q (found-in l j e))
+  -- a process goes on
+  pub each-changed-at : (g : Process → Process) → ((q : Process) → Q (q .doing) (q .held) → Q (g q .doing) (g q .held)) → (o : Option ℕ) (l : List Process) → EachProcess l
+      → EachProcess (changedAt g o l)
+  each-changed-at g keeps none l f = f
+  each-changed-at g keeps (some j) l f = go (getElem? l j) (λ q e. f q (found-in l j e))
     where
-      go : (o : Option Process) → ((q : Process) → o ≡ some q → Q (q .held)) → EachHolds (putAt l j (Option·map g o))
+      go : (o : Option Process) → ((q : Process) → o ≡ some q → Q (q .doing) (q .held)) → EachProcess (putAt l j (Option·map g o))
       go none h = f
-      go (some q) h = each-set _ l j (g q) f (subst Q (sym (same q)) (h q refl))
+      go (some q) h = each-set _ l j (g q) f (keeps q (h q refl))

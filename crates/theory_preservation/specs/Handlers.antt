@@ -1,10 +1,10 @@
--- Raise and a lost recv, which start the handler, and leaving the list, by which the handler folds up.
+-- Raise, a lost recv and a label left out, which start the handler, and leaving the list, by which the handler folds up.
 use mathlib.Core.Path.{_≡_, refl, sym, _∙_, ap, subst}
 use mathlib.Core.Logic.{_≢_, _⊎_, inl, inr}
-use mathlib.Core.List.{List, Sublistᴰ, Sublistᴰ·refl}
+use mathlib.Core.List.{List, [], _∷_, Sublistᴰ, Sublistᴰ·refl}
 use mathlib.Core.Option.{Option, some, none, Option·map, Option·none-ne-some}
 use mathlib.Core.Bool.{true, false}
-use Prim.Native.Nat.{ℕ, _≤_, _<_}
+use Prim.Native.Nat.{ℕ, zero, suc, _≤_, _<_}
 use native.Mathlib.Omega.{arith}
 use lib.ListN.{length, set, getElem?, length-set}
 use Rattle.notation.specs.Limits.{processPlaces}
@@ -17,12 +17,11 @@ use Rattle.calculus.specs.Steps.{changedAt, putAt, startedHandler, startedDoing
 use Rattle.calculus.specs.Reduces.{Empty, no-term, no-channel}
 use Rattle.calculus.specs.WellFormed.{contextOf, isWaiting}
 use Rattle.theory_ends.specs.Names.{without-sub}
-use Rattle.theory_ends.specs.Lists.{length-removed, set-cases, found-below}
+use Rattle.theory_ends.specs.Lists.{length-removed, set-at, set-twice, set-cases, found-below}
 use Rattle.theory_preservation.specs.Mates.{put}
 use Rattle.theory_preservation.specs.Roster.{TypedDoing, NamesDiffer, names-less, Goes, runs-on, goes-folding, runs-awake}
 use Rattle.theory_preservation.specs.LettingGo.{started, left, left-alone}
 use Rattle.theory_preservation.specs.Places.{Shows, shows-set, shows-out, idOut}
-use Rattle.theory_preservation.specs.Growing
 use Rattle.theory_preservation.specs.Invariant.{Inv, inv-less, at-roster, fine-at, handler, unlinked}
 
 started-waits-not : (d : Doing) → isWaiting (startedDoing d) ≡ false
@@ -39,6 +38,22 @@ started-names : (ns : List Name) (d : Doing) → NamesDiffer d ns → NamesDiffe
 started-names ns (running P) n = n
 started-names ns folding n = n
 started-names ns (waiting P) n = n
+
+-- what stood at place j before a handler was started does not matter, where another stands there afterwards
+put-later : (x : Process) (l : List Process) (k : ℕ) (o : Option Process) → putAt (x ∷ l) (suc k) o ≡ x ∷ putAt l k o
+put-later x l k none = refl
+put-later x l k (some h) = refl
+
+put-before : (f : Process → Process) (l : List Process) (j k : ℕ) (r y : Process) → set (putAt (set l j r) k (Option·map f (getElem? (set l j r) k))) j y ≡ set (putAt l k (Option·map f (getElem? l k))) j y
+put-before f [] j k r y = refl
+put-before f (x ∷ l) zero zero r y = refl
+put-before f (x ∷ l) zero (suc k) r y = rw (put-later, put-later) refl
+put-before f (x ∷ l) (suc j) zero r y = ap (λ m. f x ∷ m) (set-twice l j r y)
+put-before f (x ∷ l) (suc j) (suc k) r y = rw (put-later, put-later) (ap (λ m. x ∷ m) (put-before f l j k r y))
+
+changed-before : (f : Process → Process) (o : Option ℕ) (l : List Process) (j : ℕ) (r y : Process) → set (changedAt f o (set l j r)) j y ≡ set (changedAt f o l) j y
+changed-before f none l j r y = set-twice l j r y
+changed-before f (some k) l j r y = put-before f l j k r y
 
 module _ {p : Program} {C : Config} (I : Inv p C) {i : ℕ} {q : Process} (here : Stands C i q) where
   inside : i < length (C .processes)
@@ -139,3 +154,10 @@ module _ {p : Program} {C : Config} (I : Inv p C) {i : ℕ} {q : Process} (here 
           let r = handler I i q (here .there) h z in
           subst (λ o. Inv p (withProcesses (removed i (putAt (C .processes) h (Option·map foldedHandler o))) C)) (sym (r .1))
           (left-inv w h z (r .0) (r .1) (r .2) folding refl tt tt)
+
+-- a process that folds up from now on, as D has it but for its place: its handler, if linked, starts in the same step
+pub folded-starts : {p : Program} (D : Config) (i : ℕ) (q : Process) (l : List (Name × End)) → Inv p (replaced i (foldsUp q l) D) → i < length (D .processes)
+    → Inv p (handlerStarts i (foldsUp q l) D)
+folded-starts {p} D i q l I b =
+    subst (λ m. Inv p (withProcesses m D)) (changed-before startedHandler (q .link) (D .processes) i (foldsUp q l) (linkedBy none (foldsUp q l)))
+    (starts-keep I (record { there = set-at (D .processes) i (foldsUp q l) b }) refl folding (goes-folding refl) (Sublistᴰ·refl l) tt)

@@ -22,6 +22,7 @@ pub mod Outward
 pub mod AfterMessage
 pub mod Sending
 pub mod Stepping
+pub mod Spotless
 pub mod Joints
 pub mod FromInvariant
 pub mod Seats

@@ -1,7 +1,7 @@
 -- Rules that make a process: spawn, and try, whose handler waits.
 use mathlib.Core.Path.{_≡_, sym, _∙_, ap, subst}
 use mathlib.Core.Logic.{_≢_}
-use mathlib.Core.List.{[], _∷_, _++_}
+use mathlib.Core.List.{List, [], _∷_, _++_}
 use mathlib.Core.Option.{some, none, Option·map, map-eq-some-iff, Option·none-ne-some, Option·some-injective}
 use mathlib.Core.Bool.{Bool, true, false, cond, So, not, false≢true}
 use Prim.Native.Nat.{ℕ, suc, _≤_, _<_}
@@ -28,6 +28,10 @@ use Rattle.theory_preservation.specs.Witness.{Tip}
 use Rattle.theory_preservation.specs.Growing
 use Rattle.theory_preservation.specs.Invariant.{Inv, at-roster}
 
+-- a half with the new channel, as typing sees it
+pub half-context : (t : Name → Bool) (l : List (Name × End)) (n : Name) (e : End) → contextOf (kept t l ++ ((n, e) ∷ [])) ≡ bringing n (slot (e .side) (e .type)) (kept t (contextOf l))
+half-context t l n e = context-append (kept t l) ((n, e) ∷ []) ∙ ap (λ G. G ++ ((n, slot (e .side) (e .type)) ∷ [])) (sym (context-kept t l))
+
 module _ {p : Program} {C : Config} (I : Inv p C) {i : ℕ} {q : Process} (here : Stands C i q) where
   inside : i < length (C .processes)
   inside = found-below (C .processes) i (here .there)
@@ -51,8 +55,8 @@ module _ {p : Program} {C : Config} (I : Inv p C) {i : ℕ} {q : Process} (here 
     next = suc (I .next);
     shows = shows-in s₁ i (I .next) (omega (arith, inside, len₁)) (λ j h. new-id j (omega (arith, len₁))) made (λ h z. absurd (Option·none-ne-some h z));
     good = Growing.spawn-good (I .good) (I .id i) (relinked (I .id) q) (at-roster I i q (here .there)) w t n (plain A) k (fresh .1) (fresh .0) (absent-held n (q .held) (bP .new)) P Q
-        (room t (bP .room)) (room (λ m. not (t m)) (bQ .room)) (subst (λ G. Typed p G P) (sym (half t (end provided k (plain A)))) tP)
-        (subst (λ G. Typed p G Q) (sym (half (λ m. not (t m)) (end used k (plain A)))) tQ);
+        (room t (bP .room)) (room (λ m. not (t m)) (bQ .room)) (subst (λ G. Typed p G P) (sym (half-context t (q .held) n (end provided k (plain A)))) tP)
+        (subst (λ G. Typed p G Q) (sym (half-context (λ m. not (t m)) (q .held) n (end used k (plain A)))) tQ);
     places = let c = length-inserted i made (set (C .processes) i maker) in omega (arith, len₁);
     numbers = I .numbers;
   }
@@ -62,10 +66,6 @@ module _ {p : Program} {C : Config} (I : Inv p C) {i : ℕ} {q : Process} (here 
 
       t : Name → Bool
       t = halfMentions (x .name) P
-
-      -- a half with the new channel, as typing sees it
-      half : (t : Name → Bool) (e : End) → contextOf (kept t (q .held) ++ ((n, e) ∷ [])) ≡ bringing n (slot (e .side) (e .type)) (kept t (contextOf (q .held)))
-      half t e = context-append (kept t (q .held)) ((n, e) ∷ []) ∙ ap (λ G. G ++ ((n, slot (e .side) (e .type)) ∷ [])) (sym (context-kept t (q .held)))
 
       room : (t : Name → Bool) → length (kept t (contextOf (q .held))) < heldLimit → length (kept t (q .held)) < heldLimit
       room t h = subst (λ m. m < heldLimit) (ap length (context-kept t (q .held)) ∙ context-length (kept t (q .held))) h

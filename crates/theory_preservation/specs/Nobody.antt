@@ -17,7 +17,7 @@ use Rattle.theory_ends.specs.Lists.{found-in, in-found}
 use Rattle.theory_ends.specs.Names.{without-sub, kept-sub, changed-map}
 use Rattle.theory_ends.specs.Ends.{keyAt}
 use Rattle.theory_ends.specs.FarEnds.{FarIs, at-process, at-outside, at-nobody, far-is, far-nobody, farKey, given-up-unheld, found-key}
-use Rattle.theory_preservation.specs.Each.{Each, EachHolds, each-none, each-one, each-sub, each-set}
+use Rattle.theory_preservation.specs.Each.{Each, EachProcess, each-none, each-one, each-sub, each-set}
 use Rattle.theory_preservation.specs.Relocating.{Relocated}
 use Rattle.theory_preservation.specs.FarEnds.{other-used}
 
@@ -31,7 +31,7 @@ OutsideFreeOf κ o = Each (λ (y : Outside). (y .channel, used) ≢ κ) o
 
 -- nobody has an end of the key κ
 pub record Nobody (κ : ℕ × Side) (l : List Process) (o : List Outside) : Type 0 where
-  pub processes : EachHolds (FreeOf κ) l
+  pub processes : EachProcess (λ _. FreeOf κ) l
   pub outside : OutsideFreeOf κ o
 
 -- ── a far end was given up exactly if nobody has it

@@ -5,7 +5,8 @@ use mathlib.Core.List.{List, _++_, Sublistᴰ, Sublistᴰ·refl}
 use mathlib.Core.Option.{some, Option·some-injective}
 use mathlib.Core.Bool.{true, false≢true}
 use Prim.Native.Nat.{ℕ, _<_}
-use lib.ListN.{getElem?}
+use native.Mathlib.Omega.{arith}
+use lib.ListN.{length-set, getElem?}
 use Rattle.notation.specs.Limits.{outsideNumbers, heldLimit}
 use Rattle.notation.specs.Tree.{Name, Located, Ty, Proc, sendUnit, sendChannel, sendLabel, recvUnit, recvChannel, recvLabel, Branches}
 use Rattle.calculus.specs.Named.{lookup, without}
@@ -13,18 +14,18 @@ use Rattle.calculus.specs.Types.{used, Passing, passing, choosing}
 use Rattle.calculus.specs.Program.{slot, Program}
 use Rattle.calculus.specs.Declarations.{outward}
 use Rattle.calculus.specs.Typing.{OneType, Typed, sends-unit, recvs-unit, sends-channel, recvs-channel, sends-label, recvs-label, bringing, retyped}
-use Rattle.calculus.specs.Configuration.{End, end, ofType, running, Process, relinked, Outside, Config, withOutside, oneMoreGiven, replaced, goesOn, Holder, atProcess, retypedEnd, letGo, outsideOf}
-use Rattle.calculus.specs.Steps.{passes, chooses, afterMessage, onward, outsideOnward, newOutside, branchOf, bound}
+use Rattle.calculus.specs.Configuration.{End, end, ofType, Doing, running, folding, Process, relinked, Outside, Config, withOutside, oneMoreGiven, replaced, becoming, goesOn, foldsUp, Holder, atProcess, retypedEnd, letGo, outsideOf}
+use Rattle.calculus.specs.Steps.{passes, chooses, afterMessage, onward, outsideOnward, newOutside, branchOf, bound, handlerStarts}
 use Rattle.calculus.specs.Reduces.{Runs, Holds, Answers, GivesUp}
 use Rattle.calculus.specs.WellFormed.{contextOf}
 use Rattle.calculus.specs.declared.answers.Seen.{Seen}
 use Rattle.theory_derivations.specs.Equality.{same-iff}
-use Rattle.theory_ends.specs.Lists.{set-off}
+use Rattle.theory_ends.specs.Lists.{found-below, set-off}
 use Rattle.theory_ends.specs.Names.{lookup-in, in-lookup, without-sub}
 use Rattle.theory_ends.specs.Contexts.{context-without, context-length, absent-held, held-plain}
 use Rattle.theory_ends.specs.FarEnds.{HeldFar, FarOutside, FarNobody, far-held, stands-at}
 use Rattle.theory_ends.specs.Onward.{onward-is, outside-onward-is}
-use Rattle.theory_preservation.specs.Roster.{outside, runs-on}
+use Rattle.theory_preservation.specs.Roster.{TypedDoing, outside, Goes, runs-on, goes-folding, runs-awake}
 use Rattle.theory_preservation.specs.Outsides.{let-go-sub}
 use Rattle.theory_preservation.specs.TwoEnds.{Facing, one-type, held-tip, ends-apart, held-facing}
 use Rattle.theory_preservation.specs.Retyping.{chosen, chosen-unheard, chosen-out}
@@ -33,15 +34,16 @@ use Rattle.theory_preservation.specs.FarEnds.{nobody-has}
 use Rattle.theory_preservation.specs.AfterMessage.{branch-typed, after-label, after-channel, typed-end, typed-on, typed-taking, LabelOver, label-over, ChannelOver, channel-over}
 use Rattle.theory_preservation.specs.Invariant.{Inv, at-roster, fine-at, typed-at, runs-typed, continuing, inv-set, inv-less, inv-two}
 use Rattle.theory_preservation.specs.GivingUp.{gives-up}
+use Rattle.theory_preservation.specs.Handlers.{folded-starts}
 
 module _ {p : Program} {C : Config} (I : Inv p C) where
   -- ── who has the two ends
   -- the holder of a far end, which answers
   module _ (e : End) {h : Holder} {c : Located} {R : Proc} (f : HeldFar C e h) (an : Answers h c R) where
-    far-runs : Runs C (h .place) (h .process) R
+    pub far-runs : Runs C (h .place) (h .process) R
     far-runs = record { stands = stands-at C f; runs = an .runs }
 
-    far-end : lookup (h .name) (h .process .held) ≡ some (f .end)
+    pub far-end : lookup (h .name) (h .process .held) ≡ some (f .end)
     far-end = in-lookup (h .process .held) (runs-on (an .runs) R .names _ (fine-at I (h .place) (h .process) (f .stands) .names)) (h .name, f .end) (f .held)
 
     far-named : lookup (c .name) (h .process .held) ≡ some (f .end)
@@ -56,7 +58,7 @@ module _ {p : Program} {C : Config} (I : Inv p C) where
       two-places : h .place ≢ i
       two-places z = ends-apart (I .good) faces (ap (I .id) (sym z))
 
-      far-one : OneType p (e .type) (f .end .type)
+      pub far-one : OneType p (e .type) (f .end .type)
       far-one = one-type (I .good) (I .id i) (I .id (h .place)) e (f .end) (sym (f .channel)) (faces .near) (faces .far)
 
   outside-one : {i : ℕ} {q : Process} {R : Proc} → Runs C i q R → (n : Name) {e : End} → lookup n (q .held) ≡ some e → (y : FarOutside (C .outside) e) → OneType p (e .type) (y .entry .type)
@@ -126,20 +128,30 @@ module _ {p : Program} {C : Config} (I : Inv p C) where
     ch : ChooserTyped
     ch = chooses-on (runs-typed I r)
 
-    pub label-met : {o′ : ℕ} {c′ : Located} {B : Branches} {Q : Proc} {h : Holder} → HeldFar C e h → Answers h c′ (recvLabel o′ c′ B) → branchOf (l .name) B ≡ some Q
-        → Inv p (chosenBoth h Q)
-    label-met {o′} {c′} {B} {Q} {h} f an br = go (runs-typed I (far-runs e f an))
-      where
-        go : Typed p (contextOf (h .process .held)) (recvLabel o′ c′ B) → Inv p (chosenBoth h Q)
-        go (recvs-label T t ch′ ac fit ds) =
-            let x = branch-typed ds (l .name) Q br in
-            let z = ap choosing (typed-end p (h .process .held) (c′ .name) (far-named e f an) ac .type) ∙ ch′ in
-            let d = subst (λ n. Typed p (retyped n (x .0) (contextOf (h .process .held))) Q) (an .name) (x .2) in
-            rw (onward-is p (chooses l) (c .name) (q .held) le, onward-is p (chooses l) (h .name) (h .process .held) (far-end e f an))
-            (inv-two I i (h .place) q (h .process) (r .stands .there) (f .stands) (running P) (running Q) _ _
-            (chosen (I .good) (continuing I r P) (c .name) left le (ch .typed) (ch .over (f .end .type) (far-one e f an r (c .name) le) .one)
-            (continuing I (far-runs e f an) Q) (h .name) (far-end e f an) (f .channel) (f .side)
-            (typed-on p (h .name) (h .process .held) (after-label p l (f .end .type) z (x .1)) d)))
+    -- the label goes over: the receiver, whose own end is of the type of the label, does d from now on
+    module _ {o′ : ℕ} {c′ : Located} {B : Branches} {h : Holder} (f : HeldFar C e h) (an : Answers h c′ (recvLabel o′ c′ B)) where
+      label-over-to : (d : Doing) → Goes (h .process .doing) d → TypedDoing p (contextOf (retypedEnd (h .name) (afterMessage p (chooses l) (f .end .type)) (h .process .held))) d
+          → Inv p (replaced (h .place) (becoming d (onward p (chooses l) (h .name) (h .process .held)) (h .process)) (replaced i chooser C))
+      label-over-to d g t =
+          rw (onward-is p (chooses l) (c .name) (q .held) le, onward-is p (chooses l) (h .name) (h .process .held) (far-end e f an))
+          (inv-two I i (h .place) q (h .process) (r .stands .there) (f .stands) (running P) d _ _
+          (chosen (I .good) (continuing I r P) (c .name) left le (ch .typed) (ch .over (f .end .type) (far-one e f an r (c .name) le) .one)
+          (record { there = at-roster I (h .place) (h .process) (f .stands); goes = g }) (h .name) (far-end e f an) (f .channel) (f .side) t))
+
+      pub label-met : {Q : Proc} → branchOf (l .name) B ≡ some Q → Inv p (chosenBoth h Q)
+      label-met {Q} br = go (runs-typed I (far-runs e f an))
+        where
+          go : Typed p (contextOf (h .process .held)) (recvLabel o′ c′ B) → Inv p (chosenBoth h Q)
+          go (recvs-label T t ch′ ac ds) =
+              let x = branch-typed ds (l .name) Q br in
+              let z = ap choosing (typed-end p (h .process .held) (c′ .name) (far-named e f an) ac .type) ∙ ch′ in
+              let d = subst (λ n. Typed p (retyped n (x .0) (contextOf (h .process .held))) Q) (an .name) (x .2) in
+              label-over-to (running Q) (runs-on (an .runs) Q) (typed-on p (h .name) (h .process .held) (after-label p l (f .end .type) z (x .1)) d)
+
+      pub label-unmet : Inv p (handlerStarts (h .place) (foldsUp (h .process) (onward p (chooses l) (h .name) (h .process .held))) (replaced i chooser C))
+      label-unmet =
+          folded-starts (replaced i chooser C) (h .place) (h .process) _ (label-over-to folding (goes-folding (runs-awake (an .runs))) tt)
+          (let b = found-below (C .processes) (h .place) (f .stands) in let n = length-set (C .processes) i chooser in omega arith)
 
     pub label-shown : FarOutside (C .outside) e → Inv p (withOutside (outsideOnward p (chooses l) (e .channel) (C .outside)) (replaced i chooser C))
     label-shown y =

@@ -3,7 +3,7 @@ use mathlib.Core.Path.{_≡_, refl, sym, _∙_, ap, subst}
 use mathlib.Core.Logic.{_≢_, _⊎_, inl, inr}
 use mathlib.Core.List.{List, [], _∷_, _++_, map, append-nil, List·Memᴰ·head, List·Memᴰ·tail, List·Memᴰ·not-nil, Memᴰ·of-map}
 use mathlib.Core.Option.{some, none, Option·none-ne-some, Option·some-injective}
-use mathlib.Core.Bool.{true, false, true≢false, false≢true}
+use mathlib.Core.Bool.{true, true≢false, false≢true}
 use Prim.Native.Nat.{ℕ, zero, suc, _+_, _≤_, _<_}
 use native.Mathlib.Omega.{arith}
 use lib.ListN.{length, getElem?}
@@ -80,6 +80,10 @@ start-channels k (e ∷ l) = (
   start-channels (suc k) l,
 )
 
+-- an exec process uses nothing, so it starts with what its signature says
+pub started-context : (s : Signature) → s .uses ≡ [] → contextOf (startHeld 0 (s .provides)) ≡ signatureContext s
+started-context s u = start-context 0 (s .provides) ∙ sym (append-nil (onSide provided (s .provides))) ∙ ap (λ r. onSide provided (s .provides) ++ onSide used r) (sym u)
+
 module _ (p : Program) (s : Signature) (d : distinct (names (signatureContext s)) ≡ true) (u : s .uses ≡ []) (o : all (outward p) (entryTypes (s .provides)) ≡ true) (t : TypedBody p s) where
   abbrev l : List (Name × Ty Name)
   l = s .provides
@@ -93,7 +97,7 @@ module _ (p : Program) (s : Signature) (d : distinct (names (signatureContext s)
   S (suc (suc v)) = none
 
   same-context : contextOf (startHeld 0 l) ≡ signatureContext s
-  same-context = start-context 0 l ∙ sym (append-nil (onSide provided l)) ∙ ap (λ r. onSide provided l ++ onSide used r) (sym u)
+  same-context = started-context s u
 
   few : length l ≤ heldLimit
   few = subst (λ n. n ≤ heldLimit) (ap length (sym same-context) ∙ context-length (startHeld 0 l) ∙ held-length 0 l) (t .room)

@@ -1,6 +1,6 @@
 -- An end that was given up stays given up: no step gives it to anyone again, while its channel is held.
 use Prim.Native.Nat.{ℕ}
-use mathlib.Core.Path.{_≡_, refl, sym, _∙_, ap, subst}
+use mathlib.Core.Path.{_≡_, sym, _∙_, ap, subst}
 use mathlib.Core.Logic.{_≢_}
 use mathlib.Core.List.{List, [], _∷_, _++_, List·Memᴰ·tail}
 use mathlib.Core.Option.{some, none}
@@ -10,7 +10,7 @@ use Rattle.calculus.specs.Types.{Side, provided, used, other}
 use Rattle.calculus.specs.Program.{Program}
 use Rattle.calculus.specs.Configuration.{End, end, Process, Outside, Config, Stands, withOutside, replaced, goesOn, foldsUp, linkedBy, freshChannel, Holder, atProcess, givenUp, farEnd, outsideOf, outsideOfChannel}
 use Rattle.calculus.specs.Steps.{Message, passes, chooses, onward, outsideOnward, handlerStarts, startedHandler, foldedHandler}
-use Rattle.calculus.specs.Reduces.{GivesUp, Sends, close-meets, channel-meets, label-meets, close-shows, label-shows, channel-shows, gone-shows, close-lost, label-lost, channel-lost, Reduces, communicates, spawns, tries, calls, cancels, raises, joins, joins-outside, joins-nobody, nobody-joins, unanswered, folds, leaves}
+use Rattle.calculus.specs.Reduces.{GivesUp, Sends, close-meets, channel-meets, label-meets, label-left-out, close-shows, label-shows, channel-shows, gone-shows, close-lost, label-lost, channel-lost, Reduces, communicates, spawns, tries, calls, cancels, raises, joins, joins-outside, joins-nobody, nobody-joins, unanswered, folds, leaves}
 use Rattle.calculus.specs.WellFormed.{In, key, WellFormed}
 use Rattle.calculus.specs.declared.answers.Seen.{Seen}
 use Rattle.theory_ends.specs.Lists.{found-in}
@@ -80,9 +80,9 @@ module _ {p : Program} {C : Config} (I : Inv p C) {κ : ℕ × Side} (n : Nobody
   still-parted i q f g = gives-up (λ D. Still (replaced i q D)) g (λ ys s. still-shown i q f (each-sub _ s (n .outside)))
 
   -- and its handler starts
-  still-started : (i : ℕ) (q : Process) → FreeOf κ (q .held) → Still (handlerStarts i q C)
-  still-started i q =
-      nobody-set (record { processes = each-changed-at _ startedHandler (λ _. refl) (q .link) (C .processes) (n .processes); outside = n .outside }) i (linkedBy none q)
+  still-started : (D : Config) → Still D → (i : ℕ) (q : Process) → FreeOf κ (q .held) → Still (handlerStarts i q D)
+  still-started D m i q =
+      nobody-set (record { processes = each-changed-at _ startedHandler (λ _ f. f) (q .link) (D .processes) (m .processes); outside = m .outside }) i (linkedBy none q)
 
   -- ── the rules
   sends-still : {i : ℕ} {seen : Seen} {D : Config} → Sends p C i seen D → Still D
@@ -94,6 +94,8 @@ module _ {p : Program} {C : Config} (I : Inv p C) {κ : ℕ × Side} (n : Nobody
       (free-bound p (y .name) (lookup (h .name) (h .process .held)) (lookup (a .name) (q .held)) (λ _. named-free (r .stands) (a .name))))
   sends-still {i} (label-meets {c = c} {l = l} {e = e} {h = h} r x _ _) =
       still-two i _ (h .place) _ (chosen-free (r .stands) c l) (free-onward p (chooses l) (h .name) _ (far-free e (x .far)))
+  sends-still {i} (label-left-out {q = q} {c = c} {l = l} {P = P} {e = e} {h = h} r x _ _ _) =
+      still-started (replaced i (goesOn q P (onward p (chooses l) (c .name) (q .held))) C) (still-one i _ (chosen-free (r .stands) c l)) (h .place) (foldsUp (h .process) _) (free-onward p (chooses l) (h .name) _ (far-free e (x .far)))
   sends-still {i} (close-shows {c = c} {e = e} r _) = still-shown i _ (closed-free (r .stands) c) (each-sub _ (let-go-sub (e .channel) (C .outside)) (n .outside))
   sends-still {i} (label-shows {c = c} {l = l} {e = e} r _) = still-shown i _ (chosen-free (r .stands) c l) (onward-free (chooses l) (e .channel))
   sends-still {i} (channel-shows {c = c} {a = a} {e = e} {d = d} r x y _ lt) =
@@ -124,7 +126,7 @@ module _ {p : Program} {C : Config} (I : Inv p C) {κ : ℕ × Side} (n : Nobody
   reduces-still {i} (calls {q = q} r e) =
       still-one i _ (λ x m z. let y = called-was p (q .held) (runs-typed I r) e x m in free (r .stands) (y .name, y .end) (y .held) (y .same ∙ z))
   reduces-still {i} (cancels {c = c} r _ g) = still-parted i _ (closed-free (r .stands) c) g
-  reduces-still {i} (raises {q = q} {P = P} r _) = still-started i (goesOn q P (q .held)) (free (r .stands))
+  reduces-still {i} (raises {q = q} {P = P} r _) = still-started C n i (goesOn q P (q .held)) (free (r .stands))
   reduces-still {i} (joins {c = c} {e = e} {d = d} {h = h} r x y _) =
       let t = forwards-as I (r .stands) (r .runs) (x .held) (y .held) (runs-typed I r) in
       let f = far-held C e (x .far) in
@@ -137,10 +139,10 @@ module _ {p : Program} {C : Config} (I : Inv p C) {κ : ℕ × Side} (n : Nobody
       (λ _ _ _. side-free (r .stands) (c .name) (y .held) (t .takes)) (λ y i _. n .outside y i))
   reduces-still {i} (joins-nobody _ _ _ _) = still-one i _ (each-none _)
   reduces-still {i} (nobody-joins _ _ _ g) = still-parted i _ (each-none _) g
-  reduces-still {i} (unanswered {q = q} {c = c} r _ _) = still-started i (foldsUp q (without (c .name) (q .held))) (closed-free (r .stands) c)
+  reduces-still {i} (unanswered {q = q} {c = c} r _ _) = still-started C n i (foldsUp q (without (c .name) (q .held))) (closed-free (r .stands) c)
   reduces-still {i} (folds s _ h g) = still-parted i _ (λ x m. free s x (subst (In x) (sym h) (List·Memᴰ·tail m))) g
   reduces-still {i} (leaves {q = q} _ _) = record {
-    processes = each-removed _ i _ (each-changed-at _ foldedHandler (λ _. refl) (q .link) (C .processes) (n .processes));
+    processes = each-removed _ i _ (each-changed-at _ foldedHandler (λ _ f. f) (q .link) (C .processes) (n .processes));
     outside = n .outside;
   }
 

@@ -3,7 +3,7 @@ use Prim.Native.Nat.{ℕ}
 use Rattle.calculus.specs.Program.{Program}
 use Rattle.calculus.specs.Typing.{Bodies}
 use Rattle.calculus.specs.Configuration.{Config}
-use Rattle.calculus.specs.Reduces.{Sends, close-meets, channel-meets, label-meets, close-shows, label-shows, channel-shows, gone-shows, close-lost, label-lost, channel-lost, Reduces, communicates, spawns, tries, calls, cancels, raises, joins, joins-outside, joins-nobody, nobody-joins, unanswered, folds, leaves}
+use Rattle.calculus.specs.Reduces.{Sends, close-meets, channel-meets, label-meets, label-left-out, close-shows, label-shows, channel-shows, gone-shows, close-lost, label-lost, channel-lost, Reduces, communicates, spawns, tries, calls, cancels, raises, joins, joins-outside, joins-nobody, nobody-joins, unanswered, folds, leaves}
 use Rattle.calculus.specs.declared.answers.Seen.{Seen}
 use Rattle.theory_ends.specs.FarEnds.{far-held, far-outside, far-nobody}
 use Rattle.theory_preservation.specs.Invariant.{Inv, runs-typed}
@@ -12,13 +12,14 @@ use Rattle.theory_preservation.specs.Handlers.{raise-keeps, lost-keeps, 
 use Rattle.theory_preservation.specs.Making.{spawn-keeps, try-keeps}
 use Rattle.theory_preservation.specs.Joining.{forward-keeps, forward-out-keeps, joined-nobody, nobody-joined}
 use Rattle.theory_preservation.specs.Calling.{call-keeps}
-use Rattle.theory_preservation.specs.Sending.{close-met, close-shown, close-gone, label-met, label-shown, label-gone, channel-met, channel-shown, gone-shown, channel-gone}
+use Rattle.theory_preservation.specs.Sending.{close-met, close-shown, close-gone, label-met, label-unmet, label-shown, label-gone, channel-met, channel-shown, gone-shown, channel-gone}
 
 module _ {p : Program} {C : Config} (I : Inv p C) where
   sends-keep : {i : ℕ} {seen : Seen} {D : Config} → Sends p C i seen D → Inv p D
   sends-keep (close-meets r c a) = close-met I r c a
   sends-keep (channel-meets {e = e} r c a) = channel-met I r (c .held) (far-held C e (c .far)) a
   sends-keep (label-meets {e = e} r c a b) = label-met I r (c .held) (far-held C e (c .far)) a b
+  sends-keep (label-left-out {e = e} r c a _ _) = label-unmet I r (c .held) (far-held C e (c .far)) a
   sends-keep (close-shows {e = e} r c) = close-shown I r e
   sends-keep (label-shows {e = e} r c) = label-shown I r (c .held) (far-outside C e (c .far))
   sends-keep (channel-shows {e = e} r c d _ lt) = channel-shown I r (c .held) (far-outside C e (c .far)) (d .held) lt

@@ -18,9 +18,9 @@ use Rattle.calculus.specs.declared.answers.Seen.{Seen}
 use Rattle.theory_ends.specs.Lists.{found-below, found-one, set-at, set-off, length-inserted, length-removed}
 use Rattle.theory_progress.specs.Starting.{StartsHandler}
 use Rattle.theory_progress.specs.Placed.{Property, ProcessAt, Does, DoesAt, same-set, leads?, changed-there, same-beside, length-changed, placeAfter, same-places, one-more, one-less, same-inserted, same-removed, up-apart}
-use Rattle.theory_progress.specs.Shapes.{actsOn, Touched, itself, partner, Shape, one, two, joined, handled, spawned-one, tried-one, left, step-shape}
+use Rattle.theory_progress.specs.Shapes.{actsOn, Touched, itself, partner, Shape, one, two, joined, handled, left-out, spawned-one, tried-one, left, step-shape}
 
--- ── what is so of it after a step at place k: the same; or it was started or folds up, if the process at k was linked to it
+-- ── what is so of it after a step at place k: the same; or it was started or folds up, if the process at k, or its partner, was linked to it
 abbrev pub Started : Property → Property
 Started Q d l = (e : Doing) × Q e l × (d ≡ startedDoing e)
 
@@ -57,18 +57,20 @@ module _ (C : Config) (k i : ℕ) {Q : Property} (b : Bystander C k i Q) (f : Pr
           }
       go (no w) = same-set (farMoved e d r) w (same-set x elsewhere f)
 
-  handled-after : (x : Process) {q : Process} → StartsHandler C k q → After C k i Q (set (changedAt startedHandler (q .link) (C .processes)) k x)
-  handled-after x {q} s = go (leads? (q .link) i)
+  -- a handler is started in the list l of as many processes, and then the one at another place h changes
+  handled-after : (l : List Process) → length l ≡ length (C .processes) → ProcessAt Q l i → {h : ℕ} → i ≢ h → (x : Process) {q : Process} → StartsHandler C k q
+      → After C k i Q (set (changedAt startedHandler (q .link) l) h x)
+  handled-after l many g {h} n x {q} s = go (leads? (q .link) i)
     where
-      l : List Process
-      l = changedAt startedHandler (q .link) (C .processes)
+      m : List Process
+      m = changedAt startedHandler (q .link) l
 
-      stays : {R : Property} → ProcessAt R l i → Stays C k i R (set l k x)
-      stays g = same-places k _ _ i _ (length-set l k x ∙ length-changed startedHandler (q .link) (C .processes)) (same-set x elsewhere g)
+      stays : {R : Property} → ProcessAt R m i → Stays C k i R (set m h x)
+      stays g = same-places k _ _ i _ (length-set m h x ∙ length-changed startedHandler (q .link) l ∙ many) (same-set x n g)
 
-      go : Dec (q .link ≡ some i) → After C k i Q (set l k x)
-      go (yes z) = started s z (stays (changed-there startedHandler (λ q e. (q .doing, e, refl)) z f))
-      go (no m) = as-before (stays (same-beside startedHandler (q .link) m f))
+      go : Dec (q .link ≡ some i) → After C k i Q (set m h x)
+      go (yes z) = started s z (stays (changed-there startedHandler (λ q e. (q .doing, e, refl)) z g))
+      go (no d) = as-before (stays (same-beside startedHandler (q .link) d g))
 
   left-after : {q : Process} → Stands C k q → Empty q → After C k i Q (removed k (changedAt foldedHandler (q .link) (C .processes)))
   left-after {q} s t = go (leads? (q .link) i)
@@ -93,7 +95,8 @@ module _ (C : Config) (k i : ℕ) {Q : Property} (b : Bystander C k i Q) (f : Pr
       (same-places k _ _ i _ (length-set (set (C .processes) j x) h y ∙ length-set (C .processes) j x) (same-set y (b .apart u) (same-set x (b .apart t) f)))
   shape-after (joined h x e d t m s) =
       as-before (same-places k _ _ i _ (length-set (set (C .processes) k x) h _ ∙ length-set (C .processes) k x) (same-joined x e d t m s))
-  shape-after (handled x s) = handled-after x s
+  shape-after (handled x s) = handled-after (C .processes) refl f elsewhere x s
+  shape-after (left-out j h x y t u s) = handled-after (set (C .processes) j x) (length-set (C .processes) j x) (same-set x (b .apart t) f) (b .apart u) y s
   shape-after (spawned-one x y) =
       as-before
       (one-more k _ i _ (length-inserted k x (set (C .processes) k y) ∙ ap suc (length-set (C .processes) k y)) (same-inserted k x (same-set y elsewhere f)))

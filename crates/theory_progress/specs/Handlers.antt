@@ -1,4 +1,4 @@
--- "Nothing but this and a raise starts a handler: a cancel, a send and a fwd wake nobody."
+-- "Nothing but this, a label that is left out and a raise starts a handler, that of the process itself: a cancel and a fwd wake nobody."
 use Prim.Native.Nat.{ℕ}
 use mathlib.Core.Path.{_≡_, refl, sym, _∙_, ap, subst}
 use mathlib.Core.Logic.{_≢_}
@@ -8,22 +8,22 @@ use lib.ListN.{length, getElem?}
 use Rattle.notation.specs.Tree.{Located, Proc, empty, sendUnit, sendChannel, sendLabel, cancel, spawn, recvUnit, recvChannel, recvLabel, fwd, call, raise, try}
 use Rattle.calculus.specs.Program.{Program}
 use Rattle.calculus.specs.Configuration.{Doing, running, folding, waiting, Process, Config, Stands}
-use Rattle.calculus.specs.Steps.{carried, Wanted, receives, isOpenBy, stepDoing, step}
-use Rattle.calculus.specs.Reduces.{Runs, Empty, no-term, no-channel}
+use Rattle.calculus.specs.Steps.{carried, Wanted, receives, turn, isOpenBy, stepDoing, step}
+use Rattle.calculus.specs.Reduces.{Runs, Empty, no-term, no-channel, its-own, its-recv}
 use Rattle.calculus.specs.declared.answers.Seen.{Seen}
 use Rattle.theory_ends.specs.Lists.{found-one}
 use Rattle.theory_reductions.specs.Kinds.{ActsBy, closes-on, takes-on, picks-on, term-acts}
 use Rattle.theory_reductions.specs.CarriedOut.{step-at}
-use Rattle.theory_progress.specs.Starting.{StartsHandler, by-raise, by-lost-recv, starter-stands}
+use Rattle.theory_progress.specs.Starting.{StartsHandler, by-raise, by-lost-recv, by-left-out}
 use Rattle.theory_progress.specs.Placed.{Does, DoesAt, does-one, placeAfter}
 use Rattle.theory_progress.specs.Elsewhere.{After, as-before, started, folded, silent-after}
 
--- whether the step of a term can change a handler: a recv and a raise can start it, and when an empty process leaves it folds up
+-- whether the step of a term can change a handler: a recv, a send of a label and a raise can start it, and when an empty process leaves it folds up
 abbrev pub changesHandler : Proc → Bool
 changesHandler (empty o) = true
 changesHandler (sendUnit o c P) = false
 changesHandler (sendChannel o c a P) = false
-changesHandler (sendLabel o c l P) = false
+changesHandler (sendLabel o c l P) = true
 changesHandler (cancel o c P) = false
 changesHandler (spawn x A P Q) = false
 changesHandler (recvUnit o c P) = true
@@ -53,10 +53,19 @@ empty-changes : {q : Process} → Empty q → changes (q .doing) ≡ true
 empty-changes (no-term e) = ap changes e
 empty-changes (no-channel e h) = ap changes e
 
+-- the step of the process at place k can change a handler
+abbrev Changes : Config → ℕ → Type 0
+Changes C k = (q : Process) × Stands C k q × (changes (q .doing) ≡ true)
+
 module _ {C : Config} {k : ℕ} where
-  starter-changes : {q : Process} → StartsHandler C k q → changes (q .doing) ≡ true
-  starter-changes (by-raise r) = ap changes (r .runs)
-  starter-changes (by-lost-recv f) = ap changes (f .runs .runs) ∙ recv-changes (subst (ActsBy (running (f .term))) (f .receives-on) (term-acts (f .term)))
+  recv-starts : {q : Process} {P : Proc} {c : Located} {w : Wanted} → Runs C k q P → turn P ≡ receives c w → Changes C k
+  recv-starts {q} {P} r t = (q, r .stands, ap changes (r .runs) ∙ recv-changes (subst (ActsBy (running P)) t (term-acts P)))
+
+  starter-changes : {q : Process} → StartsHandler C k q → Changes C k
+  starter-changes {q} (by-raise r) = (q, r .stands, ap changes (r .runs))
+  starter-changes (by-lost-recv f) = recv-starts (f .runs) (f .receives-on)
+  starter-changes (by-left-out {r = s} its-own r l a b z) = (s, r .stands, ap changes (r .runs))
+  starter-changes (by-left-out (its-recv x t m y u) r l a b z) = recv-starts x t
 
 module _ (p : Program) (C D : Config) (k : ℕ) {seen : Seen} (e : step p C k ≡ carried seen D) {h : ℕ} {Q : Proc} (f : DoesAt (waiting Q) (C .processes) h) where
   -- where the handler stands afterwards
@@ -72,7 +81,7 @@ module _ (p : Program) (C D : Config) (k : ℕ) {seen : Seen} (e : step p C k �
   after : After C k h (Does (waiting Q)) (D .processes)
   after = silent-after C k h refl apart f p e
 
-  -- a handler that waited and now runs was started by the process that was linked to it: by its raise, or by its lost recv
+  -- a handler that waited and now runs was started by the process that was linked to it: by its raise, its lost recv, or a label that its recv leaves out
   pub starts-only : {P : Proc} → DoesAt (running P) (D .processes) there → (q : Process) × StartsHandler C k q × (q .link ≡ some h)
   starts-only {P} g = go after
     where
@@ -81,7 +90,7 @@ module _ (p : Program) (C D : Config) (k : ℕ) {seen : Seen} (e : step p C k �
       go (started {q} s l a) = (q, s, l)
       go (folded s t l a) = absurd (false≢true (ap isRunning (does-one a g)))
 
-  -- a cancel, a send, a fwd, and each other term that is no recv, no raise and not empty, wakes nobody
+  -- a cancel, a fwd, a send of no label, and each other term that is no recv, no raise and not empty, wakes nobody
   pub wakes-nobody : {q : Process} {P : Proc} → Runs C k q P → changesHandler P ≡ false → DoesAt (waiting Q) (D .processes) there
   wakes-nobody {q} {P} r n = go after
     where
@@ -90,5 +99,5 @@ module _ (p : Program) (C D : Config) (k : ℕ) {seen : Seen} (e : step p C k �
 
       go : After C k h (Does (waiting Q)) (D .processes) → DoesAt (waiting Q) (D .processes) there
       go (as-before a) = a
-      go (started s l a) = absurd (no-change (starter-stands s) (starter-changes s))
+      go (started s l a) = let (q′, t, c) = starter-changes s in absurd (no-change t c)
       go (folded s t l a) = absurd (no-change s (empty-changes t))

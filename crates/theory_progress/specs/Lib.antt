@@ -3,6 +3,7 @@ pub mod Elsewhere
 pub mod Endings
 pub mod Folding
 pub mod GivenUp
+pub mod LeftOut
 pub mod Handlers
 pub mod Joints
 pub mod Placed

@@ -91,7 +91,7 @@ module _ {p : Program} {C : Config} (v : WellFormed p C) where
   matched {r = r} {c′ = c′} {e} a b x y z w m m′ =
       let u = one-sending p w m in
       let f = far-found v e (b .stands) (lookup-in (c′ .name) (r .held) (y .held)) (λ i. (sym z i, faces u m′ i)) in
-      inl (meet a (record { held = x .held; far = f }) (record { runs = b .runs; name = refl }) u m′)
+      meet a (record { held = x .held; far = f }) (record { runs = b .runs; name = refl }) u m′
 
   both-wait : {i j : ℕ} {q r : Process} {k l : JointKey} → i ≢ j → Stands C i q → Stands C j r → Waits p C i q k → Waits p C j r l → k ≡ l
       → (n : ℕ) × Applies p C n

@@ -1,4 +1,4 @@
--- What a step does to the list of processes: it changes one or two in their places, brings one, or takes one away.
+-- What a step does to the list of processes: it changes some in their places, brings one, or takes one away.
 use Prim.Native.Nat.{ℕ}
 use mathlib.Core.Path.{_≡_, refl, _∙_, ap}
 use mathlib.Core.Logic.{_≢_}
@@ -12,12 +12,12 @@ use Rattle.calculus.specs.Steps.{Outcome, carried, uncaught, notOpen, lacking, 
 use Rattle.calculus.specs.WellFormed.{In}
 use Rattle.calculus.specs.declared.answers.Seen.{Seen}
 use Rattle.calculus.specs.declared.answers.Seen.the-variants.{Nothing}
-use Rattle.calculus.specs.Reduces.{Holds, Answers, GivesUp, by-process, by-outside, by-nobody, Empty, Sends, close-meets, channel-meets, label-meets, close-shows, label-shows, channel-shows, gone-shows, close-lost, label-lost, channel-lost, Naming, its-own, its-recv, Reduces, communicates, spawns, tries, calls, cancels, raises, joins, joins-outside, joins-nobody, nobody-joins, unanswered, folds, leaves}
+use Rattle.calculus.specs.Reduces.{Holds, Answers, GivesUp, by-process, by-outside, by-nobody, Empty, Sends, close-meets, channel-meets, label-meets, label-left-out, close-shows, label-shows, channel-shows, gone-shows, close-lost, label-lost, channel-lost, Naming, its-own, its-recv, Reduces, communicates, spawns, tries, calls, cancels, raises, joins, joins-outside, joins-nobody, nobody-joins, unanswered, folds, leaves}
 use Rattle.theory_ends.specs.Names.{lookup-in}
 use Rattle.theory_ends.specs.FarEnds.{found-key, far-held, given-up-unheld, far-back}
 use Rattle.theory_reductions.specs.CarriedOut.{holder-stands}
 use Rattle.theory_reductions.specs.StepIff.{step-iff}
-use Rattle.theory_progress.specs.Starting.{StartsHandler, by-raise, by-lost-recv}
+use Rattle.theory_progress.specs.Starting.{StartsHandler, by-raise, by-lost-recv, by-left-out}
 
 -- the name on which a send or a recv acts
 abbrev pub actsOn : Turn → Option Name
@@ -46,6 +46,8 @@ pub data Shape (C : Config) (k : ℕ) : Seen → List Process → Type 0 where
   joined : {q : Process} {n : Name} (h : ℕ) {r : Process} (x : Process) (e d : End) → Stands C k q → In (n, e) (q .held) → Stands C h r
       → Shape C k Nothing (set (set (C .processes) k x) h (farMoved e d r))
   handled : (x : Process) {q : Process} → StartsHandler C k q → Shape C k Nothing (set (changedAt startedHandler (q .link) (C .processes)) k x)
+  left-out : (j h : ℕ) (x y : Process) {r : Process} → Touched C k j → Touched C k h → StartsHandler C k r
+      → Shape C k Nothing (set (changedAt startedHandler (r .link) (set (C .processes) j x)) h y)
   spawned-one : (x y : Process) → Shape C k Nothing (inserted k x (set (C .processes) k y))
   tried-one : (x y : Process) → Shape C k Nothing (set (inserted k x (C .processes)) k y)
   left : {q : Process} → Stands C k q → Empty q → Shape C k Nothing (removed k (changedAt foldedHandler (q .link) (C .processes)))
@@ -74,20 +76,21 @@ module _ {C : Config} {k : ℕ} where
   gives-up q t (by-nobody z) = one _ _ t
 
 module _ {p : Program} {C : Config} {k : ℕ} where
-  sent : {j : ℕ} {seen : Seen} {D : Config} → Touched C k j → Sends p C j seen D → Shape C k seen (D .processes)
-  sent t (close-meets r h a) = two _ _ _ _ t (engaged (r .stands) h a refl)
-  sent t (channel-meets r h a) = two _ _ _ _ t (engaged (r .stands) h a refl)
-  sent t (label-meets r h a b) = two _ _ _ _ t (engaged (r .stands) h a refl)
-  sent t (close-shows r h) = one _ _ t
-  sent t (label-shows r h) = one _ _ t
-  sent t (channel-shows r h l n m) = one _ _ t
-  sent t (gone-shows r h l m) = one _ _ t
-  sent t (close-lost r h) = one _ _ t
-  sent t (label-lost r h) = one _ _ t
-  sent t (channel-lost r h l g) = gives-up _ t g
+  sent : {j : ℕ} {seen : Seen} {D : Config} → Naming C k j → Sends p C j seen D → Shape C k seen (D .processes)
+  sent n (close-meets r h a) = two _ _ _ _ (names n) (engaged (r .stands) h a refl)
+  sent n (channel-meets r h a) = two _ _ _ _ (names n) (engaged (r .stands) h a refl)
+  sent n (label-meets r h a b) = two _ _ _ _ (names n) (engaged (r .stands) h a refl)
+  sent n (label-left-out r h a b l) = left-out _ _ _ _ (names n) (engaged (r .stands) h a refl) (by-left-out n r h a b refl)
+  sent n (close-shows r h) = one _ _ (names n)
+  sent n (label-shows r h) = one _ _ (names n)
+  sent n (channel-shows r h l m b) = one _ _ (names n)
+  sent n (gone-shows r h l m) = one _ _ (names n)
+  sent n (close-lost r h) = one _ _ (names n)
+  sent n (label-lost r h) = one _ _ (names n)
+  sent n (channel-lost r h l g) = gives-up _ (names n) g
 
   reduced : {seen : Seen} {D : Config} → Reduces p C k seen D → Shape C k seen (D .processes)
-  reduced (communicates n s) = sent (names n) s
+  reduced (communicates n s) = sent n s
   reduced (spawns r n h) = spawned-one _ _
   reduced (tries r n) = tried-one _ _
   reduced (calls r s) = one _ _ (itself refl)

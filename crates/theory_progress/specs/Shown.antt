@@ -7,7 +7,7 @@ use Rattle.calculus.specs.Program.{Program}
 use Rattle.calculus.specs.Configuration.{Process, Config}
 use Rattle.calculus.specs.Steps.{carried, step}
 use Rattle.calculus.specs.declared.answers.Seen.{Seen}
-use Rattle.theory_progress.specs.Shapes.{Shape, one, two, joined, handled, spawned-one, tried-one, left, step-shape}
+use Rattle.theory_progress.specs.Shapes.{Shape, one, two, joined, handled, left-out, spawned-one, tried-one, left, step-shape}
 use Rattle.theory_progress.specs.RunOn.{Shows}
 
 shape-stays : {C : Config} {k : ℕ} {seen : Seen} {l : List Process} → Shape C k seen l → Shows seen → length l ≡ length (C .processes)
@@ -15,6 +15,7 @@ shape-stays {C} (one j x t) s = length-set (C .processes) j x
 shape-stays (two j h x y t u) s = absurd s
 shape-stays (joined h x e d t m u) s = absurd s
 shape-stays (handled x t) s = absurd s
+shape-stays (left-out j h x y t u v) s = absurd s
 shape-stays (spawned-one x y) s = absurd s
 shape-stays (tried-one x y) s = absurd s
 shape-stays (left t e) s = absurd s

@@ -68,9 +68,9 @@ module _ {p : Program} {C : Config} (w : WellFormed p C) {i : ℕ} {q : Process}
     }
 
     -- no link leads to a process that runs
-    unlinked : {r : Process} → Stands C k r → r .link ≢ some i
-    unlinked {r} s z =
-        let l = w .links k r s i z in
+    unlinked : {j : ℕ} {r : Process} → Stands C j r → r .link ≢ some i
+    unlinked {j} {r} s z =
+        let l = w .links j r s i z in
         let same : l .0 ≡ q = found-one (C .processes) refl (l .1 .there) (f .runs .stands .there) in
         true≢false (sym (l .2) ∙ ap (λ (q : Process). isWaiting (q .doing)) same ∙ ap isWaiting (f .runs .runs))
 
@@ -79,5 +79,5 @@ module _ {p : Program} {C : Config} (w : WellFormed p C) {i : ℕ} {q : Process}
       where
         go : After C k i BeforeRecv (D .processes) → Stays C k i BeforeRecv (D .processes)
         go (as-before g) = g
-        go (started s l g) = absurd (unlinked (starter-stands s) l)
+        go (started s l g) = absurd (unlinked (starter-stands s .1) l)
         go (folded s t l g) = absurd (unlinked s l)

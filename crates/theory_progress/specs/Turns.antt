@@ -1,27 +1,19 @@
 -- Typed sends and recvs by what goes over their channel: at the two ends of one type they match.
-use Prim.Native.Nat.{ℕ, suc}
-use native.Mathlib.Omega.{arith}
+use Prim.Native.Nat.{ℕ}
 use mathlib.Core.Path.{_≡_, refl, sym, _∙_, ap}
-use mathlib.Core.Logic.{Iff·rfl}
-use mathlib.Core.List.{List, _∷_, List·Memᴰ·head, List·Memᴰ·tail}
-use mathlib.Core.Option.{some, Option·some-injective, Option·none-ne-some}
-use mathlib.Core.Bool.{Bool, true, false, cond}
-use lib.ListN.{length}
-use lib.Dec.{eqb}
-use Rattle.notation.specs.Bytes.{same}
-use Rattle.notation.specs.Tree.{Name, Located, Ty, unit, named, tensor, par, lolli, plus, with, Alternatives, alternative, Proc, sendUnit, sendChannel, sendLabel, recvUnit, recvChannel, recvLabel, Branches, branch}
-use Rattle.calculus.specs.Named.{lookup, all}
-use Rattle.calculus.specs.Types.{Side, provided, used, other, standing, Passing, passing, Choosing, choosing, labelled, labelsOf}
+use mathlib.Core.Logic.{inl, inr}
+use mathlib.Core.List.{List}
+use mathlib.Core.Option.{Option, some, none, Option·some-injective, Option·none-ne-some}
+use mathlib.Core.Bool.{true}
+use Rattle.notation.specs.Tree.{Name, Located, Ty, unit, named, tensor, par, lolli, plus, with, Proc, sendUnit, sendChannel, sendLabel, recvUnit, recvChannel, recvLabel, Branches}
+use Rattle.calculus.specs.Named.{lookup}
+use Rattle.calculus.specs.Types.{Side, provided, used, other, standing, Passing, passing, Choosing, choosing, labelled}
 use Rattle.calculus.specs.Program.{Program}
-use Rattle.calculus.specs.Typing.{OneType, labelNames, times, fitting}
+use Rattle.calculus.specs.Typing.{OneType}
 use Rattle.calculus.specs.Configuration.{End, Process, Config, Holder, atProcess}
 use Rattle.calculus.specs.Steps.{branchOf}
-use Rattle.calculus.specs.WellFormed.{In}
-use Rattle.calculus.specs.Reduces.{Runs, Holds, Answers, close-meets, channel-meets, label-meets, its-own, Reduces, communicates}
-use Rattle.calculus.specs.declared.answers.Seen.{Seen}
-use Rattle.theory_derivations.specs.Booleans.{and-iff, all-iff, eqb-iff}
-use Rattle.theory_derivations.specs.Equality.{same-iff}
-use Rattle.theory_derivations.specs.OneType.{one-sym, one-unit, one-passing, one-choosing}
+use Rattle.calculus.specs.Reduces.{Runs, Holds, Answers, close-meets, channel-meets, label-meets, label-left-out, its-own, communicates, nobody-takes, Applies}
+use Rattle.theory_derivations.specs.OneType.{one-unit, one-passing, one-choosing}
 use Rattle.theory_ends.specs.Ends.{side-clash}
 use Rattle.theory_progress.specs.Outward.{other-mark}
 
@@ -39,7 +31,7 @@ pub data Receiving : Proc → Located → Side → Ty Name → Type 0 where
   receives-passing : {o : ℕ} {c x : Located} {P : Proc} {s : Side} {T : Ty Name} (t : Passing) → passing T ≡ some t → s ≡ other (t .sender)
       → Receiving (recvChannel o c x P) c s T
   receives-choice : {o : ℕ} {c : Located} {B : Branches} {s : Side} {T : Ty Name} (t : Choosing) → choosing T ≡ some t → s ≡ other (t .sender)
-      → ((l : Name) (A : Ty Name) → labelled l (t .labels) ≡ some A → (P : Proc) × (branchOf l B ≡ some P)) → Receiving (recvLabel o c B) c s T
+      → Receiving (recvLabel o c B) c s T
 
 -- ── what is typed over an end is typed over every end of one type with it
 module _ (p : Program) {A B : Ty Name} (h : OneType p A B) where
@@ -57,12 +49,7 @@ module _ (p : Program) {A B : Ty Name} (h : OneType p A B) where
   pub one-receiving : {P : Proc} {c : Located} {s : Side} → Receiving P c s (standing (p .types) A) → Receiving P c s (standing (p .types) B)
   one-receiving (receives-close e z) = receives-close e (one-unit p h z)
   one-receiving (receives-passing t e z) = let u = one-passing p h e in receives-passing (u .0) (u .1) (z ∙ ap other (u .2 .sender))
-  one-receiving (receives-choice t e z b) =
-      let u = one-choosing p h e in
-      let w = one-choosing p (one-sym p h) (u .1) in
-      let back : w .0 ≡ t = Option·some-injective _ _ (sym (w .1) ∙ e) in
-      receives-choice (u .0) (u .1) (z ∙ ap other (u .2 .sender))
-      (λ l D k. let x = w .2 .leads l k in b l (x .0) (ap (λ (t : Choosing). labelled l (t .labels)) (sym back) ∙ x .1))
+  one-receiving (receives-choice t e z) = let u = one-choosing p h e in receives-choice (u .0) (u .1) (z ∙ ap other (u .2 .sender))
 
 -- ── the side that sends is the type's
 abbrev pub sender-of : Ty Name → Side
@@ -102,7 +89,7 @@ sending-side (sends-choice {T = T} t A e z h) = z ∙ choosing-sender T e
 pub receiving-side : {P : Proc} {c : Located} {s : Side} {T : Ty Name} → Receiving P c s T → s ≡ other (sender-of T)
 receiving-side (receives-close e z) = e ∙ ap (λ T. other (sender-of T)) (sym z)
 receiving-side (receives-passing {T = T} t e z) = z ∙ ap other (passing-sender T e)
-receiving-side (receives-choice {T = T} t e z h) = z ∙ ap other (choosing-sender T e)
+receiving-side (receives-choice {T = T} t e z) = z ∙ ap other (choosing-sender T e)
 
 -- a send and a recv of one type are its two sides
 pub faces : {l : List (Name × End)} {P Q : Proc} {c d : Located} {s t : Side} {T : Ty Name} → Sending l P c s T → Receiving Q d t T → t ≡ other s
@@ -121,32 +108,6 @@ sender-mark (with r) e = refl
 pub received-provided : {P : Proc} {c : Located} {T : Ty Name} → Receiving P c provided T → other-mark T ≡ true
 received-provided {T = T} r = sender-mark T (receiving-side r)
 
--- ── a branch for each label of the type
-named-once : (l : Name) (B : Branches) → times l (labelNames B) ≡ 1 → (P : Proc) × (branchOf l B ≡ some P)
-named-once l Branches.none e = absurd (omega (arith, e))
-named-once l (branch m P B) e = go (same l (m .name)) e (λ h. named-once l B h)
-  where
-    go : (b : Bool) → cond b (suc (times l (labelNames B))) (times l (labelNames B)) ≡ 1
-        → (times l (labelNames B) ≡ 1 → (Q : Proc) × (branchOf l B ≡ some Q)) → (Q : Proc) × (cond b (some P) (branchOf l B) ≡ some Q)
-    go true e r = (P, refl)
-    go false e r = r e
-
-label-listed : (l : Name) (r : Alternatives Name) {A : Ty Name} → labelled l r ≡ some A → In l (labelsOf r)
-unfolding labelled labelsOf
-label-listed l Alternatives.none e = absurd (Option·none-ne-some _ e)
-label-listed l (alternative m C r) {A} e = go (same l m) refl e (λ h. label-listed l r h)
-  where
-    go : (b : Bool) → same l m ≡ b → cond b (some C) (labelled l r) ≡ some A → (labelled l r ≡ some A → In l (labelsOf r)) → In l (m ∷ labelsOf r)
-    go true t e f = List·Memᴰ·head (same-iff l m .0 t)
-    go false t e f = List·Memᴰ·tail (f e)
-
-pub branch-for : (r : Alternatives Name) (B : Branches) → fitting r B ≡ true → (l : Name) (A : Ty Name) → labelled l r ≡ some A
-    → (P : Proc) × (branchOf l B ≡ some P)
-unfolding fitting
-branch-for r B f l A e =
-    let t = and-iff (all (λ l. eqb (times l (labelNames B)) 1) (labelsOf r)) (eqb (length (labelNames B)) (length (labelsOf r))) Iff·rfl Iff·rfl .0 f .0 in
-    named-once l B (eqb-iff (times l (labelNames B)) 1 .0 (all-iff (λ l. eqb (times l (labelNames B)) 1) (labelsOf r) .0 t l (label-listed l r e)))
-
 -- ── the two ends of one type match: a send meets a recv
 one-kind : (T : Ty Name) {t : Passing} {u : Choosing} → passing T ≡ some t → choosing T ≡ some u → ⊥
 unfolding passing choosing
@@ -160,16 +121,23 @@ one-kind (with r) e f = Option·none-ne-some _ e
 
 pub meet : {p : Program} {C : Config} {i : ℕ} {q : Process} {P Q : Proc} {c d : Located} {e : End} {h : Holder} {s t : Side} {T : Ty Name}
     → Runs C i q P → Holds C q c e (atProcess h) → Answers h d Q → Sending (q .held) P c s T → Receiving Q d t T
-    → (seen : Seen) × (D : Config) × Reduces p C i seen D
+    → Applies p C i
 unfolding passing choosing
-meet r k a (sends-close e z) (receives-close f y) = (_, _, communicates its-own (close-meets r k a))
+meet r k a (sends-close e z) (receives-close f y) = inl (_, _, communicates its-own (close-meets r k a))
 meet r k a (sends-close e z) (receives-passing t f y) = absurd (Option·none-ne-some _ (ap passing (sym z) ∙ f))
-meet r k a (sends-close e z) (receives-choice t f y b) = absurd (Option·none-ne-some _ (ap choosing (sym z) ∙ f))
+meet r k a (sends-close e z) (receives-choice t f y) = absurd (Option·none-ne-some _ (ap choosing (sym z) ∙ f))
 meet r k a (sends-passing t u e z h) (receives-close f y) = absurd (Option·none-ne-some _ (ap passing (sym y) ∙ e))
-meet r k a (sends-passing t u e z h) (receives-passing v f y) = (_, _, communicates its-own (channel-meets r k a))
-meet r k a (sends-passing {T = T} t u e z h) (receives-choice v f y b) = absurd (one-kind T e f)
+meet r k a (sends-passing t u e z h) (receives-passing v f y) = inl (_, _, communicates its-own (channel-meets r k a))
+meet r k a (sends-passing {T = T} t u e z h) (receives-choice v f y) = absurd (one-kind T e f)
 meet r k a (sends-choice t A e z h) (receives-close f y) = absurd (Option·none-ne-some _ (ap choosing (sym y) ∙ e))
 meet r k a (sends-choice {T = T} t A e z h) (receives-passing v f y) = absurd (one-kind T f e)
-meet r k a (sends-choice {n = n} t A e z h) (receives-choice v f y b) =
-    let x = b (n .name) A (ap (λ (t : Choosing). labelled (n .name) (t .labels)) (Option·some-injective _ _ (sym f ∙ e)) ∙ h) in
-    (_, _, communicates its-own (label-meets r k a (x .1)))
+meet {p = p} {C} {i} {h = g} r k a (sends-choice {n = n} t A e z h) (receives-choice {B = B} v f y) = by-branch (branchOf (n .name) B) refl
+  where
+    -- the handler of who leaves it out starts, or the run halts
+    by-link : branchOf (n .name) B ≡ none → (o : Option ℕ) → g .process .link ≡ o → Applies p C i
+    by-link b none l = inr (inl (nobody-takes its-own r k a b l))
+    by-link b (some j) l = inl (_, _, communicates its-own (label-left-out r k a b l))
+
+    by-branch : (o : Option Proc) → branchOf (n .name) B ≡ o → Applies p C i
+    by-branch none b = by-link b (g .process .link) refl
+    by-branch (some P) b = inl (_, _, communicates its-own (label-meets r k a b))

@@ -29,7 +29,7 @@ use Rattle.theory_ends.specs.FarEnds.{FarIs, at-process, at-outside, at-nobody,
 use Rattle.theory_reductions.specs.Kinds.{given-up?}
 use Rattle.theory_progress.specs.Joints.{JointKey, channel, handler}
 use Rattle.theory_progress.specs.Outward.{outward-stands}
-use Rattle.theory_progress.specs.Turns.{Sending, sends-close, sends-passing, sends-choice, Receiving, receives-close, receives-passing, receives-choice, one-receiving, received-provided, branch-for}
+use Rattle.theory_progress.specs.Turns.{Sending, sends-close, sends-passing, sends-choice, Receiving, receives-close, receives-passing, receives-choice, one-receiving, received-provided}
 
 -- a process waits on a joint: a handler on its link, a send or recv on a channel whose far end a process holds
 pub data Waits (p : Program) (C : Config) (i : ℕ) (q : Process) : JointKey → Type 0 where
@@ -152,9 +152,9 @@ module _ {p : Program} {C : Config} (v : WellFormed p C) {i : ℕ} {q : Process}
   term-moves r (sends-label {c = c} T A t e h l d) =
       let a = acts p (c .name) (q .held) h in
       send-moves (a .end) r (a .found) (sends-choice t A (ap choosing (a .type) ∙ e) (a .side) l) (λ _ k. sent (label-shows r k)) (λ k. sent (label-lost r k))
-  term-moves r (recvs-label {c = c} {B = B} T t e h f b) =
+  term-moves r (recvs-label {c = c} T t e h b) =
       let a = acts p (c .name) (q .held) h in
-      receive-moves (a .end) r refl (a .found) (receives-choice t (ap choosing (a .type) ∙ e) (a .side) (branch-for (t .labels) B f))
+      receive-moves (a .end) r refl (a .found) (receives-choice t (ap choosing (a .type) ∙ e) (a .side))
   term-moves r (forwards {x = x} {c = c} A B e f g h) =
       inl (forward-applies r (held-plain (x .name) (q .held) _ _ e .found) (held-plain (c .name) (q .held) _ _ f .found))
   term-moves r (calls s e f g h k) = inl (by-rule (rule.calls r e))

@@ -17,7 +17,7 @@ use Rattle.theory_derivations.specs.Equality.{same-iff}
 use Rattle.theory_derivations.specs.Booleans.{ltb-iff, cond-true}
 use Rattle.theory_ends.specs.Lists.{not-below}
 use Rattle.theory_ends.specs.FarEnds.{stands-at, HeldFar, FarIs, at-process, far-is}
-use Rattle.calculus.specs.Reduces.{Runs, Holds, GivesUp, by-process, by-outside, by-nobody, no-term, no-channel, Sends, close-meets, channel-meets, label-meets, close-shows, label-shows, channel-shows, gone-shows, close-lost, label-lost, channel-lost, Naming, its-own, its-recv, Reduces, communicates, spawns, tries, calls, cancels, raises, joins, joins-outside, joins-nobody, nobody-joins, unanswered, folds, leaves, Halts, nobody-catches, Lacks, no-number, spawn-no-place, spawn-no-channel, try-no-place}
+use Rattle.calculus.specs.Reduces.{Runs, Holds, GivesUp, by-process, by-outside, by-nobody, no-term, no-channel, Sends, close-meets, channel-meets, label-meets, label-left-out, close-shows, label-shows, channel-shows, gone-shows, close-lost, label-lost, channel-lost, Naming, its-own, its-recv, Reduces, communicates, spawns, tries, calls, cancels, raises, joins, joins-outside, joins-nobody, nobody-joins, unanswered, folds, leaves, Halts, nobody-catches, nobody-takes, Lacks, no-number, spawn-no-place, spawn-no-channel, try-no-place}
 use Rattle.theory_reductions.specs.Kinds.{a-close, a-channel, a-label, ActsBy, closes-on, takes-on, picks-on, sends-on, on-its-own, term-acts}
 
 -- ── the step at the place of a process
@@ -102,6 +102,7 @@ module _ (p : Program) {C : Config} {i : ℕ} where
   sends-step (close-meets r k a) = step-runs p r ∙ rw (k .held, k .far, a .runs, named (a .name))
   sends-step (channel-meets r k a) = step-runs p r ∙ rw (k .held, k .far, a .runs, named (a .name))
   sends-step (label-meets r k a b) = step-runs p r ∙ rw (k .held, k .far, a .runs, named (a .name), b)
+  sends-step (label-left-out r k a b l) = step-runs p r ∙ rw (k .held, k .far, a .runs, named (a .name), b, l)
   sends-step (close-shows r k) = step-runs p r ∙ rw (k .held, k .far)
   sends-step (label-shows r k) = step-runs p r ∙ rw (k .held, k .far)
   sends-step (channel-shows r k l n m) = step-runs p r ∙ rw (k .held, k .far, l .held, below m, l .far, there n)
@@ -129,8 +130,9 @@ module _ (p : Program) {C : Config} {i : ℕ} where
   carried-out (leaves s (no-channel d h)) = step-at p s ∙ rw (d, h)
 
   pub halts-out : Halts C i → step p C i ≡ uncaught
-  unfolding stepTerm raising
+  unfolding stepTerm send afterReceive raising
   halts-out (nobody-catches r l) = step-runs p r ∙ rw l
+  halts-out (nobody-takes n r k a b l) = names-step p n ∙ step-runs p r ∙ rw (k .held, k .far, a .runs, named (a .name), b, l)
 
   pub lacks-out : Lacks C i → step p C i ≡ lacking
   unfolding stepTerm spawning trying send

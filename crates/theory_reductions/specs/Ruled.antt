@@ -4,7 +4,7 @@ use mathlib.Core.Path.{_≡_, refl}
 use mathlib.Core.Logic.{_≢_}
 use mathlib.Core.List.{List, [], _∷_, _++_, append-nil}
 use mathlib.Core.Bool.{Bool, true, false, cond}
-use mathlib.Core.Option.{Option, some, none, Option·map}
+use mathlib.Core.Option.{Option, some, none}
 use lib.ListN.{length}
 use lib.Dec.{ltb}
 use Rattle.notation.specs.Limits.{processPlaces, outsideNumbers}
@@ -13,13 +13,13 @@ use Rattle.notation.specs.Tree.{Name, Located, Proc, empty, sendUnit, sendChann
 use Rattle.calculus.specs.Named.{lookup}
 use Rattle.calculus.specs.Typing.{namesOf}
 use Rattle.calculus.specs.Program.{Program, Signature}
-use Rattle.calculus.specs.Configuration.{End, Doing, running, folding, waiting, Process, Config, Stands, withOutside, at, Holder, Far, atProcess, atOutside, givenUp, farEnd, freshChannel, replaced, goesOn}
-use Rattle.calculus.specs.Steps.{Outcome, carried, uncaught, notOpen, lacking, onHeld, Message, passes, chooses, Wanted, Turn, receives, turn, onward, afterSend, afterReceive, branchOf, passedEnd, seenAt, outsideAfter, parting, bothTo, meeting, isGivenUp, passedOut, toOutside, unheard, sending, send, answering, receiving, receive, cancelling, placeFor, spawned, spawning, trying, entering, calling, caughtBy, raising, emptied, joinedTo, joining, forwarding, leaving, foldingUp, stepTerm, stepDoing, stepOf, step}
+use Rattle.calculus.specs.Configuration.{End, Doing, running, folding, waiting, Process, Config, Stands, withOutside, at, Holder, Far, atProcess, atOutside, givenUp, farEnd, freshChannel, replaced, goesOn, foldsUp}
+use Rattle.calculus.specs.Steps.{Outcome, carried, uncaught, notOpen, lacking, onHeld, Message, passes, chooses, Wanted, Turn, receives, turn, onward, afterSend, byBranch, afterReceive, branchOf, passedEnd, seenAt, outsideAfter, parting, bothTo, meeting, isGivenUp, passedOut, toOutside, unheard, sending, send, answering, receiving, receive, cancelling, placeFor, spawned, spawning, trying, entering, calling, caughtBy, raising, emptied, joinedTo, joining, forwarding, leaving, foldingUp, stepTerm, stepDoing, stepOf, step}
 use Rattle.calculus.specs.declared.answers.Seen.{Seen}
 use Rattle.theory_derivations.specs.Equality.{same-iff}
 use Rattle.theory_derivations.specs.Booleans.{ltb-iff}
 use Rattle.theory_ends.specs.Lists.{not-below}
-use Rattle.calculus.specs.Reduces.{Runs, Holds, GivesUp, by-process, by-outside, by-nobody, no-term, no-channel, Sends, close-meets, channel-meets, label-meets, close-shows, label-shows, channel-shows, gone-shows, close-lost, label-lost, channel-lost, Naming, its-own, its-recv, Reduces, communicates, spawns, tries, calls, cancels, raises, joins, joins-outside, joins-nobody, nobody-joins, unanswered, folds, leaves, Halts, nobody-catches, Lacks, no-number, spawn-no-place, spawn-no-channel, try-no-place}
+use Rattle.calculus.specs.Reduces.{Runs, Holds, GivesUp, by-process, by-outside, by-nobody, no-term, no-channel, Sends, close-meets, channel-meets, label-meets, label-left-out, close-shows, label-shows, channel-shows, gone-shows, close-lost, label-lost, channel-lost, Naming, its-own, its-recv, Reduces, communicates, spawns, tries, calls, cancels, raises, joins, joins-outside, joins-nobody, nobody-joins, unanswered, folds, leaves, Halts, nobody-catches, nobody-takes, Lacks, no-number, spawn-no-place, spawn-no-channel, try-no-place}
 use Rattle.theory_reductions.specs.Kinds.{SendTerm, a-close, a-channel, a-label, ActsBy, closes-on, takes-on, picks-on, sends-on, on-its-own, acts, at-a-process, at-the-outside}
 use Rattle.theory_reductions.specs.CarriedOut.{holder-stands}
 
@@ -70,8 +70,13 @@ module _ {p : Program} {C : Config} {k : ℕ} where
     both-ruled {P = P} {e = e} {h = h} (a-label {c = c} {l = b}) r l z (picks-on {B = B}) s = go (branchOf (b .name) B) refl
       where
         go : (y : Option Proc) → branchOf (b .name) B ≡ y
-            → Ruled p C k (bothTo C i (goesOn q P (afterSend p (c .name) (chooses b) (q .held))) (h .place) (Option·map (λ Q. goesOn (h .process) Q (onward p (chooses b) (h .name) (h .process .held))) y))
-        go none y = ruled-shut
+            → Ruled p C k (bothTo C i (goesOn q P (afterSend p (c .name) (chooses b) (q .held))) (h .place) (byBranch y (h .process) (onward p (chooses b) (h .name) (h .process .held))))
+        go none y = by-link (h .process .link) refl
+          where
+            by-link : (o : Option ℕ) → h .process .link ≡ o
+                → Ruled p C k (caughtBy o (replaced i (goesOn q P (afterSend p (c .name) (chooses b) (q .held))) C) (h .place) (foldsUp (h .process) (onward p (chooses b) (h .name) (h .process .held))))
+            by-link none x = ruled-halts (nobody-takes n r l (record { runs = z; name = same-iff _ _ .0 s }) y x)
+            by-link (some g) x = met n (label-left-out r l (record { runs = z; name = same-iff _ _ .0 s }) y x)
         go (some R) y = met n (label-meets r l (record { runs = z; name = same-iff _ _ .0 s }) y)
 
     meeting-ruled : {Q : Proc} {c : Located} {m : Message} {P : Proc} {e : End} {h : Holder} {d : Doing} {t : Turn}

@@ -15,9 +15,9 @@ use Rattle.calculus.specs.Types.{provided, used, other, sameSide, passing, choo
 use Rattle.calculus.specs.Program.{slot, Context, Program, signatureContext, entries, programOf}
 use Rattle.calculus.specs.Declarations.{channels, isNil, repeated, undefined, bareNames, wrongExecs, declared}
 use Rattle.calculus.specs.Mentions.{spawnTakes, spawnLeaves, tryTakes, neverBoth, exactlyOne}
-use Rattle.calculus.specs.Typing.{acting, retyped, bringing, fitting, namesOf, listFits, withoutAll}
+use Rattle.calculus.specs.Typing.{acting, retyped, bringing, namesOf, listFits, withoutAll}
 use Rattle.calculus.specs.Verdict.{Verdict, fine, refused, andThen, demand, having, faults}
-use Rattle.calculus.specs.Checking.{mayBring, isUnitOn, fitsSlot, check, checkBranches, unlessNamed, checkDeclaration, checkDeclarations, typed}
+use Rattle.calculus.specs.Checking.{mayBring, fitting, isUnitOn, fitsSlot, check, checkBranches, unlessNamed, checkDeclaration, checkDeclarations, typed}
 
 abbrev pub Between : ℕ → ℕ → ℕ → Type 0
 Between low high n = (low ≤ n) × (n ≤ high)

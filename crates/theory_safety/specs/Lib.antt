@@ -1,5 +1,7 @@
 pub mod Replies
+pub mod Keeping
 pub mod Safety
+pub mod Spotless
 pub mod Eighteen
 pub mod GivenUp
 pub mod Outward

@@ -12,7 +12,7 @@ use Rattle.calculus.specs.Runs.{startOutside, startConfig, report}
 use Rattle.calculus.specs.WellFormed.{In, NoneTwice}
 use Rattle.calculus.specs.declared.answers.Seen.{Seen}
 use Rattle.calculus.specs.declared.answers.Seen.the-variants.{Nothing, Label, Close, Passed, Cancelled}
-use Rattle.theory_safety.specs.Outward.{Counted, counted}
+use Rattle.theory_reductions.specs.Halting.{Counted, carried-counts}
 
 -- steps from C to D, each at some place, that show these one after another
 abbrev pub Steps : Program → Config → List Seen → Config → Type 0
@@ -56,7 +56,7 @@ one-step g h k (Cancelled n) l e r = subst (λ x. InOrder x l k) e r
 pub passed-in-order : (p : Program) (C D : Config) (l : List Seen) → Steps p C l D → InOrder (C .given) (numbersPassed l) (D .given)
 passed-in-order p C D [] e = record { count = 0; numbers = refl; after = (let f = ap (λ (X : Config). X .given) e in omega (arith, f)) }
 passed-in-order p C D (seen ∷ l) (i, E, e, r) =
-    one-step (C .given) (E .given) (D .given) seen (numbersPassed l) (counted p C i seen e) (passed-in-order p E D l r)
+    one-step (C .given) (E .given) (D .given) seen (numbersPassed l) (carried-counts p C i seen e) (passed-in-order p E D l r)
 
 -- ── so none comes twice, and none is below the first
 from-least : (k n m : ℕ) → In m (numbersFrom k n) → k ≤ m

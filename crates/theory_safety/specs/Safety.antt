@@ -1,5 +1,5 @@
 -- Demand 3: nothing waits forever for a partner that can't come, at each call of every list of calls.
-use Prim.Native.Nat.{ℕ, zero, suc}
+use Prim.Native.Nat.{ℕ}
 use mathlib.Core.Path.{_≡_, refl, sym, _∙_, ap, subst}
 use mathlib.Core.List.{List, [], _∷_, List·Memᴰ·head, List·Memᴰ·tail, List·Memᴰ·not-nil}
 use mathlib.Core.Bool.{Bool, true, false, false≢true}
@@ -12,13 +12,12 @@ use Rattle.calculus.specs.WellFormed.{In, WellFormed}
 use Rattle.calculus.specs.Machine.{Call, callStart, callStep, callRunOn, callReport, callPlaces, callExecName, Answer, started, stepped, ranOn, reported, surveyed, named, Reply, refusal, respond, idle, Exchange, history}
 use Rattle.calculus.specs.Demands.{Safe, SafeBetween, SafeExchange, PlainDemand3}
 use Rattle.calculus.specs.declared.answers.Started.the-variants as Starts
-use Rattle.theory_reductions.specs.StepIff.{halts-iff}
 use Rattle.theory_progress.specs.Joints.{joints-fewer}
 use Rattle.theory_progress.specs.Progress.{some-open}
-use Rattle.theory_progress.specs.RunOn.{stepsTo, given, run-on-steps}
-use Rattle.theory_preservation.specs.Preserved.{preserved, halts-preserves, takes-preserves}
+use Rattle.theory_preservation.specs.Preserved.{takes-preserves}
 use Rattle.theory_preservation.specs.Accepted.{accepted-bodies, accepted-start}
-use Rattle.theory_safety.specs.Replies.{Replied, refuses, begins, carries-out, halts-run, runs, reports, surveys-places, names, refusal-config, unchanged-by, replied, refused-where, halted-answers}
+use Rattle.theory_safety.specs.Keeping.{Kept, run-kept, reply-kept}
+use Rattle.theory_safety.specs.Replies.{Replied, refuses, begins, carries-out, halts-run, runs, reports, surveys-places, names, unchanged-by, replied, refused-where, halted-answers}
 
 pub safe : {p : Program} {C : Config} → WellFormed p C → Safe p C
 safe {p} {C} v = record { wellFormed = v; fewer = joints-fewer p C v; someOpen = some-open p C v }
@@ -59,32 +58,28 @@ begun-start reports e = absurd (false≢true e)
 begun-start surveys-places e = absurd (false≢true e)
 begun-start (names n) e = absurd (false≢true e)
 
+-- a start that is carried out
+pub begun-kept : {p : Program} (K : Config → Type 0) → Kept p K → {C : Config} {scratch run line : ℕ} {r : Reply} → Replied p C (callStart scratch run line) r → has-begun (r .answer) ≡ true → K (r .config)
+begun-kept K k (refuses n i) e = absurd (false≢true e)
+begun-kept K k (begins {line = line} g h) e = k .begun line g h
+
 module _ (text : List ℕ) (ds : List Declaration) (ok : checked text ≡ accepted ds) where
   abbrev p : Program
   p = programOf ds
 
-  -- ── what every step keeps, every reply keeps
-  steps-keep : (n : ℕ) (C D : Config) → WellFormed p C → stepsTo p n C D → WellFormed p D
-  steps-keep zero C D v h = subst (WellFormed p) h v
-  steps-keep (suc n) C D v h = steps-keep n (h .1) D (takes-preserves p (accepted-bodies text ds ok) v (h .2 .going) (h .2 .takes)) (h .3)
+  -- ── every reply keeps well-formedness
+  pub well-formed-kept : Kept p (WellFormed p)
+  well-formed-kept = record { begun = accepted-start text ds ok; taken = takes-preserves p (accepted-bodies text ds ok) }
 
   pub run-keeps : (C : Config) → WellFormed p C → (budget : ℕ) → WellFormed p (runOn p C budget .config)
-  run-keeps C v budget = steps-keep (given (runOn p C budget .answer)) C _ v (run-on-steps p C budget)
+  run-keeps = run-kept (WellFormed p) well-formed-kept
 
   pub reply-keeps : {C : Config} {c : Call} {r : Reply} → WellFormed p C → Replied p C c r → WellFormed p (r .config)
-  reply-keeps {C} v (refuses {c} n i) = subst (WellFormed p) (sym (refusal-config C c n i)) v
-  reply-keeps v (begins {line = line} g e) = accepted-start text ds ok line g e
-  reply-keeps {C} v (carries-out {place = i} seen D g e) = preserved p (accepted-bodies text ds ok) C v g i seen D e
-  reply-keeps {C} v (halts-run {place = i} g e) = halts-preserves p v (halts-iff p C i .0 e)
-  reply-keeps {C} v (runs {budget = budget}) = run-keeps C v budget
-  reply-keeps v reports = v
-  reply-keeps v surveys-places = v
-  reply-keeps v (names n) = v
+  reply-keeps = reply-kept (WellFormed p) well-formed-kept
 
   pub begun-well-formed : {C : Config} {scratch run line : ℕ} {r : Reply} → Replied p C (callStart scratch run line) r → has-begun (r .answer) ≡ true
       → WellFormed p (r .config)
-  begun-well-formed (refuses n i) e = absurd (false≢true e)
-  begun-well-formed (begins {line = line} g h) e = accepted-start text ds ok line g h
+  begun-well-formed = begun-kept (WellFormed p) well-formed-kept
 
   safe-between : (C : Config) → WellFormed p C → (c : Call) → SafeBetween p C c
   safe-between C v (callStart scratch run line) = tt

@@ -39,6 +39,7 @@ enum Call {
     Report,
     Places,
     ExecName(u32),
+    Warning(u32),
 }
 
 /// What a caller lends. Each slice is longer than it must be, unless it is lent short, and what lies past is marked.
@@ -67,7 +68,8 @@ impl Lent {
             Call::RunOn(budget) => change_into(Numbered::RunOn, text, s, r, budget, a),
             Call::Report => read_into(Reading::Report, text, s, r, a),
             Call::Places => read_into(Reading::Places, text, s, r, a),
-            Call::ExecName(line) => exec_name_into(text, s, line, a),
+            Call::ExecName(line) => ask_into(OfText::ExecName, text, s, line, a),
+            Call::Warning(number) => ask_into(OfText::Warning, text, s, number, a),
         }
     }
 
@@ -96,6 +98,7 @@ fn keeps(before: &Lent, after: &Lent, call: Call, refusal: u32) {
         (Call::RunOn(_), _) => 7,
         (Call::Report | Call::Places, _) => 2 + after.answer[1] as usize,
         (Call::ExecName(_), _) => 3,
+        (Call::Warning(_), _) => 8,
     };
     assert!(after.answer[told..ANSWER_WORDS].iter().all(|&w| w == 0), "{call:?}: {:?}", &after.answer[..told]);
 }
@@ -108,7 +111,7 @@ fn short(lent: &Lent, text: &[u8], call: Call, source: &mut Source) {
     assert_eq!(s.call(text, call, source.below(SCRATCH as u64) as usize, RUN, ANSWER_WORDS), 1);
     assert!(s.scratch == lent.scratch && s.run == lent.run, "{call:?}: touched with short scratch");
     let refusal = r.call(text, call, SCRATCH, source.below(RUN as u64) as usize, ANSWER_WORDS);
-    assert!(matches!(call, Call::ExecName(_)) || refusal == 16 || (2..=15).contains(&refusal), "{call:?}: {refusal}");
+    assert!(matches!(call, Call::ExecName(_) | Call::Warning(_)) || refusal == 16 || (2..=15).contains(&refusal), "{call:?}: {refusal}");
     assert!(r.run == lent.run, "{call:?}: touched with a short run");
 }
 
@@ -136,7 +139,7 @@ fn step_as_told(lent: &mut Lent, text: &[u8], place: u32) -> u32 {
 }
 
 fn some_call(source: &mut Source) -> Call {
-    match source.below(12) {
+    match source.below(13) {
         0 => Call::Start(source.below(3) as u32),
         1..=5 => Call::Step(source.below(8) as u32),
         6 => Call::Step(source.below(130) as u32),
@@ -144,14 +147,15 @@ fn some_call(source: &mut Source) -> Call {
         8 => Call::RunOn([9, 40, 400][source.below(3) as usize]),
         9 => Call::Report,
         10 => Call::Places,
-        _ => Call::ExecName(source.below(3) as u32),
+        11 => Call::ExecName(source.below(3) as u32),
+        _ => Call::Warning([source.below(4) as u32, source.next() as u32][source.below(2) as usize]),
     }
 }
 
 fn texts() -> Vec<Vec<u8>> {
     let root = Path::new(env!("CARGO_MANIFEST_DIR")).join("../..");
     let cases = root.join("crates/cases/data");
-    let names = ["thesis-zip.ep", "thesis-trie.ep", "s-nested-handlers.ep", "s-pass-already-given-up.ep", "s-spawn-forever.ep", "s-numbers-run-out.ep", "2.3-callee-inherits.ep", "2.3-handler-raises.ep", "doc-yes.ep"];
+    let names = ["thesis-zip.ep", "thesis-trie.ep", "s-nested-handlers.ep", "s-pass-already-given-up.ep", "s-spawn-forever.ep", "s-numbers-run-out.ep", "2.3-callee-inherits.ep", "2.3-handler-raises.ep", "2.7-handler-starts.ep", "2.7-two-in-one-process.ep", "doc-yes.ep"];
     let mut texts: Vec<Vec<u8>> = names.iter().map(|name| fs::read(cases.join(name)).unwrap()).collect();
     texts.push(fs::read(root.join("examples/knitting.ep")).unwrap());
     texts

@@ -3,6 +3,7 @@ use mathlib.Core.Path.{sym, _∙_}
 use mathlib.Core.Bool.{true≢false}
 use Rattle.run_words.specs.Raw.{rawIn}
 use Rattle.run_words.proofs.Decisions.{refused}
+use Rattle.run_wellformed.specs.OfText.{run-of}
 use Rattle.run_wellformed.specs.Formed.{parts, decided}
 use Rattle.run_wellformed.proofs.well_formed.Statement.{statement}
 use Rattle.run_wellformed.proofs.well_formed.Tie as tie
@@ -85,17 +86,9 @@ returns-5 c =
 halt-fits-requires : tie.Need-halt-fits-requires
 halt-fits-requires c κs =
     let after-if2 = c .before .before .before .before .before .before in
-    let entry = after-if2 .before .before .before .before .before .before .before in (
-      entry .pre .0,
-      (
-        entry .pre .1,
-        (
-          after-if2 .before .before .before .bounded .ensures .yes (not-false _ (after-if2 .before .before .if1 .left)),
-          after-if2 .before .numbers-stand .ensures .yes
-              (not-false _ (after-if2 .if2 .left)),
-        ),
-      ),
-    )
+    let entry = after-if2 .before .before .before .before .before .before .before in
+    run-of (entry .args .text .now) (entry .args .scratch .now) (entry .pre .0 .1) (entry .args .run .now) (entry .pre .0 .0) (entry .pre .1)
+    (after-if2 .before .before .before .bounded .ensures .yes (not-false _ (after-if2 .before .before .if1 .left))) (after-if2 .before .numbers-stand .ensures .yes (not-false _ (after-if2 .if2 .left)))
 
 returns-6 : tie.Need-returns-6
 returns-6 c =

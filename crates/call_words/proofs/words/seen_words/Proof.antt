@@ -17,6 +17,9 @@ returns c = rw (c .enum-told .given .1)
 enum-known-seen : tie.Need-enum-known-seen
 enum-known-seen c = search needs
 
+cast-label-length : tie.Need-cast-label-length
+cast-label-length c = search needs
+
 label-length-requires : tie.Need-label-length-requires
 label-length-requires c κs = search needs
 
@@ -34,8 +37,8 @@ returns-3 c = rw (c .before .seen2 .given .1)
 enum-known-seen-3 : tie.Need-enum-known-seen-3
 enum-known-seen-3 c = search needs
 
-cast-t11 : tie.Need-cast-t11
-cast-t11 c = search needs
+cast-t12 : tie.Need-cast-t12
+cast-t12 c = search needs
 
 returns-4 : tie.Need-returns-4
 unfolding seenWords seenValues
@@ -55,12 +58,13 @@ seen-words-spec =
     enum-told
     returns
     enum-known-seen
+    cast-label-length
     label-length-requires
     returns-2
     enum-known-seen-2
     returns-3
     enum-known-seen-3
-    cast-t11
+    cast-t12
     returns-4
     enum-known-seen-4
     returns-5)

@@ -22,7 +22,7 @@ returns c =
     let entry = c .before .before .before .before .before in
     let ends = end-at (entry .args .text .now) (entry .args .scratch .now) (entry .args .p) (entry .args .n) (entry .pre .2) (entry .pre .3) (entry .pre .4) in
     let context = contextIn (entry .args .text .now) (entry .args .scratch .now) (entry .args .h) in
-    turned-given (c .done .ensures) (ends-so (entry .args .text .now) (entry .args .scratch .now) (entry .args .n) context _ (c .before .before .ending-refusal .ensures) (c .before .ended .ensures) (ends .1 context))
+    turned-given (c .done .ensures) (ends-so (entry .args .text .now) (entry .args .scratch .now) (entry .args .n) context _ _ (c .before .before .ending-refusal .ensures) (c .before .ended .ensures) (ends .1 context))
 
 pub check-last-spec : {M : Type 1} → statement M
 check-last-spec = tie.close (tie.spec ending-refusal-requires ended-requires done-requires returns)

@@ -3,8 +3,7 @@ use Prim.Native.Nat.{_+_, _≤_}
 use native.Mathlib.Omega.{arith}
 use lib.ListN.{length}
 use lib.Seq.{length-take-le}
-use Rattle.read_tables.specs.Program.{programIn}
-use Rattle.print_pieces.specs.Pieces.{pieceBytes, Going, turns}
+use Rattle.print_pieces.specs.Pieces.{pieceBytes, Going, turnsIn}
 use Rattle.print_pieces.specs.Stages.{next-falls}
 use Rattle.print_output.specs.Gathering.{gathered, few-bytes}
 use borrow.Author.Needs.{needs}
@@ -22,7 +21,7 @@ abbrev Inv-loop : tie.InvT-loop
 Inv-loop text scratch run₀ out₀ stage₀ waiting₀ run out stage waiting = Going text scratch run stage × (length run ≡ length run₀) × (length out ≡ length out₀) × (runWords ≤ length run) × (gathered + pieceBytes ≤ length out) × (waiting ≤ gathered)
 
 abbrev μ-loop : tie.MeasureT-loop
-μ-loop text scratch run₀ out₀ stage₀ waiting₀ run out stage waiting = turns (programIn text scratch) stage
+μ-loop text scratch run₀ out₀ stage₀ waiting₀ run out stage waiting = turnsIn text scratch stage
 
 loop-holds : tie.Need-loop-holds Inv-loop μ-loop
 loop-holds c =

@@ -1,13 +1,17 @@
 use Rattle.print_pieces.specs.Lines.{header-put}
-use Rattle.notation.proofs.Names.{name-within}
-use native.Mathlib.Omega.{arith}
 use borrow.Author.Needs.{needs}
 use Rattle.print_pieces.proofs.lines.put_header.Statement.{statement}
 use Rattle.print_pieces.proofs.lines.put_header.Tie as tie
 use Rattle.print_pieces.proofs.lines.put_header.Reads as reads
 use Rattle.print_pieces.proofs.lines.put_header.Lts as lts
-use Rattle.notation.proofs.token.name_of.Reads as name-of-reads
 use Rattle.print_bytes.proofs.writing.put.Reads as put-reads
+use Rattle.print_pieces.proofs.lines.put_named.Reads as put-named-reads
+
+slice-aggregate-put-named : tie.Need-slice-aggregate-put-named
+slice-aggregate-put-named c = search needs
+
+put-named-requires : tie.Need-put-named-requires
+put-named-requires c κs = search needs
 
 slice-aggregate-put : tie.Need-slice-aggregate-put
 slice-aggregate-put c = search needs
@@ -15,45 +19,19 @@ slice-aggregate-put c = search needs
 put-requires : tie.Need-put-requires
 put-requires c κs = search needs
 
-name-of-requires : tie.Need-name-of-requires
-name-of-requires c κs = search needs
-
-put-requires-2 : tie.Need-put-requires-2
-put-requires-2 c κs = omega (
-  arith,
-  name-within (c .before .before .before .before .before .before .before .before .before .args .text .now) _ (c .name-of .ensures),
-  c .before .before .before .before .put .ensures .ends,
-  c .before .before .before .before .put .ensures .long,
-)
-
-slice-aggregate-put-2 : tie.Need-slice-aggregate-put-2
-slice-aggregate-put-2 c = search needs
-
-put-requires-3 : tie.Need-put-requires-3
-put-requires-3 c κs =
-    let after-put2 = c .before .before .before .before in
-    let put2 = after-put2 .put2 in
-    let put = after-put2 .before .before .before .before .before .put in
-    let entry = after-put2 .before .before .before .before .before .before .before .before .before .before in
-    omega (arith, name-within (entry .args .text .now) _ (after-put2 .before .name-of .ensures), put2 .ensures .ends, put2 .ensures .long, put .ensures .ends, put .ensures .long)
-
 same-length : tie.Need-same-length
 same-length c = search needs
 
 returns : tie.Need-returns
-returns c =
-    let after-put2 = c .before .before .before .before .before .before .before in
-    header-put (after-put2 .before .before .before .before .before .put .ensures) (after-put2 .before .name-of .ensures) (after-put2 .put2 .ensures) (c .before .before .put3 .ensures)
+returns c = header-put (c .before .before .before .before .before .before .before .put-named .ensures .0) (c .before .before .put .ensures)
 
 pub put-header-spec : {M : Type 1} → statement M
 put-header-spec =
     tie.close
     (tie.spec
+    slice-aggregate-put-named
+    put-named-requires
     slice-aggregate-put
     put-requires
-    name-of-requires
-    put-requires-2
-    slice-aggregate-put-2
-    put-requires-3
     same-length
     returns)

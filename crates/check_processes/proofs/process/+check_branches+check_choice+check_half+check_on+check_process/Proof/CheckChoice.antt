@@ -2,13 +2,8 @@
 use borrow.Author.Needs.{needs}
 use Prim.Native.Nat.{ℕ}
 use native.Mathlib.Omega.{arith}
-use mathlib.Core.Path.{sym, _∙_, ap, subst}
-use Rattle.notation.specs.Token.{nameAt}
-use Rattle.calculus.specs.Checking.{checkBranches}
-use Rattle.read_tables.specs.Program.{programIn}
-use Rattle.read_tables.specs.Roots.{branchesIn}
-use Rattle.check_terms.specs.Next.{contextIn}
-use Rattle.check_processes.specs.Offers.{choosing-with, offerOf, listed}
+use mathlib.Core.Path.{_∙_}
+use Rattle.check_processes.specs.Branches.{choice-refused, choice-labels, choice-branches}
 use Rattle.check_processes.specs.Nodes.{choose-at}
 use Rattle.check_processes.proofs.choices.labels_offered.Reads as labels-offered-reads
 use Rattle.check_processes.proofs.process.check_branches.Reads as check-branches
@@ -30,12 +25,7 @@ check-choice-met t =
     (λ c.
     let entry = c .before .before .before .before .before .before in
     let e = entry .args in
-    let text = e .text .now in
-    let scratch = e .scratch .now in
-    let context = contextIn text scratch (e .h) in
-    let n = e .n in
-    sym (choose-at (e .text .now) (e .scratch .now) (e .p) (e .n) (entry .pre .1 .2) (entry .pre .1 .3) .2 context ∙
-    ap (λ o. choosing-with (n .at) o (λ r. checkBranches (programIn text scratch) context (n .at) (nameAt text (n .first)) r (branchesIn text scratch (n .second) (n .third)))) (sym (c .before .before .before .labels-offered .ensures .is) ∙ ap (offerOf text scratch) (c .before .o .given .1))))
+    choice-refused (e .text .now) (e .scratch .now) (e .h) (e .p) (e .n) (entry .pre .1 .2) (entry .pre .1 .3) (c .before .before .before .labels-offered .ensures) _ (c .before .o .given .1))
     -- enum-known-o-2
     (λ c. search needs)
     -- check-branches-requires
@@ -43,14 +33,10 @@ check-choice-met t =
     let entry = c .before .before .before .before .before .before in
     let e = entry .args in
     let chooses = choose-at (e .text .now) (e .scratch .now) (e .p) (e .n) (entry .pre .1 .2) (entry .pre .1 .3) in
-    (omega (arith, entry .pre .0, chooses .0), (entry .pre .1 .0, entry .pre .1 .1, subst (listed (e .text .now) (e .scratch .now)) (c .before .o2 .given .1) (c .before .before .before .labels-offered .ensures .labels), chooses .1)))
+    let labels = choice-labels (e .text .now) (e .scratch .now) (e .h) (e .p) (e .n) (entry .pre .1 .2) (entry .pre .1 .3) (c .before .before .before .labels-offered .ensures) _ _ (c .before .o2 .given .1) in
+    (omega (arith, entry .pre .0, chooses .0), (entry .pre .1 .0, entry .pre .1 .1, labels, chooses .1)))
     -- returns-2
     (λ c.
     let entry = c .before .before .before .before .before .before .before in
     let e = entry .args in
-    let text = e .text .now in
-    let scratch = e .scratch .now in
-    let context = contextIn text scratch (e .h) in
-    let n = e .n in
-    c .check-branches .ensures ∙ sym (choose-at (e .text .now) (e .scratch .now) (e .p) (e .n) (entry .pre .1 .2) (entry .pre .1 .3) .2 context ∙
-    ap (λ o. choosing-with (n .at) o (λ r. checkBranches (programIn text scratch) context (n .at) (nameAt text (n .first)) r (branchesIn text scratch (n .second) (n .third)))) (sym (c .before .before .before .before .labels-offered .ensures .is) ∙ ap (offerOf text scratch) (c .before .before .o2 .given .1))))
+    c .check-branches .ensures ∙ choice-branches (e .text .now) (e .scratch .now) (e .h) (e .p) (e .n) (entry .pre .1 .2) (entry .pre .1 .3) (c .before .before .before .before .labels-offered .ensures) _ _ (c .before .before .o2 .given .1))

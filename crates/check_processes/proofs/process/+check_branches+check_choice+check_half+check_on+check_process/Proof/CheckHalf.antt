@@ -1,8 +1,9 @@
 -- CheckHalf: each need of its walk.
 use Prim.Native.Nat.{ℕ}
 use native.Mathlib.Omega.{arith}
-use mathlib.Core.Path.{sym, _∙_}
-use Rattle.check_processes.specs.Turns.{half-there, half-so, half-none}
+use mathlib.Core.Path.{sym, _∙_, ap}
+use Rattle.check_terms.specs.Findings.{verdictIn}
+use Rattle.check_processes.specs.Turns.{half-there, half-verdict, half-none}
 use Rattle.check_processes.proofs.process.check_half.Reads as check-half
 use Rattle.check_processes.proofs.process.check_process.Reads as check-process
 use Rattle.check_processes.proofs.process.+check_branches+check_choice+check_half+check_on+check_process.Lts-check_half as check-half-lts
@@ -18,6 +19,6 @@ check-half-met t =
     let part = entry .pre .1 .1 (c .if1 .taken) in
     (omega (arith, half-there (e .text .now) (e .scratch .now) (e .halved) (e .p) (c .if1 .taken) (entry .pre .0)), (entry .pre .1 .0, part .0, part .1)))
     -- returns
-    (λ c. let e = c .before .before .before .before .args in c .check-process .ensures ∙ sym (half-so (e .text .now) (e .scratch .now) (e .h) (e .p) (c .before .if1 .taken)))
+    (λ c. let e = c .before .before .before .before .args in c .check-process .ensures ∙ sym (half-verdict (e .text .now) (e .scratch .now) (e .h) (e .p) (c .before .if1 .taken)))
     -- returns-2
-    (λ c. let e = c .before .before .before .args in sym (half-none (e .text .now) (e .scratch .now) (e .h) (e .p) (c .if1 .left)))
+    (λ c. let e = c .before .before .before .args in ap verdictIn (sym (half-none (e .text .now) (e .scratch .now) (e .h) (e .p) (c .if1 .left))))

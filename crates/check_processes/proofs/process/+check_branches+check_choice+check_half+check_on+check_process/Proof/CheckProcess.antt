@@ -1,8 +1,8 @@
 -- CheckProcess: each need of its walk.
-use borrow.Author.Needs.{needs}
 use Prim.Native.Nat.{ℕ}
 use native.Mathlib.Omega.{arith}
 use mathlib.Core.Path.{_∙_}
+use Rattle.check_processes.specs.Turns.{turned-verdict}
 use Rattle.check_processes.proofs.turns.check_turn.Reads as check-turn-reads
 use Rattle.check_processes.proofs.process.check_on.Reads as check-on
 use Rattle.check_processes.proofs.process.check_process.Reads as check-process
@@ -17,4 +17,4 @@ check-process-met t =
     -- check-on-requires
     (λ c κs. let turned = c .check-turn .ensures in (omega (arith, c .before .before .before .pre .0, turned .fewer), (c .before .before .before .pre .1 .0, turned .stands)))
     -- returns
-    (λ c. c .check-on .ensures ∙ c .before .check-turn .ensures .is)
+    (λ c. c .check-on .ensures ∙ turned-verdict (c .before .check-turn .ensures))
