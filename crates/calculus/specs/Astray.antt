@@ -10,7 +10,7 @@ use Rattle.calculus.specs.Starred.{around, Case}
 -- A lost recv starts the handler, which then folds up neither with its process nor when that leaves.
 -- A cancel by the process's own term wakes nobody: the handler waits, and folds up when its process leaves.
 -- Whether a raise is caught is decided when it runs: a called process inherits the link, and the spawned half has none, however it stands in the text; a halt stops the others too.
--- A label that is left out: the sender goes on, the handler starts, and the receiver folds up with its own end still held; without a link the sender stays, and either place halts the run.
+-- A label that is left out: the sender goes on, the handler starts, and the receiver folds up with its own end still held; without a link the run halts. (That the sender then stays shows in no line: `nobody-takes` says it.)
 -- What is left out is told in the order of the type, a recv before those inside it, of processes that nobody executes too.
 -- (A cancelled recv is no close: the fifth starred case.)
 abbrev pub astray : List Case

@@ -1,4 +1,4 @@
--- A script without warnings meets no label that is left out, whatever is called in whatever order: what the rules of before say is what it does.
+-- A script without warnings meets no label that is left out: after each call, whatever is called in whatever order, each label that is sent has a branch where it comes.
 use Prim.Native.Nat.{ℕ}
 use mathlib.Core.Path.{_≡_, refl, sym, ap, subst}
 use mathlib.Core.Logic.{_≢_}
