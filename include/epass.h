@@ -10,7 +10,7 @@
  * answer need not be kept. The slices must not overlap.
  *
  * The library is freestanding: no heap, no static state, no system call; of C's library it needs memcpy, memmove and memset. It is
- * re-entrant; calls with different slices may run at once. A call takes up to 100,000 bytes of stack, which was measured, not proved.
+ * re-entrant; calls with different slices may run at once. A call takes up to 76,000 bytes of stack, which was measured, not proved.
  *
  * A run of zeros, never started, is one without processes: a step at any place is refused (19), run-on answers done, and nothing is open.
  */

@@ -12,6 +12,7 @@ use Rattle.calculus.specs.Starred.{around, Case}
 -- Whether a raise is caught is decided when it runs: a called process inherits the link, and the spawned half has none, however it stands in the text; a halt stops the others too.
 -- A label that is left out: the sender goes on, the handler starts, and the receiver folds up with its own end still held; without a link the run halts. (That the sender then stays shows in no line: `nobody-takes` says it.)
 -- What is left out is told in the order of the type, a recv before those inside it, of processes that nobody executes too.
+-- Two spellings of one type meet: every second name written out and the labels turned, and the label is found by its name. Types that differ only below a second label are two; so are types of other marks, and of as many labels with other names.
 -- (A cancelled recv is no close: the fifth starred case.)
 abbrev pub astray : List Case
 astray =
@@ -50,6 +51,22 @@ astray =
     ∷ record {
       text = bytes "type t = +{'d : 1, 'b : 1, 'c : 1, 'a : 1}\nproc p () [c : t, e : t] = recv c ('c => cancel c; recv e ('a => cancel e | 'b => cancel e))\n";
       output = bytes "Warning: process p, channel c, missing 'd\nWarning: process p, channel c, missing 'b\nWarning: process p, channel c, missing 'a\nWarning: process p, channel e, missing 'd\nWarning: process p, channel e, missing 'c\n";
+    }
+    ∷ record {
+      text = bytes "type n = +{'z : 1, 's : n}\ntype k = +{'s : +{'s : k, 'z : 1}, 'z : 1}\nproc m (x : n) [] = c : k <- (send c 's; send c 'z; send c ()); fwd x c\nexec m\n";
+      output = bytes "Executing process m:\n#0 -> 's\n#0 -> 'z\n#0 -> ()\ndone after 7 steps\n";
+    }
+    ∷ record {
+      text = bytes "type n = +{'z : 1, 's : n}\ntype k = +{'z : 1, 's : +{'z : 1 * 1, 's : k}}\nproc m (x : n) [] = c : k <- (cancel c); fwd x c\nexec m\n";
+      output = bytes "refused 11 at 115\n";
+    }
+    ∷ record {
+      text = bytes "type t = 1 * t\ntype u = 1 @ u\nproc m (x : 1) [] = c : t <- (d : u <- (cancel d); fwd c d); cancel c; send x ()\nexec m\n";
+      output = bytes "refused 11 at 81\n";
+    }
+    ∷ record {
+      text = bytes "proc m (x : +{'a : 1, 'b : 1}) [] = c : +{'a : 1, 'c : 1} <- (cancel c); fwd x c\nexec m\n";
+      output = bytes "refused 11 at 73\n";
     }
     ∷ []
 

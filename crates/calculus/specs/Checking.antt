@@ -1,7 +1,7 @@
 -- Refusals 10 to 15: the first term in text order, then the lowest number, at the term's first byte.
 use Prim.Native.Nat.{ℕ}
 use mathlib.Core.List.{List, [], _∷_, _++_}
-use mathlib.Core.Bool.{Bool, true, not, _&&_}
+use mathlib.Core.Bool.{Bool, true, false, not, _&&_}
 use mathlib.Core.Option.{Option, some, none}
 use lib.ListN.{length, getElem?}
 use lib.Dec.{ltb}
@@ -9,11 +9,12 @@ use Rattle.notation.specs.Limits.{heldLimit}
 use Rattle.notation.specs.Bytes.{same}
 use Rattle.notation.specs.Tree.{Name, Located, Ty, Alternatives, Proc, empty, sendUnit, sendChannel, sendLabel, cancel, spawn, recvUnit, recvChannel, recvLabel, fwd, call, raise, try, Branches, branch, Declaration, declareType, declareProc, declareExec, plain}
 use Rattle.calculus.specs.Named.{lookup, without, names, isSome, all, distinct}
-use Rattle.calculus.specs.Types.{Side, provided, used, other, sameSide, sameType, shape, atLeaf, passing, choosing, labelled}
+use Rattle.calculus.specs.Types.{Side, provided, used, other, sameSide, shape, atLeaf, passing, choosing, labelled}
+use Rattle.calculus.specs.SameType.{sameType}
 use Rattle.calculus.specs.Program.{Slot, slot, Context, Program, signatureContext, entries, programOf}
 use Rattle.calculus.specs.Declarations.{channels, isNil}
 use Rattle.calculus.specs.Mentions.{spawnTakes, spawnLeaves, tryTakes, neverBoth, exactlyOne}
-use Rattle.calculus.specs.Typing.{acting, retyped, bringing, namesOf, listFits, withoutAll}
+use Rattle.calculus.specs.Typing.{acting, retyped, bringing, namesOf, withoutAll}
 use Rattle.calculus.specs.Verdict.{Verdict, fine, refused, andThen, demand, having}
 
 -- a name may join H where G is held: 15 otherwise
@@ -28,8 +29,19 @@ fitting r (branch l P B) = isSome (labelled (l .name) r) && fitting r B
 abbrev pub isUnitOn : Side → Slot → Bool
 isUnitOn s h = sameSide (h .side) s && atLeaf (shape (h .type))
 
-abbrev pub fitsSlot : Side → Ty Name → Slot → Bool
-fitsSlot s A h = sameSide (h .side) s && sameType (h .type) A
+abbrev pub fitsSlot : Program → Side → Ty Name → Slot → Bool
+fitsSlot p s A h = sameSide (h .side) s && sameType (p .types) (h .type) A
+
+abbrev pub entryFits : Program → Side → Ty Name → Option Slot → Bool
+entryFits p s A none = false
+entryFits p s A (some h) = fitsSlot p s A h
+
+-- a list of names fits a list of a signature: "in number, side and type"
+unfoldable pub listFits : Program → Context → Side → List Name → List (Name × Ty Name) → Bool
+listFits p G s [] [] = true
+listFits p G s [] (e ∷ es) = false
+listFits p G s (a ∷ ns) [] = false
+listFits p G s (a ∷ ns) (e ∷ es) = entryFits p s (e .1) (lookup a G) && listFits p G s ns es
 
 unfoldable mutual
   pub check : Program → Context → Proc → Verdict
@@ -43,7 +55,7 @@ unfoldable mutual
       having 10 at (lookup (a .name) G) λ e.
       demand 11 at (not (same (c .name) (a .name)))
       (having 11 at (passing (h .type)) λ t.
-      demand 11 at (sameSide (h .side) (t .sender) && fitsSlot (t .side) (t .what) e)
+      demand 11 at (sameSide (h .side) (t .sender) && fitsSlot p (t .side) (t .what) e)
       (check p (retyped (c .name) (t .after) (without (a .name) G)) P))
   check p G (sendLabel at c l P) =
       having 10 at (acting p (c .name) G) λ h.
@@ -78,12 +90,12 @@ unfoldable mutual
   check p G (fwd at x c) =
       having 10 at (lookup (x .name) G) λ h.
       having 10 at (lookup (c .name) G) λ e.
-      demand 11 at (sameSide (h .side) provided && fitsSlot used (h .type) e)
+      demand 11 at (sameSide (h .side) provided && fitsSlot p used (h .type) e)
       (demand 13 at (isNil (withoutAll (x .name ∷ c .name ∷ []) G)) fine)
   check p G (call at q bracket xs ys) =
       demand 10 at (all (λ n. isSome (lookup n G)) (namesOf xs ++ namesOf ys))
       (having 11 at (lookup (q .name) (p .processes)) λ s.
-      demand 11 at (listFits G provided (namesOf xs) (s .provides) && listFits G used (namesOf ys) (s .uses))
+      demand 11 at (listFits p G provided (namesOf xs) (s .provides) && listFits p G used (namesOf ys) (s .uses))
       (demand 11 at (distinct (namesOf xs ++ namesOf ys))
       (demand 13 at (isNil (withoutAll (namesOf xs ++ namesOf ys) G)) fine)))
   check p G (raise at P) = check p G P

@@ -2,6 +2,8 @@ pub mod Answers
 pub mod Named
 pub mod Types
 pub mod Program
+pub mod OneType
+pub mod SameType
 pub mod Verdict
 pub mod Declarations
 pub mod Mentions

@@ -1,9 +1,8 @@
--- Types without offsets: when two are equal, what a name stands for, and what goes over a channel.
+-- Types without offsets: what a name stands for, and what goes over a channel.
 use Prim.Native.Nat.{ℕ}
 use mathlib.Core.List.{List}
-use mathlib.Core.Bool.{Bool, true, false, cond, _&&_}
+use mathlib.Core.Bool.{Bool, true, false, cond}
 use mathlib.Core.Option.{Option, some, none, Option·getD}
-use lib.Dec.{eqb}
 use Rattle.notation.specs.Bytes.{same}
 use Rattle.notation.specs.Tree.{Name, Ty, unit, named, tensor, par, lolli, plus, with, Alternatives, alternative}
 use Rattle.calculus.specs.Named.{lookup}
@@ -43,47 +42,6 @@ atLeaf leaf = true
 atLeaf (word n) = false
 atLeaf (pair k A B) = false
 atLeaf (choice k r) = false
-
-abbrev pub atWord : (Name → Bool) → Shape → Bool
-atWord f leaf = false
-atWord f (word n) = f n
-atWord f (pair k A B) = false
-atWord f (choice k r) = false
-
-abbrev pub atPair : ℕ → (Ty Name → Ty Name → Bool) → Shape → Bool
-atPair m f leaf = false
-atPair m f (word n) = false
-atPair m f (pair k A B) = eqb m k && f A B
-atPair m f (choice k r) = false
-
-abbrev pub atChoice : ℕ → (Alternatives Name → Bool) → Shape → Bool
-atChoice m f leaf = false
-atChoice m f (word n) = false
-atChoice m f (pair k A B) = false
-atChoice m f (choice k r) = eqb m k && f r
-
-abbrev pub atAlternative : (Name → Ty Name → Alternatives Name → Bool) → Alternatives Name → Bool
-atAlternative f Alternatives.none = false
-atAlternative f (alternative l A r) = f l A r
-
-abbrev pub atNone : Alternatives Name → Bool
-atNone Alternatives.none = true
-atNone (alternative l A r) = false
-
--- "a type is compared part by part, down to names: same name, or same mark and equal parts, labels in the same order"
-unfoldable mutual
-  pub sameType : Ty Name → Ty Name → Bool
-  sameType unit B = atLeaf (shape B)
-  sameType (named n) B = atWord (same n) (shape B)
-  sameType (tensor A C) B = atPair 2 (λ D E. sameType A D && sameType C E) (shape B)
-  sameType (par A C) B = atPair 3 (λ D E. sameType A D && sameType C E) (shape B)
-  sameType (lolli A C) B = atPair 4 (λ D E. sameType A D && sameType C E) (shape B)
-  sameType (plus r) B = atChoice 5 (λ q. sameAlternatives r q) (shape B)
-  sameType (with r) B = atChoice 6 (λ q. sameAlternatives r q) (shape B)
-
-  pub sameAlternatives : Alternatives Name → Alternatives Name → Bool
-  sameAlternatives Alternatives.none q = atNone q
-  sameAlternatives (alternative l A r) q = atAlternative (λ m B p. same l m && (sameType A B && sameAlternatives r p)) q
 
 -- "A name stands for its definition when a send or recv acts on its channel."
 abbrev pub standing : List (Name × Ty Name) → Ty Name → Ty Name

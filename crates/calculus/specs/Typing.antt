@@ -1,17 +1,18 @@
 -- The typing rules of the scope, one constructor for each, in its order and words.
--- `Typed p G P`: with the channels of G held, oldest first, P is typed in the program p. Whether a process has a link does not count: that is found when it runs.
+-- `TypedBy equal p G P`: with the channels of G held, oldest first, P is typed in the program p, where `equal` says which types are equal; `Typed p G P`: where they are one. Whether a process has a link does not count: that is found when it runs.
 use Prim.Native.Nat.{ℕ, _≤_, _<_}
 use mathlib.Core.Path.{_≡_}
 use mathlib.Core.List.{List, [], _∷_, _++_}
-use mathlib.Core.Bool.{Bool, true, false, _&&_}
+use mathlib.Core.Bool.{true, false}
 use mathlib.Core.Option.{Option, some, none, Option·map}
 use lib.ListN.{length}
 use Rattle.notation.specs.Limits.{heldLimit}
 use Rattle.notation.specs.Bytes.{same}
 use Rattle.notation.specs.Tree.{Name, Located, Ty, unit, Alternatives, Proc, empty, sendUnit, sendChannel, sendLabel, cancel, spawn, recvUnit, recvChannel, recvLabel, fwd, call, raise, try, Branches, branch, plain}
 use Rattle.calculus.specs.Named.{lookup, without, changed, names, isSome, distinct}
-use Rattle.calculus.specs.Types.{Side, provided, used, other, sameSide, sameType, standing, Passing, passing, Choosing, choosing, labelled}
+use Rattle.calculus.specs.Types.{Side, provided, used, other, standing, Passing, passing, Choosing, choosing, labelled}
 use Rattle.calculus.specs.Program.{Slot, slot, Context, Signature, Program, signatureContext}
+use Rattle.calculus.specs.OneType.{OneType}
 use Rattle.calculus.specs.Mentions.{spawnTakes, spawnLeaves, tryTakes, neverBoth, exactlyOne}
 
 -- a held channel as a send or recv acts on it: a name stands for its definition
@@ -29,25 +30,10 @@ retyped c A G = changed c (λ s. slot (s .side) A) G
 abbrev pub bringing : Name → Slot → Context → Context
 bringing x s G = G ++ ((x, s) ∷ [])
 
--- two types are one type in the program p: "a type is compared part by part, down to names"
-pub record OneType (p : Program) (A B : Ty Name) : Type 0 where
-  pub same : sameType A B ≡ true
-
--- ── parts of rules, as tests
+-- ── parts of rules
 abbrev pub namesOf : List Located → List Name
 namesOf [] = []
 namesOf (n ∷ ns) = n .name ∷ namesOf ns
-
-abbrev pub entryFits : Side → Ty Name → Option Slot → Bool
-entryFits s A none = false
-entryFits s A (some h) = sameSide (h .side) s && sameType (h .type) A
-
--- a list of names fits a list of a signature: "in number, side and type"
-unfoldable pub listFits : Context → Side → List Name → List (Name × Ty Name) → Bool
-listFits G s [] [] = true
-listFits G s [] (e ∷ es) = false
-listFits G s (a ∷ ns) [] = false
-listFits G s (a ∷ ns) (e ∷ es) = entryFits s (e .1) (lookup a G) && listFits G s ns es
 
 -- what is held beside the names of a list
 unfoldable pub withoutAll : {X : Type 0} → List Name → List (Name × X) → List (Name × X)
@@ -59,99 +45,115 @@ pub record Brought (x : Name) (G H : Context) : Type 0 where
   pub new : lookup x G ≡ none
   pub room : length H < heldLimit
 
+-- a list of names fits a list of a signature: "in number, side and type"
+pub data ListFits (equal : Ty Name → Ty Name → Type 0) (G : Context) (s : Side) : List Name → List (Name × Ty Name) → Type 0 where
+  none-left : ListFits equal G s [] []
+  one-fits : {a : Name} {ns : List Name} {e : Name × Ty Name} {es : List (Name × Ty Name)} (A : Ty Name)
+      → lookup a G ≡ some (slot s A)
+      → equal A (e .1)
+      → ListFits equal G s ns es
+      → ListFits equal G s (a ∷ ns) (e ∷ es)
+
 mutual
-  pub data Typed (p : Program) : Context → Proc → Type 0 where
+  pub data TypedBy (equal : Ty Name → Ty Name → Type 0) (p : Program) : Context → Proc → Type 0 where
     -- `send c ()`: c : 1 provided, then dropped.
     sends-unit : {G : Context} {at : ℕ} {c : Located} {P : Proc}
         → acting p (c .name) G ≡ some (slot provided unit)
-        → Typed p (without (c .name) G) P
-        → Typed p G (sendUnit at c P)
+        → TypedBy equal p (without (c .name) G) P
+        → TypedBy equal p G (sendUnit at c P)
     -- `recv c (() => P)`: c : 1 used, then dropped.
     recvs-unit : {G : Context} {at : ℕ} {c : Located} {P : Proc}
         → acting p (c .name) G ≡ some (slot used unit)
-        → Typed p (without (c .name) G) P
-        → Typed p G (recvUnit at c P)
+        → TypedBy equal p (without (c .name) G) P
+        → TypedBy equal p G (recvUnit at c P)
     -- `send c a`, a not c: c : A * B provided, a : A used; or c : A @ B used, a : A provided; or c : A -o B used, a : A used. Afterwards a is gone and c : B.
     sends-channel : {G : Context} {at : ℕ} {c a : Located} {P : Proc} (T A : Ty Name) (t : Passing)
         → same (c .name) (a .name) ≡ false
         → passing T ≡ some t
         → acting p (c .name) G ≡ some (slot (t .sender) T)
         → lookup (a .name) G ≡ some (slot (t .side) A)
-        → OneType p A (t .what)
-        → Typed p (retyped (c .name) (t .after) (without (a .name) G)) P
-        → Typed p G (sendChannel at c a P)
+        → equal A (t .what)
+        → TypedBy equal p (retyped (c .name) (t .after) (without (a .name) G)) P
+        → TypedBy equal p G (sendChannel at c a P)
     -- `recv c (x => P)` is the other end. For *, c is used and x is used; for @, both provided; for -o, c is provided and x used.
     recvs-channel : {G : Context} {at : ℕ} {c x : Located} {P : Proc} (T : Ty Name) (t : Passing)
         → passing T ≡ some t
         → acting p (c .name) G ≡ some (slot (other (t .sender)) T)
         → Brought (x .name) G G
-        → Typed p (bringing (x .name) (slot (t .side) (t .what)) (retyped (c .name) (t .after) G)) P
-        → Typed p G (recvChannel at c x P)
+        → TypedBy equal p (bringing (x .name) (slot (t .side) (t .what)) (retyped (c .name) (t .after) G)) P
+        → TypedBy equal p G (recvChannel at c x P)
     -- `send c 'l`: + provided or & used.
     sends-label : {G : Context} {at : ℕ} {c l : Located} {P : Proc} (T A : Ty Name) (t : Choosing)
         → choosing T ≡ some t
         → acting p (c .name) G ≡ some (slot (t .sender) T)
         → labelled (l .name) (t .labels) ≡ some A
-        → Typed p (retyped (c .name) A G) P
-        → Typed p G (sendLabel at c l P)
+        → TypedBy equal p (retyped (c .name) A G) P
+        → TypedBy equal p G (sendLabel at c l P)
     -- `recv c` with labels: + used or & provided, each branch's label one of the type's, in whatever order; labels of the type may be left out.
     recvs-label : {G : Context} {at : ℕ} {c : Located} {B : Branches} (T : Ty Name) (t : Choosing)
         → choosing T ≡ some t
         → acting p (c .name) G ≡ some (slot (other (t .sender)) T)
-        → TypedBranches p G (c .name) (t .labels) B
-        → Typed p G (recvLabel at c B)
+        → TypedBranchesBy equal p G (c .name) (t .labels) B
+        → TypedBy equal p G (recvLabel at c B)
     -- `fwd x c`: x provided, c used, equal types, no other channel held; the link may be.
     forwards : {G : Context} {at : ℕ} {x c : Located} (A B : Ty Name)
         → lookup (x .name) G ≡ some (slot provided A)
         → lookup (c .name) G ≡ some (slot used B)
-        → OneType p A B
+        → equal A B
         → withoutAll (x .name ∷ c .name ∷ []) G ≡ []
-        → Typed p G (fwd at x c)
+        → TypedBy equal p G (fwd at x c)
     -- `call`: lists fit in number, side and type; no name twice; no other channel held; a link stays with the process.
     calls : {G : Context} {at bracket : ℕ} {q : Located} {xs ys : List Located} (s : Signature)
         → lookup (q .name) (p .processes) ≡ some s
-        → listFits G provided (namesOf xs) (s .provides) ≡ true
-        → listFits G used (namesOf ys) (s .uses) ≡ true
+        → ListFits equal G provided (namesOf xs) (s .provides)
+        → ListFits equal G used (namesOf ys) (s .uses)
         → distinct (namesOf xs ++ namesOf ys) ≡ true
         → withoutAll (namesOf xs ++ namesOf ys) G ≡ []
-        → Typed p G (call at q bracket xs ys)
+        → TypedBy equal p G (call at q bracket xs ys)
     -- `x : A <- (P); Q`: P takes the held channels it mentions and provides x, without link; Q takes the rest, the link, and uses x. None is mentioned in both.
     spawns : {G : Context} {x : Located} {A : Ty Located} {P Q : Proc}
         → neverBoth (x .name) P Q (names G) ≡ true
         → Brought (x .name) G (spawnTakes (x .name) P G)
         → Brought (x .name) G (spawnLeaves (x .name) P G)
-        → Typed p (bringing (x .name) (slot provided (plain A)) (spawnTakes (x .name) P G)) P
-        → Typed p (bringing (x .name) (slot used (plain A)) (spawnLeaves (x .name) P G)) Q
-        → Typed p G (spawn x A P Q)
+        → TypedBy equal p (bringing (x .name) (slot provided (plain A)) (spawnTakes (x .name) P G)) P
+        → TypedBy equal p (bringing (x .name) (slot used (plain A)) (spawnLeaves (x .name) P G)) Q
+        → TypedBy equal p G (spawn x A P Q)
     -- `try (P) catch (Q)`: each half takes what it mentions; each held channel is mentioned in exactly one. P gets a new link, Q the old.
     tries : {G : Context} {at : ℕ} {P Q : Proc}
         → exactlyOne P Q (names G) ≡ true
-        → Typed p (tryTakes P G) P
-        → Typed p (tryTakes Q G) Q
-        → Typed p G (try at P Q)
+        → TypedBy equal p (tryTakes P G) P
+        → TypedBy equal p (tryTakes Q G) Q
+        → TypedBy equal p G (try at P Q)
     -- `raise P`: P goes on.
     raises : {G : Context} {at : ℕ} {P : Proc}
-        → Typed p G P
-        → Typed p G (raise at P)
+        → TypedBy equal p G P
+        → TypedBy equal p G (raise at P)
     -- `cancel c` drops c.
     cancels : {G : Context} {at : ℕ} {c : Located} {P : Proc}
         → isSome (lookup (c .name) G) ≡ true
-        → Typed p (without (c .name) G) P
-        → Typed p G (cancel at c P)
+        → TypedBy equal p (without (c .name) G) P
+        → TypedBy equal p G (cancel at c P)
     -- An empty process holds no channel; it may hold the link.
     empties : {G : Context} {at : ℕ}
         → G ≡ []
-        → Typed p G (empty at)
+        → TypedBy equal p G (empty at)
 
   -- each branch's label is one of the type's, and it goes on with the type of its label
-  pub data TypedBranches (p : Program) : Context → Name → Alternatives Name → Branches → Type 0 where
+  pub data TypedBranchesBy (equal : Ty Name → Ty Name → Type 0) (p : Program) : Context → Name → Alternatives Name → Branches → Type 0 where
     last-branch : {G : Context} {c : Name} {r : Alternatives Name}
-        → TypedBranches p G c r Branches.none
+        → TypedBranchesBy equal p G c r Branches.none
     one-branch : {G : Context} {c : Name} {r : Alternatives Name} {l : Located} {P : Proc} {B : Branches} (A : Ty Name)
         → labelled (l .name) r ≡ some A
-        → Typed p (retyped c A G) P
-        → TypedBranches p G c r B
-        → TypedBranches p G c r (branch l P B)
+        → TypedBy equal p (retyped c A G) P
+        → TypedBranchesBy equal p G c r B
+        → TypedBranchesBy equal p G c r (branch l P B)
+
+-- types are equal where they are one
+abbrev pub Typed : Program → Context → Proc → Type 0
+Typed p = TypedBy (OneType p) p
+
+abbrev pub TypedBranches : Program → Context → Name → Alternatives Name → Branches → Type 0
+TypedBranches p = TypedBranchesBy (OneType p) p
 
 -- "A proc body starts with its lists"
 pub record TypedBody (p : Program) (s : Signature) : Type 0 where

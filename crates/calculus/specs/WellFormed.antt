@@ -11,7 +11,8 @@ use Rattle.calculus.specs.Named.{names, distinct}
 use Rattle.calculus.specs.Types.{Side, used}
 use Rattle.calculus.specs.Program.{slot, Context, Program}
 use Rattle.calculus.specs.Declarations.{outward}
-use Rattle.calculus.specs.Typing.{OneType, Typed}
+use Rattle.calculus.specs.OneType.{OneType}
+use Rattle.calculus.specs.Typing.{Typed}
 use Rattle.calculus.specs.Configuration.{End, end, Doing, running, folding, waiting, Process, Outside, Config, Stands}
 use Rattle.calculus.specs.Forest.{Forest, joints}
 use Rattle.calculus.specs.Reduces.{Halts}

@@ -49,7 +49,7 @@ receiveStep s w n G =
 
 unfoldable pub endStep : List ℕ → List ℕ → TermNode → Context → Step
 endStep s w n G =
-    cond (eqb (n .kind) 9) (forwards (nameAt s (n .first)) (nameAt s (n .second)) G)
+    cond (eqb (n .kind) 9) (forwards (programIn s w) (nameAt s (n .first)) (nameAt s (n .second)) G)
     (calls (programIn s w) (nameAt s (n .first)) (namesOf (argumentsAt s (n .second) .0)) (namesOf (argumentsAt s (n .second) .1)) G)
 
 -- "None is mentioned in both"; the new name joins both halves

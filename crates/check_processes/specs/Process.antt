@@ -13,7 +13,8 @@ use Rattle.calculus.specs.Named.{lookup, isSome, all, distinct}
 use Rattle.calculus.specs.Types.{provided, used}
 use Rattle.calculus.specs.Program.{Context, Program}
 use Rattle.calculus.specs.Declarations.{isNil}
-use Rattle.calculus.specs.Typing.{listFits, withoutAll}
+use Rattle.calculus.specs.Typing.{withoutAll}
+use Rattle.calculus.specs.Checking.{listFits}
 use Rattle.calculus.specs.Checking.{check}
 use Rattle.calculus.specs.Verdict.{fine, refused, andThen, demand}
 use Rattle.calculus.specs.Verdict as calculus
@@ -72,12 +73,12 @@ no-zero-granted : (n : ℕ) (b : Bool) (t : Step) → 0 < n → NoZero t → NoZ
 no-zero-granted n true t l h = h
 no-zero-granted n false t l h = l
 
-forwards-no-zero : (x c : Name) (G : Context) → NoZero (forwards x c G)
+forwards-no-zero : (p : Program) (x c : Name) (G : Context) → NoZero (forwards p x c G)
 unfolding forwards
-forwards-no-zero x c G =
+forwards-no-zero p x c G =
     no-zero-asking 10 (lookup x G) _ (omega arith) λ h.
     no-zero-asking 10 (lookup c G) _ (omega arith) λ e.
-    no-zero-granted 11 (joins h e) _ (omega arith) (no-zero-granted 13 (isNil (withoutAll (x ∷ c ∷ []) G)) _ (omega arith) (omega arith))
+    no-zero-granted 11 (joins p h e) _ (omega arith) (no-zero-granted 13 (isNil (withoutAll (x ∷ c ∷ []) G)) _ (omega arith) (omega arith))
 
 calls-no-zero : (p : Program) (q : Name) (xs ys : List Name) (G : Context) → NoZero (calls p q xs ys G)
 unfolding calls
@@ -86,12 +87,12 @@ calls-no-zero p q xs ys G =
     let once = granted 11 (distinct (xs ++ ys)) left in
     no-zero-granted 10 (all (λ n. isSome (lookup n G)) (xs ++ ys)) _ (omega arith)
     (no-zero-asking 11 (lookup q (p .processes)) _ (omega arith) λ s.
-    no-zero-granted 11 (listFits G provided xs (s .provides) && listFits G used ys (s .uses)) once (omega arith)
+    no-zero-granted 11 (listFits p G provided xs (s .provides) && listFits p G used ys (s .uses)) once (omega arith)
     (no-zero-granted 11 (distinct (xs ++ ys)) left (omega arith) (no-zero-granted 13 (isNil (withoutAll (xs ++ ys) G)) (go G) (omega arith) (omega arith))))
 
 end-no-zero : (s w : List ℕ) (n : TermNode) (G : Context) → NoZero (endStep s w n G)
 unfolding endStep
-end-no-zero s w n G = either (eqb (n .kind) 9) _ _ (forwards-no-zero _ _ G) (calls-no-zero _ _ _ _ G)
+end-no-zero s w n G = either (eqb (n .kind) 9) _ _ (forwards-no-zero _ _ _ G) (calls-no-zero _ _ _ _ G)
   where
     either : (b : Bool) (x y : Step) → NoZero x → NoZero y → NoZero (cond b x y)
     either true x y p q = p

@@ -13,13 +13,12 @@ use Rattle.notation.specs.declared.reading.TypeNode.{TypeNode}
 use Rattle.notation.specs.declared.reading.Found.{Found}
 use Rattle.notation.specs.declared.reading.Found.the-variants as found
 use Rattle.calculus.specs.Named.{lookup}
-use Rattle.calculus.specs.Types.{Side, provided, used, other, sameSide, sameType, Shape, shape, atLeaf, standing, passing, choosing, labelled}
+use Rattle.calculus.specs.Types.{Side, provided, used, other, sameSide, Shape, shape, atLeaf, standing, passing, choosing, labelled}
 use Rattle.calculus.specs.Types as calculus
-use Rattle.calculus.specs.Program.{Slot, slot, Program}
+use Rattle.calculus.specs.Program.{Slot, slot}
 use Rattle.calculus.specs.Typing.{defined, acting}
-use Rattle.calculus.specs.Checking.{fitsSlot}
+use Rattle.calculus.specs.SameType.{sameType}
 use Rattle.calculus.specs.Configuration.{End}
-use Rattle.calculus.specs.WellFormed.{contextOf}
 use Rattle.theory_ends.specs.Contexts.{context-lookup}
 use Rattle.run_words.specs.Raw.{sideOf}
 use Rattle.run_words.proofs.Ends.{same-sides}
@@ -28,7 +27,7 @@ use Rattle.run_words.specs.declared.records.End.{End as EndWords}
 use Rattle.run_words.specs.declared.records.Held.{Held}
 use Rattle.read_tables.specs.Access.{NodeOf}
 use Rattle.read_tables.specs.Program.{plainIn, programIn}
-use Rattle.read_tables.specs.Roots.{TypeIn, AlternativesIn, alternativesIn}
+use Rattle.read_tables.specs.Roots.{TypeIn, alternativesIn}
 use Rattle.read_tables.specs.Search.{placeOf}
 use Rattle.read_tables.specs.Whole.{Tables}
 use Rattle.check_types.specs.Shapes.{ShapeIn, is-leaf, is-word, is-pair, is-choice, shape-in}
@@ -65,7 +64,7 @@ typedAt s w (found.At j) = TypeIn s w j
 typedAt s w found.Nothing = Unit {0}
 
 pub record PassesOver (s w : List ℕ) (c a : EndWords) (r : Found) : Type 0 where
-  pub is : passesOver (slotIn s w c) (slotIn s w a) ≡ Option·map (plainIn s w) (placeOf r)
+  pub is : passesOver (programIn s w) (slotIn s w c) (slotIn s w a) ≡ Option·map (plainIn s w) (placeOf r)
   pub type : typedAt s w r
 
 pub record ChoosesOver (s w : List ℕ) (c : EndWords) (at : ℕ) (r : Found) : Type 0 where
@@ -119,24 +118,24 @@ typed-as s w e i z o = subst (TypeIn s w) (sym z) (o .type)
 
 -- ── a channel passed
 module _ (s w : List ℕ) (c a : EndWords) (i : ℕ) (z : i ≡ c .node) (r : Passing) (f : PassingIn s w i r) where
-  passed : passesOver (slotIn s w c) (slotIn s w a) ≡ passedBy (slotIn s w c) (slotIn s w a) (passingOf s w r)
-  passed = ap (λ k. passedBy (slotIn s w c) (slotIn s w a) (passing (plainIn s w k))) (sym z) ∙ ap (passedBy (slotIn s w c) (slotIn s w a)) (f .is)
+  passed : passesOver (programIn s w) (slotIn s w c) (slotIn s w a) ≡ passedBy (programIn s w) (slotIn s w c) (slotIn s w a) (passingOf s w r)
+  passed = ap (λ k. passedBy (programIn s w) (slotIn s w c) (slotIn s w a) (passing (plainIn s w k))) (sym z) ∙ ap (passedBy (programIn s w) (slotIn s w c) (slotIn s w a)) (f .is)
 
   pub passes-nothing : r ≡ NoPassing.Nothing → PassesOver s w c a found.Nothing
-  passes-nothing e = record { is = passed ∙ ap (λ t. passedBy (slotIn s w c) (slotIn s w a) (passingOf s w t)) e; type = tt }
+  passes-nothing e = record { is = passed ∙ ap (λ t. passedBy (programIn s w) (slotIn s w c) (slotIn s w a) (passingOf s w t)) e; type = tt }
 
   module _ (sender side what after : ℕ) (e : r ≡ Passes sender side what after) (p : c .side < 2) (q : a .side < 2) where
     parts : passedIn s w (Passes sender side what after)
     parts = subst (passedIn s w) e (f .parts)
 
     abbrev same′ : Bool
-    same′ = sameType (plainIn s w (a .node)) (plainIn s w what)
+    same′ = sameType (programIn s w .types) (plainIn s w (a .node)) (plainIn s w what)
 
     abbrev outcome : Bool → Bool → Bool → Option (Ty Name)
     outcome x y u = cond (x && (y && u)) (some (plainIn s w after)) none
 
-    tested : passesOver (slotIn s w c) (slotIn s w a) ≡ outcome (sameSide (sideOf (c .side)) (sideOf sender)) (sameSide (sideOf (a .side)) (sideOf side)) same′
-    tested = passed ∙ ap (λ t. passedBy (slotIn s w c) (slotIn s w a) (passingOf s w t)) e
+    tested : passesOver (programIn s w) (slotIn s w c) (slotIn s w a) ≡ outcome (sameSide (sideOf (c .side)) (sideOf sender)) (sameSide (sideOf (a .side)) (sideOf side)) same′
+    tested = passed ∙ ap (λ t. passedBy (programIn s w) (slotIn s w c) (slotIn s w a) (passingOf s w t)) e
 
     pub passes-other-end : (c .side ≡ sender → ⊥) → PassesOver s w c a found.Nothing
     passes-other-end n = record { is = tested ∙ ap (λ x. outcome x (sameSide (sideOf (a .side)) (sideOf side)) same′) (different-sides (c .side) sender p (parts .2) n); type = tt }
@@ -154,7 +153,7 @@ module _ (s w : List ℕ) (c a : EndWords) (i : ℕ) (z : i ≡ c .node) (r : Pa
     pub passes-by : c .side ≡ sender → a .side ≡ side → (b : Bool) → same′ ≡ b → PassesOver s w c a (afterIf b)
     passes-by m n b o = go b (tested ∙ λ j. outcome (equal-sides (c .side) sender p (parts .2) m j) (equal-sides (a .side) side q (parts .3) n j) (o j))
       where
-        go : (b : Bool) → passesOver (slotIn s w c) (slotIn s w a) ≡ outcome true true b → PassesOver s w c a (afterIf b)
+        go : (b : Bool) → passesOver (programIn s w) (slotIn s w c) (slotIn s w a) ≡ outcome true true b → PassesOver s w c a (afterIf b)
         go true y = record { is = y; type = parts .1 }
         go false y = record { is = y; type = tt }
 

@@ -1,10 +1,9 @@
 -- What the typing rule of a call asks of its two lists together.
-use Prim.Native.Nat.{ℕ, zero, suc, _+_, _<_, _≤_}
+use Prim.Native.Nat.{ℕ, _+_}
 use mathlib.Core.Path.{_≡_, refl, sym, _∙_, ap, subst}
 use mathlib.Core.List.{List, [], _∷_, _++_}
 use mathlib.Core.Bool.{Bool, true, false, cond, not, _&&_}
 use mathlib.Core.Option.{Option, some, none, Option·map}
-use native.Mathlib.Omega.{arith}
 use Rattle.notation.specs.Bytes.{same}
 use Rattle.notation.specs.Token.{nameAt, tokenAt}
 use Rattle.notation.specs.Tree.{Name, Located}
@@ -15,7 +14,8 @@ use Rattle.calculus.specs.Types.{provided, used}
 use Rattle.calculus.specs.Mentions.{isOneOf}
 use Rattle.calculus.specs.Program.{Context, Signature, Program, entries}
 use Rattle.calculus.specs.Declarations.{isNil}
-use Rattle.calculus.specs.Typing.{namesOf, listFits, withoutAll}
+use Rattle.calculus.specs.Typing.{namesOf, withoutAll}
+use Rattle.calculus.specs.Checking.{listFits}
 use Rattle.calculus.specs.Configuration.{End}
 use Rattle.calculus.specs.WellFormed.{contextOf}
 use Rattle.theory_ends.specs.Contexts.{context-without}
@@ -27,9 +27,9 @@ use Rattle.read_tables.specs.Program.{programIn, namedProcess, signatureOf}
 use Rattle.read_tables.specs.Search.{placeOf, Sought}
 use Rattle.read_tables.specs.Whole.{Tables, SignatureIn}
 use Rattle.read_tables.specs.declared.access.Declared.{Declared}
-use Rattle.check_contexts.specs.Held.{channelsOf, HeldIn}
+use Rattle.check_contexts.specs.Held.{channelsOf}
 use Rattle.check_contexts.specs.Walks.{Ends}
-use Rattle.check_terms.specs.Next.{Step, stop, go, asking, granted, contextIn}
+use Rattle.check_terms.specs.Next.{Step, go, asking, granted, contextIn}
 use Rattle.check_terms.specs.Endings.{numberOf, calls, none-left, some-left}
 use Rattle.check_terms.specs.Lists.{AllHeld, Fit, Distinct, apart, any-is, Apart, Without}
 
@@ -48,12 +48,12 @@ pub record BothWithout (s : List ℕ) (h : Held) (a b n : ℕ) : Type 0 where
   pub some : (n ≡ 0 → ⊥) → (w : List ℕ) → Of s a b (λ xs ys. isNil (withoutAll (namesOf xs ++ namesOf ys) (contextIn s w h)) ≡ false)
 
 -- the lists fit the signature, if there is one
-abbrev fitsSignature : Context → List Name → List Name → Option Signature → Bool
-fitsSignature G xs ys none = false
-fitsSignature G xs ys (some s) = listFits G provided xs (s .provides) && listFits G used ys (s .uses)
+abbrev fitsSignature : Program → Context → List Name → List Name → Option Signature → Bool
+fitsSignature p G xs ys none = false
+fitsSignature p G xs ys (some s) = listFits p G provided xs (s .provides) && listFits p G used ys (s .uses)
 
 pub record BothFit (s w : List ℕ) (h : Held) (q a b : ℕ) (r : Bool) : Type 0 where
-  pub is : Of s a b (λ xs ys. r ≡ fitsSignature (contextIn s w h) (namesOf xs) (namesOf ys) (lookup (nameAt s q) (programIn s w .processes)))
+  pub is : Of s a b (λ xs ys. r ≡ fitsSignature (programIn s w) (contextIn s w h) (namesOf xs) (namesOf ys) (lookup (nameAt s q) (programIn s w .processes)))
 
 pub record ListsRefused (s w : List ℕ) (h : Held) (q a b n : ℕ) : Type 0 where
   pub is : Of s a b (λ xs ys. n ≡ numberOf (calls (programIn s w) (nameAt s q) (namesOf xs) (namesOf ys) (contextIn s w h)))
@@ -140,19 +140,19 @@ module _ (s : List ℕ) (a b : ℕ) where
   -- ── the signature
   module _ (w : List ℕ) (h : Held) (q : ℕ) (r : Found) (f : Sought (nameAt s q) (programIn s w .processes) (namedProcess s w) (tallyIn w .processes) r) where
     pub fits-nothing : r ≡ found.Nothing → BothFit s w h q a b false
-    fits-nothing e = record { is = λ xs ys rest rest′ n m. sym (ap (fitsSignature (contextIn s w h) (namesOf xs) (namesOf ys)) (f .is ∙ ap (λ x. Option·map (λ i. namedProcess s w i .1) (placeOf x)) e)) }
+    fits-nothing e = record { is = λ xs ys rest rest′ n m. sym (ap (fitsSignature (programIn s w) (contextIn s w h) (namesOf xs) (namesOf ys)) (f .is ∙ ap (λ x. Option·map (λ i. namedProcess s w i .1) (placeOf x)) e)) }
 
     module _ (k : ℕ) (e : r ≡ found.At k) (d : Declared) (g : SignatureOf w k d) where
       abbrev firstFits : List Located → Bool
-      firstFits xs = listFits (contextIn s w h) provided (namesOf xs) (entries (entriesIn s w (d .first) (d .provided)))
+      firstFits xs = listFits (programIn s w) (contextIn s w h) provided (namesOf xs) (entries (entriesIn s w (d .first) (d .provided)))
 
       abbrev lastFits : List Located → Bool
-      lastFits ys = listFits (contextIn s w h) used (namesOf ys) (entries (entriesIn s w (d .first + d .provided) (d .used)))
+      lastFits ys = listFits (programIn s w) (contextIn s w h) used (namesOf ys) (entries (entriesIn s w (d .first + d .provided) (d .used)))
 
-      fits-by : (xs ys : List Located) → fitsSignature (contextIn s w h) (namesOf xs) (namesOf ys) (lookup (nameAt s q) (programIn s w .processes)) ≡ firstFits xs && lastFits ys
+      fits-by : (xs ys : List Located) → fitsSignature (programIn s w) (contextIn s w h) (namesOf xs) (namesOf ys) (lookup (nameAt s q) (programIn s w .processes)) ≡ firstFits xs && lastFits ys
       unfolding signatureOf
       fits-by xs ys =
-          ap (fitsSignature (contextIn s w h) (namesOf xs) (namesOf ys)) (f .is ∙ ap (λ x. Option·map (λ i. namedProcess s w i .1) (placeOf x)) e ∙ ap (λ (x : Name × Signature). some (x .1)) (g .is s))
+          ap (fitsSignature (programIn s w) (contextIn s w h) (namesOf xs) (namesOf ys)) (f .is ∙ ap (λ x. Option·map (λ i. namedProcess s w i .1) (placeOf x)) e ∙ ap (λ (x : Name × Signature). some (x .1)) (g .is s))
 
       pub signature-there : Tables s w → SignatureIn s w (asEntry d)
       signature-there t = g .stands s t (f .below k e)
@@ -173,11 +173,11 @@ module _ (s w : List ℕ) (h : Held) (q a b : ℕ) where
 
   -- a signature asked for and tested is one test
   one-test : (xs ys : List Name) (o : Option Signature) (t : Step)
-      → asking 11 o (λ g. granted 11 (listFits G provided xs (g .provides) && listFits G used ys (g .uses)) t) ≡ granted 11 (fitsSignature G xs ys o) t
+      → asking 11 o (λ g. granted 11 (listFits (programIn s w) G provided xs (g .provides) && listFits (programIn s w) G used ys (g .uses)) t) ≡ granted 11 (fitsSignature (programIn s w) G xs ys o) t
   one-test xs ys none t = refl
   one-test xs ys (some g) t = refl
 
-  calls-by : (xs ys : List Name) → calls (programIn s w) (nameAt s q) xs ys G ≡ by (all (λ n. isSome (lookup n G)) (xs ++ ys)) (fitsSignature G xs ys (lookup (nameAt s q) (programIn s w .processes))) (distinct (xs ++ ys)) (isNil (withoutAll (xs ++ ys) G))
+  calls-by : (xs ys : List Name) → calls (programIn s w) (nameAt s q) xs ys G ≡ by (all (λ n. isSome (lookup n G)) (xs ++ ys)) (fitsSignature (programIn s w) G xs ys (lookup (nameAt s q) (programIn s w .processes))) (distinct (xs ++ ys)) (isNil (withoutAll (xs ++ ys) G))
   unfolding calls
   calls-by xs ys = ap (granted 10 (all (λ n. isSome (lookup n G)) (xs ++ ys))) (one-test xs ys (lookup (nameAt s q) (programIn s w .processes)) _)
 
@@ -185,7 +185,7 @@ module _ (s w : List ℕ) (h : Held) (q a b : ℕ) where
   held? xs ys = all (λ n. isSome (lookup n G)) (namesOf xs ++ namesOf ys)
 
   abbrev fit? : List Located → List Located → Bool
-  fit? xs ys = fitsSignature G (namesOf xs) (namesOf ys) (lookup (nameAt s q) (programIn s w .processes))
+  fit? xs ys = fitsSignature (programIn s w) G (namesOf xs) (namesOf ys) (lookup (nameAt s q) (programIn s w .processes))
 
   abbrev distinct? : List Located → List Located → Bool
   distinct? xs ys = distinct (namesOf xs ++ namesOf ys)

@@ -1,23 +1,24 @@
 -- What the typing rule of a call asks of its two lists of names, as a walk over each meets them.
 use Prim.Native.Nat.{ℕ, zero, suc, _+_, _-_, _<_, _≤_}
 use mathlib.Core.Path.{_≡_, refl, sym, _∙_, ap, subst}
-use mathlib.Core.List.{List, [], _∷_, _++_}
+use mathlib.Core.List.{List, [], _∷_}
 use mathlib.Core.Bool.{Bool, true, false, cond, not, _&&_, _||_}
 use mathlib.Core.Option.{Option, some, none}
 use native.Mathlib.Omega.{arith}
 use lib.Dec.{eqb}
-use borrow.Author.Tests.{eq-eqb, ne-eqb}
+use borrow.Author.Tests.{ne-eqb}
 use Rattle.notation.specs.Bytes.{same}
 use Rattle.notation.specs.Limits.{heldLimit}
 use Rattle.notation.specs.Reader.{nameIn}
 use Rattle.notation.specs.Token.{nameAt}
-use Rattle.notation.specs.Tree.{Name, Located, Ty}
-use Rattle.calculus.specs.Named.{lookup, without, isSome, all, any, distinct}
-use Rattle.calculus.specs.Types.{Side, sameSide, sameType}
+use Rattle.notation.specs.Tree.{Name, Located}
+use Rattle.calculus.specs.Named.{lookup, isSome, all, any, distinct}
+use Rattle.calculus.specs.SameType.{sameType}
 use Rattle.calculus.specs.Mentions.{is, isOneOf}
 use Rattle.calculus.specs.Program.{Slot, Context, entries}
 use Rattle.calculus.specs.Program as Program
-use Rattle.calculus.specs.Typing.{namesOf, entryFits, listFits, withoutAll}
+use Rattle.calculus.specs.Typing.{namesOf, withoutAll}
+use Rattle.calculus.specs.Checking.{entryFits, listFits}
 use Rattle.calculus.specs.Configuration.{End}
 use Rattle.run_words.specs.Raw.{sideOf}
 use Rattle.run_words.specs.declared.records.End.{End as EndWords}
@@ -25,7 +26,7 @@ use Rattle.run_words.specs.declared.records.Held.{Held}
 use Rattle.read_tables.specs.Access.{EntryOf}
 use Rattle.read_tables.specs.Decode.{entriesIn}
 use Rattle.read_tables.specs.Names.{argumentFrom, NamesFrom}
-use Rattle.read_tables.specs.Program.{plainIn}
+use Rattle.read_tables.specs.Program.{plainIn, programIn}
 use Rattle.read_tables.specs.Whole.{EntriesIn, FirstEntry}
 use Rattle.read_tables.specs.declared.access.Labelled.{Labelled}
 use Rattle.read_tables.specs.declared.arguments.Argument.the-variants as arguments
@@ -42,7 +43,7 @@ pub record AllHeld (s : List ℕ) (h : Held) (from : ℕ) (r : Bool) : Type 0 wh
   pub is : (w : List ℕ) (xs : List Located) (rest : ℕ) → NamesFrom s from xs rest → r ≡ all (λ n. isSome (lookup n (contextIn s w h))) (namesOf xs)
 
 pub record Fit (s w : List ℕ) (h : Held) (from side first n : ℕ) (r : Bool) : Type 0 where
-  pub is : (xs : List Located) (rest : ℕ) → NamesFrom s from xs rest → r ≡ listFits (contextIn s w h) (sideOf side) (namesOf xs) (entries (entriesIn s w first n))
+  pub is : (xs : List Located) (rest : ℕ) → NamesFrom s from xs rest → r ≡ listFits (programIn s w) (contextIn s w h) (sideOf side) (namesOf xs) (entries (entriesIn s w first n))
 
 pub record Distinct (s : List ℕ) (from : ℕ) (r : Bool) : Type 0 where
   pub is : (xs : List Located) (rest : ℕ) → NamesFrom s from xs rest → r ≡ distinct (namesOf xs)
@@ -148,7 +149,7 @@ module _ (s : List ℕ) (h : Held) where
 -- ── in number, side and type
 module _ (s w : List ℕ) (h : Held) (from side first n : ℕ) where
   abbrev fitsBy : List Located → ℕ → ℕ → Bool
-  fitsBy xs k m = listFits (contextIn s w h) (sideOf side) (namesOf xs) (entries (entriesIn s w k m))
+  fitsBy xs k m = listFits (programIn s w) (contextIn s w h) (sideOf side) (namesOf xs) (entries (entriesIn s w k m))
 
   abbrev FitSoFar : ℕ → ℕ → List Located → List Located → Type 0
   FitSoFar k m xs ys = fitsBy xs first n ≡ fitsBy ys k m
@@ -184,14 +185,14 @@ module _ (s w : List ℕ) (h : Held) (from side first n : ℕ) where
       entry-first = g .says s (m - 1) entries-left
 
       abbrev fit? : Bool
-      fit? = entryFits (sideOf side) (plainIn s w (l .number)) (lookup (nameAt s a) (contextIn s w h))
+      fit? = entryFits (programIn s w) (sideOf side) (plainIn s w (l .number)) (lookup (nameAt s a) (contextIn s w h))
 
       first-fits : (b : Bool) → fit? ≡ b → (ys : List Located) → fitsBy (nameIn s a ∷ ys) k m ≡ b && fitsBy ys (k + 1) (m - 1)
       unfolding listFits
       first-fits b q ys =
           let y : m ≡ suc (m - 1) = omega (arith, z) in
           ap (λ j. fitsBy (nameIn s a ∷ ys) k j) y
-          ∙ ap (λ es. listFits (contextIn s w h) (sideOf side) (namesOf (nameIn s a ∷ ys)) (Program.entries es)) (entry-first .is)
+          ∙ ap (λ es. listFits (programIn s w) (contextIn s w h) (sideOf side) (namesOf (nameIn s a ∷ ys)) (Program.entries es)) (entry-first .is)
           ∙ ap (λ c. c && fitsBy ys (k + 1) (m - 1)) q
 
       pub fit-on : (k′ m′ : ℕ) → k′ ≡ k + 1 → m′ ≡ m - 1 → fit? ≡ true → Fitting p k′ m′
@@ -203,11 +204,11 @@ module _ (s w : List ℕ) (h : Held) (from side first n : ℕ) where
 -- one entry
 module _ (s w : List ℕ) (h : Held) (at side node : ℕ) (b : side < 2) where
   abbrev fits? : Option Slot → Bool
-  fits? o = entryFits (sideOf side) (plainIn s w node) o
+  fits? o = entryFits (programIn s w) (sideOf side) (plainIn s w node) o
 
   module _ (e : EndWords) (f : lookup (nameAt s at) (contextIn s w h) ≡ some (slotIn s w e)) (l : e .side < 2) where
     abbrev equal? : Bool
-    equal? = sameType (plainIn s w (e .node)) (plainIn s w node)
+    equal? = sameType (programIn s w .types) (plainIn s w (e .node)) (plainIn s w node)
 
     pub entry-other : (e .side ≡ side → ⊥) → false ≡ fits? (lookup (nameAt s at) (contextIn s w h))
     entry-other n = sym (ap fits? f ∙ ap (λ x. x && equal?) (different-sides (e .side) side l b n))

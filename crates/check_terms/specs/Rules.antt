@@ -20,18 +20,18 @@ unfoldable pub closes : Program → Side → Name → Context → Step
 closes p s c G = asking 10 (acting p c G) λ h. granted 11 (isUnitOn s h) (go (without c G))
 
 -- ── a channel passed: the type of c after the channel e has gone over it
-abbrev pub passedBy : Slot → Slot → Option Passing → Option (Ty Name)
-passedBy h e none = none
-passedBy h e (some t) = cond (sameSide (h .side) (t .sender) && fitsSlot (t .side) (t .what) e) (some (t .after)) none
+abbrev pub passedBy : Program → Slot → Slot → Option Passing → Option (Ty Name)
+passedBy p h e none = none
+passedBy p h e (some t) = cond (sameSide (h .side) (t .sender) && fitsSlot p (t .side) (t .what) e) (some (t .after)) none
 
-abbrev pub passesOver : Slot → Slot → Option (Ty Name)
-passesOver h e = passedBy h e (passing (h .type))
+abbrev pub passesOver : Program → Slot → Slot → Option (Ty Name)
+passesOver p h e = passedBy p h e (passing (h .type))
 
 unfoldable pub passes : Program → Name → Name → Context → Step
 passes p c a G =
     asking 10 (acting p c G) λ h.
     asking 10 (lookup a G) λ e.
-    granted 11 (not (same c a)) (asking 11 (passesOver h e) λ A. go (retyped c A (without a G)))
+    granted 11 (not (same c a)) (asking 11 (passesOver p h e) λ A. go (retyped c A (without a G)))
 
 -- ── a label sent: the type of c after it
 abbrev pub chosenBy : Slot → Name → Option Choosing → Option (Ty Name)
@@ -80,10 +80,10 @@ module _ (p : Program) (G : Context) (at : ℕ) where
 
   -- a thing and a test of it are one thing asked for
   pass-so : (c : Name) (h e : Slot) (K : Ty Name → Context) (P : Proc) (o : Option Passing)
-      → finding (having 11 at o (λ t. demand 11 at (sameSide (h .side) (t .sender) && fitsSlot (t .side) (t .what) e) (check p (K (t .after)) P))) (onTyped o λ t. missing p (K (t .after)) P)
-      ≡ resume at (asking 11 (passedBy h e o) λ A. go (K A)) (rest P)
+      → finding (having 11 at o (λ t. demand 11 at (sameSide (h .side) (t .sender) && fitsSlot p (t .side) (t .what) e) (check p (K (t .after)) P))) (onTyped o λ t. missing p (K (t .after)) P)
+      ≡ resume at (asking 11 (passedBy p h e o) λ A. go (K A)) (rest P)
   pass-so c h e K P none = refl
-  pass-so c h e K P (some t) = test (sameSide (h .side) (t .sender) && fitsSlot (t .side) (t .what) e)
+  pass-so c h e K P (some t) = test (sameSide (h .side) (t .sender) && fitsSlot p (t .side) (t .what) e)
     where
       test : (b : Bool) → finding (demand 11 at b (check p (K (t .after)) P)) (missing p (K (t .after)) P) ≡ resume at (asking 11 (cond b (some (t .after)) none) λ A. go (K A)) (rest P)
       test true = refl

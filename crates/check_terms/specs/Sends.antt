@@ -132,7 +132,7 @@ module _ (s w : List ℕ) (h : Held) where
 
       module _ (d : EndWords) (g : lookup (nameAt s a) G ≡ some (slotIn s w d)) where
         abbrev passing-step : Bool → Step
-        passing-step b = granted 11 (not b) (asking 11 (passesOver (slotIn s w e) (slotIn s w d)) λ A. go (retyped (nameAt s c) A (without (nameAt s a) G)))
+        passing-step b = granted 11 (not b) (asking 11 (passesOver (programIn s w) (slotIn s w e) (slotIn s w d)) λ A. go (retyped (nameAt s c) A (without (nameAt s a) G)))
 
         both : (b : Bool) → same (nameAt s c) (nameAt s a) ≡ b → passes (programIn s w) (nameAt s c) (nameAt s a) G ≡ passing-step b
         unfolding passes

@@ -21,7 +21,8 @@ ghost use mathlib.Core.List.{List};
 ghost use Prim.Native.Nat.{ℕ, _<_, _≤_};
 ghost use Rattle.notation.specs.Token.{nameAt};
 ghost use Rattle.calculus.specs.Named.{lookup};
-ghost use Rattle.calculus.specs.Typing.{namesOf, entryFits};
+ghost use Rattle.calculus.specs.Checking.{entryFits};
+ghost use Rattle.calculus.specs.Typing.{namesOf};
 ghost use Rattle.check_contexts.specs.Held.{HeldIn};
 ghost use Rattle.run_words.specs.Raw.{sideOf};
 ghost use Rattle.read_tables.specs.Decode.{argumentsAt};
@@ -56,7 +57,7 @@ fn list_held(text: &[u8], h: Held, from: usize) -> bool
 // The channel with the name at `at` is of this side and type.
 fn entry_fits(text: &[u8], scratch: &[u32], h: Held, at: usize, side: u32, node: usize) -> bool
     requires { ⌜ Tables (now text) (now scratch) × HeldIn (now text) (now scratch) h × (side < 2) × TypeIn (now text) (now scratch) node ⌝ }
-    ensures { λ r. ⌜ r ≡ entryFits (sideOf side) (plainIn (now (text .entry)) (now (scratch .entry)) node) (lookup (nameAt (now (text .entry)) at) (contextIn (now (text .entry)) (now (scratch .entry)) h)) ⌝ }
+    ensures { λ r. ⌜ r ≡ entryFits (programIn (now (text .entry)) (now (scratch .entry))) (sideOf side) (plainIn (now (text .entry)) (now (scratch .entry)) node) (lookup (nameAt (now (text .entry)) at) (contextIn (now (text .entry)) (now (scratch .entry)) h)) ⌝ }
 {
     let f = find_end(text, h, at);
     let Lookup::Found(e) = f else {

@@ -16,6 +16,7 @@ ghost use Rattle.calculus.specs.Types.{provided, used, sameSide};
 ghost use Rattle.calculus.specs.Checking.{fitsSlot};
 ghost use Rattle.check_contexts.specs.Held.{EndIn, HeldIn};
 ghost use Rattle.run_words.specs.Values.{endIn};
+ghost use Rattle.read_tables.specs.Program.{programIn};
 ghost use Rattle.read_tables.specs.Whole.{Tables};
 ghost use Rattle.check_terms.specs.Acting.{slotIn};
 ghost use Rattle.check_terms.specs.Next.{contextIn};
@@ -24,7 +25,7 @@ ghost use Rattle.check_terms.specs.Endings.{numberOf, forwards, joins};
 // The end x is provided, c is used, and their types are equal.
 fn may_join(text: &[u8], scratch: &[u32], x: End, c: End) -> bool
     requires { ⌜ Tables (now text) (now scratch) × EndIn (now text) (now scratch) (endIn x) × EndIn (now text) (now scratch) (endIn c) × (x .side < 2) × (c .side < 2) ⌝ }
-    ensures { λ r. ⌜ r ≡ joins (slotIn (now (text .entry)) (now (scratch .entry)) x) (slotIn (now (text .entry)) (now (scratch .entry)) c) ⌝ }
+    ensures { λ r. ⌜ r ≡ joins (programIn (now (text .entry)) (now (scratch .entry))) (slotIn (now (text .entry)) (now (scratch .entry)) x) (slotIn (now (text .entry)) (now (scratch .entry)) c) ⌝ }
 {
     if x.side != PROVIDED {
         return false;
@@ -39,7 +40,7 @@ fn may_join(text: &[u8], scratch: &[u32], x: End, c: End) -> bool
 
 pub fn forward_refusal(text: &[u8], scratch: &[u32], h: Held, x: usize, c: usize) -> u32
     requires { ⌜ Tables (now text) (now scratch) × HeldIn (now text) (now scratch) h ⌝ }
-    ensures { λ r. ⌜ r ≡ numberOf (forwards (nameAt (now (text .entry)) x) (nameAt (now (text .entry)) c) (contextIn (now (text .entry)) (now (scratch .entry)) h)) ⌝ }
+    ensures { λ r. ⌜ r ≡ numberOf (forwards (programIn (now (text .entry)) (now (scratch .entry))) (nameAt (now (text .entry)) x) (nameAt (now (text .entry)) c) (contextIn (now (text .entry)) (now (scratch .entry)) h)) ⌝ }
 {
     let f = find_end(text, h, x);
     let Lookup::Found(e) = f else {

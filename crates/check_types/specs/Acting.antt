@@ -28,6 +28,7 @@ use Rattle.check_types.specs.declared.messages.Passing.the-variants as N
 use Rattle.check_types.specs.declared.messages.Choosing.{Choosing}
 use Rattle.check_types.specs.declared.messages.Choosing.the-variants.{Chooses}
 use Rattle.check_types.specs.declared.messages.Choosing.the-variants as NoChoosing
+use Rattle.check_types.specs.Numbers.{declaredOr, numberFor, number-itself, number-named}
 use Rattle.check_types.specs.Shapes.{by-marks, ShapeIn, is-leaf, is-word, is-pair, is-choice, shape-in, word-in, pair-in, choice-in}
 
 -- ── what the code promises
@@ -35,6 +36,7 @@ use Rattle.check_types.specs.Shapes.{by-marks, ShapeIn, is-leaf, is-word
 pub record StandsFor (s w : List ℕ) (i r : ℕ) : Type 0 where
   pub is : plainIn s w r ≡ standing (programIn s w .types) (plainIn s w i)
   pub type : TypeIn s w r
+  pub number : r ≡ numberFor s w i
 
 -- the code's answers, in the calculus' terms; the parts of what is passed are types
 abbrev pub passingOf : List ℕ → List ℕ → Passing → Option calculus.Passing
@@ -138,7 +140,11 @@ module _ (w : List ℕ) (i : ℕ) (n : TypeNode) (o : NodeOf w i n) where
     pub stands-itself : (n .kind ≡ 1 → ⊥) → StandsFor s w i i
     stands-itself z =
         let A = plainIn s w i in
-        record { is = sym (standing-by-shape types A ∙ not-word types A (shape-in s w i n o t a) z); type = a }
+        record {
+          is = sym (standing-by-shape types A ∙ not-word types A (shape-in s w i n o t a) z);
+          type = a;
+          number = number-itself s w i n (o .holds) z;
+        }
 
     module _ (k : n .kind ≡ 1) {r : Found} (f : Sought (nameAt s (n .second)) types (namedType s w) (tallyIn w .types) r) where
       by-name : (q : Found) → r ≡ q → standing types (plainIn s w i) ≡ Option·getD (Option·map (λ j. namedType s w j .1) (placeOf q)) (plainIn s w i)
@@ -149,12 +155,19 @@ module _ (w : List ℕ) (i : ℕ) (n : TypeNode) (o : NodeOf w i n) where
           ∙ ap (λ (d : Option (Ty Name)). Option·getD d A) (f .is)
           ∙ ap (λ (p : Found). Option·getD (Option·map (λ j. namedType s w j .1) (placeOf p)) A) e
 
+      by-number : (q : Found) → r ≡ q → declaredOr w i q ≡ numberFor s w i
+      by-number q e = number-named s w i n (o .holds) k q (sym e ∙ f .first)
+
       pub stands-declared : (j : ℕ) (d : Labelled) → r ≡ At j → TypeOf w j d → StandsFor s w i (d .number)
       stands-declared j d e b =
-          record { is = sym (by-name (At j) e ∙ ap (λ (p : Name × Ty Name). p .1) (b .is s)); type = b .stands s t (f .below j e) }
+          record {
+            is = sym (by-name (At j) e ∙ ap (λ (p : Name × Ty Name). p .1) (b .is s));
+            type = b .stands s t (f .below j e);
+            number = b .holds .number ∙ by-number (At j) e;
+          }
 
       pub stands-undeclared : r ≡ Nothing → StandsFor s w i i
-      stands-undeclared e = record { is = sym (by-name Nothing e); type = a }
+      stands-undeclared e = record { is = sym (by-name Nothing e); type = a; number = by-number Nothing e }
 
   pub passes-at : (kind : ℕ) → n .kind ≡ kind → 2 ≤ kind → kind ≤ 4 → PassingOf w i (Passes (bit 2 kind) (bit 3 kind) (n .first) (n .second))
   passes-at kind e l h =

@@ -1,9 +1,13 @@
 pub mod Shapes
+pub mod Numbers
 pub mod Acting
 pub mod Alternatives
 pub mod Labels
-pub mod Equality
+pub mod SameNumbers
 pub mod LabelsFit
 pub mod Branches
 pub mod Sought
 pub mod LeftOut
+pub mod Classes
+pub mod Meeting
+pub mod Comparing

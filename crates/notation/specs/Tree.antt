@@ -20,11 +20,13 @@ mutual
     tensor par lolli : Ty N → Ty N → Ty N
     -- +{'l : A, ..}, &{'l : A, ..}
     plus with : Alternatives N → Ty N
+    deriving Discrete as Ty-discrete
 
   -- the labels of a choice with their types, in text order
   pub data Alternatives (N : Type 0) : Type 0 where
     none : Alternatives N
     alternative : N → Ty N → Alternatives N → Alternatives N
+    deriving Discrete as Alternatives-discrete
 
 -- a type as it is compared and held: without offsets
 unfoldable mutual

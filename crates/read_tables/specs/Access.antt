@@ -28,6 +28,7 @@ asEntry r = processEntry (r .at) (r .first) (r .provided) (r .used) (r .body)
 -- the type at i begins as the node n says
 pub record NodeOf (w : List ℕ) (i : ℕ) (n : TypeNode) : Type 0 where
   pub says : (s : List ℕ) → Tables s w → TypeIn s w i → TypeRoot s w n (typeIn s w i)
+  pub holds : n ≡ nodeAt w i
 
 -- the process at p begins as the node n says
 pub record TermOf (w : List ℕ) (p : ℕ) (n : TermNode) : Type 0 where
@@ -86,7 +87,7 @@ of-pair P r p h x = back (h .at) (λ a. P a (r .number)) (back (h .number) (P (p
 
 module _ (w : List ℕ) where
   pub node-of : (i : ℕ) (n : TypeNode) → n ≡ nodeAt w i → NodeOf w i n
-  node-of i n e = record { says = λ s t a. back e (λ m. TypeRoot s w m (typeIn s w i)) (type-root s w (t .within) i a) }
+  node-of i n e = record { says = λ s t a. back e (λ m. TypeRoot s w m (typeIn s w i)) (type-root s w (t .within) i a); holds = e }
 
   pub term-of : (p : ℕ) (n : TermNode) → n ≡ termAt w p → n .at < textLimit → TermOf w p n
   term-of p n e b = record { says = λ s t a. back e (λ m. ProcessRoot s w p m (processIn s w p)) (process-root s w (t .within) p a); at = b }

@@ -2,7 +2,7 @@
 use Prim.Native.Nat.{ℕ, zero, suc, _-_, _≤_, _<_}
 use mathlib.Core.Path.{_≡_, refl, sym, _∙_, ap, subst}
 use mathlib.Core.List.{List, [], _∷_}
-use mathlib.Core.Bool.{Bool, true, false, cond, not, and-eq-true-iff, false≢true}
+use mathlib.Core.Bool.{Bool, true, false, cond, not, false≢true}
 use mathlib.Core.Option.{some, none, Option·some-injective}
 use native.Mathlib.Omega.{arith}
 use lib.ListN.{length, getElem?}
@@ -12,10 +12,10 @@ use Rattle.notation.specs.Tree.{Name, Located, Ty, Proc, sendLabel, spawn, call
 use Rattle.notation.specs.Tables.{termNode}
 use Rattle.notation.specs.declared.reading.TermNode.{TermNode}
 use Rattle.calculus.specs.Named.{lookup, kept}
-use Rattle.calculus.specs.Types.{Side, provided}
+use Rattle.calculus.specs.Types.{Side}
 use Rattle.calculus.specs.Program.{slot, Context, Signature, Program, signatureContext}
 use Rattle.calculus.specs.Mentions.{spawnTakes, spawnLeaves, halfMentions}
-use Rattle.calculus.specs.Typing.{Typed, calls, spawns, entryFits, listFits, namesOf}
+use Rattle.calculus.specs.Typing.{Typed, calls, spawns, ListFits, none-left, one-fits}
 use Rattle.calculus.specs.Configuration.{End, Process, Config, at}
 use Rattle.calculus.specs.Steps.{Outcome, notOpen, send, receive, cancelling, spawning, trying, calling, raising, forwarding, leaving, stepTerm, stepDoing, stepOf, step}
 use Rattle.calculus.specs.WellFormed.{contextOf, TypedAs, WellFormed}
@@ -165,15 +165,12 @@ pub spawn-room : {p : Program} {x : Located} {A : Ty Located} {P Q : Proc} (l : 
 unfolding spawnTakes spawnLeaves
 spawn-room {x = x} {P = P} l (spawns nb bP bQ dP dQ) = (omega (arith, bP .room, kept-many (halfMentions (x .name) P) l), omega (arith, bQ .room, kept-many (λ n. not (halfMentions (x .name) P n)) l))
 
-fits-many : (G : Context) (a : Side) (ns : List Name) (es : List (Name × Ty Name)) → listFits G a ns es ≡ true → length ns ≡ length es
-unfolding listFits
-fits-many G a [] [] e = refl
-fits-many G a [] (x ∷ es) e = absurd (false≢true e)
-fits-many G a (n ∷ ns) [] e = absurd (false≢true e)
-fits-many G a (n ∷ ns) (x ∷ es) e = ap suc (fits-many G a ns es (and-eq-true-iff (entryFits a (x .1) (lookup n G)) (listFits G a ns es) .0 e .1))
+fits-many : {equal : Ty Name → Ty Name → Type 0} {G : Context} {a : Side} {ns : List Name} {es : List (Name × Ty Name)} → ListFits equal G a ns es → length ns ≡ length es
+fits-many none-left = refl
+fits-many (one-fits A e o f) = ap suc (fits-many f)
 
 pub call-fits : {p : Program} {G : Context} {o bracket : ℕ} {q : Located} {xs ys : List Located} → Typed p G (call o q bracket xs ys) → (g : Signature) → lookup (q .name) (p .processes) ≡ some g → length xs ≡ length (g .provides)
-call-fits {G = G} {xs = xs} (calls h e fx fy d w) g z = sym (names-many xs) ∙ fits-many G provided (namesOf xs) (h .provides) fx ∙ ap (λ (x : Signature). length (x .provides)) (Option·some-injective _ _ (sym e ∙ z))
+call-fits {G = G} {xs = xs} (calls h e fx fy d w) g z = sym (names-many xs) ∙ fits-many fx ∙ ap (λ (x : Signature). length (x .provides)) (Option·some-injective _ _ (sym e ∙ z))
 
 -- ── the node n says which rule applies
 pub record RuledBy (s w old : List ℕ) (i : ℕ) (p : ProcessWords) (n : TermNode) : Type 0 where

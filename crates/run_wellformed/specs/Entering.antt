@@ -8,8 +8,9 @@ use native.Mathlib.Omega.{arith}
 use native.Mathlib.Numerals.{add-one}
 use borrow.Author.Tests.{eq-eqb, ne-eqb}
 use lib.ListN.{length, getD, getElem?, set, drop}
-use Rattle.calculus.specs.Types.{other, sameType}
-use Rattle.read_tables.specs.Program.{plainIn}
+use Rattle.calculus.specs.Types.{other}
+use Rattle.calculus.specs.SameType.{sameType}
+use Rattle.read_tables.specs.Program.{plainIn, programIn}
 use Rattle.run_words.specs.ListLaws.{drop-at}
 use Rattle.run_words.specs.Raw.{RawEnd, RawProcess, RawOutside, sideOf}
 use Rattle.run_words.specs.Values.{endIn}
@@ -31,9 +32,9 @@ module _ (s w : List ℕ) where
   pub far-none : (node kept : ℕ) → kept ≡ 0 → true ≡ farSame s w node kept
   far-none node kept e = rw e refl
 
-  pub far-kept : (node kept : ℕ) → (kept ≡ 0 → ⊥) → {a b : ℕ} {r : Bool} → a ≡ node → b ≡ kept - 1 → r ≡ sameType (plainIn s w a) (plainIn s w b) → r ≡ farSame s w node kept
+  pub far-kept : (node kept : ℕ) → (kept ≡ 0 → ⊥) → {a b : ℕ} {r : Bool} → a ≡ node → b ≡ kept - 1 → r ≡ sameType (programIn s w .types) (plainIn s w a) (plainIn s w b) → r ≡ farSame s w node kept
   far-kept node zero d p q e = absurd (d refl)
-  far-kept node (suc n) d p q e = let z : suc n - 1 ≡ n = omega arith in e ∙ (λ i. sameType (plainIn s w (p i)) (plainIn s w ((q ∙ z) i)))
+  far-kept node (suc n) d p q e = let z : suc n - 1 ≡ n = omega arith in e ∙ (λ i. sameType (programIn s w .types) (plainIn s w (p i)) (plainIn s w ((q ∙ z) i)))
 
 -- ── the words of an end's key and of its far end's are read
 module _ (s w ws : List ℕ) (e : End) (short : e .channel < 512) (two : e .side < 2) (here : ℕ) (p : here ≡ placeOf (e .channel) (sideOf (e .side))) where

@@ -72,11 +72,11 @@ all-both f g l = (
 abbrev Few : Config → Type 0
 Few C = So (leb (length (C .processes)) processPlaces) × So (all (λ (e : End). ltb (e .channel) channelPlaces) (ends C)) × So (leb (C .given) outsideNumbers) × So (all (λ (q : Process). leb (length (q .held)) heldLimit) (C .processes))
 
-split : (p : Program) (C : Config) → So (wellFormed? p C) ↔ (So (all (typedProcess p) (C .processes)) × So (endsFit (ends C)) × So (all (isOutward p) (C .outside)) × So (haltFits C) × So (wellJoined C) × Few C)
+split : (p : Program) (C : Config) → So (wellFormed? p C) ↔ (So (all (typedProcess p) (C .processes)) × So (endsFit p (ends C)) × So (all (isOutward p) (C .outside)) × So (haltFits C) × So (wellJoined C) × Few C)
 unfolding wellFormed? wellJoined circleFree numbersRise numbersGiven
 split p C = Iff·trans
     (itself (all (typedProcess p) (C .processes))
-    and itself (endsFit (ends C))
+    and itself (endsFit p (ends C))
     and itself (linksLead C)
     and itself (handlersLinked C)
     and itself (linkedOnce C)

@@ -12,7 +12,8 @@ use lib.Seq.{getD-set-same, getD-set-other}
 use Rattle.notation.specs.Limits.{channelPlaces}
 use Rattle.notation.specs.Token.{nameAt}
 use Rattle.calculus.specs.Named.{all}
-use Rattle.calculus.specs.Types.{Side, provided, used, other, sameSide, sameType}
+use Rattle.calculus.specs.Types.{Side, provided, used, other, sameSide}
+use Rattle.calculus.specs.SameType.{sameType}
 use Rattle.calculus.specs.Configuration.{End, end}
 use Rattle.calculus.specs.WellFormed.{heldEnds, outsideEnds, ends}
 use Rattle.calculus.specs.WellFormed as calculus
@@ -20,7 +21,7 @@ use Rattle.theory_derivations.specs.Equality.{eqb-decides, decides-cases}
 use Rattle.theory_decision.specs.Ends.{beside, endsFit}
 use Rattle.theory_decision.specs.Lists.{implies, pairwise}
 use Rattle.read_tables.specs.Decode.{tallyIn, processIn}
-use Rattle.read_tables.specs.Program.{plainIn}
+use Rattle.read_tables.specs.Program.{plainIn, programIn}
 use Rattle.run_words.specs.Raw.{RawEnd, RawProcess, RawOutside, RawConfig}
 use Rattle.run_words.specs.Decode.{decodedEnd, decodedProcess, decodedOutside, decoded}
 use Rattle.run_joints.specs.Tests.{pairwise-map}
@@ -41,7 +42,7 @@ module _ (s w : List ℕ) where
   asEnd e = end (e .side) (e .channel) (plainIn s w (e .node))
 
   abbrev pub besideIn : RawEnd → RawEnd → Bool
-  besideIn e d = beside (asEnd e) (asEnd d)
+  besideIn e d = beside (programIn s w) (asEnd e) (asEnd d)
 
   held-ends : (l m : List RawEnd) {k : List End} → k ≡ map asEnd m → heldEnds (map (decodedEnd (nameAt s) (plainIn s w) (processIn s w)) l) ++ k ≡ map asEnd (l ++ m)
   held-ends [] m q = q
@@ -60,9 +61,9 @@ module _ (s w : List ℕ) where
   pub ends-in : (C : RawConfig) → ends (decoded (nameAt s) (plainIn s w) (processIn s w) C) ≡ map asEnd (rawEnds C)
   ends-in C = process-ends (C .processes) (map outsideEnd (C .outside)) (outside-ends (C .outside))
 
-  pub ends-decoded : (C : RawConfig) → endsFit (ends (decoded (nameAt s) (plainIn s w) (processIn s w) C)) ≡ pairwise besideIn [] (rawEnds C)
+  pub ends-decoded : (C : RawConfig) → endsFit (programIn s w) (ends (decoded (nameAt s) (plainIn s w) (processIn s w) C)) ≡ pairwise besideIn [] (rawEnds C)
   unfolding endsFit
-  ends-decoded C = ap (pairwise beside []) (ends-in C) ∙ pairwise-map asEnd beside [] (rawEnds C)
+  ends-decoded C = ap (pairwise (beside (programIn s w)) []) (ends-in C) ∙ pairwise-map asEnd (beside (programIn s w)) [] (rawEnds C)
 
 -- ── a word for each key: 0 for an end that none has, else 1 + the node of its type
 abbrev sideWord : Side → ℕ
@@ -83,7 +84,7 @@ module _ (s w : List ℕ) where
   -- the type of a node, beside that of the far end if one is kept
   abbrev pub farSame : ℕ → ℕ → Bool
   farSame node zero = true
-  farSame node (suc n) = sameType (plainIn s w node) (plainIn s w n)
+  farSame node (suc n) = sameType (programIn s w .types) (plainIn s w node) (plainIn s w n)
 
   -- the key is new, and the far end has the type
   abbrev pub fits : List ℕ → ℕ → Side → ℕ → Bool
@@ -113,7 +114,7 @@ module _ (s w : List ℕ) where
       new = set ws (placeOf (e .channel) (e .side)) (suc (e .node))
 
       abbrev Turn : ℕ → Side → ℕ → Type 0
-      Turn c x n = cond (beside (end x c (plainIn s w n)) (asEnd s w e)) (fits ws c x n) false ≡ fits new c x n
+      Turn c x n = cond (beside (programIn s w) (end x c (plainIn s w n)) (asEnd s w e)) (fits ws c x n) false ≡ fits new c x n
 
       within : (x : Side) → placeOf (e .channel) x < keys
       within provided = omega arith
@@ -134,12 +135,12 @@ module _ (s w : List ℕ) where
 
       apart : (c : ℕ) (x : Side) (n : ℕ) → (c ≡ e .channel → ⊥) → Turn c x n
       apart c x n d =
-          ap (λ b. cond (implies b (not (sameSide x (e .side)) && sameType (plainIn s w n) (plainIn s w (e .node)))) (fits ws c x n) false) (ne-eqb c (e .channel) d)
+          ap (λ b. cond (implies b (not (sameSide x (e .side)) && sameType (programIn s w .types) (plainIn s w n) (plainIn s w (e .node)))) (fits ws c x n) false) (ne-eqb c (e .channel) d)
           ∙ (λ i. cond (eqb (sym (away _ (elsewhere c x (e .side) d)) i) 0) (farSame n (sym (away _ (elsewhere c (other x) (e .side) d)) i)) false)
 
       -- the same channel
       abbrev Meeting : ℕ → Side → Side → Type 0
-      Meeting n x y = cond (beside (end x (e .channel) (plainIn s w n)) (end y (e .channel) (plainIn s w (e .node)))) (fits ws (e .channel) x n) false ≡ fits new (e .channel) x n
+      Meeting n x y = cond (beside (programIn s w) (end x (e .channel) (plainIn s w n)) (end y (e .channel) (plainIn s w (e .node)))) (fits ws (e .channel) x n) false ≡ fits new (e .channel) x n
 
       -- what became of the words, if y is the side
       abbrev Put : Side → Type 0
@@ -149,7 +150,7 @@ module _ (s w : List ℕ) where
       again : (x : Side) (n : ℕ) → sameSide x x ≡ true → getD new (placeOf (e .channel) x) 0 ≡ suc (e .node) → Meeting n x x
       again x n z h =
           let far = farSame n (getD new (placeOf (e .channel) (other x)) 0) in
-          (λ i. cond (implies (eq-eqb (e .channel) (e .channel) refl i) (not (z i) && sameType (plainIn s w n) (plainIn s w (e .node)))) (fits ws (e .channel) x n) false)
+          (λ i. cond (implies (eq-eqb (e .channel) (e .channel) refl i) (not (z i) && sameType (programIn s w .types) (plainIn s w n) (plainIn s w (e .node)))) (fits ws (e .channel) x n) false)
           ∙ sym (ap (λ m. cond (eqb m 0) far false) h ∙ ap (λ b. cond b far false) (ne-eqb (suc (e .node)) 0 (λ q. omega (arith, q))))
 
       swap : (a b : Bool) → cond a (cond b true false) false ≡ cond b a false
@@ -161,7 +162,7 @@ module _ (s w : List ℕ) where
       -- the far end
       facing : (x y : Side) (n : ℕ) → sameSide x y ≡ false → other x ≡ y → (placeOf (e .channel) x ≡ placeOf (e .channel) y → ⊥) → Put y → Meeting n x y
       facing x y n z o d (f, h, a) =
-          let one = sameType (plainIn s w n) (plainIn s w (e .node)) in
+          let one = sameType (programIn s w .types) (plainIn s w n) (plainIn s w (e .node)) in
           let there = eqb (getD ws (placeOf (e .channel) x) 0) 0 in
           (λ i. cond (implies (eq-eqb (e .channel) (e .channel) refl i) (not (z i) && one)) (cond there (farSame n (getD ws (placeOf (e .channel) (o i)) 0)) false) false)
           ∙ ap (λ m. cond one (cond there (farSame n m) false) false) f ∙ swap one there

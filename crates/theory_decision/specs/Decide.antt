@@ -65,7 +65,7 @@ rising-iff low (n ∷ l) = Iff·trans (and-cond (leb low n) (rising (suc n) l)) 
 unfoldable pub wellFormed? : Program → Config → Bool
 wellFormed? p C =
     all (λ q. typedAs? p (contextOf (q .held)) (q .doing)) (C .processes)
-    && endsFit (ends C)
+    && endsFit p (ends C)
     && linksLead C
     && handlersLinked C
     && linkedOnce C

@@ -5,9 +5,10 @@ use mathlib.Core.Logic.{_↔_, _≢_, Iff·trans}
 use mathlib.Core.List.{List, [], _∷_, map, List·Memᴰ·head, List·Memᴰ·tail, Memᴰ·map, Memᴰ·of-map, Memᴰ·cast}
 use mathlib.Core.Bool.{Bool, So, not, _&&_}
 use lib.Dec.{eqb}
-use Rattle.calculus.specs.Types.{Side, sameSide, sameType}
+use Rattle.calculus.specs.Types.{Side, sameSide}
+use Rattle.calculus.specs.SameType.{sameType}
 use Rattle.calculus.specs.Program.{Program}
-use Rattle.calculus.specs.Typing.{OneType}
+use Rattle.calculus.specs.OneType.{OneType}
 use Rattle.calculus.specs.Configuration.{End}
 use Rattle.calculus.specs.WellFormed.{In, NoneTwice, key}
 use Rattle.theory_derivations.specs.Booleans.{not-iff, _and_, eqb-iff, each-cons}
@@ -15,14 +16,14 @@ use Rattle.theory_derivations.specs.Equality.{decides-not, decides-sym, eqb-dec
 use Rattle.theory_derivations.specs.OneType.{one-iff, one-test-sym, one-refl, one-sym}
 use Rattle.theory_decision.specs.Lists.{implies, implies-iff, Pairwise, pairwise, pairwise-iff}
 
--- two ends of one channel have two sides and one type
-abbrev pub beside : End → End → Bool
-beside e d = implies (eqb (e .channel) (d .channel)) (not (sameSide (e .side) (d .side)) && sameType (e .type) (d .type))
-
-unfoldable pub endsFit : List End → Bool
-endsFit l = pairwise beside [] l
-
 module _ (p : Program) where
+  -- two ends of one channel have two sides and one type
+  abbrev pub beside : End → End → Bool
+  beside e d = implies (eqb (e .channel) (d .channel)) (not (sameSide (e .side) (d .side)) && sameType (p .types) (e .type) (d .type))
+
+  unfoldable pub endsFit : List End → Bool
+  endsFit l = pairwise beside [] l
+
   beside-sym : (e d : End) → beside e d ≡ beside d e
   beside-sym e d i =
       implies (decides-sym eqb-decides (e .channel) (d .channel) i)

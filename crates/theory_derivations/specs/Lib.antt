@@ -1,7 +1,10 @@
 pub mod Booleans
 pub mod Equality
+pub mod SameType
+pub mod Alike
 pub mod OneType
 pub mod Fine
 pub mod Parts
 pub mod Rules
 pub mod Accepts
+pub mod Still

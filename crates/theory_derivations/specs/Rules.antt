@@ -11,13 +11,13 @@ use Rattle.calculus.specs.Named.{lookup, names, isSome, all, distinct}
 use Rattle.calculus.specs.Types.{provided, used, other, passing, choosing, labelled}
 use Rattle.calculus.specs.Program.{slot, Context, Program}
 use Rattle.calculus.specs.Mentions.{spawnTakes, spawnLeaves, neverBoth, exactlyOne}
-use Rattle.calculus.specs.Typing.{acting, namesOf, listFits, withoutAll, Typed, TypedBranches, sends-unit, recvs-unit, sends-channel, recvs-channel, sends-label, recvs-label, forwards, calls, spawns, tries, raises, cancels, empties, last-branch, one-branch}
+use Rattle.calculus.specs.Typing.{acting, namesOf, withoutAll, Typed, TypedBranches, sends-unit, recvs-unit, sends-channel, recvs-channel, sends-label, recvs-label, forwards, calls, spawns, tries, raises, cancels, empties, last-branch, one-branch}
 use Rattle.calculus.specs.Verdict.{fine}
 use Rattle.calculus.specs.Checking.{fitting, check, checkBranches}
 use Rattle.theory_derivations.specs.Booleans.{itself, not-iff, _and_, isNil-iff, isSome-iff}
-use Rattle.theory_derivations.specs.Equality.{sameType-decides, decides-sym}
 use Rattle.theory_derivations.specs.Fine.{fine-law, then-law, demand-law, having-law}
-use Rattle.theory_derivations.specs.Parts.{side-iff, isUnitOn-iff, fitsSlot-iff, mayBring-iff, lists-held}
+use Rattle.theory_derivations.specs.Parts.{side-iff, isUnitOn-iff, fitsSlot-iff, mayBring-iff, listFits-iff, lists-held}
+use Rattle.theory_derivations.specs.OneType.{one-sym}
 
 -- what stands there, by another name for it
 found : {X : Type 0} {o : Option X} {x y : X} → o ≡ some x → x ≡ y → o ≡ some y
@@ -43,9 +43,9 @@ module _ (p : Program) where
     check-iff (sendChannel at c a P) G = Iff·trans
         (having-law _ _ (acting p (c .name) G) λ h. having-law _ _ (lookup (a .name) G) λ e.
         demand-law _ _ (not-iff (same (c .name) (a .name))) (having-law _ _ (passing (h .type)) λ t.
-        demand-law _ _ (side-iff (t .sender) h and fitsSlot-iff (t .side) (t .what) e) (check-iff P _))) (
-          λ (h, eh, (e, ee, (n, (t, et, ((hs, (es, st)), d))))). sends-channel (h .type) (e .type) t n et (found eh hs) (found ee es) (record { same = st }) d,
-          λ d. elim d [ sends-channel T A t n et eh ee st d ↦ (slot (t .sender) T, eh, (slot (t .side) A, ee, (n, (t, et, ((refl, (refl, st .same)), d))))) ],
+        demand-law _ _ (side-iff (t .sender) h and fitsSlot-iff p (t .side) (t .what) e) (check-iff P _))) (
+          λ (h, eh, (e, ee, (n, (t, et, ((hs, (es, st)), d))))). sends-channel (h .type) (e .type) t n et (found eh hs) (found ee es) st d,
+          λ d. elim d [ sends-channel T A t n et eh ee st d ↦ (slot (t .sender) T, eh, (slot (t .side) A, ee, (n, (t, et, ((refl, (refl, st)), d))))) ],
         )
     check-iff (sendLabel at c l P) G = Iff·trans
         (having-law _ _ (acting p (c .name) G) λ h. having-law _ _ (choosing (h .type)) λ t.
@@ -80,17 +80,17 @@ module _ (p : Program) where
         )
     check-iff (fwd at x c) G = Iff·trans
         (having-law _ _ (lookup (x .name) G) λ h. having-law _ _ (lookup (c .name) G) λ e.
-        demand-law _ _ (side-iff provided h and fitsSlot-iff used (h .type) e)
+        demand-law _ _ (side-iff provided h and fitsSlot-iff p used (h .type) e)
         (demand-law _ _ (isNil-iff (withoutAll (x .name ∷ c .name ∷ []) G)) fine-law)) (
-          λ (h, eh, (e, ee, ((hs, (es, st)), (n, _)))). forwards (h .type) (e .type) (found eh hs) (found ee es) (record { same = decides-sym sameType-decides (h .type) (e .type) ∙ st }) n,
-          λ d. elim d [ forwards A B eh ee st n ↦ (slot provided A, eh, (slot used B, ee, ((refl, (refl, decides-sym sameType-decides B A ∙ st .same)), (n, tt)))) ],
+          λ (h, eh, (e, ee, ((hs, (es, st)), (n, _)))). forwards (h .type) (e .type) (found eh hs) (found ee es) (one-sym p st) n,
+          λ d. elim d [ forwards A B eh ee st n ↦ (slot provided A, eh, (slot used B, ee, ((refl, (refl, one-sym p st)), (n, tt)))) ],
         )
     check-iff (call at q bracket xs ys) G = Iff·trans
         (demand-law _ _ (itself (all (λ n. isSome (lookup n G)) (namesOf xs ++ namesOf ys))) (having-law _ _ (lookup (q .name) (p .processes)) λ s.
-        demand-law _ _ (and-eq-true-iff (listFits G provided (namesOf xs) (s .provides)) (listFits G used (namesOf ys) (s .uses))) (
+        demand-law _ _ (listFits-iff p G provided (namesOf xs) (s .provides) and listFits-iff p G used (namesOf ys) (s .uses)) (
         demand-law _ _ (itself (distinct (namesOf xs ++ namesOf ys))) (demand-law _ _ (isNil-iff (withoutAll (namesOf xs ++ namesOf ys) G)) fine-law)))) (
           λ (_, (s, es, ((f, g), (u, (n, _))))). calls s es f g u n,
-          λ d. elim d [ calls s es f g u n ↦ (lists-held G provided used (namesOf xs) (namesOf ys) (s .provides) (s .uses) f g, (s, es, ((f, g), (u, (n, tt))))) ],
+          λ d. elim d [ calls s es f g u n ↦ (lists-held (namesOf xs) (namesOf ys) f g, (s, es, ((f, g), (u, (n, tt))))) ],
         )
     check-iff (raise at P) G = Iff·trans (check-iff P G) (λ d. raises d, λ d. elim d [ raises d ↦ d ])
     check-iff (try at P Q) G = Iff·trans

@@ -1,18 +1,19 @@
--- An accepted script: its processes have what preservation asks of them, and each of its execs has a process and starts well.
+-- An accepted script: its processes have what preservation asks of them, its types are one with what their names stand for, and each of its execs has a process and starts well.
 use mathlib.Core.Path.{_≡_, refl, sym, _∙_, ap, subst}
 use mathlib.Core.List.{List, [], _∷_, _++_, List·Memᴰ·head, List·Memᴰ·tail, List·Memᴰ·not-nil, cons-ne-nil}
-use mathlib.Core.Option.{some, Option·none-ne-some}
+use mathlib.Core.Option.{Option, some, none, Option·getD, Option·none-ne-some, Option·some-injective}
 use mathlib.Core.Bool.{Bool, true, false, cond, false≢true, and-eq-true-iff}
 use Prim.Native.Nat.{ℕ, zero, suc}
 use lib.ListN.{getElem?}
 use Rattle.notation.specs.Bytes.{same}
-use Rattle.notation.specs.Tree.{Name, Located, Entry, Declaration, declareType, declareProc, declareExec}
+use Rattle.notation.specs.Tree.{Name, Located, Ty, unit, named, tensor, par, lolli, plus, with, plain, Entry, Declaration, declareType, declareProc, declareExec}
 use Rattle.calculus.specs.Named.{lookup, names, isSome, any, all, distinct}
-use Rattle.calculus.specs.Types.{Side, provided, used}
+use Rattle.calculus.specs.Types.{Side, provided, used, standing}
 use Rattle.calculus.specs.Program.{Signature, Program, onSide, signatureContext, entries, programOf}
 use Rattle.calculus.specs.Verdict.{Verdict, fine, refused, andThen, faults}
-use Rattle.calculus.specs.Declarations.{gather, channels, repeats, typeName, processName, ownRepeats, repeated, unless, ownUndefined, undefined, bareNames, keepsRule, breaking, wrongExecs, declared, outward, entryTypes, isNil}
-use Rattle.calculus.specs.Typing.{namesOf}
+use Rattle.calculus.specs.Declarations.{gather, channels, repeats, typeName, processName, ownRepeats, repeated, unless, ownUndefined, undefined, bareName, ownBareName, bareNames, keepsRule, breaking, wrongExecs, declared, outward, entryTypes, isNil}
+use Rattle.calculus.specs.OneType.{OneType}
+use Rattle.calculus.specs.Typing.{namesOf, Bodies}
 use Rattle.calculus.specs.Accepted.{accepted, checked}
 use Rattle.calculus.specs.Runs.{startConfig, lineSignature, execOf}
 use Rattle.calculus.specs.WellFormed.{In, NoneTwice, WellFormed}
@@ -20,10 +21,10 @@ use Rattle.calculus.specs.Demands.{Derivable}
 use Rattle.theory_derivations.specs.Booleans.{isSome-iff, any-iff, isNil-iff}
 use Rattle.theory_derivations.specs.Equality.{same-iff}
 use Rattle.theory_derivations.specs.Fine.{refuted}
+use Rattle.theory_derivations.specs.OneType.{one-unfolded}
 use Rattle.theory_derivations.specs.Accepts.{accepts}
 use Rattle.theory_ends.specs.Lists.{nil-left, nil-right}
 use Rattle.theory_ends.specs.Names.{lookup-in, distinct-iff, names-append}
-use Rattle.calculus.specs.Typing.{Bodies}
 use Rattle.theory_preservation.specs.Start.{start-well-formed}
 
 -- ── no fault, no offsets
@@ -93,19 +94,41 @@ exec-listed p (declareExec f ∷ ds) e n (List·Memᴰ·tail i) = exec-listed p 
 exec-listed p (declareExec f ∷ ds) e n (List·Memᴰ·head h) =
     subst (λ (f : Located). isSome (lookup (f .name) (p .processes)) ≡ true) (sym h) (unless-some (p .processes) f (nil-left (ownUndefined p (declareExec f)) _ e))
 
+-- ── the definition of a name: no bare name, so it stands for itself
+not-bare : (types : List (Name × Ty Name)) (A : Ty Located) → bareName A ≡ [] → standing types (plain A) ≡ plain A
+unfolding plain
+not-bare types unit e = refl
+not-bare types (named n) e = absurd (cons-ne-nil _ _ e)
+not-bare types (tensor A B) e = refl
+not-bare types (par A B) e = refl
+not-bare types (lolli A B) e = refl
+not-bare types (plus r) e = refl
+not-bare types (with r) e = refl
+
+definition-stands : (types : List (Name × Ty Name)) (ds : List Declaration) → gather ownBareName ds ≡ [] → (n : Name) (D : Ty Name) → lookup n (programOf ds .types) ≡ some D → standing types D ≡ D
+unfolding programOf lookup
+definition-stands types [] e n D f = absurd (Option·none-ne-some D f)
+definition-stands types (declareProc m xs ys P ∷ ds) e n D f = definition-stands types ds e n D f
+definition-stands types (declareExec m ∷ ds) e n D f = definition-stands types ds e n D f
+definition-stands types (declareType m A ∷ ds) e n D f = go (same n (m .name)) (definition-stands types ds (nil-right (bareName A) (gather ownBareName ds) e) n D) f
+  where
+    go : (b : Bool) → (lookup n (programOf ds .types) ≡ some D → standing types D ≡ D) → cond b (some (plain A)) (lookup n (programOf ds .types)) ≡ some D → standing types D ≡ D
+    go true r f = subst (λ B. standing types B ≡ B) (Option·some-injective _ D f) (not-bare types A (nil-left (bareName A) (gather ownBareName ds) e))
+    go false r f = r f
+
 -- ── what an accepted script gives
 module _ (text : List ℕ) (ds : List Declaration) (a : checked text ≡ accepted ds) where
   derivable : Derivable text ds
   derivable = accepts text ds .0 a
 
   -- the four passes
-  passes : (repeated ds ≡ []) × (undefined ds ≡ []) × (wrongExecs ds ≡ [])
+  passes : (repeated ds ≡ []) × (undefined ds ≡ []) × (bareNames ds ≡ []) × (wrongExecs ds ≡ [])
   unfolding declared
   passes =
       let r = both-fine (faults 6 (repeated ds)) _ (derivable .declarations) in
       let t = both-fine (faults 7 (undefined ds)) _ (r .1) in
-      let e = both-fine (faults 8 (bareNames ds)) _ (t .1) .1 in
-      (faults-none 6 (repeated ds) (r .0), faults-none 7 (undefined ds) (t .0), faults-none 9 (wrongExecs ds) e)
+      let e = both-fine (faults 8 (bareNames ds)) _ (t .1) in
+      (faults-none 6 (repeated ds) (r .0), faults-none 7 (undefined ds) (t .0), faults-none 8 (bareNames ds) (e .0), faults-none 9 (wrongExecs ds) (e .1))
 
   own-names : gather ownRepeats ds ≡ []
   unfolding repeated
@@ -116,6 +139,27 @@ module _ (text : List ℕ) (ds : List Declaration) (a : checked text ≡ accepte
 
   pub accepted-bodies : Bodies (programOf ds)
   accepted-bodies = record { typed = λ n s e. derivable .derivation n s (lookup-in n (programOf ds .processes) e); names = signature-names }
+
+  -- ── each type is one with what its name stands for
+  pub accepted-unfolds : (A : Ty Name) → OneType (programOf ds) A (standing (programOf ds .types) A)
+  unfolding bareNames
+  accepted-unfolds A = one-unfolded (programOf ds) A (stands A)
+    where
+      types : List (Name × Ty Name)
+      types = programOf ds .types
+
+      found : (n : Name) (o : Option (Ty Name)) → lookup n types ≡ o → standing types (Option·getD o (named n)) ≡ Option·getD o (named n)
+      found n none e = ap (λ o. Option·getD o (named n)) e
+      found n (some D) e = definition-stands types ds (passes .2) n D e
+
+      stands : (A : Ty Name) → standing types (standing types A) ≡ standing types A
+      stands unit = refl
+      stands (named n) = found n (lookup n types) refl
+      stands (tensor A B) = refl
+      stands (par A B) = refl
+      stands (lolli A B) = refl
+      stands (plus r) = refl
+      stands (with r) = refl
 
   -- ── each exec line starts well
   abbrev p : Program
@@ -152,7 +196,7 @@ module _ (text : List ℕ) (ds : List Declaration) (a : checked text ≡ accepte
   unfolding execOf wrongExecs
   exec-process line s e =
       let n = line-exec (p .execs) line s e in
-      let k = ap (keepsRule p) (sym (n .2)) ∙ keeps-rule (p .execs) (passes .2) (n .0) (n .1) in
+      let k = ap (keepsRule p) (sym (n .2)) ∙ keeps-rule (p .execs) (passes .3) (n .0) (n .1) in
       let r = and-eq-true-iff (isNil (s .uses)) (all (outward p) (entryTypes (s .provides))) .0 k in
       record { name = n .0 .name; declared = n .2; uses-nothing = isNil-iff (s .uses) .0 (r .0); outwards = r .1 }
 

@@ -8,7 +8,8 @@ use Rattle.calculus.specs.Named.{lookup}
 use Rattle.calculus.specs.Types.{Side, used, standing, Passing, passing, Choosing, choosing, labelled}
 use Rattle.calculus.specs.Program.{slot, Context, Program}
 use Rattle.calculus.specs.Declarations.{outward}
-use Rattle.calculus.specs.Typing.{OneType, acting, Typed, TypedBranches, last-branch, one-branch, bringing, retyped}
+use Rattle.calculus.specs.OneType.{OneType}
+use Rattle.calculus.specs.Typing.{acting, Typed, TypedBranches, last-branch, one-branch, bringing, retyped}
 use Rattle.calculus.specs.Configuration.{End, retypedEnd}
 use Rattle.calculus.specs.Steps.{passes, chooses, afterPassing, afterChoosing, afterMessage, branchOf}
 use Rattle.calculus.specs.WellFormed.{contextOf}

@@ -1,8 +1,7 @@
 -- A call: the process holds the same ends, under the names, on the sides and with the types of the signature.
 use mathlib.Core.Path.{_≡_, refl, sym, _∙_, ap, subst}
 use mathlib.Core.List.{List, [], _∷_, _++_, map, Sublistᴰ·refl, List·Memᴰ·head, List·Memᴰ·tail, List·Memᴰ·not-nil, Memᴰ·of-map, Memᴰ·cast}
-use mathlib.Core.Option.{Option, some, none, Option·some-injective}
-use mathlib.Core.Bool.{true, and-eq-true-iff}
+use mathlib.Core.Option.{Option, some, Option·some-injective}
 use Prim.Native.Nat.{ℕ, _≤_, _<_}
 use lib.ListN.{length, getElem?}
 use Rattle.notation.specs.Limits.{heldLimit, channelPlaces}
@@ -10,13 +9,12 @@ use Rattle.notation.specs.Tree.{Name, Located, Ty, call}
 use Rattle.calculus.specs.Named.{lookup, names}
 use Rattle.calculus.specs.Types.{Side, provided, used}
 use Rattle.calculus.specs.Program.{Slot, slot, Context, Signature, Program, onSide, signatureContext}
-use Rattle.calculus.specs.Typing.{OneType, Typed, calls, TypedBody, Bodies, namesOf, entryFits, listFits}
+use Rattle.calculus.specs.OneType.{OneType}
+use Rattle.calculus.specs.Typing.{Typed, calls, TypedBody, Bodies, namesOf, ListFits, none-left, one-fits}
 use Rattle.calculus.specs.Configuration.{End, end, running, Process, relinked, Config, replaced, goesOn, becoming}
 use Rattle.calculus.specs.Steps.{renamedEnd, renamed}
 use Rattle.calculus.specs.Reduces.{Runs}
 use Rattle.calculus.specs.WellFormed.{In, NoneTwice, contextOf, key}
-use Rattle.theory_derivations.specs.Booleans.{never}
-use Rattle.theory_derivations.specs.OneType.{one-fits}
 use Rattle.theory_ends.specs.Lists.{once-by}
 use Rattle.theory_ends.specs.Names.{lookup-in, distinct-iff}
 use Rattle.theory_ends.specs.Contexts.{context-names, context-length, held-plain}
@@ -42,24 +40,11 @@ module _ (p : Program) (l : List (Name × End)) where
   Fits (a ∷ ns) [] = ⊥
   Fits (a ∷ ns) (s ∷ G) = Given a (s .1) × Fits ns G
 
-  entry-fits : (s : Side) (A : Ty Name) (a : Name) → entryFits s A (lookup a (contextOf l)) ≡ true → Given a (slot s A)
-  entry-fits s A a e = go (lookup a (contextOf l)) refl e
-    where
-      go : (o : Option Slot) → lookup a (contextOf l) ≡ o → entryFits s A o ≡ true → Given a (slot s A)
-      go none z e = never e
-      go (some h) z e =
-          let r = one-fits p s A h e in
-          let k = held-plain a l (h .side) (h .type) z in
-          record { end = k .end; found = k .found; side = k .side ∙ r .0; one = rw (k .type) (r .1) }
-
-  list-fits : (s : Side) (ns : List Name) (es : List (Name × Ty Name)) → listFits (contextOf l) s ns es ≡ true → Fits ns (onSide s es)
-  unfolding listFits
-  list-fits s [] [] e = tt
-  list-fits s [] (x ∷ es) e = never e
-  list-fits s (a ∷ ns) [] e = never e
-  list-fits s (a ∷ ns) (x ∷ es) e =
-      let r = and-eq-true-iff (entryFits s (x .1) (lookup a (contextOf l))) (listFits (contextOf l) s ns es) .0 e in
-      (entry-fits s (x .1) a (r .0), list-fits s ns es (r .1))
+  list-fits : {s : Side} {ns : List Name} {es : List (Name × Ty Name)} → ListFits (OneType p) (contextOf l) s ns es → Fits ns (onSide s es)
+  list-fits none-left = tt
+  list-fits {s} (one-fits {a = a} A e o f) =
+      let k = held-plain a l s A e in
+      (record { end = k .end; found = k .found; side = k .side; one = rw (k .type) o }, list-fits f)
 
   fits-append : (ns ms : List Name) (G H : Context) → Fits ns G → Fits ms H → Fits (ns ++ ms) (G ++ H)
   fits-append [] ms [] H f g = g
@@ -68,9 +53,9 @@ module _ (p : Program) (l : List (Name × End)) where
   fits-append (a ∷ ns) ms (s ∷ G) H f g = (f .0, fits-append ns ms G H (f .1) g)
 
   -- the names of a call are those of ends for its signature
-  call-fits : (xs ys : List Name) (s : Signature) → listFits (contextOf l) provided xs (s .provides) ≡ true → listFits (contextOf l) used ys (s .uses) ≡ true
+  call-fits : (xs ys : List Name) (s : Signature) → ListFits (OneType p) (contextOf l) provided xs (s .provides) → ListFits (OneType p) (contextOf l) used ys (s .uses)
       → Fits (xs ++ ys) (signatureContext s)
-  call-fits xs ys s fx fy = fits-append xs ys _ _ (list-fits provided xs (s .provides) fx) (list-fits used ys (s .uses) fy)
+  call-fits xs ys s fx fy = fits-append xs ys _ _ (list-fits fx) (list-fits fy)
 
   -- what a name that fits is renamed to
   renamed-cons : (a : Name) (ns : List Name) (s : Name × Slot) (G : Context) (h : Given a (s .1))

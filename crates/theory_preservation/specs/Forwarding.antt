@@ -10,7 +10,7 @@ use Rattle.notation.specs.Tree.{Name}
 use Rattle.calculus.specs.Named.{lookup}
 use Rattle.calculus.specs.Types.{provided, used, other}
 use Rattle.calculus.specs.Program.{Program}
-use Rattle.calculus.specs.Typing.{OneType}
+use Rattle.calculus.specs.OneType.{OneType}
 use Rattle.calculus.specs.Configuration.{End, end, ofChannel, folding, Process, Outside, outsideOfChannel, movedOutside, holding, foldsUp}
 use Rattle.calculus.specs.WellFormed.{In, key, isWaiting}
 use Rattle.theory_derivations.specs.OneType.{one-sym, one-trans}

@@ -7,7 +7,8 @@ use Rattle.notation.specs.Tree.{Located, fwd}
 use Rattle.calculus.specs.Named.{lookup}
 use Rattle.calculus.specs.Types.{provided, used, other}
 use Rattle.calculus.specs.Program.{Program}
-use Rattle.calculus.specs.Typing.{OneType, Typed, forwards}
+use Rattle.calculus.specs.OneType.{OneType}
+use Rattle.calculus.specs.Typing.{Typed, forwards}
 use Rattle.calculus.specs.Configuration.{End, end, running, folding, Process, process, Config, Stands, withOutside, replaced, Holder, relinked, movedOutside, foldsUp}
 use Rattle.calculus.specs.Steps.{movedEnd, farMoved}
 use Rattle.calculus.specs.Reduces.{GivesUp}

@@ -13,7 +13,7 @@ use Rattle.calculus.specs.Named.{lookup, without, names}
 use Rattle.calculus.specs.Types.{used, other}
 use Rattle.calculus.specs.Program.{Program}
 use Rattle.calculus.specs.Declarations.{outward}
-use Rattle.calculus.specs.Typing.{OneType}
+use Rattle.calculus.specs.OneType.{OneType}
 use Rattle.calculus.specs.Configuration.{End, ofType, Doing, Process, Outside, retypedEnd, retypedOutside, becoming}
 use Rattle.calculus.specs.WellFormed.{In, NoneTwice, contextOf, key}
 use Rattle.theory_derivations.specs.OneType.{one-refl}

@@ -12,7 +12,7 @@ use Rattle.calculus.specs.Named.{lookup, names}
 use Rattle.calculus.specs.Types.{other}
 use Rattle.calculus.specs.Program.{Program}
 use Rattle.calculus.specs.Declarations.{outward}
-use Rattle.calculus.specs.Typing.{OneType}
+use Rattle.calculus.specs.OneType.{OneType}
 use Rattle.calculus.specs.Configuration.{End, ofType, Doing, Process, Outside, outsideOfType, retypedEnd, retypedOutside, becoming}
 use Rattle.calculus.specs.WellFormed.{In, NoneTwice, contextOf, key}
 use Rattle.theory_derivations.specs.OneType.{one-refl}

@@ -13,7 +13,8 @@ use Rattle.calculus.specs.Named.{lookup, without}
 use Rattle.calculus.specs.Types.{used, Passing, passing, choosing}
 use Rattle.calculus.specs.Program.{slot, Program}
 use Rattle.calculus.specs.Declarations.{outward}
-use Rattle.calculus.specs.Typing.{OneType, Typed, sends-unit, recvs-unit, sends-channel, recvs-channel, sends-label, recvs-label, bringing, retyped}
+use Rattle.calculus.specs.OneType.{OneType}
+use Rattle.calculus.specs.Typing.{Typed, sends-unit, recvs-unit, sends-channel, recvs-channel, sends-label, recvs-label, bringing, retyped}
 use Rattle.calculus.specs.Configuration.{End, end, ofType, Doing, running, folding, Process, relinked, Outside, Config, withOutside, oneMoreGiven, replaced, becoming, goesOn, foldsUp, Holder, atProcess, retypedEnd, letGo, outsideOf}
 use Rattle.calculus.specs.Steps.{passes, chooses, afterMessage, onward, outsideOnward, newOutside, branchOf, bound, handlerStarts}
 use Rattle.calculus.specs.Reduces.{Runs, Holds, Answers, GivesUp}

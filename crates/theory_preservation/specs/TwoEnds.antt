@@ -8,7 +8,7 @@ use native.Mathlib.Omega.{arith}
 use Rattle.notation.specs.Tree.{Name, Ty}
 use Rattle.calculus.specs.Types.{Side, provided, used, other}
 use Rattle.calculus.specs.Program.{Program}
-use Rattle.calculus.specs.Typing.{OneType}
+use Rattle.calculus.specs.OneType.{OneType}
 use Rattle.calculus.specs.Configuration.{End, Process, Outside}
 use Rattle.calculus.specs.WellFormed.{In, key}
 use Rattle.theory_graphs.specs.Moves.{no-loop}

@@ -10,7 +10,7 @@ use native.Mathlib.Decide.{ℕ-discrete}
 use Rattle.notation.specs.Tree.{Name, Ty}
 use Rattle.calculus.specs.Types.{Side, provided, used}
 use Rattle.calculus.specs.Program.{Program}
-use Rattle.calculus.specs.Typing.{OneType}
+use Rattle.calculus.specs.OneType.{OneType}
 use Rattle.calculus.specs.Forest.{Joint, Forest}
 use Rattle.calculus.specs.WellFormed.{In, NoneTwice}
 use Rattle.theory_graphs.specs.Graph.{decIn, glue, glueJ, glue-at, glue-off, glue-self}

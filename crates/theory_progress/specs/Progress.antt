@@ -11,7 +11,7 @@ use lib.ListN.{length}
 use Rattle.notation.specs.Tree.{Located, Proc}
 use Rattle.calculus.specs.Types.{standing}
 use Rattle.calculus.specs.Program.{Program}
-use Rattle.calculus.specs.Typing.{OneType}
+use Rattle.calculus.specs.OneType.{OneType}
 use Rattle.calculus.specs.Configuration.{End, Process, Config, Stands, at, Holder, atProcess}
 use Rattle.calculus.specs.WellFormed.{In, isWaiting, WellFormed}
 use Rattle.calculus.specs.Reduces.{Runs, Holds, Applies, Open}

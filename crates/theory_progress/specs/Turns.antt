@@ -9,7 +9,7 @@ use Rattle.notation.specs.Tree.{Name, Located, Ty, unit, named, tensor, par, lo
 use Rattle.calculus.specs.Named.{lookup}
 use Rattle.calculus.specs.Types.{Side, provided, used, other, standing, Passing, passing, Choosing, choosing, labelled}
 use Rattle.calculus.specs.Program.{Program}
-use Rattle.calculus.specs.Typing.{OneType}
+use Rattle.calculus.specs.OneType.{OneType}
 use Rattle.calculus.specs.Configuration.{End, Process, Config, Holder, atProcess}
 use Rattle.calculus.specs.Steps.{branchOf}
 use Rattle.calculus.specs.Reduces.{Runs, Holds, Answers, close-meets, channel-meets, label-meets, label-left-out, its-own, communicates, nobody-takes, Applies}

@@ -13,7 +13,8 @@ use Rattle.notation.specs.Tree.{Name, Located, Ty, Proc, sendChannel, spawn, fw
 use Rattle.calculus.specs.Named.{lookup}
 use Rattle.calculus.specs.Types.{provided, standing, passing, choosing}
 use Rattle.calculus.specs.Program.{Program}
-use Rattle.calculus.specs.Typing.{OneType, Typed, sends-unit, recvs-unit, sends-channel, recvs-channel, sends-label, recvs-label, forwards, calls, spawns, tries, raises, cancels, empties}
+use Rattle.calculus.specs.OneType.{OneType}
+use Rattle.calculus.specs.Typing.{Typed, sends-unit, recvs-unit, sends-channel, recvs-channel, sends-label, recvs-label, forwards, calls, spawns, tries, raises, cancels, empties}
 use Rattle.calculus.specs.Configuration.{End, Doing, running, folding, waiting, Process, Outside, Config, Stands, Holder, Far, atProcess, atOutside, givenUp, farEnd, freshChannel}
 use Rattle.calculus.specs.Steps.{Wanted, receives, turn}
 use Rattle.calculus.specs.WellFormed.{In, contextOf, TypedAs, WellFormed}

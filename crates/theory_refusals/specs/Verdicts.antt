@@ -15,9 +15,9 @@ use Rattle.calculus.specs.Types.{provided, used, other, sameSide, passing, choo
 use Rattle.calculus.specs.Program.{slot, Context, Program, signatureContext, entries, programOf}
 use Rattle.calculus.specs.Declarations.{channels, isNil, repeated, undefined, bareNames, wrongExecs, declared}
 use Rattle.calculus.specs.Mentions.{spawnTakes, spawnLeaves, tryTakes, neverBoth, exactlyOne}
-use Rattle.calculus.specs.Typing.{acting, retyped, bringing, namesOf, listFits, withoutAll}
+use Rattle.calculus.specs.Typing.{acting, retyped, bringing, namesOf, withoutAll}
 use Rattle.calculus.specs.Verdict.{Verdict, fine, refused, andThen, demand, having, faults}
-use Rattle.calculus.specs.Checking.{mayBring, fitting, isUnitOn, fitsSlot, check, checkBranches, unlessNamed, checkDeclaration, checkDeclarations, typed}
+use Rattle.calculus.specs.Checking.{mayBring, fitting, isUnitOn, fitsSlot, listFits, check, checkBranches, unlessNamed, checkDeclaration, checkDeclarations, typed}
 
 abbrev pub Between : ℕ → ℕ → ℕ → Type 0
 Between low high n = (low ≤ n) × (n ≤ high)
@@ -84,7 +84,7 @@ module _ (p : Program) where
         needing 10 at (lookup (a .name) G) _ (omega arith) λ e.
         demanding 11 at (not (same (c .name) (a .name))) (omega arith)
         (needing 11 at (passing (h .type)) _ (omega arith) λ t.
-        demanding 11 at (sameSide (h .side) (t .sender) && fitsSlot (t .side) (t .what) e) (omega arith)
+        demanding 11 at (sameSide (h .side) (t .sender) && fitsSlot p (t .side) (t .what) e) (omega arith)
         (check-within (retyped (c .name) (t .after) (without (a .name) G)) P))
     check-within G (sendLabel at c l P) =
         needing 10 at (acting p (c .name) G) _ (omega arith) λ h.
@@ -114,12 +114,12 @@ module _ (p : Program) where
     check-within G (fwd at x c) =
         needing 10 at (lookup (x .name) G) _ (omega arith) λ h.
         needing 10 at (lookup (c .name) G) _ (omega arith) λ e.
-        demanding 11 at (sameSide (h .side) provided && fitsSlot used (h .type) e) (omega arith)
+        demanding 11 at (sameSide (h .side) provided && fitsSlot p used (h .type) e) (omega arith)
         (demanding 13 at (isNil (withoutAll (x .name ∷ c .name ∷ []) G)) (omega arith) is-fine)
     check-within G (call at q bracket xs ys) =
         demanding 10 at (all (λ n. isSome (lookup n G)) (namesOf xs ++ namesOf ys)) (omega arith)
         (needing 11 at (lookup (q .name) (p .processes)) _ (omega arith) λ s.
-        demanding 11 at (listFits G provided (namesOf xs) (s .provides) && listFits G used (namesOf ys) (s .uses)) (omega arith)
+        demanding 11 at (listFits p G provided (namesOf xs) (s .provides) && listFits p G used (namesOf ys) (s .uses)) (omega arith)
         (demanding 11 at (distinct (namesOf xs ++ namesOf ys)) (omega arith)
         (demanding 13 at (isNil (withoutAll (namesOf xs ++ namesOf ys) G)) (omega arith) is-fine)))
     check-within G (raise at P) = check-within G P

@@ -1,5 +1,5 @@
-use Rattle.calculus.specs.Types.{sameType}
-use Rattle.read_tables.specs.Program.{plainIn}
+use Rattle.calculus.specs.SameType.{sameType}
+use Rattle.read_tables.specs.Program.{plainIn, programIn}
 use mathlib.Core.Path.{_≡_, refl, sym, _∙_, ap, subst}
 use native.Mathlib.Omega.{arith}
 use mathlib.Core.Bool.{true, false}
@@ -85,7 +85,7 @@ returns-4 c =
     passes-by text scratch (entry .args .c) (entry .args .a) _ (wide .ensures .0) _
     (after-t .before .before .passing .ensures .says text (entry .pre .0) (typed-as text scratch (entry .args .c) _ (wide .ensures .0) (entry .pre .1))) (t .given .0 .0) (t .given .0 .1 .0)
     (t .given .0 .1 .1 .0) (t .given .0 .1 .1 .1 .0) (t .given .1) (entry .pre .3) (entry .pre .4) (c .before .before .before .before .before .if1 .left) (c .before .before .before .if2 .left) true
-    (ap (λ k. sameType (plainIn text scratch k) (plainIn text scratch (t .given .0 .1 .1 .0))) (sym (c .before .before .wide2 .ensures .0)) ∙ sym (c .before .same-type .ensures) ∙ c .if3 .taken)
+    (ap (λ k. sameType (programIn text scratch .types) (plainIn text scratch k) (plainIn text scratch (t .given .0 .1 .1 .0))) (sym (c .before .before .wide2 .ensures .0)) ∙ sym (c .before .same-type .ensures) ∙ c .if3 .taken)
 
 returns-5 : tie.Need-returns-5
 returns-5 c =
@@ -98,7 +98,7 @@ returns-5 c =
     passes-by text scratch (entry .args .c) (entry .args .a) _ (wide .ensures .0) _
     (after-t .before .before .passing .ensures .says text (entry .pre .0) (typed-as text scratch (entry .args .c) _ (wide .ensures .0) (entry .pre .1))) (t .given .0 .0) (t .given .0 .1 .0)
     (t .given .0 .1 .1 .0) (t .given .0 .1 .1 .1 .0) (t .given .1) (entry .pre .3) (entry .pre .4) (c .before .before .before .before .before .if1 .left) (c .before .before .before .if2 .left) false
-    (ap (λ k. sameType (plainIn text scratch k) (plainIn text scratch (t .given .0 .1 .1 .0))) (sym (c .before .before .wide2 .ensures .0)) ∙ sym (c .before .same-type .ensures) ∙ c .if3 .left)
+    (ap (λ k. sameType (programIn text scratch .types) (plainIn text scratch k) (plainIn text scratch (t .given .0 .1 .1 .0))) (sym (c .before .before .wide2 .ensures .0)) ∙ sym (c .before .same-type .ensures) ∙ c .if3 .left)
 
 pub passes-over-spec : {M : Type 1} → statement M
 passes-over-spec =

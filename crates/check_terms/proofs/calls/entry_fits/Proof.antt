@@ -3,8 +3,8 @@ use native.Mathlib.Omega.{arith}
 use borrow.Author.Needs.{needs}
 use Prim.Native.Nat.{_-_}
 use lib.ListN.{length}
-use Rattle.calculus.specs.Types.{sameType}
-use Rattle.read_tables.specs.Program.{plainIn}
+use Rattle.calculus.specs.SameType.{sameType}
+use Rattle.read_tables.specs.Program.{plainIn, programIn}
 use Rattle.check_terms.specs.Acting.{typed-as}
 use Rattle.check_terms.specs.Sends.{sees-not, sees-so, end-found}
 use Rattle.check_terms.specs.Lists.{entry-absent, entry-other, entry-so}
@@ -67,7 +67,7 @@ returns-3 c =
     entry-so text scratch (entry .args .h) (entry .args .at) (entry .args .side) (entry .args .node) (entry .pre .2) (f .given .0 .0)
     (sees-so text scratch (entry .args .h) (entry .args .at) _ (f .given .0 .0) (find-end .ensures) (f .given .1))
     ((end-found text scratch _ (f .given .0 .0) (find-end .ensures .fits scratch (entry .pre .1)) (f .given .1)) .1) (c .before .before .if1 .left)
-    (c .same-type .ensures ∙ ap (λ i. sameType (plainIn text scratch i) (plainIn text scratch (entry .args .node))) (c .before .wide .ensures .0))
+    (c .same-type .ensures ∙ ap (λ i. sameType (programIn text scratch .types) (plainIn text scratch i) (plainIn text scratch (entry .args .node))) (c .before .wide .ensures .0))
 
 pub entry-fits-spec : {M : Type 1} → statement M
 entry-fits-spec =

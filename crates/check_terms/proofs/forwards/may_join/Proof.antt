@@ -1,8 +1,8 @@
 use mathlib.Core.Path.{_≡_, refl, sym, _∙_, ap, subst}
 use native.Mathlib.Omega.{arith}
 use borrow.Author.Needs.{needs}
-use Rattle.calculus.specs.Types.{sameType}
-use Rattle.read_tables.specs.Program.{plainIn}
+use Rattle.calculus.specs.SameType.{sameType}
+use Rattle.read_tables.specs.Program.{plainIn, programIn}
 use Rattle.check_terms.specs.Acting.{typed-as}
 use Rattle.check_terms.specs.Endings.{joins-not-provided, joins-not-used, joins-so}
 use Rattle.check_terms.proofs.forwards.may_join.Statement.{statement}
@@ -42,7 +42,7 @@ returns-3 c =
     let text = entry .args .text .now in
     let scratch = entry .args .scratch .now in
     joins-so text scratch (entry .args .x) (entry .args .c) (entry .pre .3) (entry .pre .4) (c .before .before .before .before .before .if1 .left) (c .before .before .before .if2 .left)
-    (c .same-type .ensures ∙ λ j. sameType (plainIn text scratch (c .before .before .wide .ensures .0 j)) (plainIn text scratch (c .before .wide2 .ensures .0 j)))
+    (c .same-type .ensures ∙ λ j. sameType (programIn text scratch .types) (plainIn text scratch (c .before .before .wide .ensures .0 j)) (plainIn text scratch (c .before .wide2 .ensures .0 j)))
 
 pub may-join-spec : {M : Type 1} → statement M
 may-join-spec =
