@@ -1,4 +1,4 @@
--- What is in a list, what is left without one thing, and the pairs of two lists. They compute, and so are not the library's.
+-- What is in a list, what is left without one thing, and the pairs of two lists: all of it computes.
 use mathlib.Core.Path.{_≡_, sym, _∙_, subst}
 use mathlib.Core.Logic.{_⊎_, inl, inr}
 use mathlib.Core.List.{List, [], _∷_, _++_}
