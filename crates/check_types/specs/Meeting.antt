@@ -84,7 +84,7 @@ module _ (s w : List ℕ) where
   abbrev pub LabelOf : ℕ → ℕ → Name → Type 0
   LabelOf e n l = Listed l (labelsOf same same-sound (rowsIn s w e n))
 
-  -- so does each label of those alternatives
+  -- each label of those alternatives leads from x and from y to nodes that R relates, or nowhere
   abbrev pub EachLeads : ℕ → ℕ → TypeNode → TypeNode → (ℕ → ℕ → Type 0) → Type 0
   EachLeads e n x y R = (l : Name) → LabelOf e n l → Leads x y R l
 

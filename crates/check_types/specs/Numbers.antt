@@ -1,4 +1,4 @@
--- Types as the numbers of their nodes. A name's node stands for that of its definition, so that no two names of one type are compared part by part.
+-- Types as the numbers of their nodes. A name's node stands for that of its definition, so that two names of one definition are one number.
 use Prim.Native.Nat.{ℕ, zero, suc, _+_, _-_, _<_, _≤_}
 use mathlib.Core.Path.{_≡_, refl, sym, _∙_, ap}
 use mathlib.Core.List.{List, [], _∷_}

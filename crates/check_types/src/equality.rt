@@ -193,7 +193,7 @@ fn same_tree(text: &[u8], scratch: &[u32], a: usize, b: usize) -> bool
     true
 }
 
-// The types a and b are equal: "when they unfold, name by name and without end, to the same tree". Most stand for one node.
+// The types a and b are equal: "when they unfold, name by name and without end, to the same tree". Where they stand for one node, no classes are made.
 pub fn same_type(text: &[u8], scratch: &[u32], a: usize, b: usize) -> bool
     requires { ⌜ Tables (now text) (now scratch) × TypeIn (now text) (now scratch) a × TypeIn (now text) (now scratch) b ⌝ }
     ensures { λ r. ⌜ r ≡ sameType (programIn (now (text .entry)) (now (scratch .entry)) .types) (plainIn (now (text .entry)) (now (scratch .entry)) a) (plainIn (now (text .entry)) (now (scratch .entry)) b) ⌝ }
