@@ -1,11 +1,12 @@
 use borrow.Author.Needs.{needs}
 use native.Mathlib.Omega.{arith}
-use Prim.Native.Nat.{_-_}
-use mathlib.Core.Path.{_≡_, _∙_, ap}
+use Prim.Native.Nat.{_-_, _≤_}
+use mathlib.Core.Path.{_≡_, refl, _∙_, ap}
 use lib.ListN.{length}
 use Rattle.notation.specs.Limits.{typeTermLimit}
 use Rattle.trees.specs.Classes.{at, swap}
-use Rattle.check_types.specs.Classes.{Filled, filled-start, filled-on, filled-relabelled}
+use Rattle.run_words.specs.Values.{Moved}
+use Rattle.run_words.proofs.Rows.{moved-none, moved-up}
 use Rattle.check_types.proofs.classes.relabel.Statement.{statement}
 use Rattle.check_types.proofs.classes.relabel.Tie as tie
 use Rattle.check_types.proofs.classes.relabel.Reads as reads
@@ -13,13 +14,13 @@ use Rattle.check_types.proofs.classes.relabel.Lts as lts
 use Rattle.check_types.proofs.classes.swapped.Reads as swapped-reads
 
 abbrev Inv-loop : tie.InvT-loop
-Inv-loop representatives₀ hi lo k₀ representatives k = length representatives₀ ≡ typeTermLimit → Filled (λ i. swap hi lo (at representatives₀ i)) representatives₀ representatives k
+Inv-loop representatives₀ hi lo k₀ representatives k = (k ≤ typeTermLimit) × (length representatives₀ ≡ typeTermLimit → Moved representatives₀ representatives 0 k (λ i. swap hi lo (at representatives₀ i)))
 
 abbrev μ-loop : tie.MeasureT-loop
 μ-loop representatives₀ hi lo k₀ representatives k = typeTermLimit - k
 
 loop-holds : tie.Need-loop-holds Inv-loop μ-loop
-loop-holds c = λ l. filled-start _ _
+loop-holds c = (omega arith, λ l. moved-none _ _ _ _ (omega arith))
 
 mul-v : tie.Need-mul-v Inv-loop μ-loop
 mul-v c = search needs
@@ -45,11 +46,15 @@ loop-less c = search needs
 loop-again : tie.Need-loop-again Inv-loop μ-loop
 loop-again c =
     let turn = c .before .before .before in
-    λ l. filled-on _ _ _ _ _ l (turn .loop .inv l) (c .before .before .loop-test .taken)
-    (c .swapped .ensures ∙ ap (swap (turn .before .args .hi) (turn .before .args .lo)) (turn .loop .inv l .rest _ (omega arith)))
+    let b = turn .loop in (
+      omega arith,
+      λ l.
+          let m = b .inv .1 l in
+          moved-up _ _ (b .representatives) 0 (b .k) _ _ m (omega arith) (omega (arith, m .long)) refl (c .swapped .ensures ∙ ap (swap (turn .before .args .hi) (turn .before .args .lo)) (m .above (b .k) (omega arith))),
+    )
 
 returns : tie.Need-returns Inv-loop μ-loop
-returns c = λ l. filled-relabelled _ _ _ _ _ (c .before .loop .inv l) (c .loop-test .left)
+returns c = λ l. let m = c .before .loop .inv .1 l in record { long = m .long; is = λ i h. m .inside i (omega arith) (omega arith) }
 
 pub relabel-spec : {M : Type 1} → statement M
 relabel-spec =
