@@ -128,6 +128,39 @@ fn a_run_out_of_order() {
     }
 }
 
+/// Words that no run left: a channel of the outside whose provided end nobody holds. It is a channel given up, of which no step tells: each end is held at most once, so the words are a run,
+/// the number stays open until a start, and what else there is goes on.
+#[test]
+fn a_channel_without_a_provider() {
+    // where a run has the number of its processes, that of the outside's channels, and these, two words each
+    const PROCESSES: usize = 0;
+    const CHANNELS: usize = 2;
+    const OUTSIDE: usize = 16;
+    let mut script = Script::check(b"proc m (x : 1, y : 1) [] = send x (); send y ()\nexec m\n", scratch()).unwrap();
+    let started = Run::start(&mut script, 0, vec![0; RUN_WORDS]).unwrap().words().to_vec();
+    let mut deserted = started.clone();
+    deserted[PROCESSES] = 0;
+    let mut run = Run::resume(deserted);
+    assert_eq!(run.places(&mut script).unwrap().to_string(), "0 processes");
+    assert_eq!(run.step(&mut script, 0).unwrap_err().reason(), Some(Reason::NoProcess));
+    assert_eq!(run.run_on(&mut script, 9).unwrap().to_string(), "0 steps, done");
+    assert_eq!(run.report(&mut script).unwrap().numbers(), [0, 1]);
+    let mut words = {
+        let mut run = Run::resume(started.clone());
+        assert_eq!(run.run_on(&mut script, 9).unwrap().to_string(), "1 steps, seen, #0 ()");
+        run.words().to_vec()
+    };
+    words[CHANNELS] = started[CHANNELS];
+    words[OUTSIDE..OUTSIDE + 4].copy_from_slice(&started[OUTSIDE..OUTSIDE + 4]);
+    let mut run = Run::resume(words);
+    assert_eq!(run.report(&mut script).unwrap().numbers(), [0, 1]);
+    assert_eq!(run.run_on(&mut script, 9).unwrap().to_string(), "1 steps, seen, #1 ()");
+    assert_eq!(run.run_on(&mut script, 9).unwrap().to_string(), "1 steps, done");
+    assert_eq!(run.report(&mut script).unwrap().numbers(), [0]);
+    run.restart(&mut script, 0).unwrap();
+    assert_eq!(run.report(&mut script).unwrap().numbers(), [0, 1]);
+}
+
 #[test]
 fn a_run_that_is_kept() {
     let mut script = Script::check(TEXT, scratch()).unwrap();

@@ -1,4 +1,4 @@
--- The scope's number and values for each case of the answers: the refusal's number, 0 where there is none, and what is given, in this order.
+-- For each case of an answer, as the scope asks, a refusal's number (0 where there is none) and values: a refusal's offset, or what is given.
 use Prim.Native.Nat.{ℕ}
 use mathlib.Core.List.{List, [], _∷_}
 use mathlib.Core.Bool.{Bool, true, false}

@@ -8,13 +8,13 @@ use lib.Dec.{ltb}
 use Rattle.notation.specs.Limits.{heldLimit}
 use Rattle.notation.specs.Bytes.{same}
 use Rattle.notation.specs.Tree.{Name, Located, Ty, Alternatives, Proc, empty, sendUnit, sendChannel, sendLabel, cancel, spawn, recvUnit, recvChannel, recvLabel, fwd, call, raise, try, Branches, branch, Declaration, declareType, declareProc, declareExec, plain}
-use Rattle.calculus.specs.Named.{lookup, without, names, isSome, all, distinct}
+use Rattle.calculus.specs.Named.{lookup, without, names, isSome, every, distinct}
 use Rattle.calculus.specs.Types.{Side, provided, used, other, sameSide, shape, atLeaf, passing, choosing, labelled}
 use Rattle.calculus.specs.SameType.{sameType}
 use Rattle.calculus.specs.Program.{Slot, slot, Context, Program, signatureContext, entries, programOf}
 use Rattle.calculus.specs.Declarations.{channels, isNil}
 use Rattle.calculus.specs.Mentions.{spawnTakes, spawnLeaves, tryTakes, neverBoth, exactlyOne}
-use Rattle.calculus.specs.Typing.{acting, retyped, bringing, namesOf, withoutAll}
+use Rattle.calculus.specs.Typing.{acting, retyped, bringing, namesOf}
 use Rattle.calculus.specs.Verdict.{Verdict, fine, refused, andThen, demand, having}
 
 -- a name may join H where G is held: 15 otherwise
@@ -42,6 +42,11 @@ listFits p G s [] [] = true
 listFits p G s [] (e ∷ es) = false
 listFits p G s (a ∷ ns) [] = false
 listFits p G s (a ∷ ns) (e ∷ es) = entryFits p s (e .1) (lookup a G) && listFits p G s ns es
+
+-- what is held beside the names of a list
+unfoldable pub withoutAll : {X : Type 0} → List Name → List (Name × X) → List (Name × X)
+withoutAll [] l = l
+withoutAll (n ∷ ns) l = withoutAll ns (without n l)
 
 unfoldable mutual
   pub check : Program → Context → Proc → Verdict
@@ -93,7 +98,7 @@ unfoldable mutual
       demand 11 at (sameSide (h .side) provided && fitsSlot p used (h .type) e)
       (demand 13 at (isNil (withoutAll (x .name ∷ c .name ∷ []) G)) fine)
   check p G (call at q bracket xs ys) =
-      demand 10 at (all (λ n. isSome (lookup n G)) (namesOf xs ++ namesOf ys))
+      demand 10 at (every (λ n. isSome (lookup n G)) (namesOf xs ++ namesOf ys))
       (having 11 at (lookup (q .name) (p .processes)) λ s.
       demand 11 at (listFits p G provided (namesOf xs) (s .provides) && listFits p G used (namesOf ys) (s .uses))
       (demand 11 at (distinct (namesOf xs ++ namesOf ys))

@@ -1,4 +1,5 @@
--- Refusals 6 to 9: four passes over the whole text, each with the lowest offset where it applies.
+-- Refusals 6 to 9: four passes over the whole text, each with the lowest offset where it applies. That none applies exactly where the declarations are in order (InOrder.antt) is `declared-iff`
+-- (theory_derivations/specs/InOrder.antt).
 use Prim.Native.Nat.{ℕ, zero, suc}
 use mathlib.Core.List.{List, [], _∷_, _++_}
 use mathlib.Core.Bool.{Bool, true, false, cond, not, _&&_, _||_}
@@ -6,9 +7,9 @@ use mathlib.Core.Option.{Option, some, none}
 use lib.ListN.{length}
 use Rattle.notation.specs.Bytes.{same}
 use Rattle.notation.specs.Tree.{Name, Located, Ty, unit, named, tensor, par, lolli, plus, with, Alternatives, alternative, Proc, empty, sendUnit, sendChannel, sendLabel, cancel, spawn, recvUnit, recvChannel, recvLabel, fwd, call, raise, try, Branches, branch, Entry, Declaration, declareType, declareProc, declareExec}
-use Rattle.calculus.specs.Named.{lookup, isSome, any, all}
+use Rattle.calculus.specs.Named.{lookup, isSome, anyOf, every}
 use Rattle.calculus.specs.Program.{Program, Signature, programOf}
-use Rattle.calculus.specs.Verdict.{Verdict, fine, refused, andThen, faults}
+use Rattle.calculus.specs.Verdict.{Verdict, andThen, faults}
 
 -- ── what a declaration has: its types, its process, its names
 abbrev pub gather : {X : Type 0} → (Declaration → List X) → List Declaration → List X
@@ -32,7 +33,7 @@ channels (e ∷ l) = e .channel ∷ channels l
 -- ── 6: "A type, a process, a label of one choice or branch list, or a name of one signature comes twice", at the second of a pair
 unfoldable pub repeats : List Name → List Located → List ℕ
 repeats before [] = []
-repeats before (n ∷ ns) = cond (any (same (n .name)) before) (n .at ∷ repeats before ns) (repeats (n .name ∷ before) ns)
+repeats before (n ∷ ns) = cond (anyOf (same (n .name)) before) (n .at ∷ repeats before ns) (repeats (n .name ∷ before) ns)
 
 abbrev pub choiceLabels : Alternatives Located → List Located
 choiceLabels Alternatives.none = []
@@ -89,14 +90,14 @@ unfoldable pub repeated : List Declaration → List ℕ
 repeated ds = repeats [] (gather typeName ds) ++ (repeats [] (gather processName ds) ++ gather ownRepeats ds)
 
 -- ── 7: "A type or process is not defined"
-abbrev pub unless : {X : Type 0} → List (Name × X) → Located → List ℕ
-unless defined n = cond (isSome (lookup (n .name) defined)) [] (n .at ∷ [])
+abbrev pub unlessDefined : {X : Type 0} → List (Name × X) → Located → List ℕ
+unlessDefined defined n = cond (isSome (lookup (n .name) defined)) [] (n .at ∷ [])
 
 module _ (p : Program) where
   unfoldable mutual
     pub typeUndefined : Ty Located → List ℕ
     typeUndefined unit = []
-    typeUndefined (named n) = unless (p .types) n
+    typeUndefined (named n) = unlessDefined (p .types) n
     typeUndefined (tensor A B) = typeUndefined A ++ typeUndefined B
     typeUndefined (par A B) = typeUndefined A ++ typeUndefined B
     typeUndefined (lolli A B) = typeUndefined A ++ typeUndefined B
@@ -123,7 +124,7 @@ module _ (p : Program) where
     processUndefined (recvChannel at c x P) = processUndefined P
     processUndefined (recvLabel at c B) = branchesUndefined B
     processUndefined (fwd at x c) = []
-    processUndefined (call at q bracket xs ys) = unless (p .processes) q
+    processUndefined (call at q bracket xs ys) = unlessDefined (p .processes) q
     processUndefined (raise at P) = processUndefined P
     processUndefined (try at P Q) = processUndefined P ++ processUndefined Q
 
@@ -134,7 +135,7 @@ module _ (p : Program) where
   abbrev pub ownUndefined : Declaration → List ℕ
   ownUndefined (declareType n A) = typeUndefined A
   ownUndefined (declareProc n xs ys P) = entriesUndefined xs ++ (entriesUndefined ys ++ processUndefined P)
-  ownUndefined (declareExec n) = unless (p .processes) n
+  ownUndefined (declareExec n) = unlessDefined (p .processes) n
 
 unfoldable pub undefined : List Declaration → List ℕ
 undefined ds = gather (ownUndefined (programOf ds)) ds
@@ -162,7 +163,7 @@ bareNames ds = gather ownBareName ds
 unfoldable mutual
   pub hasOther : List Name → Ty Name → Bool
   hasOther bad unit = false
-  hasOther bad (named n) = any (same n) bad
+  hasOther bad (named n) = anyOf (same n) bad
   hasOther bad (tensor A B) = hasOther bad A || hasOther bad B
   hasOther bad (par A B) = true
   hasOther bad (lolli A B) = true
@@ -196,7 +197,7 @@ isNil (x ∷ xs) = false
 
 abbrev pub keepsRule : Program → Option Signature → Bool
 keepsRule p none = true
-keepsRule p (some s) = isNil (s .uses) && all (outward p) (entryTypes (s .provides))
+keepsRule p (some s) = isNil (s .uses) && every (outward p) (entryTypes (s .provides))
 
 abbrev pub breaking : Program → List Located → List ℕ
 breaking p [] = []

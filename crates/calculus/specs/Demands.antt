@@ -7,20 +7,18 @@ use mathlib.Core.Bool.{Bool, true, false}
 use lib.ListN.{length}
 use Rattle.notation.specs.Limits.{scratchWords, runWords}
 use Rattle.notation.specs.Tree.{Name, Declaration}
-use Rattle.notation.specs.Reader.{got}
-use Rattle.notation.specs.Scripts.{readText}
-use Rattle.notation.specs.declared.reading.Cursor.{Cursor}
+use Rattle.grammar.specs.Notation.{Derives}
 use Rattle.calculus.specs.Program.{Signature, Program, programOf}
-use Rattle.calculus.specs.Verdict.{fine}
-use Rattle.calculus.specs.Declarations.{declared}
+use Rattle.calculus.specs.InOrder.{InOrder}
 use Rattle.calculus.specs.Typing.{TypedBody}
 use Rattle.calculus.specs.Accepted.{accepted, checked}
 use Rattle.calculus.specs.Configuration.{Config, halt}
 use Rattle.calculus.specs.Runs.{runOn}
 use Rattle.calculus.specs.Forest.{joints}
-use Rattle.calculus.specs.WellFormed.{WellFormed, In}
+use Rattle.calculus.specs.Named.{In}
+use Rattle.calculus.specs.WellFormed.{WellFormed}
 use Rattle.calculus.specs.Reduces.{Reduces, Halts, Lacks, Open}
-use Rattle.calculus.specs.Machine.{Call, callStart, callStep, callRunOn, callReport, callPlaces, callExecName, Answer, started, stepped, ranOn, reported, surveyed, named, Reply, reply, Exchange, respond, idle, history}
+use Rattle.calculus.specs.Machine.{Call, callStart, callStep, callRunOn, callReport, callPlaces, callExecName, Answer, started, stepped, ranOn, reported, surveyed, nameGiven, Reply, reply, Exchange, respond, idle, history}
 use Rattle.calculus.specs.declared.answers.Seen.{Seen}
 use Rattle.calculus.specs.declared.answers.Started.the-variants as Starts
 use Rattle.calculus.specs.declared.answers.Stepped.the-variants as Steps
@@ -33,11 +31,10 @@ use Rattle.calculus.specs.declared.answers.Surveyed.the-variants as Surv
 abbrev pub Derivation : List Declaration → Type 0
 Derivation ds = (n : Name) (s : Signature) → In (n, s) (programOf ds .processes) → TypedBody (programOf ds) s
 
--- the text is a script in the notation, its declarations are in order, and it has a derivation
+-- the rules of the notation derive the script from the text, its declarations are in order, and it has a derivation
 pub record Derivable (text : List ℕ) (ds : List Declaration) : Type 0 where
-  pub cursor : Cursor
-  pub read : readText text ≡ got ds cursor
-  pub declarations : declared ds ≡ fine
+  pub script : Derives text ds
+  pub declarations : InOrder ds
   pub derivation : Derivation ds
 
 -- lengths that pass refusals 1 and 16
@@ -94,8 +91,8 @@ isRefused (reported (Reports.Open n) l) = false
 isRefused (reported (Reports.Refused n i) l) = true
 isRefused (surveyed (Surveys.Processes n) l) = false
 isRefused (surveyed (Surveys.Refused n i) l) = true
-isRefused (named l ℕ.zero i) = false
-isRefused (named l (ℕ.suc n) i) = true
+isRefused (nameGiven l ℕ.zero i) = false
+isRefused (nameGiven l (ℕ.suc n) i) = true
 
 abbrev pub lengths : Call → Type 0
 lengths (callStart scratch run line) = Enough scratch run

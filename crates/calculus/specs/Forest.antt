@@ -5,13 +5,13 @@ use mathlib.Core.List.{List, [], _∷_, _++_}
 use mathlib.Core.Option.{Option, some, none}
 use Rattle.notation.specs.Tree.{Name}
 use Rattle.calculus.specs.Types.{Side, provided, used}
-use Rattle.calculus.specs.Configuration.{End, Process, Config, Holder, Far, atProcess, atOutside, givenUp, farEnd}
+use Rattle.calculus.specs.Configuration.{End, Process, Config, Far, atProcess, atOutside, givenUp, farEnd}
 
 -- a joint (the scope's term), by the places of the two processes that it joins
 abbrev pub Joint : Type 0
 Joint = ℕ × ℕ
 
--- `Connected J x y`: one can walk from x to y over joints of J, each walked at most once
+-- `Connected J x y`: one can walk from x to y over joints of J, either way
 pub data Connected : List Joint → ℕ → ℕ → Type 0 where
   here : {x y : ℕ} → x ≡ y → Connected [] x y
   past : {j : Joint} {J : List Joint} {x y : ℕ} → Connected J x y → Connected (j ∷ J) x y
@@ -31,7 +31,7 @@ jointAt i provided (atOutside n) = []
 jointAt i provided givenUp = []
 jointAt i used f = []
 
--- the channels of which a process holds the provided end
+-- the joints of the channels of which a process holds the provided end
 abbrev pub channelJoints : Config → ℕ → List (Name × End) → List Joint
 channelJoints C i [] = []
 channelJoints C i (e ∷ l) = jointAt i (e .1 .side) (farEnd C (e .1)) ++ channelJoints C i l

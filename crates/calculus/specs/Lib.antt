@@ -7,7 +7,10 @@ pub mod SameType
 pub mod Verdict
 pub mod Declarations
 pub mod Mentions
+pub mod Mentioned
+pub mod Outward
 pub mod Typing
+pub mod InOrder
 pub mod Checking
 pub mod Accepted
 pub mod Configuration

@@ -39,7 +39,7 @@ pub data Answer : Type 0 where
   ranOn : RanOn → Answer
   reported : Reported → List ℕ → Answer
   surveyed : Surveyed → List ℕ → Answer
-  named : List ℕ → ℕ → ℕ → Answer
+  nameGiven : List ℕ → ℕ → ℕ → Answer
 
 -- an answer and the configuration afterwards
 pub record Reply : Type 0 where
@@ -90,7 +90,7 @@ refusal C (callStep scratch run place) n i = reply (stepped (Steps.Refused n i))
 refusal C (callRunOn scratch run budget) n i = reply (ranOn (Runs.Refused n i)) C
 refusal C (callReport scratch run) n i = reply (reported (Reports.Refused n i) []) C
 refusal C (callPlaces scratch run) n i = reply (surveyed (Surveys.Refused n i) []) C
-refusal C (callExecName scratch line) n i = reply (named [] n i) C
+refusal C (callExecName scratch line) n i = reply (nameGiven [] n i) C
 
 abbrev pub respondBy : (ℕ → ℕ → Reply) → List ℕ → Config → Call → Reply
 respondBy refuse s C (callStart scratch run line) =
@@ -117,7 +117,7 @@ respondBy refuse s C (callPlaces scratch run) =
     (reply (surveyed (Surveys.Processes (length (places p C))) (places p C)) C)
 respondBy refuse s C (callExecName scratch line) =
     onProgram (textChecked s scratch) refuse λ p.
-    onLine (getElem? (p .execs) line) refuse λ n. reply (named (n .name) 0 0) C
+    onLine (getElem? (p .execs) line) refuse λ n. reply (nameGiven (n .name) 0 0) C
 
 -- "A start carried out begins the run anew, a step applies its rule, run-on does so step by step; a call is refused by the refusal list .. and changes nothing."
 unfoldable pub respond : List ℕ → Config → Call → Reply

@@ -1,9 +1,10 @@
--- Which names a process mentions, and so which held channels a half takes.
+-- Which names a process mentions, and so which held channels a half takes: the tests that `check` makes, and by which a step divides what is held.
+-- They need not be believed: laws say that they are exact (theory_derivations/specs/Mentioned.antt, Halves.antt).
 use mathlib.Core.List.{List, [], _∷_}
-use mathlib.Core.Bool.{Bool, true, false, not, _&&_, _||_, cond}
+use mathlib.Core.Bool.{Bool, false, not, _&&_, _||_, cond}
 use Rattle.notation.specs.Bytes.{same}
 use Rattle.notation.specs.Tree.{Name, Located, Proc, empty, sendUnit, sendChannel, sendLabel, cancel, spawn, recvUnit, recvChannel, recvLabel, fwd, call, raise, try, Branches, branch}
-use Rattle.calculus.specs.Named.{kept, any, all}
+use Rattle.calculus.specs.Named.{kept, every}
 
 abbrev pub is : Name → Located → Bool
 is n c = same n (c .name)
@@ -51,8 +52,8 @@ module _ {X : Type 0} where
 
 -- "None is mentioned in both": of a spawn's halves
 unfoldable pub neverBoth : Name → Proc → Proc → List Name → Bool
-neverBoth x P Q held = all (λ n. not (halfMentions x P n && halfMentions x Q n)) held
+neverBoth x P Q held = every (λ n. not (halfMentions x P n && halfMentions x Q n)) held
 
 -- "each held channel is mentioned in exactly one": of a try's halves
 unfoldable pub exactlyOne : Proc → Proc → List Name → Bool
-exactlyOne P Q held = all (λ n. cond (mentions P n) (not (mentions Q n)) (mentions Q n)) held
+exactlyOne P Q held = every (λ n. cond (mentions P n) (not (mentions Q n)) (mentions Q n)) held

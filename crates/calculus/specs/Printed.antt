@@ -18,7 +18,6 @@ use Rattle.calculus.specs.Types
 use Rattle.calculus.specs.Verdict.{faults}
 use Rattle.calculus.specs.Declarations
 use Rattle.calculus.specs.Mentions
-use Rattle.calculus.specs.Typing
 use Rattle.calculus.specs.Checking
 use Rattle.calculus.specs.Configuration
 use Rattle.calculus.specs.Steps
@@ -108,5 +107,5 @@ printedOf s (faulty n at) = line (bytes "refused " ++ (decimal n ++ (bytes " at 
 
 -- to unfold it is to unfold all that it is made of, so that it computes
 unfoldable pub printed : List ℕ → List ℕ
-unfolding readNow plain Named.lookup Named.without Named.changed Named.kept Named.names Named.distinct trees.labelled asking.one-more asking.meet asking.asked-words asking.asked-pairs asking.asked-choices asking.asked lists.in? lists.without lists.row lists.square deciding.unvisited deciding.then-done deciding.all deciding.visited deciding.parts deciding.look deciding.turn deciding.visit deciding.compared deciding.equal? SameType.parts SameType.declaredParts SameType.sameType Types.passing Types.choosing Types.labelled programOf faults Declarations.repeats Declarations.typeRepeats Declarations.processRepeats Declarations.repeated Declarations.typeUndefined Declarations.processUndefined Declarations.undefined Declarations.bareNames Declarations.hasOther Declarations.reachOther Declarations.outward Declarations.wrongExecs Declarations.declared Mentions.mentions Mentions.halfMentions Mentions.spawnTakes Mentions.spawnLeaves Mentions.tryTakes Mentions.neverBoth Mentions.exactlyOne Typing.withoutAll Checking.listFits Checking.fitting Checking.check Checking.typed checked Configuration.heldAs Configuration.holderFrom Configuration.outsideOf Configuration.farEnd Configuration.channelsHeld Configuration.freshChannel Configuration.inserted Configuration.removed Configuration.letGo Configuration.changedOutside Steps.afterMessage Steps.afterSend Steps.afterReceive Steps.parting Steps.send Steps.receive Steps.cancelling Steps.spawning Steps.trying Steps.calling Steps.raising Steps.movedEnd Steps.forwarding Steps.leaving Steps.foldingUp Steps.stepTerm Steps.step Warnings.leftOut Warnings.missing Warnings.warnings Runs.startConfig Runs.execOf Runs.firstFrom Runs.choosePlace Runs.runFrom Runs.runOn digits sighting runLines
+unfolding readNow plain Named.lookup Named.without Named.changed Named.kept Named.names Named.distinct trees.labelled asking.one-more asking.meet asking.asked-words asking.asked-pairs asking.asked-choices asking.asked lists.in? lists.without lists.row lists.square deciding.unvisited deciding.then-done deciding.visitAll deciding.visited deciding.parts deciding.look deciding.turn deciding.visit deciding.compared deciding.equal? SameType.parts SameType.declaredParts SameType.sameType Types.passing Types.choosing Types.labelled programOf faults Declarations.repeats Declarations.typeRepeats Declarations.processRepeats Declarations.repeated Declarations.typeUndefined Declarations.processUndefined Declarations.undefined Declarations.bareNames Declarations.hasOther Declarations.reachOther Declarations.outward Declarations.wrongExecs Declarations.declared Mentions.mentions Mentions.halfMentions Mentions.spawnTakes Mentions.spawnLeaves Mentions.tryTakes Mentions.neverBoth Mentions.exactlyOne Checking.withoutAll Checking.listFits Checking.fitting Checking.check Checking.typed checked Configuration.heldAs Configuration.holderFrom Configuration.outsideOf Configuration.farEnd Configuration.channelsHeld Configuration.freshChannel Configuration.inserted Configuration.removed Configuration.letGo Configuration.changedOutside Steps.afterMessage Steps.afterSend Steps.afterReceive Steps.parting Steps.send Steps.receive Steps.cancelling Steps.spawning Steps.trying Steps.calling Steps.raising Steps.movedEnd Steps.forwarding Steps.leaving Steps.foldingUp Steps.stepTerm Steps.step Warnings.leftOut Warnings.missing Warnings.warnings Runs.startConfig Runs.execOf Runs.firstFrom Runs.choosePlace Runs.runFrom Runs.runOn digits sighting runLines
 printed s = printedOf s (checked s)

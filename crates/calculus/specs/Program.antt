@@ -1,8 +1,7 @@
 -- The declarations of a script by their names: what typing and running look things up in.
-use Prim.Native.Nat.{ℕ}
-use mathlib.Core.List.{List, [], _∷_, _++_, map}
-use mathlib.Core.Option.{Option, some, none}
+use mathlib.Core.List.{List, [], _∷_, _++_}
 use Rattle.notation.specs.Tree.{Name, Located, Ty, Proc, Entry, Declaration, declareType, declareProc, declareExec, plain}
+use Rattle.calculus.specs.Named.{In, names}
 use Rattle.calculus.specs.Types.{Side, provided, used}
 
 -- a held channel as typing sees it: its side and its type
@@ -16,6 +15,10 @@ slot s A = record { side = s; type = A }
 -- "A process holds channels": a context, oldest first
 abbrev pub Context : Type 0
 Context = List (Name × Slot)
+
+-- a channel of that name is held
+abbrev pub Held : Name → Context → Type 0
+Held n G = In n (names G)
 
 -- what a process provides and uses, and its body
 pub record Signature : Type 0 where

@@ -7,7 +7,8 @@ use mathlib.Core.List.{List, [], _∷_, map, List·Memᴰ·head, List·Memᴰ·t
 use Rattle.calculus.specs.Program.{Program}
 use Rattle.calculus.specs.Configuration.{Outside, Config}
 use Rattle.calculus.specs.Runs.{report}
-use Rattle.calculus.specs.WellFormed.{In, Rising, WellFormed}
+use Rattle.calculus.specs.Named.{In}
+use Rattle.calculus.specs.WellFormed.{Rising, WellFormed}
 
 -- one of these channels bears the number
 pub record Bears (l : List Outside) (n : ℕ) : Type 0 where

@@ -37,15 +37,15 @@ unfoldable pub execOf : Program → ℕ → Option Signature
 execOf p line = lineSignature p (getElem? (p .execs) line)
 
 -- ── "Run-on takes the first open place that can be carried out": one that halts the run too
-abbrev pub isCarried : Outcome → Bool
-isCarried (carried s D) = true
-isCarried uncaught = true
-isCarried notOpen = false
-isCarried lacking = false
+abbrev pub isTaken : Outcome → Bool
+isTaken (carried s D) = true
+isTaken uncaught = true
+isTaken notOpen = false
+isTaken lacking = false
 
 unfoldable pub firstFrom : Program → Config → ℕ → List Process → Option ℕ
 firstFrom p C i [] = none
-firstFrom p C i (q ∷ l) = let r = firstFrom p C (suc i) l in cond (isCarried (step p C i)) (some i) r
+firstFrom p C i (q ∷ l) = let r = firstFrom p C (suc i) l in cond (isTaken (step p C i)) (some i) r
 
 -- run-on's choice of place
 unfoldable pub choosePlace : Program → Config → Option ℕ

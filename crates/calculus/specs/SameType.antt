@@ -10,7 +10,7 @@ use Rattle.trees.specs.Decide.{equal?}
 use Rattle.notation.proofs.ByteTables.{same→eq}
 use Rattle.notation.specs.Bytes.{same}
 use Rattle.notation.specs.Tree.{Name, Ty, unit, named, tensor, par, lolli, plus, with, Alternatives, alternative, Ty-discrete}
-use Rattle.calculus.specs.Types.{Shape, leaf, word, pair, choice, shape, standing}
+use Rattle.calculus.specs.Types.{Shape, leaf, word, pair, choice, shape, unfolded}
 
 -- ── a type as a tree: its head is that of what its name stands for
 abbrev pub rows : Alternatives Name → List (Name × Ty Name)
@@ -24,7 +24,7 @@ headBy (pair k A B) = trees.pair k A B
 headBy (choice k r) = trees.choice k (rows r)
 
 abbrev pub headOf : List (Name × Ty Name) → Ty Name → Head Name (Ty Name)
-headOf types A = headBy (shape (standing types A))
+headOf types A = headBy (shape (unfolded types A))
 
 -- ── the parts of a type, itself among them; those of all declared types
 unfoldable mutual

@@ -9,7 +9,7 @@ use Rattle.notation.specs.Limits.{processPlaces, outsideNumbers}
 use Rattle.notation.specs.Bytes.{same}
 use Rattle.notation.specs.Tree.{Name, Located, Ty, Proc, empty, sendUnit, sendChannel, sendLabel, cancel, spawn, recvUnit, recvChannel, recvLabel, fwd, call, raise, try, Branches, branch, plain}
 use Rattle.calculus.specs.Named.{lookup, without, changed}
-use Rattle.calculus.specs.Types.{Side, provided, used, other, sameSide, standing, Passing, passing, Choosing, choosing, labelled}
+use Rattle.calculus.specs.Types.{Side, provided, used, other, sameSide, unfolded, Passing, passing, Choosing, choosing, labelled}
 use Rattle.calculus.specs.Program.{Slot, Context, Signature, Program, signatureContext}
 use Rattle.calculus.specs.Mentions.{spawnTakes, spawnLeaves, tryTakes}
 use Rattle.calculus.specs.Typing.{namesOf}
@@ -78,8 +78,8 @@ afterChoosing A l (some t) = Option·getD (labelled l (t .labels)) A
 
 unfoldable pub afterMessage : Program → Message → Ty Name → Ty Name
 afterMessage p closing A = A
-afterMessage p (passes a) A = afterPassing A (passing (standing (p .types) A))
-afterMessage p (chooses l) A = afterChoosing A (l .name) (choosing (standing (p .types) A))
+afterMessage p (passes a) A = afterPassing A (passing (unfolded (p .types) A))
+afterMessage p (chooses l) A = afterChoosing A (l .name) (choosing (unfolded (p .types) A))
 
 -- the channel of name c, once the message m has gone over it: in its place, of the type that is then left; for a process, and for the outside
 abbrev pub onward : Program → Message → Name → List (Name × End) → List (Name × End)
@@ -94,7 +94,7 @@ passedType B none = B
 passedType B (some t) = t .what
 
 abbrev pub comesOver : Program → Ty Name → End → End
-comesOver p A d = ofType (passedType (d .type) (passing (standing (p .types) A))) d
+comesOver p A d = ofType (passedType (d .type) (passing (unfolded (p .types) A))) d
 
 -- the sender's channels afterwards: a closed channel is dropped, a passed one is gone
 unfoldable pub afterSend : Program → Name → Message → List (Name × End) → List (Name × End)
@@ -110,13 +110,13 @@ branchOf l (branch m P B) = cond (same l (m .name)) (some P) (branchOf l B)
 pub data Received : Type 0 where
   takes : Process → Received
   leavesOut : Process → Received
-  refuses : Received
+  unwanted : Received
 
 -- c is the receiver's own name for the channel, d the end that is passed
 abbrev pub takesClose : Wanted → Name → Process → Received
 takesClose (onClose P) c q = takes (goesOn q P (without c (q .held)))
-takesClose (onChannel x P) c q = refuses
-takesClose (onLabel B) c q = refuses
+takesClose (onChannel x P) c q = unwanted
+takesClose (onLabel B) c q = unwanted
 
 -- x is the end d that came over the receiver's own end e
 abbrev pub bound : Program → Name → Option End → Option End → List (Name × End)
@@ -125,9 +125,9 @@ bound p x (some e) none = []
 bound p x (some e) (some d) = (x, comesOver p (e .type) d) ∷ []
 
 abbrev pub takesChannel : Program → Located → Wanted → Name → Option End → Process → Received
-takesChannel p a (onClose P) c d q = refuses
+takesChannel p a (onClose P) c d q = unwanted
 takesChannel p a (onChannel x P) c d q = takes (goesOn q P (onward p (passes a) c (q .held) ++ bound p (x .name) (lookup c (q .held)) d))
-takesChannel p a (onLabel B) c d q = refuses
+takesChannel p a (onLabel B) c d q = unwanted
 
 -- either way it has l from now on: its own end is of the type of the label
 abbrev pub byBranch : Option Proc → Process → List (Name × End) → Received
@@ -135,8 +135,8 @@ byBranch none q l = leavesOut (foldsUp q l)
 byBranch (some P) q l = takes (goesOn q P l)
 
 abbrev pub takesLabel : Program → Located → Wanted → Name → Process → Received
-takesLabel p l (onClose P) c q = refuses
-takesLabel p l (onChannel x P) c q = refuses
+takesLabel p l (onClose P) c q = unwanted
+takesLabel p l (onChannel x P) c q = unwanted
 takesLabel p l (onLabel B) c q = byBranch (branchOf (l .name) B) q (onward p (chooses l) c (q .held))
 
 unfoldable pub afterReceive : Program → Message → Wanted → Name → Option End → Process → Received
@@ -197,7 +197,7 @@ caughtBy (some h) C i q = carried Nothing (handlerStarts i q C)
 abbrev pub bothTo : Config → ℕ → Process → ℕ → Received → Outcome
 bothTo C i p′ j (takes q′) = carried Nothing (replaced j q′ (replaced i p′ C))
 bothTo C i p′ j (leavesOut q′) = caughtBy (q′ .link) (replaced i p′ C) j q′
-bothTo C i p′ j refuses = notOpen
+bothTo C i p′ j unwanted = notOpen
 
 abbrev pub meeting : Program → Config → ℕ → Process → Process → Message → Holder → Turn → Outcome
 meeting p C i q q′ m h (sends c′ m′ P) = notOpen
@@ -264,10 +264,6 @@ receiving p C i q c givenUp = carried Nothing (handlerStarts i (foldsUp q (witho
 unfoldable pub receive : Program → Config → ℕ → Process → Located → Outcome
 receive p C i q c = onHeld (lookup (c .name) (q .held)) λ e. receiving p C i q (c .name) (farEnd C e)
 
--- ── alone: cancel
-unfoldable pub cancelling : Config → ℕ → Process → Located → Proc → Outcome
-cancelling C i q c P = onHeld (lookup (c .name) (q .held)) λ e. parting C i (goesOn q P (without (c .name) (q .held))) e
-
 -- ── alone: spawn. "A spawn's new process is P"
 abbrev pub placeFor : Config → Outcome → Outcome
 placeFor C r = cond (ltb (length (C .processes)) processPlaces) r lacking
@@ -310,6 +306,10 @@ entering C i q ns (some s) = carried Nothing (replaced i (goesOn q (s .body) (re
 
 unfoldable pub calling : Program → Config → ℕ → Process → Located → List Located → List Located → Outcome
 calling p C i q f xs ys = entering C i q (namesOf xs ++ namesOf ys) (lookup (f .name) (p .processes))
+
+-- ── alone: cancel
+unfoldable pub cancelling : Config → ℕ → Process → Located → Proc → Outcome
+cancelling C i q c P = onHeld (lookup (c .name) (q .held)) λ e. parting C i (goesOn q P (without (c .name) (q .held))) e
 
 -- ── alone: raise. "the handler starts"; "a raise without a link halts the run"
 unfoldable pub raising : Config → ℕ → Process → Proc → Outcome

@@ -21,7 +21,7 @@ sameSide provided used = false
 sameSide used provided = false
 sameSide used used = true
 
--- a type by its mark: one view for what treats the marks alike
+-- a type by its mark: one view for what treats the marks alike. The number is the mark's in a node of the tables: 2 for *, 3 for @, 4 for -o, 5 for +, 6 for &.
 pub data Shape : Type 0 where
   leaf : Shape
   word : Name → Shape
@@ -44,14 +44,14 @@ atLeaf (pair k A B) = false
 atLeaf (choice k r) = false
 
 -- "A name stands for its definition when a send or recv acts on its channel."
-abbrev pub standing : List (Name × Ty Name) → Ty Name → Ty Name
-standing types unit = unit
-standing types (named n) = Option·getD (lookup n types) (named n)
-standing types (tensor A B) = tensor A B
-standing types (par A B) = par A B
-standing types (lolli A B) = lolli A B
-standing types (plus r) = plus r
-standing types (with r) = with r
+abbrev pub unfolded : List (Name × Ty Name) → Ty Name → Ty Name
+unfolded types unit = unit
+unfolded types (named n) = Option·getD (lookup n types) (named n)
+unfolded types (tensor A B) = tensor A B
+unfolded types (par A B) = par A B
+unfolded types (lolli A B) = lolli A B
+unfolded types (plus r) = plus r
+unfolded types (with r) = with r
 
 -- a channel that goes over another: the side of c that sends it, its own side, its type, and the type of c afterwards
 pub record Passing : Type 0 where

@@ -2,25 +2,24 @@
 -- `TypedBy equal p G P`: with the channels of G held, oldest first, P is typed in the program p, where `equal` says which types are equal; `Typed p G P`: where they are one. Whether a process has a link does not count: that is found when it runs.
 use Prim.Native.Nat.{ℕ, _≤_, _<_}
 use mathlib.Core.Path.{_≡_}
+use mathlib.Core.Logic.{_≢_, _⊎_}
 use mathlib.Core.List.{List, [], _∷_, _++_}
-use mathlib.Core.Bool.{true, false}
 use mathlib.Core.Option.{Option, some, none, Option·map}
 use lib.ListN.{length}
 use Rattle.notation.specs.Limits.{heldLimit}
-use Rattle.notation.specs.Bytes.{same}
 use Rattle.notation.specs.Tree.{Name, Located, Ty, unit, Alternatives, Proc, empty, sendUnit, sendChannel, sendLabel, cancel, spawn, recvUnit, recvChannel, recvLabel, fwd, call, raise, try, Branches, branch, plain}
-use Rattle.calculus.specs.Named.{lookup, without, changed, names, isSome, distinct}
-use Rattle.calculus.specs.Types.{Side, provided, used, other, standing, Passing, passing, Choosing, choosing, labelled}
-use Rattle.calculus.specs.Program.{Slot, slot, Context, Signature, Program, signatureContext}
+use Rattle.calculus.specs.Named.{NoneTwice, Permuted, lookup, without, changed, names, Kept}
+use Rattle.calculus.specs.Types.{Side, provided, used, other, unfolded, Passing, passing, Choosing, choosing, labelled}
+use Rattle.calculus.specs.Program.{Slot, slot, Context, Held, Signature, Program, signatureContext}
 use Rattle.calculus.specs.OneType.{OneType}
-use Rattle.calculus.specs.Mentions.{spawnTakes, spawnLeaves, tryTakes, neverBoth, exactlyOne}
+use Rattle.calculus.specs.Mentioned.{Mentions, HalfMentions}
 
 -- a held channel as a send or recv acts on it: a name stands for its definition
-abbrev pub defined : Program → Slot → Slot
-defined p s = slot (s .side) (standing (p .types) (s .type))
+abbrev pub unfoldedSlot : Program → Slot → Slot
+unfoldedSlot p s = slot (s .side) (unfolded (p .types) (s .type))
 
 abbrev pub acting : Program → Name → Context → Option Slot
-acting p c G = Option·map (defined p) (lookup c G)
+acting p c G = Option·map (unfoldedSlot p) (lookup c G)
 
 -- c : A from here on, in its place: "a send or recv on c leaves c's age"
 abbrev pub retyped : Name → Ty Name → Context → Context
@@ -35,10 +34,9 @@ abbrev pub namesOf : List Located → List Name
 namesOf [] = []
 namesOf (n ∷ ns) = n .name ∷ namesOf ns
 
--- what is held beside the names of a list
-unfoldable pub withoutAll : {X : Type 0} → List Name → List (Name × X) → List (Name × X)
-withoutAll [] l = l
-withoutAll (n ∷ ns) l = withoutAll ns (without n l)
+-- "no other channel held": the names held are those of the list, in whatever order
+abbrev pub NoOtherHeld : List Name → Context → Type 0
+NoOtherHeld ns G = Permuted (names G) ns
 
 -- "A name brought in differs from those held there", and, by a limit of the notation, no 17th channel is held: G is what is held there, H what the new name joins
 pub record Brought (x : Name) (G H : Context) : Type 0 where
@@ -68,7 +66,7 @@ mutual
         → TypedBy equal p G (recvUnit at c P)
     -- `send c a`, a not c: c : A * B provided, a : A used; or c : A @ B used, a : A provided; or c : A -o B used, a : A used. Afterwards a is gone and c : B.
     sends-channel : {G : Context} {at : ℕ} {c a : Located} {P : Proc} (T A : Ty Name) (t : Passing)
-        → same (c .name) (a .name) ≡ false
+        → c .name ≢ a .name
         → passing T ≡ some t
         → acting p (c .name) G ≡ some (slot (t .sender) T)
         → lookup (a .name) G ≡ some (slot (t .side) A)
@@ -100,29 +98,33 @@ mutual
         → lookup (x .name) G ≡ some (slot provided A)
         → lookup (c .name) G ≡ some (slot used B)
         → equal A B
-        → withoutAll (x .name ∷ c .name ∷ []) G ≡ []
+        → NoOtherHeld (x .name ∷ c .name ∷ []) G
         → TypedBy equal p G (fwd at x c)
     -- `call`: lists fit in number, side and type; no name twice; no other channel held; a link stays with the process.
     calls : {G : Context} {at bracket : ℕ} {q : Located} {xs ys : List Located} (s : Signature)
         → lookup (q .name) (p .processes) ≡ some s
         → ListFits equal G provided (namesOf xs) (s .provides)
         → ListFits equal G used (namesOf ys) (s .uses)
-        → distinct (namesOf xs ++ namesOf ys) ≡ true
-        → withoutAll (namesOf xs ++ namesOf ys) G ≡ []
+        → NoneTwice (namesOf xs ++ namesOf ys)
+        → NoOtherHeld (namesOf xs ++ namesOf ys) G
         → TypedBy equal p G (call at q bracket xs ys)
     -- `x : A <- (P); Q`: P takes the held channels it mentions and provides x, without link; Q takes the rest, the link, and uses x. None is mentioned in both.
-    spawns : {G : Context} {x : Located} {A : Ty Located} {P Q : Proc}
-        → neverBoth (x .name) P Q (names G) ≡ true
-        → Brought (x .name) G (spawnTakes (x .name) P G)
-        → Brought (x .name) G (spawnLeaves (x .name) P G)
-        → TypedBy equal p (bringing (x .name) (slot provided (plain A)) (spawnTakes (x .name) P G)) P
-        → TypedBy equal p (bringing (x .name) (slot used (plain A)) (spawnLeaves (x .name) P G)) Q
+    spawns : {G : Context} {x : Located} {A : Ty Located} {P Q : Proc} (H K : Context)
+        → Kept (HalfMentions (x .name) P) G H
+        → Kept (λ n. ¬ HalfMentions (x .name) P n) G K
+        → ((n : Name) → Held n G → ¬ (HalfMentions (x .name) P n × HalfMentions (x .name) Q n))
+        → Brought (x .name) G H
+        → Brought (x .name) G K
+        → TypedBy equal p (bringing (x .name) (slot provided (plain A)) H) P
+        → TypedBy equal p (bringing (x .name) (slot used (plain A)) K) Q
         → TypedBy equal p G (spawn x A P Q)
     -- `try (P) catch (Q)`: each half takes what it mentions; each held channel is mentioned in exactly one. P gets a new link, Q the old.
-    tries : {G : Context} {at : ℕ} {P Q : Proc}
-        → exactlyOne P Q (names G) ≡ true
-        → TypedBy equal p (tryTakes P G) P
-        → TypedBy equal p (tryTakes Q G) Q
+    tries : {G : Context} {at : ℕ} {P Q : Proc} (H K : Context)
+        → Kept (Mentions P) G H
+        → Kept (Mentions Q) G K
+        → ((n : Name) → Held n G → (Mentions P n × ¬ Mentions Q n) ⊎ (¬ Mentions P n × Mentions Q n))
+        → TypedBy equal p H P
+        → TypedBy equal p K Q
         → TypedBy equal p G (try at P Q)
     -- `raise P`: P goes on.
     raises : {G : Context} {at : ℕ} {P : Proc}
@@ -130,7 +132,7 @@ mutual
         → TypedBy equal p G (raise at P)
     -- `cancel c` drops c.
     cancels : {G : Context} {at : ℕ} {c : Located} {P : Proc}
-        → isSome (lookup (c .name) G) ≡ true
+        → Held (c .name) G
         → TypedBy equal p (without (c .name) G) P
         → TypedBy equal p G (cancel at c P)
     -- An empty process holds no channel; it may hold the link.
@@ -163,4 +165,4 @@ pub record TypedBody (p : Program) (s : Signature) : Type 0 where
 -- what an accepted script gives of the processes that it declares
 pub record Bodies (p : Program) : Type 0 where
   pub typed : (n : Name) (s : Signature) → lookup n (p .processes) ≡ some s → TypedBody p s
-  pub names : (n : Name) (s : Signature) → lookup n (p .processes) ≡ some s → distinct (names (signatureContext s)) ≡ true
+  pub names : (n : Name) (s : Signature) → lookup n (p .processes) ≡ some s → NoneTwice (names (signatureContext s))

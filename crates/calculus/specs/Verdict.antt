@@ -16,12 +16,12 @@ abbrev pub verdictOf : answered.Verdict → Verdict
 verdictOf Fine = fine
 verdictOf (Refused n at) = refused n at
 
--- the first refusal of two in order
+-- of two verdicts in order, the first that is a refusal
 abbrev pub andThen : Verdict → Verdict → Verdict
 andThen fine v = v
 andThen (refused n at) v = refused n at
 
--- refusal n at an offset unless the test passes
+-- refusal n at an offset unless the test passes; then the verdict of what follows
 abbrev pub demand : ℕ → ℕ → Bool → Verdict → Verdict
 demand n at true v = v
 demand n at false v = refused n at
@@ -31,7 +31,7 @@ abbrev pub having : {X : Type 0} → ℕ → ℕ → Option X → (X → Verdict
 having n at none k = refused n at
 having n at (some x) k = k x
 
--- refusal n at the lowest of the offsets where it applies, if any
+-- the lower of two offsets; the lowest of one and more
 abbrev pub lower : ℕ → ℕ → ℕ
 lower i j = cond (ltb j i) j i
 
@@ -39,6 +39,7 @@ abbrev pub lowest : ℕ → List ℕ → ℕ
 lowest i [] = i
 lowest i (j ∷ js) = lowest (lower i j) js
 
+-- refusal n at the lowest of the offsets where it applies, if any
 unfoldable pub faults : ℕ → List ℕ → Verdict
 faults n [] = fine
 faults n (i ∷ is) = refused n (lowest i is)

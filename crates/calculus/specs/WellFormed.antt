@@ -1,29 +1,21 @@
 -- What refusal 18 asks of a configuration, in its words.
 use Prim.Native.Nat.{ℕ, suc, _≤_, _<_}
 use mathlib.Core.Path.{_≡_}
-use mathlib.Core.List.{List, [], _∷_, _++_, map, List·Memᴰ}
+use mathlib.Core.List.{List, [], _∷_, _++_, map}
 use mathlib.Core.Bool.{Bool, true, false}
 use mathlib.Core.Option.{some}
 use lib.ListN.{length}
 use Rattle.notation.specs.Limits.{heldLimit, processPlaces, channelPlaces, outsideNumbers}
 use Rattle.notation.specs.Tree.{Name}
-use Rattle.calculus.specs.Named.{names, distinct}
+use Rattle.calculus.specs.Named.{In, NoneTwice, names}
 use Rattle.calculus.specs.Types.{Side, used}
 use Rattle.calculus.specs.Program.{slot, Context, Program}
-use Rattle.calculus.specs.Declarations.{outward}
+use Rattle.calculus.specs.Outward.{Outward}
 use Rattle.calculus.specs.OneType.{OneType}
 use Rattle.calculus.specs.Typing.{Typed}
 use Rattle.calculus.specs.Configuration.{End, end, Doing, running, folding, waiting, Process, Outside, Config, Stands}
 use Rattle.calculus.specs.Forest.{Forest, joints}
 use Rattle.calculus.specs.Reduces.{Halts}
-
--- membership, and no element twice
-abbrev pub In : {A : Type 0} → A → List A → Type 0
-In a l = List·Memᴰ a l
-
-abbrev pub NoneTwice : {A : Type 0} → List A → Type 0
-NoneTwice [] = Unit {0}
-NoneTwice (x ∷ l) = ¬ In x l × NoneTwice l
 
 -- each number is below the next: no number twice
 abbrev pub Rising : ℕ → List ℕ → Type 0
@@ -59,9 +51,9 @@ key e = (e .channel, e .side)
 -- ── the clauses
 -- "each process is typed by the rules above (one folding up may hold anything)"
 abbrev pub TypedAs : Program → Context → Doing → Type 0
-TypedAs p G (running P) = (distinct (names G) ≡ true) × Typed p G P
+TypedAs p G (running P) = NoneTwice (names G) × Typed p G P
 TypedAs p G folding = Unit {0}
-TypedAs p G (waiting Q) = (distinct (names G) ≡ true) × Typed p G Q
+TypedAs p G (waiting Q) = NoneTwice (names G) × Typed p G Q
 
 abbrev pub isWaiting : Doing → Bool
 isWaiting (running P) = false
@@ -85,7 +77,7 @@ pub record WellFormed (p : Program) (C : Config) : Type 0 where
   -- "the joints form a forest"
   pub forest : Forest (joints C)
   -- "the outside's channels keep the exec rule and bear different numbers", which rise, "all of them given already"
-  pub outside : (o : Outside) → In o (C .outside) → (outward p (o .type) ≡ true) × (o .number < C .given)
+  pub outside : (o : Outside) → In o (C .outside) → Outward p (o .type) × (o .number < C .given)
   pub numbers : Rising 0 (map (λ (o : Outside). o .number) (C .outside))
   -- "and of a halted run one step would halt it, were it not halted"
   pub halt : C .halted ≡ true → WouldHalt C

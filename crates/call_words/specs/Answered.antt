@@ -5,7 +5,7 @@ use mathlib.Core.List.{List, [], _∷_, _++_, append-nil}
 use native.Mathlib.Omega.{arith}
 use lib.ListN.{length, getD, take, length-take}
 use Rattle.calculus.specs.Answers.{seenValues, reportedAs, surveyedAs}
-use Rattle.calculus.specs.Machine.{reported, surveyed, named}
+use Rattle.calculus.specs.Machine.{reported, surveyed, nameGiven}
 use Rattle.calculus.specs.declared.answers.Seen.{Seen}
 use Rattle.calculus.specs.declared.answers.Seen.the-variants.{Nothing, Label, Close, Passed, Cancelled}
 use Rattle.calculus.specs.declared.answers.Reported.the-variants as reports
@@ -53,7 +53,7 @@ module _ (s : List ℕ) (place : ℕ) {n : ℕ} where
       listed-told n (placesCounted (r .answer)) (r .steps) h (sym (ap placesCounted e)) z ∙ sym (ap (λ a. padded (wordsOf s place (surveyed a (take (placesCounted a) (r .steps))))) e)
 
 -- ── a name that is refused
-pub name-refused : (s part : List ℕ) (place number at : ℕ) → (number ≡ 0 → ⊥) → padded (number ∷ asWord at ∷ []) ≡ padded (wordsOf s place (named part number at))
+pub name-refused : (s part : List ℕ) (place number at : ℕ) → (number ≡ 0 → ⊥) → padded (number ∷ asWord at ∷ []) ≡ padded (wordsOf s place (nameGiven part number at))
 unfolding wordsOf
 name-refused s part place zero at z = absurd (z refl)
 name-refused s part place (suc n) at z = refl

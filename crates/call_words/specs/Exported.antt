@@ -4,7 +4,7 @@ use mathlib.Core.Path.{_≡_, refl, _∙_, ap}
 use mathlib.Core.List.{List, _++_}
 use native.Mathlib.Omega.{arith}
 use lib.ListN.{length, getD, drop}
-use Rattle.calculus.specs.Machine.{Answer, named}
+use Rattle.calculus.specs.Machine.{Answer, nameGiven}
 use Rattle.interpreter.specs.Entries.{Request, toStart, toStep, toRunOn, toReport, toPlaces, toName, called, answerAs, Answers, execOffset}
 use Rattle.call_words.specs.Words.{answerWords, wordsOf, padded}
 use Rattle.call_words.specs.Laying.{Tells}
@@ -61,7 +61,7 @@ module _ (s : List ℕ) (q : Request) {w ws old : List ℕ} where
   }
 
 -- a name that is not refused stands where its line says
-pub name-placed : (s part : List ℕ) (i place number at : ℕ) → (number ≡ 0 → i ≡ place) → padded (wordsOf s i (named part number at)) ≡ padded (wordsOf s place (named part number at))
+pub name-placed : (s part : List ℕ) (i place number at : ℕ) → (number ≡ 0 → i ≡ place) → padded (wordsOf s i (nameGiven part number at)) ≡ padded (wordsOf s place (nameGiven part number at))
 unfolding wordsOf
-name-placed s part i place zero at e = ap (λ j. padded (wordsOf s j (named part 0 at))) (e refl)
+name-placed s part i place zero at e = ap (λ j. padded (wordsOf s j (nameGiven part 0 at))) (e refl)
 name-placed s part i place (suc n) at e = refl

@@ -3,3 +3,4 @@ pub mod Laying
 pub mod Answered
 pub mod Exported
 pub mod Warned
+pub mod Apart

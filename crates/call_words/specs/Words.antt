@@ -7,7 +7,7 @@ use lib.ListN.{length, replicate}
 use Rattle.notation.specs.Token.{nameAt}
 use Rattle.calculus.specs.Answers.{seenValues}
 use Rattle.calculus.specs.Demands.{isRefused}
-use Rattle.calculus.specs.Machine.{Answer, started, stepped, ranOn, reported, surveyed, named}
+use Rattle.calculus.specs.Machine.{Answer, started, stepped, ranOn, reported, surveyed, nameGiven}
 use Rattle.calculus.specs.declared.answers.Seen.{Seen}
 use Rattle.calculus.specs.declared.answers.Seen.the-variants.{Nothing, Label, Close, Passed, Cancelled}
 use Rattle.calculus.specs.declared.answers.Stepped.the-variants as steps
@@ -18,7 +18,7 @@ use Rattle.interpreter.specs.Entries.{answerAs}
 abbrev pub answerWords : ℕ
 answerWords = 130
 
--- an offset or a length as a word of 32 bits: the last word stands for all past it. They are at most 8,192 in fact, but no theorem says so.
+-- an offset or a length as a word of 32 bits: the last word stands for all past it. Those of refusals and of exec names are at most 8,192 (`words-told`, Apart.antt); that of a label is at most 33, but no theorem says so.
 unfoldable pub asWord : ℕ → ℕ
 asWord n = cond (ltb n 4294967295) n 4294967295
 
@@ -47,7 +47,7 @@ moreOf s (ranOn (runs.Uncaught t)) = []
 moreOf s (ranOn (runs.Refused n at)) = []
 moreOf s (reported a l) = []
 moreOf s (surveyed a l) = []
-moreOf s (named part n at) = []
+moreOf s (nameGiven part n at) = []
 
 -- the values of an answer that is not refused: a name's are its offset and its length, not its bytes
 abbrev pub givenOf : ℕ → Answer → List ℕ
@@ -56,7 +56,7 @@ givenOf place (stepped a) = answerAs (stepped a) .values
 givenOf place (ranOn a) = answerAs (ranOn a) .values
 givenOf place (reported a l) = answerAs (reported a l) .values
 givenOf place (surveyed a l) = answerAs (surveyed a l) .values
-givenOf place (named part n at) = asWord place ∷ asWord (length part) ∷ []
+givenOf place (nameGiven part n at) = asWord place ∷ asWord (length part) ∷ []
 
 -- those of a refused one: its offset
 abbrev pub valuesOf : ℕ → Answer → List ℕ

@@ -4,7 +4,7 @@ ghost use mathlib.Core.List.{List, [], _∷_};
 ghost use Prim.Native.Nat.{ℕ, _+_, _≤_};
 ghost use lib.ListN.{length, getD};
 ghost use Rattle.notation.specs.Token.{nameAt};
-ghost use Rattle.calculus.specs.Machine.{started, stepped, ranOn, named};
+ghost use Rattle.calculus.specs.Machine.{started, stepped, ranOn, nameGiven};
 ghost use Rattle.calculus.specs.declared.answers.Warned.the-variants.{Missing};
 ghost use Rattle.interpreter.specs.Entries.{counted, placesCounted, reportAnswer, placesAnswer};
 ghost use Rattle.call_words.specs.Words.{asWord, seenWords, wordsOf, padded, filled};
@@ -163,7 +163,7 @@ pub(crate) fn places_words(places: Places) -> [u32; ANSWER_WORDS]
 
 // The name that stands at `place`, or the refusal where its number is not 0.
 pub(crate) fn name_words(text: &[u8], place: usize, number: u32, at: usize) -> [u32; ANSWER_WORDS]
-    ensures { λ r. ⌜ r ≡ padded (wordsOf (now (text .entry)) place (named (nameAt (now (text .entry)) place) number at)) ⌝ }
+    ensures { λ r. ⌜ r ≡ padded (wordsOf (now (text .entry)) place (nameGiven (nameAt (now (text .entry)) place) number at)) ⌝ }
 {
     if number == 0 {
         let n = name_length(text, place);

@@ -13,15 +13,16 @@ use Rattle.notation.specs.declared.reading.Tally.{Tally}
 use Rattle.notation.specs.Tables.{moreTerms, moreTypes, moreEntries, moreExecs, afterType, afterProcess, afterBranches, afterEntries, afterDeclaration, afterScript, nothing, Within}
 use Rattle.notation.specs.Tree.{Name, Located, Ty, unit, named, tensor, par, lolli, plus, with, Alternatives, alternative, Proc, empty, sendUnit, sendChannel, sendLabel, cancel, spawn, recvUnit, recvChannel, recvLabel, fwd, call, raise, try, Branches, branch, Entry, Declaration, declareType, declareProc, declareExec, plain, plains}
 use Rattle.calculus.specs.Named.{lookup, changed, without, isSome}
-use Rattle.calculus.specs.Types.{Side, provided, used, standing, Passing, passing, Choosing, choosing, labelled}
+use Rattle.calculus.specs.Types.{Side, provided, used, unfolded, Passing, passing, Choosing, choosing, labelled}
 use Rattle.calculus.specs.Program.{Slot, slot, Context, Program, onSide, signatureContext, entries, programOf}
 use Rattle.calculus.specs.Declarations.{gather}
 use Rattle.calculus.specs.Mentions.{spawnTakes, spawnLeaves, tryTakes}
-use Rattle.calculus.specs.Typing.{defined, acting, retyped, bringing}
+use Rattle.calculus.specs.Typing.{unfoldedSlot, acting, retyped, bringing}
 use Rattle.calculus.specs.Steps.{branchOf}
 use Rattle.calculus.specs.Warnings.{Missing, leftOut, missingOn, onTyped, missing, branchesMissing, warningIn, ownWarnings, warnings}
 use Rattle.theory_derivations.specs.Booleans.{each-cons}
-use Rattle.theory_ends.specs.Names.{lookup-in, without-sub, kept-sub}
+use Rattle.theory_derivations.specs.Named.{lookup-in}
+use Rattle.theory_ends.specs.Names.{without-sub, kept-sub}
 use Rattle.theory_preservation.specs.Each.{Each, each-none, each-sub, each-append, each-more}
 use Rattle.read_tables.specs.Types.{type-counts}
 use Rattle.read_tables.specs.Processes.{process-counts, process-grown, branches-grown}
@@ -111,18 +112,18 @@ retyped-few c A (e ∷ G) h f = let g = each-cons _ e G .1 f in go (same c (e .0
     go true g k = each-cons _ (e .0, slot (e .1 .side) A) G .0 (h, g .1)
     go false g k = each-cons _ e (retyped c A G) .0 (g .0, k)
 
-standing-few : (types : List (Name × Ty Name)) → Each (λ (e : Name × Ty Name). Few (e .1)) types → (A : Ty Name) → Few A → Few (standing types A)
-standing-few types f unit h = h
-standing-few types f (named n) h = go (lookup n types) refl
+unfolded-few : (types : List (Name × Ty Name)) → Each (λ (e : Name × Ty Name). Few (e .1)) types → (A : Ty Name) → Few A → Few (unfolded types A)
+unfolded-few types f unit h = h
+unfolded-few types f (named n) h = go (lookup n types) refl
   where
     go : (o : Option (Ty Name)) → lookup n types ≡ o → Few (Option·getD o (named n))
     go none e = h
     go (some A) e = f (n, A) (lookup-in n types e)
-standing-few types f (tensor A B) h = h
-standing-few types f (par A B) h = h
-standing-few types f (lolli A B) h = h
-standing-few types f (plus r) h = h
-standing-few types f (with r) h = h
+unfolded-few types f (tensor A B) h = h
+unfolded-few types f (par A B) h = h
+unfolded-few types f (lolli A B) h = h
+unfolded-few types f (plus r) h = h
+unfolded-few types f (with r) h = h
 
 typed-few : {X : Type 0} (o : Option X) (k : X → List Missing) (n : ℕ) → ((x : X) → o ≡ some x → length (k x) ≤ n) → length (onTyped o k) ≤ n
 typed-few none k n h = omega arith
@@ -133,9 +134,9 @@ module _ (p : Program) (t : FewTypes p) where
   acting-few : (c : Name) (G : Context) (h : Slot) → FewHeld G → acting p c G ≡ some h → Few (h .type)
   acting-few c G h f e = go (lookup c G) refl e
     where
-      go : (o : Option Slot) → lookup c G ≡ o → Option·map (defined p) o ≡ some h → Few (h .type)
+      go : (o : Option Slot) → lookup c G ≡ o → Option·map (unfoldedSlot p) o ≡ some h → Few (h .type)
       go none q z = absurd (Option·none-ne-some h z)
-      go (some g) q z = subst (λ (x : Slot). Few (x .type)) (Option·some-injective (defined p g) h z) (standing-few (p .types) t (g .type) (f (c, g) (lookup-in c G q)))
+      go (some g) q z = subst (λ (x : Slot). Few (x .type)) (Option·some-injective (unfoldedSlot p g) h z) (unfolded-few (p .types) t (g .type) (f (c, g) (lookup-in c G q)))
 
   label-few : (c l : Name) (G : Context) (x : Slot) (u : Choosing) (A : Ty Name) → FewHeld G → acting p c G ≡ some x → choosing (x .type) ≡ some u → labelled l (u .labels) ≡ some A → Few A
   label-few c l G x u A f e q z = omega (arith, labelled-few l (u .labels) A z, choosing-few (x .type) u q (acting-few c G x f e))

@@ -10,7 +10,7 @@ use Rattle.calculus.specs.Demands.{Derivable}
 use Rattle.calculus.specs.Checking.{typed}
 use Rattle.calculus.specs.Verdict.{fine}
 use Rattle.calculus.specs.Warnings.{warnings}
-use Rattle.theory_derivations.specs.Accepts.{typed-iff, accepts}
+use Rattle.theory_derivations.specs.Accepts.{typed-iff, read-as, accepts}
 use Rattle.calculus.specs.Typing.{Bodies}
 use Rattle.theory_preservation.specs.Accepted.{accepted-bodies}
 use Rattle.read_tables.specs.Program.{programIn, program-sorted}
@@ -25,16 +25,16 @@ module _ (s : List ℕ) (ds : List Declaration) (ok : checked s ≡ accepted ds)
   derivable = accepts s ds .0 ok
 
   within : Within (afterScript ds nothing)
-  within = fits ds (derivable .cursor) (derivable .read)
+  within = fits ds (read-as derivable .0) (read-as derivable .1)
 
   decoded : (scriptIn s (tables s) ≡ sorted ds) × Tables s (tables s)
-  decoded = text-decoded s ds (derivable .cursor) (derivable .read) within
+  decoded = text-decoded s ds (read-as derivable .0) (read-as derivable .1) within
 
   pub tables-stand : Tables s (tables s)
   tables-stand = decoded .1
 
   pub tables-everywhere : Everywhere s (tables s)
-  tables-everywhere = text-everywhere s ds (derivable .cursor) (derivable .read) within
+  tables-everywhere = text-everywhere s ds (read-as derivable .0) (read-as derivable .1) within
 
   -- nothing is at fault in the script of the tables, and its warnings are the text's
   pub script-fine : typed (scriptIn s (tables s)) ≡ fine

@@ -11,7 +11,7 @@ use Rattle.notation.specs.Tree.{Located}
 use Rattle.notation.proofs.ScriptReadings.{text-read}
 use Rattle.calculus.specs.Demands.{Derivable}
 use Rattle.calculus.specs.Warnings.{Warning, warnings}
-use Rattle.theory_derivations.specs.Accepts.{accepts}
+use Rattle.theory_derivations.specs.Accepts.{read-as, accepts}
 use Rattle.read_tables.specs.Decode.{scriptIn}
 use Rattle.check_accepted.specs.Texts.{TextIn, warnings-in}
 use Rattle.check_accepted.specs.FewWarnings.{few-warnings}
@@ -25,10 +25,10 @@ module _ {s w : List ℕ} (t : TextIn s w) where
   warnings-few = omega (
     arith,
     ap (λ (l : List Warning). length l) (warnings-in t),
-    few-warnings (t .script) (t .fits (t .script) (derivable .cursor) (derivable .read)),
+    few-warnings (t .script) (t .fits (t .script) (read-as derivable .0) (read-as derivable .1)),
   )
 
   pub warning-in : (k : ℕ) (x : Warning) → getElem? (warnings (scriptIn s w)) k ≡ some x → (x .process .name ≡ nameAt s (x .process .at)) × (x .channel .name ≡ nameAt s (x .channel .at))
   warning-in k x e =
-      let n = warning-names s (t .script) (text-read s (t .script) (derivable .cursor) (derivable .read) .0) k x (sym (ap (λ (l : List Warning). getElem? l k) (warnings-in t)) ∙ e) in
+      let n = warning-names s (t .script) (text-read s (t .script) (read-as derivable .0) (read-as derivable .1) .0) k x (sym (ap (λ (l : List Warning). getElem? l k) (warnings-in t)) ∙ e) in
       (sym (ap (λ (l : Located). l .name) (n .0)), sym (ap (λ (l : Located). l .name) (n .1)))

@@ -13,7 +13,7 @@ use Rattle.notation.specs.Token.{nameAt}
 use Rattle.notation.specs.Tree.{Name}
 use Rattle.calculus.specs.Configuration.{end}
 use Rattle.calculus.specs.Types.{Side, provided, used}
-use Rattle.calculus.specs.Named.{kept, names, all}
+use Rattle.calculus.specs.Named.{kept, names, every}
 use Rattle.calculus.specs.Mentions.{mentions, halfMentions, spawnTakes, spawnLeaves, tryTakes, neverBoth, exactlyOne}
 use Rattle.read_tables.specs.Decode.{processIn}
 use Rattle.read_tables.specs.Program.{plainIn}
@@ -58,7 +58,7 @@ fair exactly first second = cond first (not second) (cond exactly second true)
 
 -- each name that is held is taken by the two halves as it may be
 pub record Fair (s w : List ℕ) (h : Held) (first second : Half) (exactly r : Bool) : Type 0 where
-  pub is : r ≡ all (λ n. fair exactly (takes s w first n) (takes s w second n)) (names (channelsOf s w h))
+  pub is : r ≡ every (λ n. fair exactly (takes s w first n) (takes s w second n)) (names (channelsOf s w h))
 
 -- ── what the code promises, position by position
 -- of the held channels that `of` marks, those that the half takes
@@ -242,7 +242,7 @@ unfolding names
 names-held s w [] = refl
 names-held s w (e ∷ l) = ap (_∷_ (nameAt s (e .name))) (names-held s w l)
 
-all-positions : (s : List ℕ) (f : ℕ → Bool) (p : Name → Bool) (j : ℕ) (l : List RawEnd) → Agree s [] f p j l → allFrom f j (length l) ≡ all p (map (λ (e : RawEnd). nameAt s (e .name)) l)
+all-positions : (s : List ℕ) (f : ℕ → Bool) (p : Name → Bool) (j : ℕ) (l : List RawEnd) → Agree s [] f p j l → allFrom f j (length l) ≡ every p (map (λ (e : RawEnd). nameAt s (e .name)) l)
 unfolding allFrom
 all-positions s f p j [] a = refl
 all-positions s f p j (e ∷ l) a = λ i. cond (agree-here s [] f p j e l a i) (all-positions s f p (j + 1) l (agree-rest s [] f p j e l a) i) false
@@ -259,7 +259,7 @@ module _ {s w : List ℕ} {h : Held} {first second : Half} {a b : Marks} (t : Ta
   fair-at exactly g d = record {
     is = d .is ∙ ap (allFrom (λ k. fair exactly (markOf a k) (markOf b k)) 0) (sym (held-length h))
         ∙ all-positions s _ (λ n. fair exactly (takes s w first n) (takes s w second n)) 0 (heldIn h) (agree-start s [] (λ k. fair exactly (markOf a k) (markOf b k)) (λ n. fair exactly (takes s w first n) (takes s w second n)) (heldIn h) g)
-        ∙ ap (all (λ n. fair exactly (takes s w first n) (takes s w second n))) (sym (names-held s w (heldIn h)));
+        ∙ ap (every (λ n. fair exactly (takes s w first n) (takes s w second n))) (sym (names-held s w (heldIn h)));
   }
 
   pub fair-each : {exactly r : Bool} → Takes s w h second ALL b → Divides (h .count) a b exactly r → Fair s w h first second exactly r
@@ -331,7 +331,7 @@ module _ (s w : List ℕ) (h : Held) where
   never-both true b = refl
   never-both false b = refl
 
-  all-same : {A : Type 0} (p q : A → Bool) → ((a : A) → p a ≡ q a) → (l : List A) → all p l ≡ all q l
+  all-same : {A : Type 0} (p q : A → Bool) → ((a : A) → p a ≡ q a) → (l : List A) → every p l ≡ every q l
   all-same p q e [] = refl
   all-same p q e (a ∷ l) = λ i. cond (e a i) (all-same p q e l i) false
 

@@ -7,7 +7,7 @@ use native.Mathlib.Omega.{arith}
 use Rattle.notation.specs.Tree.{Located, Entry, Declaration}
 use Rattle.notation.specs.Reader.{nameIn}
 use Rattle.calculus.specs.Program.{Program, programOf}
-use Rattle.calculus.specs.Declarations.{channels, repeats, unless, entriesRepeats, entriesUndefined, ownRepeats, ownUndefined, repeated, undefined}
+use Rattle.calculus.specs.Declarations.{channels, repeats, unlessDefined, entriesRepeats, entriesUndefined, ownRepeats, ownUndefined, repeated, undefined}
 use Rattle.read_tables.specs.declared.access.Labelled.{Labelled}
 use Rattle.read_tables.specs.declared.access.Declared.{Declared}
 use Rattle.read_tables.specs.Access.{asEntry, TypeOf, SignatureOf, ExecOf, EntryOf}
@@ -93,9 +93,9 @@ module _ (s w : List ℕ) where
     unfolding procDeclaration
     process-walked o = lowered-as (process-parts (asEntry _) ∙ ap (λ e. declarationFaults pass (programIn s w) (procBy s w e)) (o .holds))
 
-  pub exec-walked : {i r : ℕ} {l m : Lowest} → ExecOf w i r → Lowered l (unless (programIn s w .processes) (nameIn s r)) m → Lowered l (ownUndefined (programIn s w) (execDeclaration s w i)) m
+  pub exec-walked : {i r : ℕ} {l m : Lowest} → ExecOf w i r → Lowered l (unlessDefined (programIn s w .processes) (nameIn s r)) m → Lowered l (ownUndefined (programIn s w) (execDeclaration s w i)) m
   unfolding execDeclaration execIn
-  exec-walked o = lowered-as (ap (λ n. unless (programIn s w .processes) n) (sym (o .is s)))
+  exec-walked o = lowered-as (ap (λ n. unlessDefined (programIn s w .processes) n) (sym (o .is s)))
 
   -- ── all of them
   pub repeated-in : {n m : ℕ} → n ≡ tallyIn w .types → m ≡ tallyIn w .processes → repeats [] (numbered (nameOf s w Types) 0 n) ++ (repeats [] (numbered (nameOf s w Processes) 0 m) ++ (ofTypes ownRepeats s w ++ ofProcesses ownRepeats s w)) ≡ repeated (scriptIn s w)

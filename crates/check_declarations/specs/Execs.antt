@@ -10,7 +10,7 @@ use Rattle.notation.specs.declared.reading.Found.{Found}
 use Rattle.notation.specs.declared.reading.Found.the-variants.{At, Nothing}
 use Rattle.calculus.specs.Program.{Program, Signature, entries}
 use Rattle.calculus.specs.Declarations.{hasOther, outward, entryTypes, isNil, keepsRule, breaking, wrongExecs}
-use Rattle.calculus.specs.Named.{lookup, all}
+use Rattle.calculus.specs.Named.{lookup, every}
 use Rattle.read_tables.specs.declared.access.Labelled.{Labelled}
 use Rattle.read_tables.specs.declared.access.Declared.{Declared}
 use Rattle.read_tables.specs.Access.{asEntry, EntryOf, SignatureOf, ExecOf}
@@ -32,11 +32,11 @@ module _ (s w : List ℕ) (bad : List Name) where
   entry-tested i k o q = q ∙ ap (otherIn s w bad) (o .holds .number)
 
   abbrev others : ℕ → ℕ → Bool
-  others i n = not (all (λ A. not (hasOther bad A)) (entryTypes (entries (entriesIn s w i n))))
+  others i n = not (every (λ A. not (hasOther bad A)) (entryTypes (entries (entriesIn s w i n))))
 
   entries-other : (i n : ℕ) → anyBelow (entryOther i) n ≡ others i n
   unfolding entriesIn anyBelow
-  entries-other i n = sym (by-steps up _||_ false (λ x. otherIn s w bad (entryAt w x .1)) others (λ x. refl) (λ x m. go (otherIn s w bad (entryAt w x .1)) (all (λ A. not (hasOther bad A)) (entryTypes (entries (entriesIn s w (x + 1) m))))) n i)
+  entries-other i n = sym (by-steps up _||_ false (λ x. otherIn s w bad (entryAt w x .1)) others (λ x. refl) (λ x m. go (otherIn s w bad (entryAt w x .1)) (every (λ A. not (hasOther bad A)) (entryTypes (entries (entriesIn s w (x + 1) m))))) n i)
     where
       go : (b r : Bool) → not (cond (not b) r false) ≡ (b || not r)
       go true r = refl
@@ -70,15 +70,15 @@ module _ (s w : List ℕ) {name : Name} {r : Found} (t : Sought name (programIn 
 
     pub keeps-uses : (d .used ≡ 0 → ⊥) → false ≡ kept (lookup name (programIn s w .processes))
     unfolding signatureOf
-    keeps-uses h = ap (λ b. b && all (outward (programIn s w)) (entryTypes (entries (entriesIn s w (d .first) (d .provided))))) (some-entries s w (d .first + d .provided) (d .used) h) ∙ signed
+    keeps-uses h = ap (λ b. b && every (outward (programIn s w)) (entryTypes (entries (entriesIn s w (d .first) (d .provided))))) (some-entries s w (d .first + d .provided) (d .used) h) ∙ signed
 
     pub keeps-provides : {m : List Bool} → Reaches s w m → d .used ≡ 0 → {b : Bool} → b ≡ anyBelow (entryOther s w (marked s w m) (d .first)) (d .provided) → not b ≡ kept (lookup name (programIn s w .processes))
     unfolding signatureOf outward
     keeps-provides {m} g h q =
         ap not (q ∙ entries-other s w (marked s w m) (d .first) (d .provided))
         ∙ not-not _
-        ∙ ap (λ bad. all (λ A. not (hasOther bad A)) (entryTypes (entries (entriesIn s w (d .first) (d .provided))))) (g .is)
-        ∙ ap (λ b. b && all (outward (programIn s w)) (entryTypes (entries (entriesIn s w (d .first) (d .provided))))) (nil-entries s w (d .first + d .provided) (d .used) h)
+        ∙ ap (λ bad. every (λ A. not (hasOther bad A)) (entryTypes (entries (entriesIn s w (d .first) (d .provided))))) (g .is)
+        ∙ ap (λ b. b && every (outward (programIn s w)) (entryTypes (entries (entriesIn s w (d .first) (d .provided))))) (nil-entries s w (d .first + d .provided) (d .used) h)
         ∙ signed
 
 -- ── all execs

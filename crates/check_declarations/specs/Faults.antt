@@ -11,7 +11,7 @@ use Rattle.notation.specs.declared.reading.Found.{Found}
 use Rattle.notation.specs.declared.reading.Found.the-variants.{At, Nothing}
 use Rattle.notation.specs.declared.reading.TypeNode.{TypeNode}
 use Rattle.calculus.specs.Program.{Program}
-use Rattle.calculus.specs.Declarations.{repeats, unless, choiceLabels, typeRepeats, alternativesRepeats, typeUndefined, alternativesUndefined}
+use Rattle.calculus.specs.Declarations.{repeats, unlessDefined, choiceLabels, typeRepeats, alternativesRepeats, typeUndefined, alternativesUndefined}
 use Rattle.calculus.specs.Named.{isSome}
 use Rattle.read_tables.specs.declared.access.Labelled.{Labelled}
 use Rattle.read_tables.specs.Access.{AlternativeOf, NodeOf}
@@ -52,10 +52,10 @@ by-pass f g r u Undefined = u
 
 -- ── a name that is looked up
 module _ {X : Type 0} {l : List (Name × X)} {f : ℕ → Name × X} {n : ℕ} (s : List ℕ) (at : ℕ) {r : Found} (t : Sought (nameIn s at .name) l f n r) {low : Lowest} where
-  pub name-defined : {i : ℕ} → r ≡ At i → Lowered low (unless l (nameIn s at)) low
+  pub name-defined : {i : ℕ} → r ≡ At i → Lowered low (unlessDefined l (nameIn s at)) low
   name-defined e = lowered-as (sym (ap (λ b. cond (isSome b) [] (at ∷ [])) (t .is ∙ ap (λ (q : Found). Option·map (λ i. f i .1) (placeOf q)) e))) lowered-none
 
-  pub name-undefined : {k : Lowest} → r ≡ Nothing → Lowered low (at ∷ []) k → Lowered low (unless l (nameIn s at)) k
+  pub name-undefined : {k : Lowest} → r ≡ Nothing → Lowered low (at ∷ []) k → Lowered low (unlessDefined l (nameIn s at)) k
   name-undefined e = lowered-as (sym (ap (λ b. cond (isSome b) [] (at ∷ [])) (t .is ∙ ap (λ (q : Found). Option·map (λ i. f i .1) (placeOf q)) e)))
 
 -- ── a type by its node
@@ -209,6 +209,6 @@ module _ (p : Program) (n : Located) {pass : Pass} {low : Lowest} where
   unfolding typeRepeats
   name-passed e = lowered-as (ap (λ (q : Pass). typeFaults q p (named n)) (sym e)) lowered-none
 
-  pub name-sought : {k : Lowest} → pass ≡ Undefined → Lowered low (unless (p .types) n) k → Lowered low (typeFaults pass p (named n)) k
+  pub name-sought : {k : Lowest} → pass ≡ Undefined → Lowered low (unlessDefined (p .types) n) k → Lowered low (typeFaults pass p (named n)) k
   unfolding typeUndefined
   name-sought e = lowered-as (ap (λ (q : Pass). typeFaults q p (named n)) (sym e))

@@ -13,7 +13,7 @@ use Rattle.notation.specs.Reader.{nameIn, labelIn}
 use Rattle.notation.specs.Tables.{branchRoom}
 use Rattle.notation.specs.Limits.{processLimit, typeLimit, typeTermLimit}
 use Rattle.calculus.specs.Declarations.{repeats}
-use Rattle.calculus.specs.Named.{any}
+use Rattle.calculus.specs.Named.{anyOf}
 use Rattle.theory_derivations.specs.Equality.{same-cases}
 use Rattle.read_tables.specs.Access.{TypeOf, SignatureOf, EntryOf, AlternativeOf, BranchOf}
 use Rattle.read_tables.specs.declared.access.Labelled.{Labelled}
@@ -61,7 +61,7 @@ repeatAt f k = cond (seenBelow f (f k .name) k) (f k .at ∷ []) []
 module _ (f : ℕ → Located) where
   -- the names before i are those of the list
   abbrev Seen : List Name → ℕ → Type 0
-  Seen before i = (x : Name) → any (same x) before ≡ seenBelow f x i
+  Seen before i = (x : Name) → anyOf (same x) before ≡ seenBelow f x i
 
   seen-more : (i : ℕ) (x : Name) → seenBelow f x (i + 1) ≡ cond (same x (f i .name)) true (seenBelow f x i)
   unfolding seenBelow
@@ -87,7 +87,7 @@ module _ (f : ℕ → Located) where
       go : (b : Bool)
           → (b ≡ true → over (repeatAt f) (i + 1) n ≡ repeats before (numbered f (i + 1) n))
           → over (repeatAt f) (i + 1) n ≡ repeats (f i .name ∷ before) (numbered f (i + 1) n)
-          → any (same (f i .name)) before ≡ b
+          → anyOf (same (f i .name)) before ≡ b
           → cond b (f i .at ∷ []) [] ++ over (repeatAt f) (i + 1) n ≡ repeats before (numbered f i (suc n))
       go true r q e = rw e (ap (_∷_ (f i .at)) (r refl))
       go false r q e = rw e q

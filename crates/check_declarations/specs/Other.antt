@@ -9,7 +9,7 @@ use Rattle.notation.specs.Token.{nameAt}
 use Rattle.notation.specs.Tree.{Name, plain, plains}
 use Rattle.notation.specs.declared.reading.TypeNode.{TypeNode}
 use Rattle.calculus.specs.Declarations.{hasOther, haveOther}
-use Rattle.calculus.specs.Named.{any}
+use Rattle.calculus.specs.Named.{anyOf}
 use Rattle.read_tables.specs.declared.access.Labelled.{Labelled}
 use Rattle.read_tables.specs.Access.{AlternativeOf, NodeOf}
 use Rattle.read_tables.specs.Decode.{alternativeAt, typeIn}
@@ -91,7 +91,7 @@ module _ {s w : List ℕ} {bad : List Name} {whole : ℕ} where
     unfolding hasOther plain
     other-unit e = (rw (said 0 e) refl) ∙ t .is
 
-    pub other-name : {r : Bool} → n .kind ≡ 1 → r ≡ any (same (nameAt s (n .second))) bad → r ≡ otherIn s w bad whole
+    pub other-name : {r : Bool} → n .kind ≡ 1 → r ≡ anyOf (same (nameAt s (n .second))) bad → r ≡ otherIn s w bad whole
     unfolding hasOther plain
     other-name e q = (rw (said 1 e) q) ∙ t .is
 

@@ -14,7 +14,7 @@ use Rattle.notation.specs.Reader.{nameIn}
 use Rattle.notation.specs.declared.reading.TermNode.{TermNode}
 use Rattle.notation.specs.Limits.{processTermLimit}
 use Rattle.calculus.specs.Program.{Program}
-use Rattle.calculus.specs.Declarations.{unless, branchLabels, processRepeats, branchesRepeats, processUndefined, branchesUndefined}
+use Rattle.calculus.specs.Declarations.{unlessDefined, branchLabels, processRepeats, branchesRepeats, processUndefined, branchesUndefined}
 use Rattle.read_tables.specs.declared.access.Labelled.{Labelled}
 use Rattle.read_tables.specs.Access.{BranchOf, TermOf}
 use Rattle.read_tables.specs.Decode.{numbered, branchAt, processIn}
@@ -36,7 +36,7 @@ use Rattle.check_declarations.specs.Names.{nameOf}
 
 abbrev pub callFaults : Pass → Program → Located → List ℕ
 callFaults Repeated p n = []
-callFaults Undefined p n = unless (p .processes) n
+callFaults Undefined p n = unlessDefined (p .processes) n
 
 abbrev pub processFaults : Pass → Program → Proc → List ℕ
 processFaults Repeated p P = processRepeats P
@@ -286,5 +286,5 @@ module _ (p : Program) (n : Located) {pass : Pass} {low : Lowest} where
   pub call-passed : pass ≡ Repeated → Lowered low (callFaults pass p n) low
   call-passed e = lowered-as (ap (λ (q : Pass). callFaults q p n) (sym e)) lowered-none
 
-  pub call-sought : {k : Lowest} → pass ≡ Undefined → Lowered low (unless (p .processes) n) k → Lowered low (callFaults pass p n) k
+  pub call-sought : {k : Lowest} → pass ≡ Undefined → Lowered low (unlessDefined (p .processes) n) k → Lowered low (callFaults pass p n) k
   call-sought e = lowered-as (ap (λ (q : Pass). callFaults q p n) (sym e))

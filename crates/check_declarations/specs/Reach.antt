@@ -14,7 +14,7 @@ use Rattle.notation.specs.Token.{nameAt}
 use Rattle.notation.specs.Tree.{Name, Ty}
 use Rattle.notation.specs.Limits.{typeLimit}
 use Rattle.calculus.specs.Declarations.{hasOther, namesWithOther, reachOther}
-use Rattle.calculus.specs.Named.{any}
+use Rattle.calculus.specs.Named.{anyOf}
 use Rattle.read_tables.specs.Decode.{tallyIn, numbered}
 use Rattle.read_tables.specs.declared.access.Labelled.{Labelled}
 use Rattle.read_tables.specs.Access.{TypeOf}
@@ -99,16 +99,16 @@ or-cond : (c : Bool) {x y : Bool} → x ≡ y → (c || x) ≡ cond c true y
 or-cond true e = refl
 or-cond false e = e
 
-any-marked : (f : ℕ → Name × Ty Name) (m : List Bool) (x : Name) (n i : ℕ) → fold _||_ false (λ k. cond (getD m k false) (same x (f k .0)) false) i n ≡ any (same x) (markedFrom f m i n)
+any-marked : (f : ℕ → Name × Ty Name) (m : List Bool) (x : Name) (n i : ℕ) → fold _||_ false (λ k. cond (getD m k false) (same x (f k .0)) false) i n ≡ anyOf (same x) (markedFrom f m i n)
 any-marked f m x zero i = refl
 any-marked f m x (suc n) i = go (getD m i false) (any-marked f m x n (i + 1))
   where
-    go : (b : Bool) → fold _||_ false (λ k. cond (getD m k false) (same x (f k .0)) false) (i + 1) n ≡ any (same x) (markedFrom f m (i + 1) n)
-        → (cond b (same x (f i .0)) false || fold _||_ false (λ k. cond (getD m k false) (same x (f k .0)) false) (i + 1) n) ≡ any (same x) (cond b (f i .0 ∷ markedFrom f m (i + 1) n) (markedFrom f m (i + 1) n))
+    go : (b : Bool) → fold _||_ false (λ k. cond (getD m k false) (same x (f k .0)) false) (i + 1) n ≡ anyOf (same x) (markedFrom f m (i + 1) n)
+        → (cond b (same x (f i .0)) false || fold _||_ false (λ k. cond (getD m k false) (same x (f k .0)) false) (i + 1) n) ≡ anyOf (same x) (cond b (f i .0 ∷ markedFrom f m (i + 1) n) (markedFrom f m (i + 1) n))
     go true e = or-cond (same x (f i .0)) e
     go false e = e
 
-pub marked-any : (s w : List ℕ) (m : List Bool) (x : Name) → anyBelow (isMarked s w m x) (tallyIn w .types) ≡ any (same x) (marked s w m)
+pub marked-any : (s w : List ℕ) (m : List Bool) (x : Name) → anyBelow (isMarked s w m x) (tallyIn w .types) ≡ anyOf (same x) (marked s w m)
 unfolding anyBelow markedSo marked
 marked-any s w m x = any-marked (namedType s w) m x (tallyIn w .types) 0
 

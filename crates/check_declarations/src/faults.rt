@@ -12,7 +12,7 @@ use read_tables::search::find_type;
 ghost use mathlib.Core.Path.{_≡_};
 ghost use Rattle.notation.specs.Tree.{named};
 ghost use Rattle.notation.specs.Reader.{nameIn};
-ghost use Rattle.calculus.specs.Declarations.{unless};
+ghost use Rattle.calculus.specs.Declarations.{unlessDefined};
 ghost use Rattle.read_tables.specs.Decode.{numbered};
 ghost use Rattle.read_tables.specs.Program.{programIn};
 ghost use Rattle.read_tables.specs.Roots.{TypeIn, AlternativesIn, alternativesIn};
@@ -31,7 +31,7 @@ pub enum Pass {
 // The name at `at` where no type has it.
 fn undefined_type(text: &[u8], scratch: &[u32], at: usize, low: Lowest) -> Lowest
     requires { ⌜ Tables (now text) (now scratch) ⌝ }
-    ensures { λ r. ⌜ Lowered low (unless (programIn (now (text .entry)) (now (scratch .entry)) .types) (nameIn (now (text .entry)) at)) r ⌝ }
+    ensures { λ r. ⌜ Lowered low (unlessDefined (programIn (now (text .entry)) (now (scratch .entry)) .types) (nameIn (now (text .entry)) at)) r ⌝ }
 {
     let f = find_type(text, scratch, at);
     let Found::At(_) = f else {
@@ -43,7 +43,7 @@ fn undefined_type(text: &[u8], scratch: &[u32], at: usize, low: Lowest) -> Lowes
 // The name at `at` where no process has it.
 pub(crate) fn undefined_process(text: &[u8], scratch: &[u32], at: usize, low: Lowest) -> Lowest
     requires { ⌜ Tables (now text) (now scratch) ⌝ }
-    ensures { λ r. ⌜ Lowered low (unless (programIn (now (text .entry)) (now (scratch .entry)) .processes) (nameIn (now (text .entry)) at)) r ⌝ }
+    ensures { λ r. ⌜ Lowered low (unlessDefined (programIn (now (text .entry)) (now (scratch .entry)) .processes) (nameIn (now (text .entry)) at)) r ⌝ }
 {
     let f = find_process(text, scratch, at);
     let Found::At(_) = f else {

@@ -14,7 +14,7 @@ ghost use Rattle.notation.specs.Token.{nameAt};
 ghost use Rattle.notation.specs.Limits.{typeLimit};
 ghost use Rattle.notation.specs.Tree.{plains};
 ghost use Rattle.calculus.specs.Declarations.{hasOther, haveOther};
-ghost use Rattle.calculus.specs.Named.{any};
+ghost use Rattle.calculus.specs.Named.{anyOf};
 ghost use Rattle.read_tables.specs.Program.{plainIn};
 ghost use Rattle.read_tables.specs.Roots.{TypeIn, AlternativesIn, alternativesIn};
 ghost use Rattle.read_tables.specs.Whole.{Tables};
@@ -36,7 +36,7 @@ fn marked_so(text: &[u8], scratch: &[u32], mark: bool, i: usize, at: usize) -> b
 // A marked type has the name at `at`.
 fn is_marked(text: &[u8], scratch: &[u32], marks: [bool; Script::TYPES], at: usize) -> bool
     requires { ⌜ Tables (now text) (now scratch) ⌝ }
-    ensures { λ r. ⌜ r ≡ any (same (nameAt (now (text .entry)) at)) (marked (now (text .entry)) (now (scratch .entry)) marks) ⌝ }
+    ensures { λ r. ⌜ r ≡ anyOf (same (nameAt (now (text .entry)) at)) (marked (now (text .entry)) (now (scratch .entry)) marks) ⌝ }
 {
     let n = type_count(scratch);
     let mut i: usize = 0;

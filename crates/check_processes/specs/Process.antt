@@ -9,12 +9,11 @@ use lib.Dec.{eqb}
 use Rattle.notation.specs.Limits.{processTermLimit}
 use Rattle.notation.specs.Tree.{Name}
 use Rattle.notation.specs.declared.reading.TermNode.{TermNode}
-use Rattle.calculus.specs.Named.{lookup, isSome, all, distinct}
+use Rattle.calculus.specs.Named.{lookup, isSome, every, distinct}
 use Rattle.calculus.specs.Types.{provided, used}
 use Rattle.calculus.specs.Program.{Context, Program}
 use Rattle.calculus.specs.Declarations.{isNil}
-use Rattle.calculus.specs.Typing.{withoutAll}
-use Rattle.calculus.specs.Checking.{listFits}
+use Rattle.calculus.specs.Checking.{listFits, withoutAll}
 use Rattle.calculus.specs.Checking.{check}
 use Rattle.calculus.specs.Verdict.{fine, refused, andThen, demand}
 use Rattle.calculus.specs.Verdict as calculus
@@ -85,7 +84,7 @@ unfolding calls
 calls-no-zero p q xs ys G =
     let left = granted 13 (isNil (withoutAll (xs ++ ys) G)) (go G) in
     let once = granted 11 (distinct (xs ++ ys)) left in
-    no-zero-granted 10 (all (λ n. isSome (lookup n G)) (xs ++ ys)) _ (omega arith)
+    no-zero-granted 10 (every (λ n. isSome (lookup n G)) (xs ++ ys)) _ (omega arith)
     (no-zero-asking 11 (lookup q (p .processes)) _ (omega arith) λ s.
     no-zero-granted 11 (listFits p G provided xs (s .provides) && listFits p G used ys (s .uses)) once (omega arith)
     (no-zero-granted 11 (distinct (xs ++ ys)) left (omega arith) (no-zero-granted 13 (isNil (withoutAll (xs ++ ys) G)) (go G) (omega arith) (omega arith))))

@@ -13,10 +13,10 @@ use Rattle.notation.specs.declared.reading.TypeNode.{TypeNode}
 use Rattle.notation.specs.declared.reading.Found.{Found}
 use Rattle.notation.specs.declared.reading.Found.the-variants as found
 use Rattle.calculus.specs.Named.{lookup}
-use Rattle.calculus.specs.Types.{Side, provided, used, other, sameSide, Shape, shape, atLeaf, standing, passing, choosing, labelled}
+use Rattle.calculus.specs.Types.{Side, provided, used, other, sameSide, Shape, shape, atLeaf, unfolded, passing, choosing, labelled}
 use Rattle.calculus.specs.Types as calculus
 use Rattle.calculus.specs.Program.{Slot, slot}
-use Rattle.calculus.specs.Typing.{defined, acting}
+use Rattle.calculus.specs.Typing.{unfoldedSlot, acting}
 use Rattle.calculus.specs.SameType.{sameType}
 use Rattle.calculus.specs.Configuration.{End}
 use Rattle.theory_ends.specs.Contexts.{context-lookup}
@@ -80,8 +80,8 @@ pub record TakesFrom (w : List ℕ) (c : EndWords) (r : Passing) : Type 0 where
 
 -- ── the channel that is acted on
 module _ (s w : List ℕ) (h : Held) (at : ℕ) where
-  acts-on : (o : Option End) → lookup (nameAt s at) (channelsOf s w h) ≡ o → acting (programIn s w) (nameAt s at) (contextIn s w h) ≡ Option·map (defined (programIn s w)) (Option·map slotOf o)
-  acts-on o e = ap (Option·map (defined (programIn s w))) (context-lookup (nameAt s at) (channelsOf s w h) ∙ ap (Option·map slotOf) e)
+  acts-on : (o : Option End) → lookup (nameAt s at) (channelsOf s w h) ≡ o → acting (programIn s w) (nameAt s at) (contextIn s w h) ≡ Option·map (unfoldedSlot (programIn s w)) (Option·map slotOf o)
+  acts-on o e = ap (Option·map (unfoldedSlot (programIn s w))) (context-lookup (nameAt s at) (channelsOf s w h) ∙ ap (Option·map slotOf) e)
 
   pub acts-nothing : (r : Lookup) → Sees s h at r → r ≡ lookups.Nothing → Acts s w h at lookups.Nothing
   acts-nothing r f e = record { is = acts-on none (f .is w ∙ ap (endFound s w) e); fits = omega arith }
@@ -89,7 +89,7 @@ module _ (s w : List ℕ) (h : Held) (at : ℕ) where
   pub acts-found : (r : Lookup) (e : EndWords) (i j : ℕ) → Sees s h at r → r ≡ lookups.Found e → HeldIn s w h → i ≡ e .node → StandsFor s w i j → j < 512 → Acts s w h at (lookups.Found (record { name = e .name; side = e .side; node = j; channel = e .channel }))
   acts-found r e i j f q t z g b =
       let o : FoundIn s w (lookups.Found e) = subst (FoundIn s w) q (f .fits w t) in
-      let y : standing (programIn s w .types) (plainIn s w (e .node)) ≡ plainIn s w j = ap (λ k. standing (programIn s w .types) (plainIn s w k)) (sym z) ∙ sym (g .is) in
+      let y : unfolded (programIn s w .types) (plainIn s w (e .node)) ≡ plainIn s w j = ap (λ k. unfolded (programIn s w .types) (plainIn s w k)) (sym z) ∙ sym (g .is) in
       record {
         is = acts-on (some (endIs s w (endIn e) .1)) (f .is w ∙ ap (endFound s w) q) ∙ ap (λ A. some (slot (sideOf (e .side)) A)) y;
         fits = (record { bounds = record { name = o .0 .bounds .name; node = b; channel = o .0 .bounds .channel }; type = g .type }, o .1);

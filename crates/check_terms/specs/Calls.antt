@@ -9,13 +9,13 @@ use Rattle.notation.specs.Token.{nameAt, tokenAt}
 use Rattle.notation.specs.Tree.{Name, Located}
 use Rattle.notation.specs.declared.reading.Found.{Found}
 use Rattle.notation.specs.declared.reading.Found.the-variants as found
-use Rattle.calculus.specs.Named.{lookup, without, isSome, all, any, distinct}
+use Rattle.calculus.specs.Named.{lookup, without, isSome, every, anyOf, distinct}
 use Rattle.calculus.specs.Types.{provided, used}
 use Rattle.calculus.specs.Mentions.{isOneOf}
 use Rattle.calculus.specs.Program.{Context, Signature, Program, entries}
 use Rattle.calculus.specs.Declarations.{isNil}
-use Rattle.calculus.specs.Typing.{namesOf, withoutAll}
-use Rattle.calculus.specs.Checking.{listFits}
+use Rattle.calculus.specs.Typing.{namesOf}
+use Rattle.calculus.specs.Checking.{listFits, withoutAll}
 use Rattle.calculus.specs.Configuration.{End}
 use Rattle.calculus.specs.WellFormed.{contextOf}
 use Rattle.theory_ends.specs.Contexts.{context-without}
@@ -41,7 +41,7 @@ pub record BothDistinct (s : List ℕ) (a b : ℕ) (r : Bool) : Type 0 where
   pub is : Of s a b (λ xs ys. r ≡ distinct (namesOf xs ++ namesOf ys))
 
 pub record BothHeld (s : List ℕ) (h : Held) (a b : ℕ) (r : Bool) : Type 0 where
-  pub is : (w : List ℕ) → Of s a b (λ xs ys. r ≡ all (λ n. isSome (lookup n (contextIn s w h))) (namesOf xs ++ namesOf ys))
+  pub is : (w : List ℕ) → Of s a b (λ xs ys. r ≡ every (λ n. isSome (lookup n (contextIn s w h))) (namesOf xs ++ namesOf ys))
 
 pub record BothWithout (s : List ℕ) (h : Held) (a b n : ℕ) : Type 0 where
   pub none : n ≡ 0 → (w : List ℕ) → Of s a b (λ xs ys. isNil (withoutAll (namesOf xs ++ namesOf ys) (contextIn s w h)) ≡ true)
@@ -59,19 +59,19 @@ pub record ListsRefused (s w : List ℕ) (h : Held) (q a b n : ℕ) : Type 0 whe
   pub is : Of s a b (λ xs ys. n ≡ numberOf (calls (programIn s w) (nameAt s q) (namesOf xs) (namesOf ys) (contextIn s w h)))
 
 -- ── laws of lists one after the other
-all-append : {A : Type 0} (p : A → Bool) (l m : List A) → all p (l ++ m) ≡ all p l && all p m
+all-append : {A : Type 0} (p : A → Bool) (l m : List A) → every p (l ++ m) ≡ every p l && every p m
 all-append p [] m = refl
 all-append p (a ∷ l) m = go (p a) (all-append p l m)
   where
-    go : (b : Bool) → all p (l ++ m) ≡ all p l && all p m → cond b (all p (l ++ m)) false ≡ cond b (all p l) false && all p m
+    go : (b : Bool) → every p (l ++ m) ≡ every p l && every p m → cond b (every p (l ++ m)) false ≡ cond b (every p l) false && every p m
     go true h = h
     go false h = refl
 
-any-append : {A : Type 0} (p : A → Bool) (l m : List A) → any p (l ++ m) ≡ cond (any p l) true (any p m)
+any-append : {A : Type 0} (p : A → Bool) (l m : List A) → anyOf p (l ++ m) ≡ cond (anyOf p l) true (anyOf p m)
 any-append p [] m = refl
 any-append p (a ∷ l) m = go (p a) (any-append p l m)
   where
-    go : (b : Bool) → any p (l ++ m) ≡ cond (any p l) true (any p m) → cond b true (any p (l ++ m)) ≡ cond (cond b true (any p l)) true (any p m)
+    go : (b : Bool) → anyOf p (l ++ m) ≡ cond (anyOf p l) true (anyOf p m) → cond b true (anyOf p (l ++ m)) ≡ cond (cond b true (anyOf p l)) true (anyOf p m)
     go true h = refl
     go false h = h
 
@@ -79,8 +79,8 @@ distinct-append : (xs ys : List Located) → distinct (namesOf xs ++ namesOf ys)
 unfolding distinct
 distinct-append [] ys = refl
 distinct-append (x ∷ xs) ys =
-    ap (λ b. cond b false (distinct (namesOf xs ++ namesOf ys))) (any-append (same (x .name)) (namesOf xs) (namesOf ys) ∙ ap (cond (any (same (x .name)) (namesOf xs)) true) (any-is (x .name) ys))
-    ∙ go (any (same (x .name)) (namesOf xs)) (isOneOf (x .name) ys) (apart xs ys) (distinct-append xs ys)
+    ap (λ b. cond b false (distinct (namesOf xs ++ namesOf ys))) (any-append (same (x .name)) (namesOf xs) (namesOf ys) ∙ ap (cond (anyOf (same (x .name)) (namesOf xs)) true) (any-is (x .name) ys))
+    ∙ go (anyOf (same (x .name)) (namesOf xs)) (isOneOf (x .name) ys) (apart xs ys) (distinct-append xs ys)
   where
     go : (a b c : Bool) → distinct (namesOf xs ++ namesOf ys) ≡ distinct (namesOf xs) && (c && distinct (namesOf ys))
         → cond (cond a true b) false (distinct (namesOf xs ++ namesOf ys)) ≡ cond a false (distinct (namesOf xs)) && (cond (not b) c false && distinct (namesOf ys))
@@ -119,10 +119,10 @@ module _ (s : List ℕ) (a b : ℕ) where
   distinct-last p q r f u g v k = record { is = distinct-by p q r f g k true true r u v refl }
 
   pub not-held-first : (h : Held) (p : Bool) → AllHeld s h a p → p ≡ false → BothHeld s h a b false
-  not-held-first h p f u = record { is = λ w xs ys rest rest′ n m. sym (all-append _ (namesOf xs) (namesOf ys) ∙ ap (λ c. c && all (λ k. isSome (lookup k (contextIn s w h))) (namesOf ys)) (sym (f .is w xs rest n) ∙ u)) }
+  not-held-first h p f u = record { is = λ w xs ys rest rest′ n m. sym (all-append _ (namesOf xs) (namesOf ys) ∙ ap (λ c. c && every (λ k. isSome (lookup k (contextIn s w h))) (namesOf ys)) (sym (f .is w xs rest n) ∙ u)) }
 
   pub held-last : (h : Held) (p r : Bool) → AllHeld s h a p → p ≡ true → AllHeld s h b r → BothHeld s h a b r
-  held-last h p r f u k = record { is = λ w xs ys rest rest′ n m. k .is w ys rest′ m ∙ sym (all-append _ (namesOf xs) (namesOf ys) ∙ ap (λ c. c && all (λ k. isSome (lookup k (contextIn s w h))) (namesOf ys)) (sym (f .is w xs rest n) ∙ u)) }
+  held-last h p r f u k = record { is = λ w xs ys rest rest′ n m. k .is w ys rest′ m ∙ sym (all-append _ (namesOf xs) (namesOf ys) ∙ ap (λ c. c && every (λ k. isSome (lookup k (contextIn s w h))) (namesOf ys)) (sym (f .is w xs rest n) ∙ u)) }
 
   pub counts-left : (h l r : Held) → Without s h a l → Without s l b r → BothWithout s h a b (r .count)
   counts-left h l r f g = record {
@@ -177,12 +177,12 @@ module _ (s w : List ℕ) (h : Held) (q a b : ℕ) where
   one-test xs ys none t = refl
   one-test xs ys (some g) t = refl
 
-  calls-by : (xs ys : List Name) → calls (programIn s w) (nameAt s q) xs ys G ≡ by (all (λ n. isSome (lookup n G)) (xs ++ ys)) (fitsSignature (programIn s w) G xs ys (lookup (nameAt s q) (programIn s w .processes))) (distinct (xs ++ ys)) (isNil (withoutAll (xs ++ ys) G))
+  calls-by : (xs ys : List Name) → calls (programIn s w) (nameAt s q) xs ys G ≡ by (every (λ n. isSome (lookup n G)) (xs ++ ys)) (fitsSignature (programIn s w) G xs ys (lookup (nameAt s q) (programIn s w .processes))) (distinct (xs ++ ys)) (isNil (withoutAll (xs ++ ys) G))
   unfolding calls
-  calls-by xs ys = ap (granted 10 (all (λ n. isSome (lookup n G)) (xs ++ ys))) (one-test xs ys (lookup (nameAt s q) (programIn s w .processes)) _)
+  calls-by xs ys = ap (granted 10 (every (λ n. isSome (lookup n G)) (xs ++ ys))) (one-test xs ys (lookup (nameAt s q) (programIn s w .processes)) _)
 
   abbrev held? : List Located → List Located → Bool
-  held? xs ys = all (λ n. isSome (lookup n G)) (namesOf xs ++ namesOf ys)
+  held? xs ys = every (λ n. isSome (lookup n G)) (namesOf xs ++ namesOf ys)
 
   abbrev fit? : List Located → List Located → Bool
   fit? xs ys = fitsSignature (programIn s w) G (namesOf xs) (namesOf ys) (lookup (nameAt s q) (programIn s w .processes))

@@ -8,13 +8,13 @@ use native.Mathlib.Omega.{arith}
 use lib.ListN.{length}
 use Rattle.notation.specs.Token.{nameAt}
 use Rattle.notation.specs.Tree.{Name, Located, fwd, call}
-use Rattle.calculus.specs.Named.{lookup, without, isSome, all, distinct}
+use Rattle.calculus.specs.Named.{lookup, without, isSome, every, distinct}
 use Rattle.calculus.specs.Types.{provided, used, sameSide}
 use Rattle.calculus.specs.SameType.{sameType}
 use Rattle.calculus.specs.Program.{Slot, Context, Program}
 use Rattle.calculus.specs.Declarations.{isNil}
-use Rattle.calculus.specs.Typing.{namesOf, withoutAll}
-use Rattle.calculus.specs.Checking.{fitsSlot, listFits, check}
+use Rattle.calculus.specs.Typing.{namesOf}
+use Rattle.calculus.specs.Checking.{fitsSlot, listFits, check, withoutAll}
 use Rattle.calculus.specs.Verdict.{Verdict, fine, refused}
 use Rattle.calculus.specs.Warnings.{missing}
 use Rattle.run_words.specs.Raw.{sideOf}
@@ -49,7 +49,7 @@ forwards p x c G =
 -- ── call
 unfoldable pub calls : Program → Name → List Name → List Name → Context → Step
 calls p q xs ys G =
-    granted 10 (all (λ n. isSome (lookup n G)) (xs ++ ys))
+    granted 10 (every (λ n. isSome (lookup n G)) (xs ++ ys))
     (asking 11 (lookup q (p .processes)) λ s.
     granted 11 (listFits p G provided xs (s .provides) && listFits p G used ys (s .uses))
     (granted 11 (distinct (xs ++ ys)) (granted 13 (isNil (withoutAll (xs ++ ys) G)) (go G))))
@@ -68,7 +68,7 @@ found-fwd p G at x c =
 pub found-call : (p : Program) (G : Context) (at : ℕ) (q : Located) (bracket : ℕ) (xs ys : List Located) → found p G (call at q bracket xs ys) ≡ resume at (calls p (q .name) (namesOf xs) (namesOf ys) G) ended
 unfolding check missing calls
 found-call p G at q bracket xs ys =
-    demand-asks 10 at (all (λ n. isSome (lookup n G)) (namesOf xs ++ namesOf ys)) _ _ _ ended
+    demand-asks 10 at (every (λ n. isSome (lookup n G)) (namesOf xs ++ namesOf ys)) _ _ _ ended
     (having-asks 11 at (lookup (q .name) (p .processes)) _ _ _ ended λ s.
     demand-asks 11 at (listFits p G provided (namesOf xs) (s .provides) && listFits p G used (namesOf ys) (s .uses)) _ _ _ ended
     (demand-asks 11 at (distinct (namesOf xs ++ namesOf ys)) _ _ _ ended (demand-asks 13 at (isNil (withoutAll (namesOf xs ++ namesOf ys) G)) _ _ _ ended refl)))

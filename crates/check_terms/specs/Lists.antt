@@ -12,13 +12,13 @@ use Rattle.notation.specs.Limits.{heldLimit}
 use Rattle.notation.specs.Reader.{nameIn}
 use Rattle.notation.specs.Token.{nameAt}
 use Rattle.notation.specs.Tree.{Name, Located}
-use Rattle.calculus.specs.Named.{lookup, isSome, all, any, distinct}
+use Rattle.calculus.specs.Named.{lookup, isSome, every, anyOf, distinct}
 use Rattle.calculus.specs.SameType.{sameType}
 use Rattle.calculus.specs.Mentions.{is, isOneOf}
 use Rattle.calculus.specs.Program.{Slot, Context, entries}
 use Rattle.calculus.specs.Program as Program
-use Rattle.calculus.specs.Typing.{namesOf, withoutAll}
-use Rattle.calculus.specs.Checking.{entryFits, listFits}
+use Rattle.calculus.specs.Typing.{namesOf}
+use Rattle.calculus.specs.Checking.{entryFits, listFits, withoutAll}
 use Rattle.calculus.specs.Configuration.{End}
 use Rattle.run_words.specs.Raw.{sideOf}
 use Rattle.run_words.specs.declared.records.End.{End as EndWords}
@@ -37,10 +37,10 @@ use Rattle.check_terms.specs.Acting.{slotIn, different-sides, equal-side
 
 -- ── what the code promises of a list that goes on from an offset
 abbrev allHeld : Context → List Located → Bool
-allHeld G xs = all (λ n. isSome (lookup n G)) (namesOf xs)
+allHeld G xs = every (λ n. isSome (lookup n G)) (namesOf xs)
 
 pub record AllHeld (s : List ℕ) (h : Held) (from : ℕ) (r : Bool) : Type 0 where
-  pub is : (w : List ℕ) (xs : List Located) (rest : ℕ) → NamesFrom s from xs rest → r ≡ all (λ n. isSome (lookup n (contextIn s w h))) (namesOf xs)
+  pub is : (w : List ℕ) (xs : List Located) (rest : ℕ) → NamesFrom s from xs rest → r ≡ every (λ n. isSome (lookup n (contextIn s w h))) (namesOf xs)
 
 pub record Fit (s w : List ℕ) (h : Held) (from side first n : ℕ) (r : Bool) : Type 0 where
   pub is : (xs : List Located) (rest : ℕ) → NamesFrom s from xs rest → r ≡ listFits (programIn s w) (contextIn s w h) (sideOf side) (namesOf xs) (entries (entriesIn s w first n))
@@ -50,7 +50,7 @@ pub record Distinct (s : List ℕ) (from : ℕ) (r : Bool) : Type 0 where
 
 -- no name of the one list is in the other
 abbrev pub apart : List Located → List Located → Bool
-apart xs ys = all (λ n. not (isOneOf n ys)) (namesOf xs)
+apart xs ys = every (λ n. not (isOneOf n ys)) (namesOf xs)
 
 pub record Apart (s : List ℕ) (from other : ℕ) (r : Bool) : Type 0 where
   pub is : (xs ys : List Located) (rest rest′ : ℕ) → NamesFrom s from xs rest → NamesFrom s other ys rest′ → r ≡ apart xs ys
@@ -76,11 +76,11 @@ module _ (s : List ℕ) (h : Held) where
   held-end t p e = record { is = λ w xs rest n. sym (walk-end t p e xs rest n .1 w) }
 
 -- ── distinct
-pub any-is : (n : Name) (xs : List Located) → any (same n) (namesOf xs) ≡ isOneOf n xs
+pub any-is : (n : Name) (xs : List Located) → anyOf (same n) (namesOf xs) ≡ isOneOf n xs
 any-is n [] = refl
 any-is n (x ∷ xs) = go (same n (x .name)) (any-is n xs)
   where
-    go : (b : Bool) → any (same n) (namesOf xs) ≡ isOneOf n xs → cond b true (any (same n) (namesOf xs)) ≡ b || isOneOf n xs
+    go : (b : Bool) → anyOf (same n) (namesOf xs) ≡ isOneOf n xs → cond b true (anyOf (same n) (namesOf xs)) ≡ b || isOneOf n xs
     go true h = refl
     go false h = h
 

@@ -1,15 +1,13 @@
 -- Demand 2, of the code: "A script is accepted exactly when the typing rules give it a derivation".
 use Prim.Native.Nat.{ℕ, _≤_}
-use mathlib.Core.Path.{_≡_, refl, sym, _∙_, ap, subst}
+use mathlib.Core.Path.{_≡_, refl, _∙_, ap, subst}
 use mathlib.Core.List.{List}
 use lib.ListN.{length}
 use Rattle.notation.specs.Limits.{scratchWords}
-use Rattle.notation.specs.Reader.{got}
-use Rattle.notation.specs.Scripts.{readText}
 use Rattle.notation.specs.Tree.{Declaration}
-use Rattle.notation.specs.declared.reading.Cursor.{Cursor}
+use Rattle.grammar.specs.Notation.{Derives}
 use Rattle.calculus.specs.Accepted.{Checked, accepted, faulty, checked}
-use Rattle.calculus.specs.Declarations.{declared}
+use Rattle.calculus.specs.InOrder.{InOrder}
 use Rattle.calculus.specs.Demands.{Derivation, Derivable}
 use Rattle.calculus.specs.Verdict.{fine}
 use Rattle.calculus.specs.Verdict as calculus
@@ -37,7 +35,7 @@ accepted-derivable s w v t h =
 
 -- one that it refuses, though its notation and declarations are in order, has none
 pub refused-underivable : (s w v : List ℕ) (n i : ℕ) → TextChecked s w (verdict.Refused n i) v → scratchWords ≤ length w
-    → (ds : List Declaration) (d : Cursor) → readText s ≡ got ds d → declared ds ≡ fine → Derivation ds → ⊥
-refused-underivable s w v n i t h ds d r o D =
-    let e = accepts s ds .1 (record { cursor = d; read = r; declarations = o; derivation = D }) in
+    → (ds : List Declaration) → Derives s ds → InOrder ds → Derivation ds → ⊥
+refused-underivable s w v n i t h ds r o D =
+    let e = accepts s ds .1 (record { script = r; declarations = o; derivation = D }) in
     subst IsRefused (t .enough h .0 ∙ ap verdictIn e) tt

@@ -12,7 +12,7 @@ use Rattle.notation.specs.declared.reading.TypeNode.{TypeNode}
 use Rattle.notation.specs.declared.reading.Found.{Found}
 use Rattle.notation.specs.declared.reading.Found.the-variants.{At, Nothing}
 use Rattle.calculus.specs.Named.{lookup}
-use Rattle.calculus.specs.Types.{Shape, leaf, word, pair, choice, shape, standing, passing, choosing}
+use Rattle.calculus.specs.Types.{Shape, leaf, word, pair, choice, shape, unfolded, passing, choosing}
 use Rattle.calculus.specs.Types as calculus
 use Rattle.run_words.specs.Raw.{sideOf}
 use Rattle.read_tables.specs.declared.access.Labelled.{Labelled}
@@ -34,7 +34,7 @@ use Rattle.check_types.specs.Shapes.{by-marks, ShapeIn, is-leaf, is-word
 -- ── what the code promises
 -- the type i stands for the type r
 pub record StandsFor (s w : List ℕ) (i r : ℕ) : Type 0 where
-  pub is : plainIn s w r ≡ standing (programIn s w .types) (plainIn s w i)
+  pub is : plainIn s w r ≡ unfolded (programIn s w .types) (plainIn s w i)
   pub type : TypeIn s w r
   pub number : r ≡ numberFor s w i
 
@@ -72,14 +72,14 @@ pub record ChoosingOf (w : List ℕ) (i : ℕ) (r : Choosing) : Type 0 where
   pub says : (s : List ℕ) → Tables s w → TypeIn s w i → ChoosingIn s w i r
 
 -- ── the calculus' definitions go by the shape alone
-abbrev standingBy : List (Name × Ty Name) → Ty Name → Shape → Ty Name
-standingBy types A leaf = A
-standingBy types A (word n) = Option·getD (lookup n types) A
-standingBy types A (pair k B C) = A
-standingBy types A (choice k r) = A
+abbrev unfoldedBy : List (Name × Ty Name) → Ty Name → Shape → Ty Name
+unfoldedBy types A leaf = A
+unfoldedBy types A (word n) = Option·getD (lookup n types) A
+unfoldedBy types A (pair k B C) = A
+unfoldedBy types A (choice k r) = A
 
-standing-by-shape : (types : List (Name × Ty Name)) (A : Ty Name) → standing types A ≡ standingBy types A (shape A)
-standing-by-shape types = by-marks (λ A. standing types A ≡ standingBy types A (shape A)) refl (λ n. refl) (λ A B. (refl, refl, refl)) (λ r. (refl, refl))
+unfolded-by-shape : (types : List (Name × Ty Name)) (A : Ty Name) → unfolded types A ≡ unfoldedBy types A (shape A)
+unfolded-by-shape types = by-marks (λ A. unfolded types A ≡ unfoldedBy types A (shape A)) refl (λ n. refl) (λ A B. (refl, refl, refl)) (λ r. (refl, refl))
 
 -- a side in bits: provided at the kind m alone
 abbrev bit : ℕ → ℕ → ℕ
@@ -114,7 +114,7 @@ bit-small m k = go (eqb m k)
 
 -- ── from the node to what it lets do
 module _ {s w : List ℕ} {n : TypeNode} {k : ℕ} where
-  not-word : (types : List (Name × Ty Name)) (A : Ty Name) {t : Shape} → ShapeIn s w n k t → (k ≡ 1 → ⊥) → standingBy types A t ≡ A
+  not-word : (types : List (Name × Ty Name)) (A : Ty Name) {t : Shape} → ShapeIn s w n k t → (k ≡ 1 → ⊥) → unfoldedBy types A t ≡ A
   not-word types A (is-leaf e) z = refl
   not-word types A (is-word e) z = absurd (z e)
   not-word types A (is-pair l h a b) z = refl
@@ -141,17 +141,17 @@ module _ (w : List ℕ) (i : ℕ) (n : TypeNode) (o : NodeOf w i n) where
     stands-itself z =
         let A = plainIn s w i in
         record {
-          is = sym (standing-by-shape types A ∙ not-word types A (shape-in s w i n o t a) z);
+          is = sym (unfolded-by-shape types A ∙ not-word types A (shape-in s w i n o t a) z);
           type = a;
           number = number-itself s w i n (o .holds) z;
         }
 
     module _ (k : n .kind ≡ 1) {r : Found} (f : Sought (nameAt s (n .second)) types (namedType s w) (tallyIn w .types) r) where
-      by-name : (q : Found) → r ≡ q → standing types (plainIn s w i) ≡ Option·getD (Option·map (λ j. namedType s w j .1) (placeOf q)) (plainIn s w i)
+      by-name : (q : Found) → r ≡ q → unfolded types (plainIn s w i) ≡ Option·getD (Option·map (λ j. namedType s w j .1) (placeOf q)) (plainIn s w i)
       by-name q e =
           let A = plainIn s w i in
-          standing-by-shape types A
-          ∙ ap (standingBy types A) (word-in (shape-in s w i n o t a) k)
+          unfolded-by-shape types A
+          ∙ ap (unfoldedBy types A) (word-in (shape-in s w i n o t a) k)
           ∙ ap (λ (d : Option (Ty Name)). Option·getD d A) (f .is)
           ∙ ap (λ (p : Found). Option·getD (Option·map (λ j. namedType s w j .1) (placeOf p)) A) e
 

@@ -17,7 +17,7 @@ use Rattle.notation.specs.Tree.{Name, Ty, plains}
 use Rattle.notation.specs.declared.reading.TypeNode.{TypeNode}
 use Rattle.notation.specs.declared.reading.Found.{Found}
 use Rattle.notation.specs.declared.reading.Found.the-variants.{At, Nothing}
-use Rattle.calculus.specs.Types.{Shape, shape, standing}
+use Rattle.calculus.specs.Types.{Shape, shape, unfolded}
 use Rattle.calculus.specs.SameType.{rows, headBy, headOf}
 use Rattle.read_tables.specs.declared.access.Labelled.{Labelled}
 use Rattle.read_tables.specs.Access.{NodeOf, node-of, type-of}
@@ -44,7 +44,7 @@ module _ (s w : List ℕ) where
 
   -- the node i is what the tree A stands for
   abbrev pub Means : ℕ → Ty Name → Type 0
-  Means i A = TypeIn s w i × (plainIn s w i ≡ standing types A)
+  Means i A = TypeIn s w i × (plainIn s w i ≡ unfolded types A)
 
   pub stands-means : {i p : ℕ} → StandsFor s w i p → Means p (plainIn s w i)
   stands-means f = (f .type, f .is)

@@ -15,7 +15,7 @@ use Rattle.calculus.specs.Accepted.{Checked, accepted, faulty, checked}
 use Rattle.calculus.specs.Answers.{Told, refusedAs, givenAs, startedAs, steppedAs, ranOnAs, reportedAs, surveyedAs}
 use Rattle.calculus.specs.Configuration.{Config}
 use Rattle.calculus.specs.Demands.{isRefused}
-use Rattle.calculus.specs.Machine.{Call, callStart, callStep, callRunOn, callReport, callPlaces, callExecName, Answer, started, stepped, ranOn, reported, surveyed, named, Reply, refusal, respond, idle}
+use Rattle.calculus.specs.Machine.{Call, callStart, callStep, callRunOn, callReport, callPlaces, callExecName, Answer, started, stepped, ranOn, reported, surveyed, nameGiven, Reply, refusal, respond, idle}
 use Rattle.calculus.specs.Program.{programOf}
 use Rattle.calculus.specs.declared.answers.Started.{Started}
 use Rattle.calculus.specs.declared.answers.Stepped.{Stepped}
@@ -135,7 +135,7 @@ answerAs (stepped a) = steppedAs a
 answerAs (ranOn a) = ranOnAs a
 answerAs (reported a l) = listedAs (reportedAs a) l
 answerAs (surveyed a l) = listedAs (surveyedAs a) l
-answerAs (named part n at) = namedAs part n at
+answerAs (nameGiven part n at) = namedAs part n at
 
 -- the very answer of a reply, so the same number and values
 pub record Gives (a : Answer) (y : Reply) : Type 0 where
@@ -204,7 +204,7 @@ Surveys s w ws r v = Lists s w ws toPlaces (placesAnswer r) (placesCounted (r .a
 
 -- the name of an exec line, "handed back as the part of the lent text that holds it"; the refusal's number and offset "stand in two lent numbers, both 0 otherwise"
 abbrev pub Names : List ℕ → List ℕ → ℕ → List ℕ → ℕ → ℕ → List ℕ → Type 0
-Names s w line part number at v = Answers s (called (toName line) w [] (named part number at) v [])
+Names s w line part number at v = Answers s (called (toName line) w [] (nameGiven part number at) v [])
 
 -- the exec lines of a text, none of one that is refused, and the offset of one: 0 if there is none
 abbrev pub linesIn : Checked → List Located

@@ -1,5 +1,8 @@
 pub mod Entries
 pub mod Past
+pub mod Cases
+pub mod Apart
+pub mod RefusedAt
 pub mod Inside
 pub mod Runs
 pub mod Stepping
@@ -11,9 +14,12 @@ pub mod Surveying
 pub mod Starting
 pub mod Told
 pub mod Naming
+pub mod NameStands
 pub mod Warns
 pub mod Calls
 pub mod Unread
 pub mod Numbers
 pub mod Scratch
 pub mod Demand
+pub mod Choosing
+pub mod Chosen

@@ -2,32 +2,29 @@
 use Prim.Native.Nat.{ℕ, _≤_}
 use mathlib.Core.Path.{_≡_, refl, sym, _∙_, ap, subst}
 use mathlib.Core.List.{List, [], _∷_}
-use mathlib.Core.Bool.{Bool, true, false, cond}
 use mathlib.Core.Option.{some}
 use native.Mathlib.Omega.{arith}
-use lib.Dec.{leb}
 use lib.ListN.{length, getElem?}
-use Rattle.notation.specs.Limits.{scratchWords}
 use Rattle.notation.specs.Reader.{nameIn}
 use Rattle.notation.specs.Token.{nameAt}
 use Rattle.notation.proofs.Names.{name-fits}
-use Rattle.calculus.specs.Accepted.{accepted, faulty, checked}
-use Rattle.calculus.specs.Machine.{named, textChecked}
+use Rattle.calculus.specs.Accepted.{checked}
+use Rattle.calculus.specs.Machine.{nameGiven}
 use Rattle.calculus.specs.Program.{Program}
 use Rattle.calculus.specs.declared.verdict.Verdict.{Verdict}
 use Rattle.calculus.specs.declared.verdict.Verdict.the-variants as verdict
-use Rattle.theory_refusals.specs.Refusals.{checked-numbered}
 use Rattle.read_tables.specs.Program.{programIn}
 use Rattle.check_text.specs.Texts.{TextChecked}
 use Rattle.check_accepted.specs.Texts.{TextIn, program-in}
 use Rattle.check_accepted.specs.Verdicts.{text-refused}
 use Rattle.interpreter.specs.Entries.{toName, called, Answers, Names, linesIn, offsetIn, execOffset, NamesAt}
+use Rattle.interpreter.specs.Cases.{text-numbered}
 use Rattle.interpreter.specs.Inside.{AnswersIn, answers-accepted, answers-refused}
 use Rattle.interpreter.specs.Told.{name-none, name-told}
 
 -- of an accepted text
 pub record NamesIn (s : List ℕ) (line place number at : ℕ) : Type 0 where
-  pub names : AnswersIn s (toName line) [] (named (nameAt s place) number at) []
+  pub names : AnswersIn s (toName line) [] (nameGiven (nameAt s place) number at) []
   pub stands : number ≡ 0 → place ≡ execOffset s line
 
 -- ── past the end of the text there is the empty name
@@ -42,7 +39,7 @@ name-past s place h = no-bytes (nameAt s place) (omega (arith, h, name-fits s pl
 module _ {s w : List ℕ} (t : TextIn s w) {line place : ℕ} where
   pub place-none : length (programIn s w .execs) ≤ line → length s ≤ place → NamesIn s line place 17 0
   place-none l h = record {
-    names = subst (λ p. AnswersIn s (toName line) [] (named p 17 0) []) (sym (name-past s place h)) (name-none t l);
+    names = subst (λ p. AnswersIn s (toName line) [] (nameGiven p 17 0) []) (sym (name-past s place h)) (name-none t l);
     stands = λ z. absurd (omega (arith, z));
   }
 
@@ -56,16 +53,11 @@ module _ {s w : List ℕ} (t : TextIn s w) {line place : ℕ} where
       }
 
 -- ── with the text's own verdict
-numbered-by : (s : List ℕ) (b : Bool) (n i : ℕ) → cond b (checked s) (faulty 1 0) ≡ faulty n i → n ≡ 0 → ⊥
-numbered-by s true n i e z = absurd (omega (arith, checked-numbered s n i e, z))
-numbered-by s false n i e z = absurd (let f : 1 ≡ n = cc in omega (arith, f, z))
-
 module _ (s w x : List ℕ) (v : Verdict) (t : TextChecked s w v x) {line place : ℕ} where
   pub place-refused : (n i : ℕ) → v ≡ verdict.Refused n i → length s ≤ place → NamesAt s w line place n i x
-  unfolding textChecked
   place-refused n i e h = record {
-    names = subst (λ p. Answers s (called (toName line) w [] (named p n i) x [])) (sym (name-past s place h)) (answers-refused s w x v t (toName line) [] n i e);
-    stands = λ z. absurd (numbered-by s (leb scratchWords (length w)) n i (text-refused s w x v t n i e) z);
+    names = subst (λ p. Answers s (called (toName line) w [] (nameGiven p n i) x [])) (sym (name-past s place h)) (answers-refused s w x v t (toName line) [] n i e);
+    stands = λ z. absurd (omega (arith, text-numbered s (length w) n i (text-refused s w x v t n i e), z));
   }
 
   pub place-accepted : {number at : ℕ} → v ≡ verdict.Fine → NamesIn s line place number at → NamesAt s w line place number at x

@@ -11,7 +11,7 @@ use Rattle.notation.specs.Limits.{scratchWords, runWords}
 use Rattle.notation.specs.Tree.{Declaration}
 use Rattle.calculus.specs.Accepted.{Checked, accepted, faulty, checked}
 use Rattle.calculus.specs.Configuration.{Config, halt, at}
-use Rattle.calculus.specs.Machine.{Answer, started, stepped, ranOn, reported, surveyed, named, Reply, reply, textChecked, onProgram, onRun, onLine, onGoing, onPlace, onStep, refusal, respond, idle}
+use Rattle.calculus.specs.Machine.{Answer, started, stepped, ranOn, reported, surveyed, nameGiven, Reply, reply, textChecked, onProgram, onRun, onLine, onGoing, onPlace, onStep, refusal, respond, idle}
 use Rattle.calculus.specs.Program.{Program, programOf}
 use Rattle.calculus.specs.Runs.{startConfig, execOf, runOn, report, places}
 use Rattle.calculus.specs.Steps.{step}
@@ -50,7 +50,7 @@ pastRun p (toStep place) C =
 pastRun p (toRunOn budget) C = reply (ranOn (runOn p C budget .answer)) (runOn p C budget .config)
 pastRun p toReport C = reply (reported (reports.Open (length (report C))) (report C)) C
 pastRun p toPlaces C = reply (surveyed (surveys.Processes (length (places p C))) (places p C)) C
-pastRun p (toName line) C = onLine (getElem? (p .execs) line) (refuse (toName line) C) λ n. reply (named (n .name) 0 0) C
+pastRun p (toName line) C = onLine (getElem? (p .execs) line) (refuse (toName line) C) λ n. reply (nameGiven (n .name) 0 0) C
 
 pub refusal-is : (C : Config) (q : Request) (n m k i : ℕ) → refusal C (callAs q n m) k i ≡ refuse q C k i
 refusal-is C (toStart line) n m k i = refl

@@ -10,7 +10,7 @@ use Rattle.notation.specs.Limits.{runWords}
 use Rattle.notation.specs.Tables.{tables, FitsTables}
 use Rattle.notation.specs.Tree.{Located, Declaration}
 use Rattle.calculus.specs.Accepted.{accepted, checked}
-use Rattle.calculus.specs.Machine.{started, named, reply, onLine}
+use Rattle.calculus.specs.Machine.{started, nameGiven, reply, onLine}
 use Rattle.calculus.specs.Program.{Signature, Program}
 use Rattle.calculus.specs.Runs.{startConfig, execOf}
 use Rattle.calculus.specs.WellFormed.{WellFormed}
@@ -53,19 +53,19 @@ module _ (s : List ℕ) (ds : List Declaration) (ok : checked s ≡ accepted ds)
 
   -- ── the name of an exec line
   names-by : (o : Option Located) {part : List ℕ} {number at : ℕ} → getElem? (P .execs) line ≡ o
-      → named part number at ≡ onLine o (refuse (toName line) (configOf s [])) (λ n. reply (named (n .name) 0 0) (configOf s [])) .answer
-      → AnswersIn s (toName line) [] (named part number at) []
+      → nameGiven part number at ≡ onLine o (refuse (toName line) (configOf s [])) (λ n. reply (nameGiven (n .name) 0 0) (configOf s [])) .answer
+      → AnswersIn s (toName line) [] (nameGiven part number at) []
   names-by o e a =
-      answers-past s ds ok fits (toName line) [] (onLine o (refuse (toName line) (configOf s [])) λ n. reply (named (n .name) 0 0) (configOf s []))
-      (ap (λ o. onLine o (refuse (toName line) (configOf s [])) λ n. reply (named (n .name) 0 0) (configOf s [])) e)
+      answers-past s ds ok fits (toName line) [] (onLine o (refuse (toName line) (configOf s [])) λ n. reply (nameGiven (n .name) 0 0) (configOf s []))
+      (ap (λ o. onLine o (refuse (toName line) (configOf s [])) λ n. reply (nameGiven (n .name) 0 0) (configOf s [])) e)
       (λ z. absurd (false≢true z)) (λ z. absurd (false≢true z)) a (record { is = refl })
 
-  pub name-none : length (P .execs) ≤ line → AnswersIn s (toName line) [] (named [] 17 0) []
+  pub name-none : length (P .execs) ≤ line → AnswersIn s (toName line) [] (nameGiven [] 17 0) []
   name-none l = go (getElem? (P .execs) line) refl
     where
-      go : (o : Option Located) → getElem? (P .execs) line ≡ o → AnswersIn s (toName line) [] (named [] 17 0) []
+      go : (o : Option Located) → getElem? (P .execs) line ≡ o → AnswersIn s (toName line) [] (nameGiven [] 17 0) []
       go none e = names-by none e refl
       go (some n) e = absurd (omega (arith, l, found-below (P .execs) line e))
 
-  pub name-told : (n : Located) → getElem? (P .execs) line ≡ some n → AnswersIn s (toName line) [] (named (n .name) 0 0) []
+  pub name-told : (n : Located) → getElem? (P .execs) line ≡ some n → AnswersIn s (toName line) [] (nameGiven (n .name) 0 0) []
   name-told n e = names-by (some n) e refl

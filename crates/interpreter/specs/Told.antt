@@ -7,7 +7,7 @@ use mathlib.Core.Option.{some}
 use lib.ListN.{length, getElem?}
 use Rattle.notation.specs.Limits.{runWords}
 use Rattle.notation.specs.Tree.{Located}
-use Rattle.calculus.specs.Machine.{started, stepped, ranOn, named}
+use Rattle.calculus.specs.Machine.{started, stepped, ranOn, nameGiven}
 use Rattle.calculus.specs.Runs.{execOf, runOn, places}
 use Rattle.calculus.specs.Steps.{step}
 use Rattle.calculus.specs.WellFormed.{WellFormed}
@@ -120,10 +120,10 @@ module _ {s w : List ℕ} (t : TextIn s w) where
     survey-told {n} {steps} l h e f = surveying.survey-told s (t .script) (t .accepts) (t .fits) ws l h n steps e (under t (λ x. Listed steps (places (programIn s x) (configIn s x ws))) f)
 
   -- ── the name of an exec line
-  pub name-none : {line : ℕ} → length (programIn s w .execs) ≤ line → AnswersIn s (toName line) [] (named [] 17 0) []
+  pub name-none : {line : ℕ} → length (programIn s w .execs) ≤ line → AnswersIn s (toName line) [] (nameGiven [] 17 0) []
   name-none {line} l = starting.name-none s (t .script) (t .accepts) (t .fits) line (under t (λ x. length (programIn s x .execs) ≤ line) l)
 
-  pub name-told : {line : ℕ} {part : List ℕ} (n : Located) → getElem? (programIn s w .execs) line ≡ some n → part ≡ n .name → AnswersIn s (toName line) [] (named part 0 0) []
+  pub name-told : {line : ℕ} {part : List ℕ} (n : Located) → getElem? (programIn s w .execs) line ≡ some n → part ≡ n .name → AnswersIn s (toName line) [] (nameGiven part 0 0) []
   name-told {line} n e q =
-      subst (λ p. AnswersIn s (toName line) [] (named p 0 0) []) (sym q)
+      subst (λ p. AnswersIn s (toName line) [] (nameGiven p 0 0) []) (sym q)
       (starting.name-told s (t .script) (t .accepts) (t .fits) line n (under t (λ x. getElem? (programIn s x .execs) line ≡ some n) e))

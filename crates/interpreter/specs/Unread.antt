@@ -11,7 +11,7 @@ use Rattle.notation.specs.Tree.{Located}
 use Rattle.calculus.specs.Accepted.{Checked, accepted, faulty}
 use Rattle.calculus.specs.Configuration.{Config}
 use Rattle.calculus.specs.Demands.{isRefused}
-use Rattle.calculus.specs.Machine.{callStart, started, named, Reply, reply, textChecked, onProgram, onLine, respond}
+use Rattle.calculus.specs.Machine.{callStart, started, nameGiven, Reply, reply, textChecked, onProgram, onLine, respond}
 use Rattle.calculus.specs.Program.{Signature, Program, programOf}
 use Rattle.calculus.specs.Runs.{startConfig, execOf}
 use Rattle.calculus.specs.declared.answers.Started.the-variants as starts
@@ -25,7 +25,7 @@ pub record SameAnswer (C D : Config) (x y : Reply) : Type 0 where
 
 -- ── a run that is too short, or not lent
 name-unread : (line : ℕ) (C D : Config) (o : Option Located)
-    → SameAnswer C D (onLine o (refuse (toName line) C) λ n. reply (named (n .name) 0 0) C) (onLine o (refuse (toName line) D) λ n. reply (named (n .name) 0 0) D)
+    → SameAnswer C D (onLine o (refuse (toName line) C) λ n. reply (nameGiven (n .name) 0 0) C) (onLine o (refuse (toName line) D) λ n. reply (nameGiven (n .name) 0 0) D)
 name-unread line C D none = record { answer = refl; config = refl }
 name-unread line C D (some n) = record { answer = refl; config = refl }
 

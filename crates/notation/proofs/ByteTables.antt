@@ -8,7 +8,8 @@ use native.Mathlib.Nat.{le-of-suc-le-suc, not-suc-le-zero, eq-or-lt-of-le}
 use lib.Dec.{T, leb, eqb, eqb→eq, leb→le}
 use lib.ListN.{length, getD, take, drop}
 use Rattle.notation.specs.Bytes.{same}
-use Rattle.notation.specs.Token.{symbols, rows}
+use Rattle.notation.specs.Token.{symbols}
+use Rattle.notation.specs.SymbolTable.{rows}
 
 and-left : (a b : Bool) → T (a && b) → T a
 and-left true b t = tt

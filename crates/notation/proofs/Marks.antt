@@ -11,7 +11,7 @@ use lib.Dec.{leb, ltb, eqb}
 use lib.ListN.{length, getD, take, drop, List·getD-eq-default}
 use lib.Seq.{drop-cons, getD-take, getD-drop}
 use borrow.Author.Tests.{lt-leb, le-ltb, ne-eqb}
-use Rattle.notation.specs.Bytes.{bytes, find, same}
+use Rattle.notation.specs.Bytes.{bytes, position, same}
 use Rattle.notation.specs.Token.{symbols, symbol, markAt, token}
 use Rattle.notation.specs.declared.token.Token.{Token}
 use Rattle.notation.proofs.Tokens.{symbol-all}
@@ -37,16 +37,16 @@ marks-none b next e = rw (← no-mark (b ∷ next ∷ []) (omega arith) e, ← n
 -- the first bytes of two-byte marks before another second byte
 module _ (n : ℕ) where
   pub lone-equals : (n ≡ 62 → ⊥) → 23 ≡ markOf 61 n
-  unfolding symbol symbols find same
-  lone-equals d = rw (find, same, ne-eqb n 62 d)
+  unfolding symbol symbols position same
+  lone-equals d = rw (position, same, ne-eqb n 62 d)
 
   pub lone-minus : (n ≡ 111 → ⊥) → 30 ≡ markOf 45 n
-  unfolding symbol symbols find same
-  lone-minus d = rw (find, same, ne-eqb n 111 d)
+  unfolding symbol symbols position same
+  lone-minus d = rw (position, same, ne-eqb n 111 d)
 
   pub lone-less : (n ≡ 45 → ⊥) → 30 ≡ markOf 60 n
-  unfolding symbol symbols find same
-  lone-less d = rw (find, same, ne-eqb n 45 d)
+  unfolding symbol symbols position same
+  lone-less d = rw (position, same, ne-eqb n 45 d)
 
 -- a mark of two bytes has a second byte, and not 0
 single : (w : List ℕ) → getD w 1 0 ≡ 0 → ltb (symbol w) 14 ≡ false

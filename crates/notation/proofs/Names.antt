@@ -10,7 +10,7 @@ use lib.Dec.{T, eqb}
 use lib.ListN.{length, getD, drop, drop-of-length-le, length-take, length-drop, List·getD-eq-default}
 use lib.Seq.{drop-cons, take-nil, getD-take, getD-drop}
 use borrow.Author.Tests.{eq-eqb, ne-eqb}
-use Rattle.notation.specs.Bytes.{letter, nameByte, find, same}
+use Rattle.notation.specs.Bytes.{letter, nameByte, position, same}
 use Rattle.notation.specs.Token.{nameEnd, nameAt}
 use Rattle.notation.proofs.ByteTables.{same→eq}
 use Rattle.notation.proofs.Scans.{same-length}
@@ -57,20 +57,20 @@ module _ (s : List ℕ) (i : ℕ) where
       go (no n) = absurd (false≢true (sym (past-none s i (omega arith)) ∙ e))
 
   name-none : nameByte (getD s i 0) ≡ false → nameAt s i ≡ []
-  unfolding nameAt nameEnd find
+  unfolding nameAt nameEnd position
   name-none e = go (decLt i (length s))
     where
       go : Dec (i < length s) → nameAt s i ≡ []
-      go (yes l) = let z : i - i ≡ 0 = omega arith in rw (drop-cons s i 0 l, find, e, z)
+      go (yes l) = let z : i - i ≡ 0 = omega arith in rw (drop-cons s i 0 l, position, e, z)
       go (no n) = rw (drop-of-length-le s {i = i} (omega arith)) (take-nil (i - i))
 
   pub name-more : nameByte (getD s i 0) ≡ true → nameAt s i ≡ getD s i 0 ∷ nameAt s (suc i)
-  unfolding nameAt nameEnd find
+  unfolding nameAt nameEnd position
   name-more e =
       let l = name-in e in
       let g = find-ge (λ b. not (nameByte b)) (drop (suc i) s) (suc i) in
-      let z : find (λ b. not (nameByte b)) (drop (suc i) s) (suc i) - i ≡ suc (find (λ b. not (nameByte b)) (drop (suc i) s) (suc i) - suc i) = omega arith in
-      rw (drop-cons s i 0 l, find, e, z)
+      let z : position (λ b. not (nameByte b)) (drop (suc i) s) (suc i) - i ≡ suc (position (λ b. not (nameByte b)) (drop (suc i) s) (suc i) - suc i) = omega arith in
+      rw (drop-cons s i 0 l, position, e, z)
 
   -- by how many bytes the name has: whether one of its bytes stands here
   name-stops : 0 ≡ length (nameAt s i) → nameByte (getD s i 0) ≡ false

@@ -8,8 +8,9 @@ use mathlib.Core.Bool.{Bool, true, false, _||_}
 use lib.ListN.{length}
 use lib.Dec.{eqb}
 use borrow.Author.Tests.{eqb-true}
-use Rattle.notation.specs.Token.{tokenAt, kThen, kRoundOpen, kRoundClose, kLabel, kFault, width}
-use Rattle.notation.specs.Reader.{Result, got, refused, take, part, lastly, choose, fault, expect, misfit, limited, opening, typeTerm, processTerm, closedTaken, onwardFrom, thenToken}
+use Rattle.notation.specs.Token.{tokenAt, kThen, kRoundOpen, kRoundClose, kLabel, kFault}
+use Rattle.notation.specs.Onward.{width}
+use Rattle.notation.specs.Reader.{Result, got, refused, onToken, part, lastly, choose, fault, expect, misfit, limited, opening, typeTerm, processTerm, closedTaken, onwardFrom, thenToken}
 use Rattle.notation.specs.Types.{labelTerm}
 use Rattle.notation.specs.Processes.{unitTaken}
 use Rattle.notation.specs.declared.token.Token.{Token}
@@ -56,7 +57,7 @@ module _ {A : Type 0} {s : List ℕ} {low : ℕ} {P : A → Type 0} where
   pub reads-no : (n i : ℕ) → ReadRefusal s n i → Reads {A = A} s low P (refused n i)
   reads-no n i h = record { holds = h }
 
-  pub reads-take : {c : Cursor} {t : Taken} (f : ℕ → Cursor → Result A) → Takes s c t → ((i : ℕ) (d : Cursor) → Past s c i d → Reads s low P (f i d)) → Reads s low P (take t f)
+  pub reads-take : {c : Cursor} {t : Taken} (f : ℕ → Cursor → Result A) → Takes s c t → ((i : ℕ) (d : Cursor) → Past s c i d → Reads s low P (f i d)) → Reads s low P (onToken t f)
   reads-take {t = At i d} f h g = g i d (h .holds)
   reads-take {t = Refused n i} f h g = reads-no n i (h .holds)
 

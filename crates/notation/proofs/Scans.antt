@@ -9,24 +9,24 @@ use lib.Dec.{eqb}
 use lib.ListN.{length, getD, take, drop, drop-of-length-le, length-drop}
 use lib.Seq.{drop-cons, take-nil, take-all}
 use borrow.Author.Tests.{eq-eqb, ne-eqb}
-use Rattle.notation.specs.Bytes.{find, same}
+use Rattle.notation.specs.Bytes.{position, same}
 
 -- a search over xs from `at` has come to i, and not found yet
 pub record Scan {A : Type 0} (p : A → Bool) (xs : List A) (at i : ℕ) : Type 0 where
-  pub left : find p (drop i xs) i ≡ find p (drop at xs) at
+  pub left : position p (drop i xs) i ≡ position p (drop at xs) at
 
 module _ {A : Type 0} {p : A → Bool} {xs : List A} {at i : ℕ} where
-  pub scan-hit : Scan p xs at i → (d : A) → i < length xs → p (getD xs i d) ≡ true → i ≡ find p (drop at xs) at
-  unfolding find
-  scan-hit v d h e = rw (drop-cons xs i d, find, e) at (v .left)
+  pub scan-hit : Scan p xs at i → (d : A) → i < length xs → p (getD xs i d) ≡ true → i ≡ position p (drop at xs) at
+  unfolding position
+  scan-hit v d h e = rw (drop-cons xs i d, position, e) at (v .left)
 
   pub scan-next : Scan p xs at i → (d : A) → i < length xs → p (getD xs i d) ≡ false → Scan p xs at (i + 1)
-  unfolding find
-  scan-next v d h e = record { left = rw add-one (rw (drop-cons xs i d, find, e) at (v .left)) }
+  unfolding position
+  scan-next v d h e = record { left = rw add-one (rw (drop-cons xs i d, position, e) at (v .left)) }
 
-  pub scan-end : Scan p xs at i → length xs ≤ i → i ≡ find p (drop at xs) at
-  unfolding find
-  scan-end v h = rw (drop-of-length-le xs h, find) at (v .left)
+  pub scan-end : Scan p xs at i → length xs ≤ i → i ≡ position p (drop at xs) at
+  unfolding position
+  scan-end v h = rw (drop-of-length-le xs h, position) at (v .left)
 
 -- two lists are compared up to i, and are alike so far
 pub record Alike (xs ys : List ℕ) (i : ℕ) : Type 0 where

@@ -10,8 +10,9 @@ use lib.Dec.{T, leb, eqb, eqb→eq, leb→le}
 use lib.ListN.{length, getD, take, drop, length-drop}
 use lib.Seq.{drop-drop, getD-drop}
 use borrow.Author.Tests.{eq-eqb, lt-leb}
-use Rattle.notation.specs.Bytes.{letter, nameByte, bytes, find, same}
-use Rattle.notation.specs.Token.{symbols, symbol, beginning, nameAt}
+use Rattle.notation.specs.Bytes.{letter, nameByte, bytes, position, same}
+use Rattle.notation.specs.Token.{symbols, symbol, nameAt}
+use Rattle.notation.specs.SymbolTable.{beginning}
 use Rattle.notation.proofs.ByteTables.{below, below-at, same→eq}
 use Rattle.notation.proofs.Names.{name-more, name-long}
 use Rattle.notation.proofs.Scans.{Scan, scan-next, scan-hit, scan-end}
@@ -19,28 +20,28 @@ use Rattle.notation.proofs.Tokens.{find-case, find-ge, find-le, find-at
 
 -- ── a search may leap over what fails a weaker test
 module _ {A : Type 0} (p q : A → Bool) (weaker : (x : A) → q x ≡ false → p x ≡ false) where
-  find-past : (x : A) (xs : List A) (k : ℕ) → p x ≡ false → find p xs (suc k) ≡ find p (x ∷ xs) k
-  unfolding find
-  find-past x xs k e = rw (find, e)
+  find-past : (x : A) (xs : List A) (k : ℕ) → p x ≡ false → position p xs (suc k) ≡ position p (x ∷ xs) k
+  unfolding position
+  find-past x xs k e = rw (position, e)
 
-  find-leap : (xs : List A) (k : ℕ) → find p (drop (find q xs k - k) xs) (find q xs k) ≡ find p xs k
-  unfolding find
+  find-leap : (xs : List A) (k : ℕ) → position p (drop (position q xs k - k) xs) (position q xs k) ≡ position p xs k
+  unfolding position
   find-leap [] k = let z : k - k ≡ 0 = omega arith in rw z
   find-leap (x ∷ xs) k =
-      find-case q (λ j. find p (drop (j - k) (x ∷ xs)) j ≡ find p (x ∷ xs) k) x xs k
+      find-case q (λ j. position p (drop (j - k) (x ∷ xs)) j ≡ position p (x ∷ xs) k) x xs k
       (λ _. let z : k - k ≡ 0 = omega arith in rw z)
       (λ e.
       let g = find-ge q xs (suc k) in
-      let z : find q xs (suc k) - k ≡ suc (find q xs (suc k) - suc k) = omega arith in
+      let z : position q xs (suc k) - k ≡ suc (position q xs (suc k) - suc k) = omega arith in
       rw z (find-leap xs (suc k) ∙ find-past x xs k (weaker x e)))
 
-  scan-leap : (xs : List A) (at i : ℕ) → Scan p xs at i → Scan p xs at (find q (drop i xs) i)
+  scan-leap : (xs : List A) (at i : ℕ) → Scan p xs at i → Scan p xs at (position q (drop i xs) i)
   scan-leap xs at i v =
-      let j = find q (drop i xs) i in
+      let j = position q (drop i xs) i in
       let g = find-ge q (drop i xs) i in
       let z : i + (j - i) ≡ j = omega arith in
       let d : drop (j - i) (drop i xs) ≡ drop j xs = drop-drop (j - i) i xs ∙ ap (λ m. drop m xs) z in
-      record { left = ap (λ l. find p l j) (sym d) ∙ find-leap (drop i xs) i ∙ v .left }
+      record { left = ap (λ l. position p l j) (sym d) ∙ find-leap (drop i xs) i ∙ v .left }
 
 -- ── the symbols
 beginning-most : (b k : ℕ) → k ≤ 30 → beginning b k ≤ 30
@@ -67,7 +68,7 @@ sought : (w : List ℕ) (i : ℕ) → i ≤ 30 → Scan (same w) symbols 0 i →
 unfolding beginning symbols
 sought w i h v =
     let q : List ℕ → Bool = λ v. eqb (getD w 0 0) (getD v 0 0) in
-    let j = find q (drop i symbols) i in
+    let j = position q (drop i symbols) i in
     let g = find-ge q (drop i symbols) i in
     record {
       most = beginning-most (getD w 0 0) i h;
@@ -119,14 +120,14 @@ abbrev pub firstLetters : List ℕ
 firstLetters = bytes "tpesrfc"
 
 pub begins-none : (b : ℕ) → b < 256 → letter b ≡ true → among b firstLetters ≡ false → 30 ≡ beginning b 0
-unfolding beginning symbols find letter
+unfolding beginning symbols position letter
 begins-none b h l e = other-than (λ b. beginning b 0) (λ b. not (letter b) || among b firstLetters) 30 256 tt b h (rw (l, e))
 
 abbrev pub followed : List ℕ
 followed = 0 ∷ 4 ∷ 6 ∷ 7 ∷ []
 
 pub follows-none : (k : ℕ) → k < 11 → among k followed ≡ false → 30 ≡ beginning (getD (getD symbols k []) 0 0) (k + 1)
-unfolding beginning symbols find
+unfolding beginning symbols position
 follows-none k h e = other-than (λ k. beginning (getD (getD symbols k []) 0 0) (k + 1)) (λ k. among k followed) 30 11 tt k h e
 
 -- ── what is no symbol

@@ -11,39 +11,40 @@ use lib.Dec.{T, leb, ltb, eqb, leb→le}
 use lib.ListN.{length, getD, take, drop, length-drop, length-take, List·getD-eq-default}
 use lib.Seq.{drop-cons}
 use borrow.Author.Tests.{ltb-true}
-use Rattle.notation.specs.Bytes.{letter, nameByte, blank, find, same}
-use Rattle.notation.specs.Token.{symbols, symbol, skip, nameEnd, nameAt, named, wordAt, labelAt, markAt, firstAt, tokenAt, width, Onward}
+use Rattle.notation.specs.Bytes.{letter, nameByte, blank, position, same}
+use Rattle.notation.specs.Token.{symbols, symbol, skip, nameEnd, nameAt, nameToken, wordAt, labelAt, markAt, firstAt, tokenAt}
+use Rattle.notation.specs.Onward.{width, Onward}
 use Rattle.notation.specs.declared.token.Token.{Token}
 use Rattle.notation.proofs.ByteTables.{below, below-at, same→eq}
 
 module _ {A : Type 0} (p : A → Bool) where
-  pub find-case : (P : ℕ → Type 0) (x : A) (xs : List A) (k : ℕ) → (p x ≡ true → P k) → (p x ≡ false → P (find p xs (suc k))) → P (find p (x ∷ xs) k)
-  unfolding find
+  pub find-case : (P : ℕ → Type 0) (x : A) (xs : List A) (k : ℕ) → (p x ≡ true → P k) → (p x ≡ false → P (position p xs (suc k))) → P (position p (x ∷ xs) k)
+  unfolding position
   find-case P x xs k f g = go (p x) refl
     where
-      go : (b : Bool) → p x ≡ b → P (elim b [ true ↦ k | false ↦ find p xs (suc k) ])
+      go : (b : Bool) → p x ≡ b → P (elim b [ true ↦ k | false ↦ position p xs (suc k) ])
       go true e = f e
       go false e = g e
 
-  pub find-ge : (xs : List A) (k : ℕ) → k ≤ find p xs k
-  unfolding find
+  pub find-ge : (xs : List A) (k : ℕ) → k ≤ position p xs k
+  unfolding position
   find-ge [] k = le-refl k
   find-ge (x ∷ xs) k = find-case (λ j. k ≤ j) x xs k (λ _. le-refl k) (λ _. omega (arith, find-ge xs (suc k)))
 
-  pub find-le : (xs : List A) (k : ℕ) → find p xs k ≤ k + length xs
-  unfolding find
+  pub find-le : (xs : List A) (k : ℕ) → position p xs k ≤ k + length xs
+  unfolding position
   find-le [] k = omega arith
   find-le (x ∷ xs) k = find-case (λ j. j ≤ k + length (x ∷ xs)) x xs k (λ _. omega arith) (λ _. omega (arith, find-le xs (suc k)))
 
-  pub find-at : (d : A) (xs : List A) (k : ℕ) → find p xs k < k + length xs → p (getD xs (find p xs k - k) d) ≡ true
-  unfolding find
+  pub find-at : (d : A) (xs : List A) (k : ℕ) → position p xs k < k + length xs → p (getD xs (position p xs k - k) d) ≡ true
+  unfolding position
   find-at d [] k = λ h. absurd (omega arith)
   find-at d (x ∷ xs) k =
       find-case (λ j. j < k + length (x ∷ xs) → p (getD (x ∷ xs) (j - k) d) ≡ true) x xs k
       (λ e h. let z : k - k ≡ 0 = omega arith in rw z e)
       (λ e h.
-      let l : suc k ≤ find p xs (suc k) = find-ge xs (suc k) in
-      let z : find p xs (suc k) - k ≡ suc (find p xs (suc k) - suc k) = omega arith in
+      let l : suc k ≤ position p xs (suc k) = find-ge xs (suc k) in
+      let z : position p xs (suc k) - k ≡ suc (position p xs (suc k) - suc k) = omega arith in
       rw z (find-at d xs (suc k) (omega arith)))
 
 -- what holds of each of two cases holds of the one that a test picks
@@ -80,8 +81,8 @@ unfolding symbol symbols
 symbol-most w = find-le (same w) symbols 0
 
 module _ (s : List ℕ) (i : ℕ) (h : i < length s) where
-  named-goes : (k f e : ℕ) → i + width k ≤ e → e ≤ length s → Goes i (length s) (named k i f e)
-  unfolding named
+  named-goes : (k f e : ℕ) → i + width k ≤ e → e ≤ length s → Goes i (length s) (nameToken k i f e)
+  unfolding nameToken
   named-goes k f e l m =
       cond-both (λ j. (i ≡ i) × (e ≤ length s) × (j < 32 → i + width j ≤ e)) (leb (e - f) 32) k 32
       (λ _. (refl, m, λ _. l))
@@ -96,8 +97,8 @@ module _ (s : List ℕ) (i : ℕ) (h : i < length s) where
   end-le j l = let z : length (drop j s) ≡ length s - j = length-drop j s in omega (arith, find-le (λ b. not (nameByte b)) (drop j s) j)
 
   letter-goes : (j : ℕ) → j < length s → letter (getD s j 0) ≡ true → j < nameEnd s j
-  unfolding nameEnd find nameByte
-  letter-goes j l e = rw (drop-cons s j 0, find, e) (find-ge (λ b. not (nameByte b)) (drop (suc j) s) (suc j))
+  unfolding nameEnd position nameByte
+  letter-goes j l e = rw (drop-cons s j 0, position, e) (find-ge (λ b. not (nameByte b)) (drop (suc j) s) (suc j))
 
   -- past the text there is no letter
   letter-in : (j : ℕ) → letter (getD s j 0) ≡ true → j < length s

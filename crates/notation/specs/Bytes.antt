@@ -1,7 +1,7 @@
 -- Bytes: their classes, quoted text as bytes, and the one search that the token reader is made of.
 use Prim.Native.Nat.{ℕ, suc}
 use mathlib.Core.List.{List, [], _∷_}
-use mathlib.Core.Bool.{Bool, true, false, not, _&&_, _||_}
+use mathlib.Core.Bool.{Bool, true, false, _&&_, _||_}
 use Prim.Native.Char.{code}
 use Prim.Native.String.{String}
 use lib.Dec.{leb, eqb}
@@ -27,9 +27,9 @@ unfoldable pub blank : ℕ → Bool
 blank b = eqb b 32 || eqb b 9 || eqb b 10 || eqb b 13
 
 -- the place of the first element that passes the test, counted from k; past the last one where none does
-unfoldable pub find : {A : Type 0} → (A → Bool) → List A → ℕ → ℕ
-find p [] k = k
-find p (x ∷ xs) k = elim (p x) [ true ↦ k | false ↦ find p xs (suc k) ]
+unfoldable pub position : {A : Type 0} → (A → Bool) → List A → ℕ → ℕ
+position p [] k = k
+position p (x ∷ xs) k = elim (p x) [ true ↦ k | false ↦ position p xs (suc k) ]
 
 -- the same bytes
 unfoldable pub same : List ℕ → List ℕ → Bool

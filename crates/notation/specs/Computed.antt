@@ -11,7 +11,7 @@ use Rattle.notation.specs.Scripts
 use Rattle.notation.specs.Tables
 
 unfoldable pub readNow : List ℕ → Result (List Declaration)
-unfolding Bytes.letter Bytes.nameByte Bytes.blank Bytes.find Bytes.same Token.symbols Token.symbol Token.skip Token.nameEnd Token.nameAt Token.named Token.wordAt Token.labelAt Token.markAt Token.firstAt Token.tokenAt expect misfit opening typeTerm processTerm Types.typeHead Types.isInfix Types.infixOf Types.typeBy Types.atomBy Types.labelTerm Types.alternativesBy Types.readType Processes.termHead Processes.payload Processes.unitTaken Processes.bracketedBy Processes.readNames Processes.nameList Processes.sendBy Processes.recvBy Processes.processBy Processes.restBy Processes.branchesBy Processes.readProcess Scripts.readEntries Scripts.entryList Scripts.declarationHead Scripts.typeDeclaration Scripts.procDeclaration Scripts.execDeclaration Scripts.scriptBy Scripts.readScript Scripts.readText
+unfolding Bytes.letter Bytes.nameByte Bytes.blank Bytes.position Bytes.same Token.symbols Token.symbol Token.skip Token.nameEnd Token.nameAt Token.nameToken Token.wordAt Token.labelAt Token.markAt Token.firstAt Token.tokenAt expect misfit opening typeTerm processTerm Types.typeHead Types.isInfix Types.infixOf Types.typeBy Types.atomBy Types.labelTerm Types.alternativesBy Types.readType Processes.termHead Processes.payload Processes.unitTaken Processes.bracketedBy Processes.readNames Processes.nameList Processes.sendBy Processes.recvBy Processes.processBy Processes.restBy Processes.branchesBy Processes.readProcess Scripts.readEntries Scripts.entryList Scripts.declarationHead Scripts.typeDeclaration Scripts.procDeclaration Scripts.execDeclaration Scripts.scriptBy Scripts.readScript Scripts.readText
 readNow s = Scripts.readText s
 
 unfoldable pub tablesNow : List ℕ → List ℕ

@@ -1,6 +1,8 @@
 pub mod Limits
 pub mod Bytes
 pub mod Token
+pub mod SymbolTable
+pub mod Onward
 pub mod Tree
 pub mod Fine
 pub mod Sizes

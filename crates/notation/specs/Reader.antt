@@ -18,9 +18,9 @@ pub data Result (A : Type 0) : Type 0 where
   refused : ℕ → ℕ → Result A
 
 -- a token, then the rest
-abbrev pub take : {A : Type 0} → Taken → (ℕ → Cursor → Result A) → Result A
-take (At i c) k = k i c
-take (Refused n i) k = refused n i
+abbrev pub onToken : {A : Type 0} → Taken → (ℕ → Cursor → Result A) → Result A
+onToken (At i c) k = k i c
+onToken (Refused n i) k = refused n i
 
 -- a part, then the rest
 abbrev pub part : {A B : Type 0} → Result A → (A → Cursor → Result B) → Result B
@@ -37,7 +37,7 @@ abbrev pub choose : {A : Type 0} → Bool → (Cursor → Result A) → (Cursor 
 choose true f g c = f c
 choose false f g c = g c
 
--- the cursor past a token, and with a bracket more open
+-- the cursor past a token; what was counted stays
 abbrev pub past : Cursor → Token → Cursor
 past c t = record { at = t .end; types = c .types; terms = c .terms; depth = c .depth }
 
@@ -54,7 +54,7 @@ expect s k c =
 unfoldable pub misfit : {A : Type 0} → List ℕ → Cursor → Result A
 misfit s c = let t = tokenAt s (c .at) in refused (fault t) (t .start)
 
--- A limit is tested after what is wanted, at the token that passes it: 4 before 5.
+-- A limit is tested after what is wanted, at the token that passes it: 3 or 4 before 5.
 abbrev pub limited : Taken → (Cursor → Bool) → (Cursor → Cursor) → Taken
 limited (At i c) fits more = cond (fits c) (At i (more c)) (Refused 5 i)
 limited (Refused n i) fits more = Refused n i

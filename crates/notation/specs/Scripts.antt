@@ -5,9 +5,9 @@ use mathlib.Core.Bool.{cond}
 use lib.ListN.{length}
 use lib.Dec.{ltb, leb, eqb}
 use Rattle.notation.specs.Limits.{textLimit, typeLimit, processLimit, execLimit}
-use Rattle.notation.specs.Token.{tokenAt, nameAt, kindAt, kType, kProc, kExec, kEnd, kName, kRoundOpen, kRoundClose, kSquareOpen, kSquareClose, kColon, kComma, kEquals}
-use Rattle.notation.specs.Tree.{Located, Entry, Declaration, declareType, declareProc, declareExec}
-use Rattle.notation.specs.Reader.{Result, got, refused, take, part, lastly, choose, expect, misfit, limited, opening, closed, nameIn}
+use Rattle.notation.specs.Token.{kindAt, kType, kProc, kExec, kEnd, kName, kRoundOpen, kRoundClose, kSquareOpen, kSquareClose, kColon, kComma, kEquals}
+use Rattle.notation.specs.Tree.{Entry, Declaration, declareType, declareProc, declareExec}
+use Rattle.notation.specs.Reader.{Result, got, refused, onToken, part, lastly, choose, expect, misfit, limited, opening, closed, nameIn}
 use Rattle.notation.specs.Types.{readType}
 use Rattle.notation.specs.Processes.{readProcess}
 use Rattle.notation.specs.declared.reading.Cursor.{Cursor}
@@ -19,18 +19,18 @@ use Rattle.notation.specs.declared.token.DeclarationHead.the-variants.{T
 unfoldable pub readEntries : ℕ → List ℕ → ℕ → Cursor → Result (List Entry)
 readEntries zero s close c = refused 0 0
 readEntries (suc n) s close c =
-    take (expect s kName c) λ i d.
-    take (expect s kColon d) λ _ e.
+    onToken (expect s kName c) λ i d.
+    onToken (expect s kColon d) λ _ e.
     part (readType n s e) λ A f.
     choose (eqb (kindAt s (f .at)) kComma)
-    (λ f. take (expect s kComma f) λ _ g. lastly (_∷_ (record { channel = nameIn s i; type = A })) (readEntries n s close g))
-    (λ f. take (expect s close f) λ _ g. got (record { channel = nameIn s i; type = A } ∷ []) g)
+    (λ f. onToken (expect s kComma f) λ _ g. lastly (_∷_ (record { channel = nameIn s i; type = A })) (readEntries n s close g))
+    (λ f. onToken (expect s close f) λ _ g. got (record { channel = nameIn s i; type = A } ∷ []) g)
     f
 
 unfoldable pub entryList : ℕ → List ℕ → ℕ → ℕ → Cursor → Result (List Entry)
 entryList n s open′ close c =
-    take (opening s open′ c) λ _ d.
-    part (choose (eqb (kindAt s (d .at)) kName) (readEntries n s close) (λ d. take (expect s close d) λ _ e. got [] e) d) λ entries e.
+    onToken (opening s open′ c) λ _ d.
+    part (choose (eqb (kindAt s (d .at)) kName) (readEntries n s close) (λ d. onToken (expect s close d) λ _ e. got [] e) d) λ entries e.
     got entries (closed c e)
 
 -- what a token of this kind begins
@@ -54,24 +54,24 @@ keyword s k before limit c = limited (expect s k c) (λ _. ltb before limit) (λ
 -- type t = A
 unfoldable pub typeDeclaration : ℕ → List ℕ → ℕ → Cursor → Result Declaration
 typeDeclaration n s before c =
-    take (keyword s kType before typeLimit c) λ _ d.
-    take (expect s kName d) λ i e.
-    take (expect s kEquals e) λ _ f. lastly (declareType (nameIn s i)) (readType n s f)
+    onToken (keyword s kType before typeLimit c) λ _ d.
+    onToken (expect s kName d) λ i e.
+    onToken (expect s kEquals e) λ _ f. lastly (declareType (nameIn s i)) (readType n s f)
 
 -- proc p (x : A, ..) [y : B, ..] = P
 unfoldable pub procDeclaration : ℕ → List ℕ → ℕ → Cursor → Result Declaration
 procDeclaration n s before c =
-    take (keyword s kProc before processLimit c) λ _ d.
-    take (expect s kName d) λ i e.
+    onToken (keyword s kProc before processLimit c) λ _ d.
+    onToken (expect s kName d) λ i e.
     part (entryList n s kRoundOpen kRoundClose e) λ xs f.
     part (entryList n s kSquareOpen kSquareClose f) λ ys g.
-    take (expect s kEquals g) λ _ h. lastly (declareProc (nameIn s i) xs ys) (readProcess n s h)
+    onToken (expect s kEquals g) λ _ h. lastly (declareProc (nameIn s i) xs ys) (readProcess n s h)
 
 -- exec p
 unfoldable pub execDeclaration : List ℕ → ℕ → Cursor → Result Declaration
 execDeclaration s before c =
-    take (keyword s kExec before execLimit c) λ _ d.
-    take (expect s kName d) λ i e. got (declareExec (nameIn s i)) e
+    onToken (keyword s kExec before execLimit c) λ _ d.
+    onToken (expect s kName d) λ i e. got (declareExec (nameIn s i)) e
 
 abbrev pub moreTypes : Count → Count
 moreTypes k = record { types = k .types + 1; processes = k .processes; execs = k .execs }

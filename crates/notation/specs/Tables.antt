@@ -15,7 +15,7 @@ use Rattle.notation.specs.declared.reading.TypeNode.{TypeNode}
 use Rattle.notation.specs.declared.reading.TermNode.{TermNode}
 use Rattle.notation.specs.declared.reading.ProcessEntry.{ProcessEntry}
 
--- ── where each table begins: 16 counts, then 64 × 2 types, 64 × 4 processes, 16 execs, 512 signature entries, 512 type nodes,
+-- ── where each table begins: 16 words, of which the first eight are the counts, then 64 × 2 types, 64 × 4 processes, 16 execs, 512 signature entries, 512 type nodes,
 -- 512 alternatives, 1,024 × 2 process nodes, 1,640 branches; 5,640 words in all
 abbrev pub typesAt : ℕ
 typesAt = 16

@@ -1,11 +1,11 @@
 -- The token at an offset of a text: total over every text and offset.
-use Prim.Native.Nat.{ℕ, zero, suc, _+_, _-_, _≤_, _<_}
-use mathlib.Core.List.{List, [], _∷_, _++_}
-use mathlib.Core.Bool.{not, cond, _||_}
+use Prim.Native.Nat.{ℕ, _+_, _-_}
+use mathlib.Core.List.{List, [], _∷_}
+use mathlib.Core.Bool.{not, cond}
 use lib.ListN.{length, getD, take, drop}
 use lib.Dec.{leb, ltb, eqb}
 use Rattle.notation.specs.Limits.{nameLimit}
-use Rattle.notation.specs.Bytes.{letter, nameByte, blank, bytes, find, same}
+use Rattle.notation.specs.Bytes.{letter, nameByte, blank, bytes, position, same}
 use Rattle.notation.specs.declared.token.Token.{Token}
 use Rattle.notation.specs.declared.token.Lexeme.{Lexeme}
 
@@ -149,31 +149,17 @@ kFault = 32
 abbrev pub kEnd : ℕ
 kEnd = 33
 
--- the table of the code: for each symbol its length and its bytes, in a row of seven
-abbrev pub pad : ℕ → List ℕ → List ℕ
-pad zero xs = []
-pad (suc n) [] = 0 ∷ pad n []
-pad (suc n) (x ∷ xs) = x ∷ pad n xs
-
-abbrev pub rows : List (List ℕ) → List ℕ
-rows [] = []
-rows (w ∷ ws) = length w ∷ pad 6 w ++ rows ws
-
 -- the kind of a word or mark; that of a name where it is none
 unfoldable pub symbol : List ℕ → ℕ
-symbol w = find (same w) symbols 0
-
--- the first symbol from the k-th on that begins with a byte, by which the code searches
-unfoldable pub beginning : ℕ → ℕ → ℕ
-beginning b k = find (λ v. eqb b (getD v 0 0)) (drop k symbols) k
+symbol w = position (same w) symbols 0
 
 -- "Space, tab, LF and CR separate tokens": where the next byte stands that is none of them
 unfoldable pub skip : List ℕ → ℕ → ℕ
-skip s at = find (λ b. not (blank b)) (drop at s) at
+skip s at = position (λ b. not (blank b)) (drop at s) at
 
 -- where the name ends that begins at an offset
 unfoldable pub nameEnd : List ℕ → ℕ → ℕ
-nameEnd s at = find (λ b. not (nameByte b)) (drop at s) at
+nameEnd s at = position (λ b. not (nameByte b)) (drop at s) at
 
 -- the bytes of the name that begins at an offset
 unfoldable pub nameAt : List ℕ → ℕ → List ℕ
@@ -187,16 +173,16 @@ abbrev pub asToken : Lexeme → Token
 asToken t = token (t .kind) (t .start) (t .end)
 
 -- a token of kind k from a, whose name stands from i to e: at fault where the name is too long
-unfoldable pub named : ℕ → ℕ → ℕ → ℕ → Token
-named k a i e = token (cond (leb (e - i) nameLimit) k kFault) a e
+unfoldable pub nameToken : ℕ → ℕ → ℕ → ℕ → Token
+nameToken k a i e = token (cond (leb (e - i) nameLimit) k kFault) a e
 
 -- a letter at i: a reserved word or a name
 unfoldable pub wordAt : List ℕ → ℕ → Token
-wordAt s i = named (symbol (nameAt s i)) i i (nameEnd s i)
+wordAt s i = nameToken (symbol (nameAt s i)) i i (nameEnd s i)
 
 -- an apostrophe at i: "A label is an apostrophe and a name"
 unfoldable pub labelAt : List ℕ → ℕ → Token
-labelAt s i = cond (letter (getD s (i + 1) 0)) (named kLabel i (i + 1) (nameEnd s (i + 1))) (token kFault i (i + 1))
+labelAt s i = cond (letter (getD s (i + 1) 0)) (nameToken kLabel i (i + 1) (nameEnd s (i + 1))) (token kFault i (i + 1))
 
 -- "the longest mark wins": a mark of two bytes, else of one, else no token
 unfoldable pub markAt : List ℕ → ℕ → Token
@@ -219,13 +205,3 @@ tokenAt s at =
 
 abbrev pub kindAt : List ℕ → ℕ → ℕ
 kindAt s at = tokenAt s at .kind
-
--- how many bytes a token of this kind has at least, as far as the tables' room turns on it: a label and => have two
-abbrev pub width : ℕ → ℕ
-width k = cond (eqb k kThen || eqb k kLabel) 2 1
-
--- a token lies within the text, and one that is neither a fault nor the end past its offset: what a reading goes on by
-pub record Onward (s : List ℕ) (at : ℕ) (t : Token) : Type 0 where
-  pub starts : t .start ≤ length s
-  pub ends : t .end ≤ length s
-  pub goes : t .kind < kFault → (at + width (t .kind) ≤ t .end) × (t .start < length s)

@@ -4,9 +4,9 @@ use mathlib.Core.List.{List}
 use mathlib.Core.Bool.{Bool, cond, _||_}
 use lib.Dec.{ltb, eqb}
 use Rattle.notation.specs.Limits.{labelLimit}
-use Rattle.notation.specs.Token.{tokenAt, nameAt, kindAt, kOne, kName, kLabel, kRoundOpen, kRoundClose, kBraceOpen, kBraceClose, kPlus, kWith, kColon, kComma, kStar, kAt, kLolli}
+use Rattle.notation.specs.Token.{kindAt, kOne, kName, kLabel, kRoundOpen, kRoundClose, kBraceOpen, kBraceClose, kPlus, kWith, kColon, kComma, kStar, kAt, kLolli}
 use Rattle.notation.specs.Tree.{Located, Ty, unit, named, tensor, par, lolli, plus, with, Alternatives, alternative}
-use Rattle.notation.specs.Reader.{Result, got, refused, take, part, lastly, choose, expect, misfit, limited, opening, typeTerm, closed, nameIn, labelIn}
+use Rattle.notation.specs.Reader.{Result, got, refused, onToken, part, lastly, choose, expect, misfit, limited, opening, typeTerm, closed, nameIn, labelIn}
 use Rattle.notation.specs.declared.reading.Cursor.{Cursor}
 use Rattle.notation.specs.declared.reading.Taken.{Taken}
 use Rattle.notation.specs.declared.token.TypeHead.{TypeHead}
@@ -30,7 +30,7 @@ infixOf k A B = cond (eqb k kStar) (tensor A B) (cond (eqb k kAt) (par A B) (lol
 
 -- A type is an atom, or an atom, an infix mark and a type.
 abbrev pub rightBy : (Cursor → Result (Ty Located)) → List ℕ → ℕ → Cursor → Result (Ty Located)
-rightBy type s k c = take (typeTerm s k c) λ _ d. type d
+rightBy type s k c = onToken (typeTerm s k c) λ _ d. type d
 
 unfoldable pub typeBy : (Cursor → Result (Ty Located)) → (Cursor → Result (Ty Located)) → List ℕ → Cursor → Result (Ty Located)
 typeBy atom type s c =
@@ -43,22 +43,22 @@ typeBy atom type s c =
 -- a type in round brackets
 abbrev pub roundBy : (Cursor → Result (Ty Located)) → List ℕ → Cursor → Result (Ty Located)
 roundBy type s c =
-    take (opening s kRoundOpen c) λ _ d.
+    onToken (opening s kRoundOpen c) λ _ d.
     part (type d) λ A e.
-    take (expect s kRoundClose e) λ _ f. got A (closed c f)
+    onToken (expect s kRoundClose e) λ _ f. got A (closed c f)
 
 -- a choice: its mark, and its labels in braces
 abbrev pub choiceBy : (Cursor → Result (Alternatives Located)) → List ℕ → ℕ → (Alternatives Located → Ty Located) → Cursor → Result (Ty Located)
 choiceBy alternatives s k choice c =
-    take (typeTerm s k c) λ _ d.
-    take (opening s kBraceOpen d) λ _ e.
+    onToken (typeTerm s k c) λ _ d.
+    onToken (opening s kBraceOpen d) λ _ e.
     part (alternatives e) λ r f.
-    take (expect s kBraceClose f) λ _ g. got (choice r) (closed c g)
+    onToken (expect s kBraceClose f) λ _ g. got (choice r) (closed c g)
 
 -- an atom, by what begins it
 unfoldable pub atomBy : (Cursor → Result (Ty Located)) → (Cursor → Result (Alternatives Located)) → List ℕ → Cursor → TypeHead → Result (Ty Located)
-atomBy type alternatives s c One = take (typeTerm s kOne c) λ _ d. got unit d
-atomBy type alternatives s c Name = take (typeTerm s kName c) λ i d. got (named (nameIn s i)) d
+atomBy type alternatives s c One = onToken (typeTerm s kOne c) λ _ d. got unit d
+atomBy type alternatives s c Name = onToken (typeTerm s kName c) λ i d. got (named (nameIn s i)) d
 atomBy type alternatives s c Round = roundBy type s c
 atomBy type alternatives s c Plus = choiceBy alternatives s kPlus plus c
 atomBy type alternatives s c With = choiceBy alternatives s kWith with c
@@ -72,15 +72,15 @@ labelTerm s n c = limited (expect s kLabel c) (λ _. ltb n labelLimit) (λ d. d)
 abbrev pub moreBy : (Cursor → Result (Alternatives Located)) → List ℕ → Cursor → Result (Alternatives Located)
 moreBy more s c =
     choose (eqb (kindAt s (c .at)) kComma)
-    (λ c. take (expect s kComma c) λ _ d. more d)
+    (λ c. onToken (expect s kComma c) λ _ d. more d)
     (λ c. got Alternatives.none c)
     c
 
 -- one label or more, of which n came before: 'l : A, ..
 unfoldable pub alternativesBy : (Cursor → Result (Ty Located)) → (Cursor → Result (Alternatives Located)) → List ℕ → ℕ → Cursor → Result (Alternatives Located)
 alternativesBy type more s n c =
-    take (labelTerm s n c) λ i d.
-    take (expect s kColon d) λ _ e.
+    onToken (labelTerm s n c) λ i d.
+    onToken (expect s kColon d) λ _ e.
     part (type e) λ A f. lastly (alternative (labelIn s i) A) (moreBy more s f)
 
 unfoldable mutual

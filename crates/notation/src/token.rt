@@ -6,7 +6,9 @@ ghost use mathlib.Core.List.{[], _∷_};
 ghost use lib.Dec.{ltb};
 ghost use lib.ListN.{length, getD, take, drop};
 ghost use Rattle.notation.specs.Bytes.{within, letter, nameByte, blank, same};
-ghost use Rattle.notation.specs.Token.{symbols, rows, symbol, beginning, skip, nameEnd, nameAt, named, wordAt, labelAt, markAt, firstAt, tokenAt, asToken, Onward};
+ghost use Rattle.notation.specs.Token.{symbols, symbol, skip, nameEnd, nameAt, nameToken, wordAt, labelAt, markAt, firstAt, tokenAt, asToken};
+ghost use Rattle.notation.specs.SymbolTable.{rows, beginning};
+ghost use Rattle.notation.specs.Onward.{Onward};
 ghost use Rattle.notation.specs.Limits.{textLimit};
 use crate::script::Script;
 
@@ -377,7 +379,7 @@ pub fn has_name(text: &[u8], at: usize, n: usize, there: usize) -> bool
 // A token of this kind whose name stands from `from` to `end`; a name that is too long is at fault.
 fn named(kind: usize, start: usize, from: usize, end: usize) -> Lexeme
     requires { ⌜ from ≤ end ⌝ }
-    ensures { λ r. ⌜ asToken r ≡ named kind start from end ⌝ }
+    ensures { λ r. ⌜ asToken r ≡ nameToken kind start from end ⌝ }
 {
     if end - from <= Script::NAME {
         Lexeme { kind, start, end }

@@ -5,7 +5,7 @@ use mathlib.Core.Bool.{Bool, true, false, _&&_}
 use lib.Dec.{leb}
 use Rattle.notation.specs.Bytes.{bytes}
 use Rattle.notation.specs.Token.{nameAt}
-use Rattle.calculus.specs.Machine.{Answer, started, stepped, ranOn, reported, surveyed, named}
+use Rattle.calculus.specs.Machine.{Answer, started, stepped, ranOn, reported, surveyed, nameGiven}
 use Rattle.calculus.specs.Printed.{decimal}
 use Rattle.calculus.specs.declared.answers.Seen.{Seen}
 use Rattle.calculus.specs.declared.answers.Seen.the-variants.{Nothing, Label, Close, Passed, Cancelled}
@@ -100,4 +100,4 @@ answerWords s (stepped a) = steppedWords s a
 answerWords s (ranOn a) = ranOnWords s a
 answerWords s (reported a l) = reportedWords a l
 answerWords s (surveyed a l) = surveyedWords a l
-answerWords s (named part n at) = namedWords part n at
+answerWords s (nameGiven part n at) = namedWords part n at

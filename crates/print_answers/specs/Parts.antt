@@ -114,7 +114,7 @@ pub named-whole : (n offset : ℕ) {name o a : List ℕ} {at r : ℕ} → n ≡ 
 unfolding namedWords
 named-whole n offset {name} e p = said (λ k. namedWords name k offset) e p
 
-pub named-refused : (name : List ℕ) (n offset : ℕ) {o a : List ℕ} {at r : ℕ} → (n ≡ 0 → ⊥) → Appended o a at r (refusedWords n offset) → Appended o a at r (namedWords name n offset)
+pub name-refused : (name : List ℕ) (n offset : ℕ) {o a : List ℕ} {at r : ℕ} → (n ≡ 0 → ⊥) → Appended o a at r (refusedWords n offset) → Appended o a at r (namedWords name n offset)
 unfolding namedWords
-named-refused name zero offset h p = absurd (h refl)
-named-refused name (suc n) offset h p = p
+name-refused name zero offset h p = absurd (h refl)
+name-refused name (suc n) offset h p = p

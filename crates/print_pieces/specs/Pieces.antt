@@ -8,6 +8,7 @@ use lib.ListN.{length, take, drop}
 use Rattle.notation.specs.Bytes.{bytes}
 use Rattle.notation.specs.Limits.{textLimit}
 use Rattle.notation.specs.Token.{nameAt}
+use Rattle.calculus.specs.Accepted.{Checked, accepted, faulty, checked}
 use Rattle.calculus.specs.Configuration.{Config}
 use Rattle.calculus.specs.Printed.{stepLimit, line, sighting, ending, runLines, allExecs, warningLines, printed}
 use Rattle.calculus.specs.Program.{Program}
@@ -96,11 +97,17 @@ isLeft (Exec line) = true
 isLeft (Running line taken) = true
 isLeft Finished = false
 
--- the first piece of a text, whatever the words of the run are
+-- whether a text is accepted
+abbrev pub isAccepted : Checked → Bool
+isAccepted (accepted ds) = true
+isAccepted (faulty n i) = false
+
+-- the first piece of a text, whatever the words of the run are; more is left exactly where the text is accepted
 pub record First (s w out : List ℕ) (r : Piece) : Type 0 where
   pub is : (ws : List ℕ) → printed s ≡ take (r .length) out ++ leftIn s w ws (r .stage)
   pub within : r .length ≤ length out
   pub going : (ws : List ℕ) → Going s w ws (r .stage)
+  pub more : isLeft (r .stage) ≡ isAccepted (checked s)
 
 -- the piece that comes at a stage
 pub record Next (s w ws vs out : List ℕ) (stage : Stage) (r : Piece) : Type 0 where

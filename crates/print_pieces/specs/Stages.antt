@@ -42,7 +42,7 @@ use Rattle.check_accepted.specs.Texts.{TextIn, tables-in, program-in, warnings-
 use Rattle.check_accepted.specs.Verdicts.{refused-so, fine-so}
 use Rattle.print_bytes.specs.Writing.{Appended}
 use Rattle.print_pieces.specs.RunLines.{given-within, shown-steps, fuel-enough}
-use Rattle.print_pieces.specs.Pieces.{left, warningsIn, leftIn, RunningIn, GoingBy, Going, turnsIn, isLeft, First, Next, Still, Wrote, toldLines, toldStage, Turn, Linked, written, PiecesPrinted}
+use Rattle.print_pieces.specs.Pieces.{left, warningsIn, leftIn, RunningIn, GoingBy, Going, turnsIn, isLeft, isAccepted, First, Next, Still, Wrote, toldLines, toldStage, Turn, Linked, written, PiecesPrinted}
 use Rattle.print_pieces.specs.declared.pieces.Stage.{Stage}
 use Rattle.print_pieces.specs.declared.pieces.Stage.the-variants.{Warning, Channel, Label, Exec, Running, Finished}
 use Rattle.print_pieces.specs.declared.pieces.Piece.{Piece}
@@ -72,10 +72,6 @@ module _ (s w : List ℕ) (t : TextIn s w) where
   start-formed : (line : ℕ) (g : Signature) → execOf (programIn s w) line ≡ some g → WellFormed (programIn s w) (startConfig g)
   start-formed line g = subst (λ p. execOf p line ≡ some g → WellFormed p (startConfig g)) (sym (program-in t)) (accepted-start s (t .script) (t .accepts) line g)
 
-abbrev isAccepted : Checked → Bool
-isAccepted (accepted ds) = true
-isAccepted (faulty n i) = false
-
 -- a text that is accepted is within its limit
 pub text-short : (s w : List ℕ) → TextIn s w → length s ≤ textLimit
 unfolding checked readText
@@ -102,6 +98,7 @@ module _ (s w x : List ℕ) (v : Verdict) (t : TextChecked s w v x) (long : leng
     is = λ ws. printed-by s (faulty n i) (refused-so (checked s) n i (ap verdictOf (sym q) ∙ enough .0)) ∙ sym (append-nil _) ∙ ap (λ l. l ++ []) (sym (a .front));
     within = put-within a;
     going = λ ws. record { is = tt };
+    more = sym (ap isAccepted (refused-so (checked s) n i (ap verdictOf (sym q) ∙ enough .0)));
   }
 
   module _ (q : v ≡ verdict.Fine) where
@@ -123,6 +120,7 @@ module _ (s w x : List ℕ) (v : Verdict) (t : TextChecked s w v x) (long : leng
           ∙ λ i. warningLines (sym (warnings-in first-text) i) ++ allExecs s (sym (program-in first-text) i) (sym (program-in first-text) i .execs);
       within = omega arith;
       going = λ ws. record { is = first-text };
+      more = sym (ap isAccepted (script .1));
     }
 
 -- ── a line is begun

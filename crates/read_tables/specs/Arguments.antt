@@ -8,11 +8,11 @@ use lib.ListN.{length, drop}
 use lib.Seq.{drop-drop, drop-nil}
 use lib.Dec.{ltb, eqb}
 use borrow.Author.Tests.{ltb-true, lt-ltb, le-ltb}
-use Rattle.notation.specs.Bytes.{blank, find}
+use Rattle.notation.specs.Bytes.{blank, position}
 use Rattle.notation.specs.Limits.{bracketLimit}
 use Rattle.notation.specs.Token.{token, skip, firstAt, tokenAt, kindAt, kName, kComma, kRoundOpen, kRoundClose, kSquareOpen, kSquareClose, kEnd}
 use Rattle.notation.specs.Tree.{Located}
-use Rattle.notation.specs.Reader.{Result, got, refused, take, part, lastly, choose, past, fault, expect, limited, mayOpen, deeper, opening, nameIn}
+use Rattle.notation.specs.Reader.{Result, got, refused, onToken, part, lastly, choose, past, fault, expect, limited, mayOpen, deeper, opening, nameIn}
 use Rattle.notation.specs.Processes.{readNames, nameList}
 use Rattle.notation.specs.Scripts.{fuel}
 use Rattle.notation.specs.From.{CallRead}
@@ -26,28 +26,28 @@ use Rattle.read_tables.specs.Names.{NamesFrom, CallAt, goes-is, list-goe
 
 -- ── the token at a token's start is that token
 module _ {A : Type 0} (p : A → Bool) where
-  find-again : (xs : List A) (k : ℕ) → find p (drop (find p xs k - k) xs) (find p xs k) ≡ find p xs k
-  unfolding find
+  find-again : (xs : List A) (k : ℕ) → position p (drop (position p xs k - k) xs) (position p xs k) ≡ position p xs k
+  unfolding position
   find-again [] k = rw (drop-nil (k - k)) refl
   find-again (x ∷ xs) k =
-      find-case p (λ j. find p (drop (j - k) (x ∷ xs)) j ≡ j) x xs k
+      find-case p (λ j. position p (drop (j - k) (x ∷ xs)) j ≡ j) x xs k
       (λ e.
       let z : k - k ≡ 0 = omega arith in
       rw z (find-case p (λ j. j ≡ k) x xs k (λ _. refl) (λ d. absurd (false≢true (sym d ∙ e)))))
       (λ e.
-      let l : suc k ≤ find p xs (suc k) = find-ge p xs (suc k) in
-      let z : find p xs (suc k) - k ≡ suc (find p xs (suc k) - suc k) = omega arith in
+      let l : suc k ≤ position p xs (suc k) = find-ge p xs (suc k) in
+      let z : position p xs (suc k) - k ≡ suc (position p xs (suc k) - suc k) = omega arith in
       rw z (find-again xs (suc k)))
 
 skip-again : (s : List ℕ) (at : ℕ) → skip s (skip s at) ≡ skip s at
 unfolding skip
 skip-again s at =
     let q : ℕ → Bool = λ b. not (blank b) in
-    let i = find q (drop at s) at in
+    let i = position q (drop at s) at in
     let l : at ≤ i = find-ge q (drop at s) at in
     let z : at + (i - at) ≡ i = omega arith in
     let d : drop (i - at) (drop at s) ≡ drop i s = drop-drop (i - at) at s ∙ ap (λ m. drop m s) z in
-    ap (λ r. find q r i) (sym d) ∙ find-again q (drop at s) at
+    ap (λ r. position q r i) (sym d) ∙ find-again q (drop at s) at
 
 within : (s : List ℕ) (i : ℕ) → ltb (skip s i) (length s) ≡ true → tokenAt s i ≡ firstAt s (skip s i)
 unfolding tokenAt
@@ -96,10 +96,10 @@ module _ {s : List ℕ} {A : Type 0} where
   again-refused : (n i : ℕ) (u : Result A) → Again s (refused n i) u
   again-refused n i u = record { is = omega arith }
 
-  again-take : {t u : Taken} (f g : ℕ → Cursor → Result A) → TakenAgain s t u → ((i : ℕ) (c d : Cursor) → Like s c d → Again s (f i c) (g i d)) → Again s (take t f) (take u g)
+  again-take : {t u : Taken} (f g : ℕ → Cursor → Result A) → TakenAgain s t u → ((i : ℕ) (c d : Cursor) → Like s c d → Again s (f i c) (g i d)) → Again s (onToken t f) (onToken u g)
   again-take {t = At i c} {u = u} f g h k =
       let (d, e, l) = h .is in rw e (k i c d l)
-  again-take {t = Refused n i} {u = u} f g h k = again-refused n i (take u g)
+  again-take {t = Refused n i} {u = u} f g h k = again-refused n i (onToken u g)
 
   again-part : {B : Type 0} {r u : Result B} (f g : B → Cursor → Result A) → Again s r u → ((b : B) (c d : Cursor) → Like s c d → Again s (f b c) (g b d)) → Again s (part r f) (part u g)
   again-part {r = got b c} {u = u} f g h k =

@@ -7,9 +7,10 @@ use native.Mathlib.Omega.{arith}
 use lib.ListN.{length}
 use lib.Dec.{eqb}
 use borrow.Author.Tests.{eqb-true, eq-eqb, ne-eqb}
-use Rattle.notation.specs.Token.{tokenAt, kindAt, width, Onward, kName, kComma, kRoundOpen, kRoundClose, kSquareOpen, kSquareClose}
+use Rattle.notation.specs.Token.{tokenAt, kindAt, kName, kComma, kRoundOpen, kRoundClose, kSquareOpen, kSquareClose}
+use Rattle.notation.specs.Onward.{width, Onward}
 use Rattle.notation.specs.Tree.{Located}
-use Rattle.notation.specs.Reader.{Result, got, refused, take, part, lastly, choose, past, fault, expect, limited, mayOpen, deeper, opening, closed, nameIn}
+use Rattle.notation.specs.Reader.{Result, got, refused, onToken, part, lastly, choose, past, fault, expect, limited, mayOpen, deeper, opening, closed, nameIn}
 use Rattle.notation.specs.Processes.{readNames, nameList}
 use Rattle.notation.specs.declared.token.Token.{Token}
 use Rattle.notation.specs.declared.reading.Cursor.{Cursor}
@@ -60,7 +61,7 @@ goes-is {P = P} e h = subst (Goes P) e h .holds
 goes-refused : {A : Type 0} {P : A → Cursor → Type 0} (n i : ℕ) → Goes P (refused n i)
 goes-refused n i = record { holds = omega arith }
 
-goes-take : {A : Type 0} {P : A → Cursor → Type 0} (t : Taken) (f : ℕ → Cursor → Result A) → ((i : ℕ) (d : Cursor) → t ≡ At i d → Goes P (f i d)) → Goes P (take t f)
+goes-take : {A : Type 0} {P : A → Cursor → Type 0} (t : Taken) (f : ℕ → Cursor → Result A) → ((i : ℕ) (d : Cursor) → t ≡ At i d → Goes P (f i d)) → Goes P (onToken t f)
 goes-take (At i d) f h = h i d refl
 goes-take (Refused n i) f h = goes-refused n i
 

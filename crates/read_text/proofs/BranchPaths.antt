@@ -11,7 +11,7 @@ use Rattle.notation.specs.Fine.{FineBranches, SomeBranch}
 use Rattle.notation.specs.Limits.{labelLimit}
 use Rattle.notation.specs.Token.{kindAt, kBar, kThen, kLabel}
 use Rattle.notation.specs.Tree.{Proc, Branches, branch}
-use Rattle.notation.specs.Reader.{got, take, part, lastly, expect, thenToken, labelIn}
+use Rattle.notation.specs.Reader.{got, onToken, part, lastly, expect, thenToken, labelIn}
 use Rattle.notation.specs.Types.{labelTerm}
 use Rattle.notation.specs.Processes.{branchesBy, moreBranchesBy, readProcess, readBranches}
 use Rattle.notation.specs.Tables.{branchesAt, pairWord, putBranch, pointerTo, afterProcess, writeProcess, afterBranches, writeBranches}
@@ -95,7 +95,7 @@ branch-few s n c u e = ltb-true n labelLimit (limit-held (λ x. thenToken x (exp
 module _ {s w₀ : List ℕ} {c₀ : Cursor} {k₀ : Tally} (kept w : List ℕ) (c : Cursor) (k : Tally) (n : ℕ) (h : Keeping s w₀ c₀ k₀ kept w c k n) {q : Taken}
     (u : Stepped s c 4 0 0 (labelThen s n c) q) where
   branches-is : (m : ℕ) → readBranches (suc m) s n c
-      ≡ take (labelThen s n c) (λ i e. part (readProcess m s e) λ P f. lastly (branch (labelIn s i) P) (moreBranchesBy (λ d. readBranches m s (n + 1) d) s f))
+      ≡ onToken (labelThen s n c) (λ i e. part (readProcess m s e) λ P f. lastly (branch (labelIn s i) P) (moreBranchesBy (λ d. readBranches m s (n + 1) d) s f))
   unfolding labelThen branchesBy readProcess
   branches-is m = sym (then-take (labelTerm s n c) (expect s kThen) _)
 

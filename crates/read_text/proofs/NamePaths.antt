@@ -9,7 +9,7 @@ use Rattle.notation.specs.Fine.{FineProcess}
 use Rattle.notation.specs.declared.token.Token.{Token}
 use Rattle.notation.specs.Token.{kindAt, tokenAt, kName, kComma, kCall, kRoundOpen, kRoundClose, kSquareOpen, kSquareClose}
 use Rattle.notation.specs.Tree.{Located, call}
-use Rattle.notation.specs.Reader.{Result, got, refused, take, part, lastly, choose, expect, opening, limited, mayOpen, deeper, past, fault, processTerm, closed, nameIn}
+use Rattle.notation.specs.Reader.{Result, got, refused, onToken, part, lastly, choose, expect, opening, limited, mayOpen, deeper, past, fault, processTerm, closed, nameIn}
 use Rattle.notation.specs.Processes.{processBy, readNames, nameList}
 use Rattle.notation.specs.Tables.{moreTerms, termNode, putTerm, afterProcess, writeProcess}
 use Rattle.notation.specs.declared.reading.Cursor.{Cursor}
@@ -62,7 +62,7 @@ forget-last : (i : ℕ) (x : Located) (r : Result (List Located)) → forgetName
 forget-last i x (got xs d) = refl
 forget-last i x (refused n j) = refl
 
-forget-end : (i : ℕ) (xs ys : List Located) (t : Taken) → forgetNames i (take t λ _ e. got xs e) ≡ forgetNames i (take t λ _ e. got ys e)
+forget-end : (i : ℕ) (xs ys : List Located) (t : Taken) → forgetNames i (onToken t λ _ e. got xs e) ≡ forgetNames i (onToken t λ _ e. got ys e)
 forget-end i xs ys (At j d) = refl
 forget-end i xs ys (Refused n j) = refl
 
@@ -79,9 +79,9 @@ module _ (s : List ℕ) (c : Cursor) (close n : ℕ) (wide : 1 ≤ n) {q : Taken
 -- ── names
 module _ (s : List ℕ) (c : Cursor) (close : ℕ) {q : Taken} (u : Stepped s c 1 0 0 (expect s kName c) q) where
   names-suc : (m : ℕ) → readNames (suc m) s close c
-      ≡ take (expect s kName c) (λ i d. choose (eqb (kindAt s (d .at)) kComma) (λ d. take (expect s kComma d) λ _ e. lastly (_∷_ (nameIn s i))
+      ≡ onToken (expect s kName c) (λ i d. choose (eqb (kindAt s (d .at)) kComma) (λ d. onToken (expect s kComma d) λ _ e. lastly (_∷_ (nameIn s i))
       (readNames m s close e))
-      (λ d. take (expect s close d) λ _ e. got (nameIn s i ∷ []) e) d)
+      (λ d. onToken (expect s close d) λ _ e. got (nameIn s i ∷ []) e) d)
   unfolding readNames
   names-suc m = refl
 
@@ -112,7 +112,7 @@ module _ (s : List ℕ) (c : Cursor) (close : ℕ) {q : Taken} (u : Stepped s c 
         let o = u .on i d e in
         record {
           is = at-more (λ m. r ≡ forgetNames 0 (readNames m s close c))
-              (λ m lo. let same : readNames (suc m) s close c ≡ (take (expect s close d) λ _ e. got (nameIn s i ∷ []) e) = names-suc m ∙ rw (took u e, f) in
+              (λ m lo. let same : readNames (suc m) s close c ≡ (onToken (expect s close d) λ _ e. got (nameIn s i ∷ []) e) = names-suc m ∙ rw (took u e, f) in
               v .is (suc (unread s d)) (omega arith) ∙ forget-end 0 [] (nameIn s i ∷ []) (expect s close d) ∙ ap (forgetNames 0) (sym same));
           on = λ h a z. let o₂ = v .on h a z in omega arith;
         }
@@ -161,7 +161,7 @@ module _ (s : List ℕ) (c : Cursor) (opens closes n : ℕ) (wide : 1 ≤ n) {q 
   abbrev at-open : ℕ
   at-open = tokenAt s (c .at) .start
 
-  list-is : (m : ℕ) → nameList m s opens closes c ≡ take (opening s opens c) (λ _ d. part (namesOrNone m s closes d) λ names e. got names (closed c e))
+  list-is : (m : ℕ) → nameList m s opens closes c ≡ onToken (opening s opens c) (λ _ d. part (namesOrNone m s closes d) λ names e. got names (closed c e))
   unfolding nameList
   list-is m = refl
 

@@ -7,7 +7,7 @@ use native.Mathlib.Omega.{arith}
 use lib.Dec.{eqb}
 use Rattle.notation.specs.Token.{tokenAt, kindAt, kName, kSend, kRecv, kFwd, kCall, kCancel, kRaise, kTry, kCatch, kColon, kFrom, kRoundOpen, kRoundClose, kSquareOpen, kSquareClose}
 use Rattle.notation.specs.Tree.{Located, Ty, Proc, empty, fwd, call, try, Branches}
-use Rattle.notation.specs.Reader.{Result, got, refused, take, part, lastly, expect, limited, mayOpen, deeper, past, fault, opening, processTerm, misfit, nameIn}
+use Rattle.notation.specs.Reader.{Result, got, refused, onToken, part, lastly, expect, limited, mayOpen, deeper, past, fault, opening, processTerm, misfit, nameIn}
 use Rattle.notation.specs.Processes.{termHead, payload, unitTaken, bracketedBy, sendBy, recvBy, nameList, processBy, readProcess, readRest, readBranches}
 use Rattle.notation.specs.Types.{readType}
 use Rattle.notation.specs.Tables.{pointerTo, emptyPointer}
@@ -24,7 +24,7 @@ use Rattle.read_text.specs.Turns.{peek, peekBy}
 
 -- what was read was read step by step
 module _ {B : Type 0} {b : B} {d : Cursor} {P : Type 0} where
-  pub take-got : (q : Taken) (f : ℕ → Cursor → Result B) → take q f ≡ got b d → ((i : ℕ) (c : Cursor) → q ≡ At i c → f i c ≡ got b d → P) → P
+  pub take-got : (q : Taken) (f : ℕ → Cursor → Result B) → onToken q f ≡ got b d → ((i : ℕ) (c : Cursor) → q ≡ At i c → f i c ≡ got b d → P) → P
   take-got (At i c) f e go = go i c refl e
   take-got (Refused n i) f e go = absurd (let z : _≡_ {A = ℕ} 0 1 = cc in omega arith)
 

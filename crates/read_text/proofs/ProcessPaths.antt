@@ -7,7 +7,7 @@ use Rattle.notation.specs.Fine.{FineProcess}
 use Rattle.notation.specs.Limits.{textLimit}
 use Rattle.notation.specs.Token.{kindAt, tokenAt, kName, kThen, kRoundOpen, kRoundClose, kRecv, kTry, kCatch, kFrom, kColon}
 use Rattle.notation.specs.Tree.{Located, Ty, Proc, spawn, recvLabel, try}
-use Rattle.notation.specs.Reader.{Result, got, refused, take, part, lastly, expect, misfit, opening, processTerm, closed, nameIn}
+use Rattle.notation.specs.Reader.{Result, got, refused, onToken, part, lastly, expect, misfit, opening, processTerm, closed, nameIn}
 use Rattle.notation.specs.Types.{readType}
 use Rattle.notation.specs.Processes.{termHead, payload, unitTaken, bracketedBy, recvBy, processBy, readProcess, readRest, readBranches}
 use Rattle.notation.specs.Tables.{moreTerms, termNode, putTerm, pointerTo, afterType, writeType, afterProcess, afterBranches, writeProcess}
@@ -35,7 +35,7 @@ use Rattle.read_text.proofs.Order.{Inside, process-grown, type-put, pro
 
 -- ── a process and the bracket that closes it
 module _ {F G : Form Proc} {s w : List ℕ} {c₀ c d : Cursor} {k k′ : Tally} {b bs : ℕ} {f sub : ℕ → Result Proc}
-    (is : (m : ℕ) → b < m → (f m ≡ part (sub m) (λ P g. take (expect s kRoundClose g) λ _ h. got P (closed c h))) × (bs < m)) {p : Out} {v : List ℕ}
+    (is : (m : ℕ) → b < m → (f m ≡ part (sub m) (λ P g. onToken (expect s kRoundClose g) λ _ h. got P (closed c h))) × (bs < m)) {p : Out} {v : List ℕ}
     (t : Meets F s w d k′ bs sub p v)
     (alike : (P : Proc) → (F .after P k′ ≡ G .after P k) × (F .write P k′ w ≡ G .write P k w) × (F .Fine P → G .Fine P)) where
   closed-meets : ((g h : Cursor) (i : ℕ) (l : Tally) → F .Ahead s d k′ g l → Further s g 1 0 0 i h → G .Ahead s c₀ k (closed c h) l) → {r : Out}
@@ -279,7 +279,7 @@ spawn-parts x A (refused n i) rest = refl
 
 module _ (s w : List ℕ) (c : Cursor) (k : Tally) (room : Room s w c k) {q : Taken} (u : Stepped s c 2 0 1 (nameColon s c) q) where
   spawn-is : (m : ℕ) → termBy Spawn s c m
-      ≡ take (nameColon s c) (λ i e. part (readType m s e) λ A f. take (expect s kFrom f) λ _ g. part
+      ≡ onToken (nameColon s c) (λ i e. part (readType m s e) λ A f. onToken (expect s kFrom f) λ _ g. part
       (bracketedBy (λ d. readProcess m s d) s g) λ P h. lastly (spawn (nameIn s i) A P)
       (readRest m s h))
   unfolding nameColon processBy

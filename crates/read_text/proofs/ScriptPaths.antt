@@ -11,7 +11,7 @@ use Rattle.notation.specs.Fine.{FineDeclaration}
 use Rattle.notation.specs.Limits.{typeLimit, processLimit, execLimit}
 use Rattle.notation.specs.Token.{kindAt, kName, kEquals, kType, kProc, kExec, kEnd, kRoundOpen, kRoundClose, kSquareOpen, kSquareClose}
 use Rattle.notation.specs.Tree.{Located, Ty, unit, named, tensor, par, lolli, plus, with, Alternatives, alternative, Entry, Declaration, declareType, declareProc, declareExec}
-use Rattle.notation.specs.Reader.{Result, part, lastly, expect, misfit, nameIn, got, take}
+use Rattle.notation.specs.Reader.{Result, part, lastly, expect, misfit, nameIn, got, onToken}
 use Rattle.notation.specs.Types.{readType}
 use Rattle.notation.specs.Processes.{readProcess}
 use Rattle.notation.specs.Scripts.{Count, keyword, entryList, declarationHead, typeDeclaration, procDeclaration, execDeclaration, scriptBy, readScript}
@@ -33,7 +33,7 @@ use Rattle.read_text.proofs.Turning.{limit-held, made-as, Through, thro
 use Rattle.read_text.proofs.Pointers.{pointer-at}
 
 -- ── a keyword and the name after it
-name-taken : {A : Type 0} (t : Taken) (f : Cursor → Taken) (g : ℕ → Cursor → Result A) → take t (λ _ d. take (f d) g) ≡ take (afterToken t f) g
+name-taken : {A : Type 0} (t : Taken) (f : Cursor → Taken) (g : ℕ → Cursor → Result A) → onToken t (λ _ d. onToken (f d) g) ≡ onToken (afterToken t f) g
 name-taken (At i d) f g = refl
 name-taken (Refused n i) f g = refl
 
@@ -102,7 +102,7 @@ module _ (s w : List ℕ) (c : Cursor) (k : Tally) (room : Room s w c k) {q : Ta
   abbrev Types : Out → List ℕ → Type 0
   Types = DeclarationRead TypeWord s w c k
 
-  type-is : (m : ℕ) → typeDeclaration m s (k .types) c ≡ take (declaredName s kType (k .types) typeLimit c) λ i e. take (expect s kEquals e) λ _ f. lastly (declareType (nameIn s i)) (readType m s f)
+  type-is : (m : ℕ) → typeDeclaration m s (k .types) c ≡ onToken (declaredName s kType (k .types) typeLimit c) λ i e. onToken (expect s kEquals e) λ _ f. lastly (declareType (nameIn s i)) (readType m s f)
   unfolding typeDeclaration declaredName
   type-is m = name-taken (keyword s kType (k .types) typeLimit c) (expect s kName) _
 
@@ -144,7 +144,7 @@ module _ (s w : List ℕ) (c : Cursor) (k : Tally) (room : Room s w c k) {q : Ta
   abbrev Execs : Out → List ℕ → Type 0
   Execs = DeclarationRead ExecWord s w c k
 
-  exec-is : (m : ℕ) → execDeclaration s (k .execs) c ≡ take (declaredName s kExec (k .execs) execLimit c) λ i e. got (declareExec (nameIn s i)) e
+  exec-is : (m : ℕ) → execDeclaration s (k .execs) c ≡ onToken (declaredName s kExec (k .execs) execLimit c) λ i e. got (declareExec (nameIn s i)) e
   unfolding execDeclaration declaredName
   exec-is m = name-taken (keyword s kExec (k .execs) execLimit c) (expect s kName) _
 
@@ -166,8 +166,8 @@ module _ (s w : List ℕ) (c : Cursor) (k : Tally) (room : Room s w c k) {q : Ta
   abbrev Procs : Out → List ℕ → Type 0
   Procs = DeclarationRead ProcWord s w c k
 
-  proc-is : (m : ℕ) → procDeclaration m s (k .processes) c ≡ take (declaredName s kProc (k .processes) processLimit c) λ i e. part (entryList m s kRoundOpen kRoundClose e) λ xs f. part
-      (entryList m s kSquareOpen kSquareClose f) λ ys g. take (expect s kEquals g) λ _ h. lastly (declareProc (nameIn s i) xs ys) (readProcess m s h)
+  proc-is : (m : ℕ) → procDeclaration m s (k .processes) c ≡ onToken (declaredName s kProc (k .processes) processLimit c) λ i e. part (entryList m s kRoundOpen kRoundClose e) λ xs f. part
+      (entryList m s kSquareOpen kSquareClose f) λ ys g. onToken (expect s kEquals g) λ _ h. lastly (declareProc (nameIn s i) xs ys) (readProcess m s h)
   unfolding procDeclaration declaredName
   proc-is m = name-taken (keyword s kProc (k .processes) processLimit c) (expect s kName) _
 

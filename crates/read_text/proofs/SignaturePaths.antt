@@ -8,7 +8,7 @@ use lib.Dec.{eqb}
 use Rattle.notation.specs.Fine.{FineEntries}
 use Rattle.notation.specs.Token.{kindAt, kName, kColon, kComma}
 use Rattle.notation.specs.Tree.{Located, Ty, Entry}
-use Rattle.notation.specs.Reader.{Result, got, take, part, lastly, choose, expect, opening, closed, nameIn}
+use Rattle.notation.specs.Reader.{Result, got, onToken, part, lastly, choose, expect, opening, closed, nameIn}
 use Rattle.notation.specs.Types.{readType}
 use Rattle.notation.specs.Scripts.{readEntries, entryList}
 use Rattle.notation.specs.Tables.{moreEntries, putEntry, afterType, writeType, afterEntries, writeEntries}
@@ -28,26 +28,26 @@ abbrev entry : List ℕ → ℕ → Ty Located → Entry
 entry s i A = record { channel = nameIn s i; type = A }
 
 -- what is put before a list stands before each of its ways
-last-take : {A B : Type 0} (h : A → B) (t : Taken) (f : ℕ → Cursor → Result A) → take t (λ i d. lastly h (f i d)) ≡ lastly h (take t f)
+last-take : {A B : Type 0} (h : A → B) (t : Taken) (f : ℕ → Cursor → Result A) → onToken t (λ i d. lastly h (f i d)) ≡ lastly h (onToken t f)
 last-take h (At i d) f = refl
 last-take h (Refused n i) f = refl
 
 entries-last : (m : ℕ) (s : List ℕ) (close : ℕ) (x : Entry) (c : Cursor)
-    → choose (eqb (kindAt s (c .at)) kComma) (λ c. take (expect s kComma c) λ _ d. lastly (_∷_ x) (readEntries m s close d)) (λ c. take (expect s close c) λ _ d. got (x ∷ []) d) c
+    → choose (eqb (kindAt s (c .at)) kComma) (λ c. onToken (expect s kComma c) λ _ d. lastly (_∷_ x) (readEntries m s close d)) (λ c. onToken (expect s close c) λ _ d. got (x ∷ []) d) c
     ≡ lastly (_∷_ x) (moreEntriesBy m s close c)
 entries-last m s close x c = go (eqb (kindAt s (c .at)) kComma)
   where
     go : (b : Bool)
-        → choose b (λ c. take (expect s kComma c) λ _ d. lastly (_∷_ x) (readEntries m s close d)) (λ c. take (expect s close c) λ _ d. got (x ∷ []) d) c
-        ≡ lastly (_∷_ x) (choose b (λ c. take (expect s kComma c) λ _ d. readEntries m s close d) (λ c. closeBy s close c) c)
+        → choose b (λ c. onToken (expect s kComma c) λ _ d. lastly (_∷_ x) (readEntries m s close d)) (λ c. onToken (expect s close c) λ _ d. got (x ∷ []) d) c
+        ≡ lastly (_∷_ x) (choose b (λ c. onToken (expect s kComma c) λ _ d. readEntries m s close d) (λ c. closeBy s close c) c)
     go true = last-take (_∷_ x) (expect s kComma c) (λ _ d. readEntries m s close d)
     go false = last-take (_∷_ x) (expect s close c) (λ _ d. got [] d)
 
 entries-suc : (m : ℕ) (s : List ℕ) (close : ℕ) (c : Cursor)
-    → readEntries (suc m) s close c ≡ take (entryName s c) (λ i e. part (readType m s e) λ A f. lastly (_∷_ (entry s i A)) (moreEntriesBy m s close f))
+    → readEntries (suc m) s close c ≡ onToken (entryName s c) (λ i e. part (readType m s e) λ A f. lastly (_∷_ (entry s i A)) (moreEntriesBy m s close f))
 unfolding readEntries entryName
 entries-suc m s close c =
-    (λ j. take (expect s kName c) λ i d. take (expect s kColon d) λ _ e. part (readType m s e) λ A f. entries-last m s close (entry s i A) f j)
+    (λ j. onToken (expect s kName c) λ i d. onToken (expect s kColon d) λ _ e. part (readType m s e) λ A f. entries-last m s close (entry s i A) f j)
     ∙ sym (then-take (expect s kName c) (expect s kColon) _)
 
 -- an entry more changes nothing else
@@ -142,7 +142,7 @@ module _ (s w : List ℕ) (c : Cursor) (k : Tally) (room : Room s w c k) (close 
 -- ── a list in its brackets
 module _ (s w : List ℕ) (c : Cursor) (k : Tally) (room : Room s w c k) (opens closes n : ℕ) (wide : 1 ≤ n) {q : Taken}
     (u : Stepped s c n 0 0 (opening s opens c) q) where
-  list-is : (m : ℕ) → entryList m s opens closes c ≡ take (opening s opens c) (λ _ d. part (entriesOrNone m s closes d) λ entries e. got entries (closed c e))
+  list-is : (m : ℕ) → entryList m s opens closes c ≡ onToken (opening s opens c) (λ _ d. part (entriesOrNone m s closes d) λ entries e. got entries (closed c e))
   unfolding entryList
   list-is m = refl
 

@@ -8,9 +8,10 @@ use lib.Dec.{eqb}
 use borrow.Author.Tests.{eq-eqb, ne-eqb}
 use Rattle.notation.specs.Fine.{FineProcess}
 use Rattle.notation.specs.Limits.{textLimit, processTermLimit}
-use Rattle.notation.specs.Token.{kindAt, tokenAt, kFwd, kName, kCancel, kRaise, kSend, kSemicolon, Onward}
+use Rattle.notation.specs.Token.{kindAt, tokenAt, kFwd, kName, kCancel, kRaise, kSend, kSemicolon}
+use Rattle.notation.specs.Onward.{Onward}
 use Rattle.notation.specs.Tree.{Located, Proc, empty, cancel, fwd, raise}
-use Rattle.notation.specs.Reader.{Result, got, take, lastly, expect, misfit, processTerm, nameIn}
+use Rattle.notation.specs.Reader.{Result, got, onToken, lastly, expect, misfit, processTerm, nameIn}
 use Rattle.notation.specs.Processes.{payload, sendBy, processBy, restBy, readProcess, readRest}
 use Rattle.notation.specs.Tables.{moreTerms, termNode, putTerm, emptyPointer, afterProcess, writeProcess}
 use Rattle.notation.specs.declared.token.Token.{Token}
@@ -88,7 +89,7 @@ module _ (i : ℕ) (n : TermNode) (s w : List ℕ) (c : Cursor) (k : Tally) (roo
 
 -- ── the definition's own words for what the code does in one step
 sent-is : (rest : Cursor → Result Proc) (s : List ℕ) (at : ℕ) (c : Located) (d : Cursor) (h : Payload)
-    → sendBy rest s at c d h ≡ take (payloadTaken s d h) (λ j e. lastly (sentOf s h at c j) (rest e))
+    → sendBy rest s at c d h ≡ onToken (payloadTaken s d h) (λ j e. lastly (sentOf s h at c j) (rest e))
 unfolding sendBy payloadTaken sentOf misfit
 sent-is rest s at c d UnitPayload = refl
 sent-is rest s at c d Channel = refl

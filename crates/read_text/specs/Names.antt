@@ -6,7 +6,7 @@ use lib.Dec.{eqb}
 use lib.ListN.{length}
 use Rattle.notation.specs.Token.{kindAt, kName}
 use Rattle.notation.specs.Tree.{Located}
-use Rattle.notation.specs.Reader.{Result, got, refused, take, choose, expect}
+use Rattle.notation.specs.Reader.{Result, got, refused, onToken, choose, expect}
 use Rattle.notation.specs.Processes.{readNames}
 use Rattle.notation.specs.declared.reading.Cursor.{Cursor}
 use Rattle.notation.specs.declared.reading.Taken.{Taken}
@@ -29,7 +29,7 @@ pub record NamesTaken (s : List ℕ) (c : Cursor) (i : ℕ) (f : ℕ → Result 
 
 -- what stands in a list's brackets: names, or none
 abbrev pub listEnd : List ℕ → ℕ → Cursor → Result (List Located)
-listEnd s close d = take (expect s close d) λ _ e. got [] e
+listEnd s close d = onToken (expect s close d) λ _ e. got [] e
 
 abbrev pub namesOrNone : ℕ → List ℕ → ℕ → Cursor → Result (List Located)
 namesOrNone m s close d = choose (eqb (kindAt s (d .at)) kName) (readNames m s close) (listEnd s close) d

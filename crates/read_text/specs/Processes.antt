@@ -5,7 +5,7 @@ use Rattle.notation.specs.Fine.{SomeBranch, FineProcess, FineBranches}
 use Rattle.notation.specs.Limits.{labelLimit}
 use Rattle.notation.specs.Token.{kindAt, kName, kLabel, kThen, kColon}
 use Rattle.notation.specs.Tree.{Located, Proc, sendUnit, sendChannel, sendLabel, recvUnit, recvChannel, recvLabel, Branches}
-use Rattle.notation.specs.Reader.{Result, take, lastly, part, expect, processTerm, thenToken, nameIn, labelIn}
+use Rattle.notation.specs.Reader.{Result, onToken, lastly, part, expect, processTerm, thenToken, nameIn, labelIn}
 use Rattle.notation.specs.Types.{readType, labelTerm}
 use Rattle.notation.specs.Processes.{payload, unitTaken, bracketedBy, sendBy, recvBy, processBy, readProcess, readRest, readBranches}
 use Rattle.notation.specs.Tables.{afterProcess, afterBranches, writeProcess, writeBranches, moreTerms, pointerTo, termNode}
@@ -91,7 +91,7 @@ NoLabel Other = Unit
 
 abbrev pub OneRead : ℕ → ℕ → Payload → List ℕ → List ℕ → Cursor → Tally → Out → List ℕ → Type 0
 OneRead at i h s w c k =
-    Meets (termForm 1 k) s w c (moreTerms k) (3 * unread s c + 1) (λ m. take (payloadThen s c h) λ j d. lastly (recvdOf s h at (nameIn s i) j)
+    Meets (termForm 1 k) s w c (moreTerms k) (3 * unread s c + 1) (λ m. onToken (payloadThen s c h) λ j d. lastly (recvdOf s h at (nameIn s i) j)
     (readProcess m s d))
 
 -- ── branches

@@ -8,7 +8,7 @@ use Rattle.notation.specs.Fine.{FineEntries, FineDeclaration}
 use Rattle.notation.specs.Limits.{typeTermLimit, processTermLimit, typeLimit, processLimit, execLimit}
 use Rattle.notation.specs.Token.{kindAt, kName, kColon, kComma}
 use Rattle.notation.specs.Tree.{Entry, Declaration}
-use Rattle.notation.specs.Reader.{Result, got, take, choose, expect, misfit, thenToken}
+use Rattle.notation.specs.Reader.{Result, got, onToken, choose, expect, misfit, thenToken}
 use Rattle.notation.specs.Scripts.{Count, keyword, moreTypes, moreProcesses, moreExecs, readEntries, typeDeclaration, procDeclaration, execDeclaration, readScript}
 use Rattle.notation.specs.Tables.{afterEntries, writeEntries, afterDeclaration, writeDeclaration, afterScript, writeScript}
 use Rattle.notation.specs.declared.reading.Cursor.{Cursor}
@@ -50,13 +50,13 @@ entriesForm = record {
 
 -- the bracket that closes a list
 abbrev pub closeBy : List ℕ → ℕ → Cursor → Result (List Entry)
-closeBy s close c = take (expect s close c) λ _ d. got [] d
+closeBy s close c = onToken (expect s close c) λ _ d. got [] d
 
 -- after an entry: a comma and more, or the bracket
 abbrev pub moreEntriesBy : ℕ → List ℕ → ℕ → Cursor → Result (List Entry)
 moreEntriesBy m s close c =
     choose (eqb (kindAt s (c .at)) kComma)
-    (λ c. take (expect s kComma c) λ _ d. readEntries m s close d)
+    (λ c. onToken (expect s kComma c) λ _ d. readEntries m s close d)
     (λ c. closeBy s close c)
     c
 

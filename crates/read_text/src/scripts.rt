@@ -22,7 +22,7 @@ ghost use mathlib.Core.Path.{_≡_};
 ghost use Prim.Native.Nat.{_<_, _≤_};
 ghost use lib.ListN.{length};
 ghost use Rattle.notation.specs.Limits.{textLimit};
-ghost use Rattle.notation.specs.Token.{width};
+ghost use Rattle.notation.specs.Onward.{width};
 ghost use Rattle.notation.specs.Scripts.{keyword, declarationHead};
 ghost use Rattle.notation.specs.declared.token.DeclarationHead.the-variants.{TypeWord, ProcWord, ExecWord};
 ghost use Rattle.read_types.specs.Filling.{Stepped, Room};

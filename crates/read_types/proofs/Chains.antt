@@ -8,9 +8,10 @@ use lib.Dec.{eqb}
 use borrow.Author.Tests.{eqb-true}
 use Rattle.notation.specs.Fine.{FineType}
 use Rattle.notation.specs.Limits.{typeTermLimit}
-use Rattle.notation.specs.Token.{kindAt, width, kStar, kAt, kLolli, kEnd}
+use Rattle.notation.specs.Token.{kindAt, kStar, kAt, kLolli, kEnd}
+use Rattle.notation.specs.Onward.{width}
 use Rattle.notation.specs.Tree.{Located, Ty, tensor, par, lolli}
-use Rattle.notation.specs.Reader.{Result, got, take, part, lastly, choose, typeTerm}
+use Rattle.notation.specs.Reader.{Result, got, onToken, part, lastly, choose, typeTerm}
 use Rattle.notation.specs.Types.{isInfix, infixOf, rightBy, typeBy, readType, readAtom}
 use Rattle.notation.specs.Tables.{moreNodes, lasting, typeNode, putNode, putInfix, afterInfix, afterType, writeType}
 use Rattle.notation.specs.declared.reading.Cursor.{Cursor}
@@ -152,7 +153,7 @@ right-rest : (m : ℕ) (s : List ℕ) (kind : ℕ) (c : Cursor)
     → rightBy (λ d. readType (suc m) s d) s kind c ≡ part (rightBy (λ d. readAtom m s d) s kind c) (restBy m s)
 right-rest m s kind c = go (typeTerm s kind c)
   where
-    go : (x : Taken) → take x (λ _ d. readType (suc m) s d) ≡ part (take x (λ _ d. readAtom m s d)) (restBy m s)
+    go : (x : Taken) → onToken x (λ _ d. readType (suc m) s d) ≡ part (onToken x (λ _ d. readAtom m s d)) (restBy m s)
     go (At i d) = type-rest m s d
     go (Refused n i) = refl
 

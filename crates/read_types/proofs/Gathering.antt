@@ -11,7 +11,7 @@ use Rattle.notation.specs.Fine.{FineType, FineAlternatives, SomeAlternative}
 use Rattle.notation.specs.Limits.{labelLimit, textLimit}
 use Rattle.notation.specs.Token.{kindAt, kColon, kComma, kLabel}
 use Rattle.notation.specs.Tree.{Located, Ty, Alternatives, alternative}
-use Rattle.notation.specs.Reader.{Result, got, take, part, lastly, expect, limited, thenToken, labelIn}
+use Rattle.notation.specs.Reader.{Result, got, onToken, part, lastly, expect, limited, thenToken, labelIn}
 use Rattle.notation.specs.Types.{moreBy, alternativesBy, labelTerm, readType, readAlternatives}
 use Rattle.notation.specs.Tables.{alternativesAt, pairWord, putAlternative, afterType, afterAlternatives, writeType, writeAlternatives}
 use Rattle.notation.specs.declared.reading.Cursor.{Cursor}
@@ -38,7 +38,7 @@ label-few s n c {i = i} {d} u e = ltb-true n labelLimit (within-limit (ltb n lab
 
 -- the definition at one more fuel, with its two first tokens as one
 alternatives-is : (m : ℕ) (s : List ℕ) (n : ℕ) (c : Cursor) → readAlternatives (suc m) s n c
-    ≡ take (labelColon s n c) (λ i e. part (readType m s e) λ A f. lastly (alternative (labelIn s i) A) (moreBy (λ d. readAlternatives m s (n + 1) d) s f))
+    ≡ onToken (labelColon s n c) (λ i e. part (readType m s e) λ A f. lastly (alternative (labelIn s i) A) (moreBy (λ d. readAlternatives m s (n + 1) d) s f))
 unfolding readType labelColon alternativesBy
 alternatives-is m s n c = sym (then-take (labelTerm s n c) (expect s kColon) _)
 

@@ -7,7 +7,8 @@ use native.Mathlib.Omega.{arith}
 use lib.Dec.{eqb}
 use borrow.Author.Tests.{eq-eqb, ne-eqb}
 use Rattle.notation.specs.Limits.{typeTermLimit, processTermLimit}
-use Rattle.notation.specs.Token.{tokenAt, kThen, kLabel, width, Onward}
+use Rattle.notation.specs.Token.{tokenAt, kThen, kLabel}
+use Rattle.notation.specs.Onward.{width, Onward}
 use Rattle.notation.specs.Reader.{expect, limited, past, fault, thenToken, closed, closedTaken}
 use Rattle.notation.specs.declared.token.Token.{Token}
 use Rattle.notation.specs.declared.reading.Cursor.{Cursor}

@@ -12,7 +12,7 @@ use Rattle.notation.specs.Fine.{FineAlternatives, FineType, SomeAlternative}
 use Rattle.notation.specs.Limits.{typeTermLimit}
 use Rattle.notation.specs.Token.{kindAt, kOne, kName, kRoundOpen, kRoundClose, kBraceOpen, kBraceClose, kPlus, kWith}
 use Rattle.notation.specs.Tree.{Located, Ty, unit, named, plus, with, Alternatives}
-use Rattle.notation.specs.Reader.{Result, got, take, part, expect, misfit, opening, typeTerm, closed, thenToken, onwardFrom, nameIn}
+use Rattle.notation.specs.Reader.{Result, got, onToken, part, expect, misfit, opening, typeTerm, closed, thenToken, onwardFrom, nameIn}
 use Rattle.notation.specs.Types.{typeHead, choiceBy, atomBy, readType, readAtom, readAlternatives}
 use Rattle.notation.specs.Tables.{moreNodes, lasting, typeNode, putNode, putChoice, afterType, afterAlternatives, writeType, writeAlternatives}
 use Rattle.notation.specs.declared.reading.Cursor.{Cursor}
@@ -146,10 +146,10 @@ choice-fine kind r f = go (eqb kind kPlus)
 
 -- two tokens in a row, in the definition's words
 pub then-take : {A : Type 0} (want : Taken) (g : Cursor → Taken) (f : ℕ → Cursor → Result A)
-    → take (thenToken want g) f ≡ take want (λ i d. take (g d) (λ _ e. f i e))
+    → onToken (thenToken want g) f ≡ onToken want (λ i d. onToken (g d) (λ _ e. f i e))
 then-take {A} (At i d) g f = go (g d)
   where
-    go : (x : Taken) → _≡_ {A = Result A} (take (onwardFrom i x) f) (take x (λ _ e. f i e))
+    go : (x : Taken) → _≡_ {A = Result A} (onToken (onwardFrom i x) f) (onToken x (λ _ e. f i e))
     go (At j e) = refl
     go (Refused n j) = refl
 then-take (Refused n i) g f = refl
@@ -159,7 +159,7 @@ module _ (s w : List ℕ) (c : Cursor) (k : Tally) (room : Room s w c k) where
   module _ (kind : ℕ) (low : 28 ≤ kind) (high : kind ≤ 29) {q : Taken} (u : Stepped s c 2 1 0 (choiceOpening s kind c) q) where
     -- the definition, with its two first tokens as one
     choice-is : (m : ℕ) → choiceBy (λ d. readAlternatives m s 0 d) s kind (choiceOf kind) c
-        ≡ take (choiceOpening s kind c) (λ _ e. part (readAlternatives m s 0 e) λ r f. take (expect s kBraceClose f) λ _ g. got (choiceOf kind r) (closed c g))
+        ≡ onToken (choiceOpening s kind c) (λ _ e. part (readAlternatives m s 0 e) λ r f. onToken (expect s kBraceClose f) λ _ g. got (choiceOf kind r) (closed c g))
     unfolding choiceOpening
     choice-is m = sym (then-take (typeTerm s kind c) (opening s kBraceOpen) _)
 

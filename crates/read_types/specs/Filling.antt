@@ -7,9 +7,10 @@ use lib.ListN.{length, getD, drop, set}
 use lib.Dec.{eqb}
 use Rattle.notation.specs.Fine.{SomeAlternative, FineType, FineAlternatives}
 use Rattle.notation.specs.Limits.{textLimit, labelLimit, typeTermLimit, processTermLimit}
-use Rattle.notation.specs.Token.{tokenAt, width, kColon, kRoundClose, kBraceOpen, kStar, kAt, kOne, kName, kPlus, kWith}
+use Rattle.notation.specs.Token.{tokenAt, kColon, kRoundClose, kBraceOpen, kStar, kAt, kOne, kName, kPlus, kWith}
+use Rattle.notation.specs.Onward.{width}
 use Rattle.notation.specs.Tree.{Located, Ty, unit, named, plus, with, Alternatives}
-use Rattle.notation.specs.Reader.{Result, got, refused, take, fault, expect, opening, typeTerm, closed, thenToken, nameIn}
+use Rattle.notation.specs.Reader.{Result, got, refused, onToken, fault, expect, opening, typeTerm, closed, thenToken, nameIn}
 use Rattle.notation.specs.Types.{readType, readAtom, readAlternatives, isInfix, labelTerm, roundBy, choiceBy}
 use Rattle.notation.specs.Tables.{afterType, afterAlternatives, writeType, writeAlternatives, putNode, typeNode, alternativesAt, Area, offsetRadix, pointerRadix, tableWords}
 use Rattle.notation.specs.declared.reading.Tally.{Tally}
@@ -203,10 +204,10 @@ AlternativesRead s w c k = Meets alternativesForm s w c k (3 * unread s c + 1) (
 
 -- ── the parts of these
 abbrev pub OneRead : List ℕ → List ℕ → Cursor → Tally → Out → List ℕ → Type 0
-OneRead s w c k = Meets typeForm s w c k 0 (λ m. take (typeTerm s kOne c) λ _ d. got unit d)
+OneRead s w c k = Meets typeForm s w c k 0 (λ m. onToken (typeTerm s kOne c) λ _ d. got unit d)
 
 abbrev pub NameRead : List ℕ → List ℕ → Cursor → Tally → Out → List ℕ → Type 0
-NameRead s w c k = Meets typeForm s w c k 0 (λ m. take (typeTerm s kName c) λ i d. got (named (nameIn s i)) d)
+NameRead s w c k = Meets typeForm s w c k 0 (λ m. onToken (typeTerm s kName c) λ i d. got (named (nameIn s i)) d)
 
 abbrev pub RoundRead : List ℕ → List ℕ → Cursor → Tally → Out → List ℕ → Type 0
 RoundRead s w c k = Meets typeForm s w c k (3 * unread s c) (λ m. roundBy (λ d. readType m s d) s c)

@@ -8,7 +8,7 @@ use native.Mathlib.Omega.{arith}
 use borrow.Author.Tests.{eq-eqb, ne-eqb}
 use lib.Dec.{eqb}
 use lib.ListN.{length, getElem?}
-use Rattle.calculus.specs.Named.{all, any}
+use Rattle.calculus.specs.Named.{every, anyOf}
 use Rattle.theory_decision.specs.Lists.{implies}
 use Rattle.theory_decision.specs.Links.{isLink, linksApart}
 use Rattle.run_words.specs.Raw.{RawProcess, linkOf}
@@ -35,23 +35,23 @@ link-not h (suc k) e = ne-eqb h k (λ q. e (omega arith))
 -- ── a waiting handler is linked
 module _ (l : List RawProcess) (i k : ℕ) where
   pub not-waiting : k < 3 → (k ≡ 2 → ⊥) → linkedIfWaiting l i k ≡ true
-  not-waiting h n = ap (λ b. implies b (any (linksTo i) l)) (waits-word k h ∙ ne-eqb k 2 n)
+  not-waiting h n = ap (λ b. implies b (anyOf (linksTo i) l)) (waits-word k h ∙ ne-eqb k 2 n)
 
-  pub whole-linked : {r : Bool} (n : ℕ) → k ≡ 2 → n ≡ length l → any (linksTo i) (before n l) ≡ r → linkedIfWaiting l i k ≡ r
+  pub whole-linked : {r : Bool} (n : ℕ) → k ≡ 2 → n ≡ length l → anyOf (linksTo i) (before n l) ≡ r → linkedIfWaiting l i k ≡ r
   whole-linked n e m a =
-      ap (λ (j : ℕ). implies (waits j) (any (linksTo i) l)) e ∙ sym (any-whole (linksTo i) l) ∙ ap (λ (j : ℕ). any (linksTo i) (before j l)) (sym m) ∙ a
+      ap (λ (j : ℕ). implies (waits j) (anyOf (linksTo i) l)) e ∙ sym (any-whole (linksTo i) l) ∙ ap (λ (j : ℕ). anyOf (linksTo i) (before j l)) (sym m) ∙ a
 
 -- ── a link that nobody before has
 module _ (l : List RawProcess) (w : ℕ) where
   abbrev new : Bool
-  new = all (λ (q : RawProcess). linksApart (linkOf w) (q .link)) l
+  new = every (λ (q : RawProcess). linksApart (linkOf w) (q .link)) l
 
-  all-true : (l : List RawProcess) → all (λ _. true) l ≡ true
+  all-true : (l : List RawProcess) → every (λ _. true) l ≡ true
   all-true [] = refl
   all-true (p ∷ l) = all-true l
 
   pub no-link-new : w ≡ 0 → new ≡ true
-  no-link-new e = ap (λ (v : ℕ). all (λ (q : RawProcess). linksApart (linkOf v) (q .link)) l) e ∙ all-true l
+  no-link-new e = ap (λ (v : ℕ). every (λ (q : RawProcess). linksApart (linkOf v) (q .link)) l) e ∙ all-true l
 
-  pub new-unless-linked : {r : Bool} (h : ℕ) → w ≡ suc h → any (linksTo h) l ≡ r → new ≡ not r
-  new-unless-linked h e a = ap (λ (v : ℕ). all (λ (q : RawProcess). linksApart (linkOf v) (q .link)) l) e ∙ all-not (linksTo h) l ∙ ap not a
+  pub new-unless-linked : {r : Bool} (h : ℕ) → w ≡ suc h → anyOf (linksTo h) l ≡ r → new ≡ not r
+  new-unless-linked h e a = ap (λ (v : ℕ). every (λ (q : RawProcess). linksApart (linkOf v) (q .link)) l) e ∙ all-not (linksTo h) l ∙ ap not a

@@ -6,7 +6,7 @@ use mathlib.Core.Bool.{Bool, true, false}
 use mathlib.Core.Option.{Option, some, none}
 use lib.ListN.{getElem?}
 use Rattle.notation.specs.Tree.{Name, Ty, Proc}
-use Rattle.calculus.specs.Named.{any}
+use Rattle.calculus.specs.Named.{anyOf}
 use Rattle.calculus.specs.Configuration.{Process}
 use Rattle.calculus.specs.WellFormed.{isWaiting}
 use Rattle.theory_decision.specs.Lists.{implies, allFrom, pairwise}
@@ -36,7 +36,7 @@ linksTo h p = decision.isLink h (p .link)
 
 -- if a process of a kind waits at a place, a process links to it
 abbrev pub linkedIfWaiting : List RawProcess → ℕ → ℕ → Bool
-linkedIfWaiting l i kind = implies (waits kind) (any (linksTo i) l)
+linkedIfWaiting l i kind = implies (waits kind) (anyOf (linksTo i) l)
 
 -- ── what each clause asks of a process, or of two
 abbrev pub leading : RawConfig → ℕ → RawProcess → Bool
@@ -65,7 +65,7 @@ module _ (nameOf : ℕ → Name) (typeOf : ℕ → Ty Name) (termOf : ℕ → Pr
   leads-decoded C (some h) = here-decoded (C .processes) h
 
   linked-decoded : (C : RawConfig) (i : ℕ) (p : RawProcess)
-      → implies (isWaiting (decodedDoing nameOf typeOf termOf (p .kind) (p .pointer))) (any (λ (q : Process). decision.isLink i (q .link)) (map (decodedProcess nameOf typeOf termOf) (C .processes))) ≡ linked C i p
+      → implies (isWaiting (decodedDoing nameOf typeOf termOf (p .kind) (p .pointer))) (anyOf (λ (q : Process). decision.isLink i (q .link)) (map (decodedProcess nameOf typeOf termOf) (C .processes))) ≡ linked C i p
   linked-decoded C i p j =
       implies (waits-decoded (p .kind) (p .pointer) j) (any-map (decodedProcess nameOf typeOf termOf) (λ q. decision.isLink i (q .link)) (linksTo i) (λ q. refl) (C .processes) j)
 

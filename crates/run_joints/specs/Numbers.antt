@@ -8,7 +8,7 @@ use native.Mathlib.Numerals.{add-one}
 use borrow.Author.Tests.{le-leb, lt-leb}
 use lib.Dec.{ltb, leb}
 use lib.ListN.{length, getElem?, drop}
-use Rattle.calculus.specs.Named.{all}
+use Rattle.calculus.specs.Named.{every}
 use Rattle.calculus.specs.Configuration.{Outside, Config}
 use Rattle.theory_decision.specs.Lists.{allFrom}
 use Rattle.theory_decision.specs.Decide.{rising}
@@ -23,7 +23,7 @@ unfoldable pub numbersRise : Config → Bool
 numbersRise C = rising 0 (map (λ (o : Outside). o .number) (C .outside))
 
 unfoldable pub numbersGiven : Config → Bool
-numbersGiven C = all (λ (o : Outside). ltb (o .number) (C .given)) (C .outside)
+numbersGiven C = every (λ (o : Outside). ltb (o .number) (C .given)) (C .outside)
 
 -- ── the same, on numbers
 abbrev pub numberOf : RawOutside → ℕ

@@ -7,17 +7,17 @@ use mathlib.Core.Option.{Option, some, none}
 use native.Mathlib.Omega.{arith}
 use native.Mathlib.Numerals.{add-one}
 use lib.ListN.{length, getElem?, drop, drop-of-length-le}
-use Rattle.calculus.specs.Named.{all, any}
+use Rattle.calculus.specs.Named.{every, anyOf}
 use Rattle.theory_decision.specs.Lists.{allFrom, pairwise}
 use Rattle.run_words.specs.ListLaws.{drop-at}
 
 -- ── under a map
 module _ {X Y : Type 0} (g : X → Y) where
-  pub all-map : (f : Y → Bool) (h : X → Bool) → ((x : X) → f (g x) ≡ h x) → (l : List X) → all f (map g l) ≡ all h l
+  pub all-map : (f : Y → Bool) (h : X → Bool) → ((x : X) → f (g x) ≡ h x) → (l : List X) → every f (map g l) ≡ every h l
   all-map f h e [] = refl
   all-map f h e (x ∷ l) = λ i. cond (e x i) (all-map f h e l i) false
 
-  pub any-map : (f : Y → Bool) (h : X → Bool) → ((x : X) → f (g x) ≡ h x) → (l : List X) → any f (map g l) ≡ any h l
+  pub any-map : (f : Y → Bool) (h : X → Bool) → ((x : X) → f (g x) ≡ h x) → (l : List X) → anyOf f (map g l) ≡ anyOf h l
   any-map f h e [] = refl
   any-map f h e (x ∷ l) = λ i. cond (e x i) true (any-map f h e l i)
 
@@ -33,16 +33,16 @@ module _ {X Y : Type 0} (g : X → Y) where
 
 module _ {X : Type 0} where
   -- a test that asks no place
-  pub all-from : (f : X → Bool) (k : ℕ) (l : List X) → all f l ≡ allFrom (λ _. f) k l
+  pub all-from : (f : X → Bool) (k : ℕ) (l : List X) → every f l ≡ allFrom (λ _. f) k l
   unfolding allFrom
   all-from f k [] = refl
   all-from f k (x ∷ l) = ap (λ r. cond (f x) r false) (all-from f (suc k) l)
 
-  pub all-not : (f : X → Bool) (l : List X) → all (λ x. not (f x)) l ≡ not (any f l)
+  pub all-not : (f : X → Bool) (l : List X) → every (λ x. not (f x)) l ≡ not (anyOf f l)
   all-not f [] = refl
   all-not f (x ∷ l) = go (f x) (all-not f l)
     where
-      go : (t : Bool) → all (λ x. not (f x)) l ≡ not (any f l) → cond (not t) (all (λ x. not (f x)) l) false ≡ not (cond t true (any f l))
+      go : (t : Bool) → every (λ x. not (f x)) l ≡ not (anyOf f l) → cond (not t) (every (λ x. not (f x)) l) false ≡ not (cond t true (anyOf f l))
       go true e = refl
       go false e = e
 
@@ -63,7 +63,7 @@ module _ {X : Type 0} where
   unfolding before
   before-more l k n p e = ap (λ (m : ℕ). before m l) p ∙ ap (λ o. put o (before k l)) e
 
-  any-before : (f : X → Bool) (x : X) (l : List X) (k : ℕ) → any f (before (suc k) (x ∷ l)) ≡ cond (f x) true (any f (before k l))
+  any-before : (f : X → Bool) (x : X) (l : List X) (k : ℕ) → anyOf f (before (suc k) (x ∷ l)) ≡ cond (f x) true (anyOf f (before k l))
   unfolding before
   any-before f x l zero = refl
   any-before f x l (suc k) = go (getElem? l k) (any-before f x l k)
@@ -74,22 +74,22 @@ module _ {X : Type 0} where
       swap false true b = refl
       swap false false b = refl
 
-      go : (o : Option X) → any f (before (suc k) (x ∷ l)) ≡ cond (f x) true (any f (before k l)) → any f (put o (before (suc k) (x ∷ l))) ≡ cond (f x) true (any f (put o (before k l)))
+      go : (o : Option X) → anyOf f (before (suc k) (x ∷ l)) ≡ cond (f x) true (anyOf f (before k l)) → anyOf f (put o (before (suc k) (x ∷ l))) ≡ cond (f x) true (anyOf f (put o (before k l)))
       go none e = e
-      go (some y) e = ap (cond (f y) true) e ∙ swap (f y) (f x) (any f (before k l))
+      go (some y) e = ap (cond (f y) true) e ∙ swap (f y) (f x) (anyOf f (before k l))
 
   -- all of them
-  pub any-whole : (f : X → Bool) (l : List X) → any f (before (length l) l) ≡ any f l
-  any-whole f [] = ap (any f) (before-none [])
+  pub any-whole : (f : X → Bool) (l : List X) → anyOf f (before (length l) l) ≡ anyOf f l
+  any-whole f [] = ap (anyOf f) (before-none [])
   any-whole f (x ∷ l) = any-before f x l (length l) ∙ ap (cond (f x) true) (any-whole f l)
 
   -- ── a turn of a loop
   module _ (f : X → Bool) (l : List X) (k n : ℕ) (p : n ≡ suc k) {x : X} (e : getElem? l k ≡ some x) where
-    pub any-here : f x ≡ true → any f (before n l) ≡ true
-    any-here t = ap (any f) (before-more l k n p e) ∙ ap (λ b. cond b true (any f (before k l))) t
+    pub any-here : f x ≡ true → anyOf f (before n l) ≡ true
+    any-here t = ap (anyOf f) (before-more l k n p e) ∙ ap (λ b. cond b true (anyOf f (before k l))) t
 
-    pub any-on : f x ≡ false → any f (before n l) ≡ any f (before k l)
-    any-on t = ap (any f) (before-more l k n p e) ∙ ap (λ b. cond b true (any f (before k l))) t
+    pub any-on : f x ≡ false → anyOf f (before n l) ≡ anyOf f (before k l)
+    any-on t = ap (anyOf f) (before-more l k n p e) ∙ ap (λ b. cond b true (anyOf f (before k l))) t
 
   -- a loop over the n elements of a list has come to position i: what is left of the test
   pub record Each (f : ℕ → X → Bool) (l : List X) (n i : ℕ) : Type 0 where
@@ -128,19 +128,19 @@ module _ {X : Type 0} where
   pairs-start {f} {l} e = record { many = e; rest = ap (λ s. pairwise f s l) (sym (before-none l)) }
 
   module _ {f : X → X → Bool} {l : List X} {n i : ℕ} where
-    pairs-turn : {x : X} {t : Bool} → Pairs f l n i → getElem? l i ≡ some x → all (f x) (before i l) ≡ t
+    pairs-turn : {x : X} {t : Bool} → Pairs f l n i → getElem? l i ≡ some x → every (f x) (before i l) ≡ t
         → pairwise f [] l ≡ cond t (pairwise f (before (i + 1) l) (drop (i + 1) l)) false
     unfolding pairwise
     pairs-turn {x} r e t =
         r .rest ∙ ap (pairwise f (before i l)) (drop-at l i e)
-        ∙ ap (λ s. cond (all (f x) (before i l)) (pairwise f s (drop (suc i) l)) false) (sym (before-more l i (suc i) refl e))
-        ∙ ap (λ m. cond (all (f x) (before i l)) (pairwise f (before m l) (drop m l)) false) (sym (add-one i))
+        ∙ ap (λ s. cond (every (f x) (before i l)) (pairwise f s (drop (suc i) l)) false) (sym (before-more l i (suc i) refl e))
+        ∙ ap (λ m. cond (every (f x) (before i l)) (pairwise f (before m l) (drop m l)) false) (sym (add-one i))
         ∙ ap (λ b. cond b (pairwise f (before (i + 1) l) (drop (i + 1) l)) false) t
 
-    pub pairs-passed : {x : X} → Pairs f l n i → getElem? l i ≡ some x → all (f x) (before i l) ≡ true → Pairs f l n (i + 1)
+    pub pairs-passed : {x : X} → Pairs f l n i → getElem? l i ≡ some x → every (f x) (before i l) ≡ true → Pairs f l n (i + 1)
     pairs-passed r e t = record { many = r .many; rest = pairs-turn r e t }
 
-    pub pairs-failed : {x : X} → Pairs f l n i → getElem? l i ≡ some x → all (f x) (before i l) ≡ false → pairwise f [] l ≡ false
+    pub pairs-failed : {x : X} → Pairs f l n i → getElem? l i ≡ some x → every (f x) (before i l) ≡ false → pairwise f [] l ≡ false
     pairs-failed r e t = pairs-turn r e t
 
     pub pairs-end : Pairs f l n i → n ≤ i → pairwise f [] l ≡ true

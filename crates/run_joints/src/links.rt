@@ -3,7 +3,7 @@ ghost use mathlib.Core.Path.{_≡_};
 ghost use Prim.Native.Nat.{_≤_, _<_};
 ghost use lib.ListN.{length};
 ghost use Rattle.notation.specs.Limits.{runWords, processPlaces};
-ghost use Rattle.calculus.specs.Named.{all, any};
+ghost use Rattle.calculus.specs.Named.{every, anyOf};
 ghost use Rattle.theory_decision.specs.Links.{linksLead, handlersLinked, linkedOnce, linksApart};
 ghost use Rattle.run_words.specs.Raw.{RawProcess, rawIn, linkOf, Bounded};
 ghost use Rattle.run_joints.specs.Answers.{Answers};
@@ -52,7 +52,7 @@ fn linked_before(run: &[u32], h: usize, n: usize) -> bool
     requires { ⌜ runWords ≤ length (now run) ⌝ }
     requires { ⌜ Bounded (rawIn (now run)) ⌝ }
     requires { ⌜ (h < processPlaces) × (n ≤ length (rawIn (now run) .processes)) ⌝ }
-    ensures { λ r. ⌜ any (linksTo h) (before n (rawIn (now (run .entry)) .processes)) ≡ r ⌝ }
+    ensures { λ r. ⌜ anyOf (linksTo h) (before n (rawIn (now (run .entry)) .processes)) ≡ r ⌝ }
 {
     let mut i = n;
     while 0 < i {
@@ -102,7 +102,7 @@ fn link_new(run: &[u32], link: u32, n: usize) -> bool
     requires { ⌜ runWords ≤ length (now run) ⌝ }
     requires { ⌜ Bounded (rawIn (now run)) ⌝ }
     requires { ⌜ (link ≤ processPlaces) × (n ≤ length (rawIn (now run) .processes)) ⌝ }
-    ensures { λ r. ⌜ all (λ (q : RawProcess). linksApart (linkOf link) (q .link)) (before n (rawIn (now (run .entry)) .processes)) ≡ r ⌝ }
+    ensures { λ r. ⌜ every (λ (q : RawProcess). linksApart (linkOf link) (q .link)) (before n (rawIn (now (run .entry)) .processes)) ≡ r ⌝ }
 {
     if link == UNLINKED {
         return true;

@@ -4,7 +4,7 @@ use Rattle.calculus.specs.Configuration.{Config, End, Holder, Process, end, goe
 use Rattle.calculus.specs.Named.{lookup}
 use Rattle.calculus.specs.Program.{Program}
 use Rattle.calculus.specs.Steps.{Message, Outcome, Received, Turn, afterReceive, alone, bothTo, bound, byBranch, caughtBy, handlerStarts, leavesOut, meeting, notOpen, onChannel, onClose, onLabel, onward, passedEnd, passedType, receives, sending, sends, takes, takesChannel, takesClose, takesLabel, turnOf}
-use Rattle.calculus.specs.Types.{passing, standing}
+use Rattle.calculus.specs.Types.{passing, unfolded}
 use Rattle.calculus.specs.declared.answers.Seen.the-variants.{Nothing}
 use Rattle.check_contexts.specs.Halves.{append-nil}
 use Rattle.check_contexts.specs.Held.{Brings, Drops, EndIn, FoundIn, HeldIn, Sees, channelsOf, endFound}
@@ -91,7 +91,7 @@ module _ (s w : List ℕ) (h : Held) (t : HeldIn s w h) (own passed : Lookup) (a
     pub brings-nothing : passed ≡ lookups.Nothing → BringsOver s w h own passed at h
     brings-nothing y = brings-none λ j. bound (programIn s w) (nameAt s at) (endFound s w (z j)) (endFound s w (y j))
 
-    pub brings-over : {d : EndWords} {node : ℕ} {r : Held} → passed ≡ lookups.Found d → TypeAfter s w (passedType (plainIn s w (d .node)) (passing (standing (programIn s w .types) (plainIn s w (e .node))))) node → Brings h at (d .side) node (d .channel) r
+    pub brings-over : {d : EndWords} {node : ℕ} {r : Held} → passed ≡ lookups.Found d → TypeAfter s w (passedType (plainIn s w (d .node)) (passing (unfolded (programIn s w .types) (plainIn s w (e .node))))) node → Brings h at (d .side) node (d .channel) r
         → BringsOver s w h own passed at r
     brings-over {d} y u b = record {
       is = b .is s w ∙ ap (λ A. channelsOf s w h ++ ((nameAt s at, end (sideOf (d .side)) (d .channel) A) ∷ [])) (u .is)

@@ -16,7 +16,7 @@ use Rattle.notation.specs.declared.reading.TermNode.{TermNode}
 use Rattle.notation.specs.declared.reading.Found.{Found}
 use Rattle.notation.specs.declared.reading.Found.the-variants.{At, Nothing}
 use Rattle.calculus.specs.Named.{lookup, changed}
-use Rattle.calculus.specs.Types.{standing, passing, choosing}
+use Rattle.calculus.specs.Types.{unfolded, passing, choosing}
 use Rattle.calculus.specs.Configuration.{End, Doing, running}
 use Rattle.calculus.specs.Steps.{Message, closing, passes, chooses, onClose, onChannel, onLabel, Turn, sends, receives, alone, turn, turnOf, afterPassing, afterChoosing, afterMessage, passedType, onward, afterSend}
 use Rattle.calculus.specs.Configuration.{retypedEnd}
@@ -69,7 +69,7 @@ pub record TypeAfter (s w : List ℕ) (A : Ty Name) (r : ℕ) : Type 0 where
 
 module _ (s w : List ℕ) (t : Tables s w) (i j : ℕ) (a : TypeIn s w i) (f : StandsFor s w i j) where
   abbrev stood : Ty Name
-  stood = standing (programIn s w .types) (plainIn s w i)
+  stood = unfolded (programIn s w .types) (plainIn s w i)
 
   module _ (q : Passing) (o : PassingOf w j q) where
     passing-is : passing stood ≡ passingOf s w q
@@ -128,11 +128,11 @@ module _ (s w : List ℕ) (n : TermNode) (A : Ty Name) where
     unfolding afterMessage
     closed-type e h = subst (λ k. TypeAfter s w (afterMessage (programIn s w) (message s (termNode k (n .at) (n .first) (n .second) (n .third))) A) r) (sym e) h
 
-    pub passed-type : n .kind ≡ sendChannelKind → TypeAfter s w (afterPassing A (passing (standing (programIn s w .types) A))) r → TypeAfter s w sentType r
+    pub passed-type : n .kind ≡ sendChannelKind → TypeAfter s w (afterPassing A (passing (unfolded (programIn s w .types) A))) r → TypeAfter s w sentType r
     unfolding afterMessage
     passed-type e h = subst (λ k. TypeAfter s w (afterMessage (programIn s w) (message s (termNode k (n .at) (n .first) (n .second) (n .third))) A) r) (sym e) h
 
-    pub chosen-type : n .kind ≡ sendLabelKind → TypeAfter s w (afterChoosing A (nameAt s (n .second + 1)) (choosing (standing (programIn s w .types) A))) r → TypeAfter s w sentType r
+    pub chosen-type : n .kind ≡ sendLabelKind → TypeAfter s w (afterChoosing A (nameAt s (n .second + 1)) (choosing (unfolded (programIn s w .types) A))) r → TypeAfter s w sentType r
     unfolding afterMessage
     chosen-type e h = subst (λ k. TypeAfter s w (afterMessage (programIn s w) (message s (termNode k (n .at) (n .first) (n .second) (n .third))) A) r) (sym e) h
 

@@ -2,7 +2,7 @@
 use Prim.Native.Nat.{_+_, _<_, _≤_, suc, ℕ}
 use Rattle.calculus.specs.Configuration.{Config, End, Outside, Process, oneMoreGiven, outsideOf, replaced, retypedOutside, withGiven, withOutside}
 use Rattle.calculus.specs.Steps.{Outcome, afterMessage, isGivenUp, lacking, newOutside, outsideOnward, passedOut, passedType, sending, toOutside}
-use Rattle.calculus.specs.Types.{passing, standing}
+use Rattle.calculus.specs.Types.{passing, unfolded}
 use Rattle.calculus.specs.declared.answers.Seen.the-variants.{Close, Label, Nothing, Passed}
 use Rattle.check_contexts.specs.Halves.{append-nil}
 use Rattle.check_contexts.specs.Held.{Sees}
@@ -138,7 +138,7 @@ module _ (s w old : List ℕ) (sent : Sending) (number : ℕ) where
   passedBy d gone = passedOut (programIn s w) (configIn s w old) (sent .place) (processAs s w (sent .after)) (nameIn s (sent .term .second)) (endAs s w (sent .over)) number (endAs s w d) gone
 
   -- the end d, once it came over the outside's own channel o, is that of x
-  module _ {o : OutsideWords} (a : OutsideIn s w old (sent .over .channel) o) (d : EndWords) {node : ℕ} (v : TypeAfter s w (passedType (plainIn s w (d .node)) (passing (standing (programIn s w .types) (plainIn s w (o .node))))) node) where
+  module _ {o : OutsideWords} (a : OutsideIn s w old (sent .over .channel) o) (d : EndWords) {node : ℕ} (v : TypeAfter s w (passedType (plainIn s w (d .node)) (passing (unfolded (programIn s w .types) (plainIn s w (o .node))))) node) where
     abbrev pub cameOver : EndWords
     cameOver = record { name = d .name; side = d .side; node = node; channel = d .channel }
 

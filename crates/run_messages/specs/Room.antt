@@ -17,7 +17,8 @@ use Rattle.calculus.specs.Typing.{Typed, sends-unit, recvs-unit, sends-channel,
 use Rattle.calculus.specs.Configuration.{Doing, running, folding, waiting, Process, Outside}
 use Rattle.calculus.specs.Steps.{onClose, onChannel, onLabel, Turn, sends, receives, alone, turn, turnOf}
 use Rattle.calculus.specs.Reports.{number-borne}
-use Rattle.calculus.specs.WellFormed.{In, Rising, contextOf, isWaiting, TypedAs, WellFormed}
+use Rattle.calculus.specs.Named.{In}
+use Rattle.calculus.specs.WellFormed.{Rising, contextOf, isWaiting, TypedAs, WellFormed}
 use Rattle.read_tables.specs.Program.{programIn}
 use Rattle.run_words.specs.ListLaws.{all-of, map-at}
 use Rattle.run_words.specs.Raw.{rawIn}
@@ -62,8 +63,8 @@ receiver-room (sends-label T A t b a l d) e = absurd (false≢true e)
 receiver-room (recvs-label T t b a d) e = absurd (false≢true e)
 receiver-room (forwards A B a b c d) e = absurd (false≢true e)
 receiver-room (calls s a b c d f) e = absurd (false≢true e)
-receiver-room (spawns a b c d f) e = absurd (false≢true e)
-receiver-room (tries a b c) e = absurd (false≢true e)
+receiver-room (spawns H K a b c d f g h) e = absurd (false≢true e)
+receiver-room (tries H K a b c d f) e = absurd (false≢true e)
 receiver-room (raises a) e = absurd (false≢true e)
 receiver-room (cancels a b) e = absurd (false≢true e)
 receiver-room (empties a) e = absurd (false≢true e)

@@ -3,7 +3,7 @@ ghost use mathlib.Core.Path.{_≡_};
 ghost use Prim.Native.Nat.{_+_, _≤_, _<_};
 ghost use Rattle.notation.specs.Token.{nameAt};
 ghost use Rattle.notation.specs.Tables.{termNode};
-ghost use Rattle.calculus.specs.Types.{standing, passing, choosing};
+ghost use Rattle.calculus.specs.Types.{unfolded, passing, choosing};
 ghost use Rattle.calculus.specs.Steps.{afterPassing, afterChoosing, afterMessage, passedType};
 ghost use Rattle.read_tables.specs.Program.{plainIn, programIn};
 ghost use Rattle.read_tables.specs.Roots.{TypeIn, ProcessIn};
@@ -57,7 +57,7 @@ pub struct Receiver {
 fn after_passing(text: &[u8], scratch: &[u32], i: usize) -> usize
     requires { ⌜ Tables (now text) (now scratch) ⌝ }
     requires { ⌜ TypeIn (now text) (now scratch) i ⌝ }
-    ensures { λ r. ⌜ TypeAfter (now (text .entry)) (now (scratch .entry)) (afterPassing (plainIn (now (text .entry)) (now (scratch .entry)) i) (passing (standing (programIn (now (text .entry)) (now (scratch .entry)) .types) (plainIn (now (text .entry)) (now (scratch .entry)) i)))) r ⌝ }
+    ensures { λ r. ⌜ TypeAfter (now (text .entry)) (now (scratch .entry)) (afterPassing (plainIn (now (text .entry)) (now (scratch .entry)) i) (passing (unfolded (programIn (now (text .entry)) (now (scratch .entry)) .types) (plainIn (now (text .entry)) (now (scratch .entry)) i)))) r ⌝ }
 {
     let j = standing(text, scratch, i);
     let q = passing(scratch, j);
@@ -71,7 +71,7 @@ fn after_passing(text: &[u8], scratch: &[u32], i: usize) -> usize
 fn after_choosing(text: &[u8], scratch: &[u32], at: usize, i: usize) -> usize
     requires { ⌜ Tables (now text) (now scratch) ⌝ }
     requires { ⌜ TypeIn (now text) (now scratch) i ⌝ }
-    ensures { λ r. ⌜ TypeAfter (now (text .entry)) (now (scratch .entry)) (afterChoosing (plainIn (now (text .entry)) (now (scratch .entry)) i) (nameAt (now (text .entry)) (at + 1)) (choosing (standing (programIn (now (text .entry)) (now (scratch .entry)) .types) (plainIn (now (text .entry)) (now (scratch .entry)) i)))) r ⌝ }
+    ensures { λ r. ⌜ TypeAfter (now (text .entry)) (now (scratch .entry)) (afterChoosing (plainIn (now (text .entry)) (now (scratch .entry)) i) (nameAt (now (text .entry)) (at + 1)) (choosing (unfolded (programIn (now (text .entry)) (now (scratch .entry)) .types) (plainIn (now (text .entry)) (now (scratch .entry)) i)))) r ⌝ }
 {
     let j = standing(text, scratch, i);
     let q = choosing(scratch, j);
@@ -105,7 +105,7 @@ pub(crate) fn after_message(text: &[u8], scratch: &[u32], n: TermNode, i: usize)
 pub(crate) fn came_over(text: &[u8], scratch: &[u32], i: usize, j: usize) -> usize
     requires { ⌜ Tables (now text) (now scratch) ⌝ }
     requires { ⌜ TypeIn (now text) (now scratch) i × TypeIn (now text) (now scratch) j ⌝ }
-    ensures { λ r. ⌜ TypeAfter (now (text .entry)) (now (scratch .entry)) (passedType (plainIn (now (text .entry)) (now (scratch .entry)) j) (passing (standing (programIn (now (text .entry)) (now (scratch .entry)) .types) (plainIn (now (text .entry)) (now (scratch .entry)) i)))) r ⌝ }
+    ensures { λ r. ⌜ TypeAfter (now (text .entry)) (now (scratch .entry)) (passedType (plainIn (now (text .entry)) (now (scratch .entry)) j) (passing (unfolded (programIn (now (text .entry)) (now (scratch .entry)) .types) (plainIn (now (text .entry)) (now (scratch .entry)) i)))) r ⌝ }
 {
     let k = standing(text, scratch, i);
     let q = passing(scratch, k);

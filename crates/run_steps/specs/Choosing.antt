@@ -10,7 +10,7 @@ use Rattle.calculus.specs.Named.{isSome}
 use Rattle.calculus.specs.Program.{Program}
 use Rattle.calculus.specs.Configuration.{Process, Config}
 use Rattle.calculus.specs.Steps.{Outcome, carried, uncaught, notOpen, lacking, step}
-use Rattle.calculus.specs.Runs.{isCarried, firstFrom, choosePlace}
+use Rattle.calculus.specs.Runs.{isTaken, firstFrom, choosePlace}
 use Rattle.read_tables.specs.Program.{programIn}
 use Rattle.run_alone.specs.declared.outcome.Outcome.{Outcome as OutcomeWords}
 use Rattle.run_alone.specs.declared.outcome.Outcome.the-variants.{Carried, Uncaught, NotOpen, Lacking}
@@ -36,7 +36,7 @@ pub record Skipped (p : Program) (C : Config) (i : ℕ) : Type 0 where
   pub left : choosePlace p C ≡ firstFrom p C i (drop i (C .processes))
 
 module _ (p : Program) (C : Config) where
-  turn : (l : List Process) (i k : ℕ) → k < length l → firstFrom p C i (drop k l) ≡ cond (isCarried (step p C i)) (some i) (firstFrom p C (suc i) (drop (suc k) l))
+  turn : (l : List Process) (i k : ℕ) → k < length l → firstFrom p C i (drop k l) ≡ cond (isTaken (step p C i)) (some i) (firstFrom p C (suc i) (drop (suc k) l))
   unfolding firstFrom
   turn [] i k h = absurd (omega arith)
   turn (q ∷ l) i zero h = refl
@@ -53,27 +53,27 @@ module _ (p : Program) (C : Config) where
   unfolding choosePlace
   skipped-none = record { left = refl }
 
-  pub skipped-more : {i : ℕ} → Skipped p C i → i < length (C .processes) → isCarried (step p C i) ≡ false → Skipped p C (suc i)
+  pub skipped-more : {i : ℕ} → Skipped p C i → i < length (C .processes) → isTaken (step p C i) ≡ false → Skipped p C (suc i)
   skipped-more {i} k h e = record { left = k .left ∙ turn (C .processes) i i h ∙ ap (λ b. cond b (some i) (firstFrom p C (suc i) (drop (suc i) (C .processes)))) e }
 
-  chosen-here : {i : ℕ} → Skipped p C i → i < length (C .processes) → isCarried (step p C i) ≡ true → choosePlace p C ≡ some i
+  chosen-here : {i : ℕ} → Skipped p C i → i < length (C .processes) → isTaken (step p C i) ≡ true → choosePlace p C ≡ some i
   chosen-here {i} k h e = k .left ∙ turn (C .processes) i i h ∙ ap (λ b. cond b (some i) (firstFrom p C (suc i) (drop (suc i) (C .processes)))) e
 
   none-left : {i : ℕ} → Skipped p C i → length (C .processes) ≤ i → choosePlace p C ≡ none
   none-left {i} k h = k .left ∙ ended (C .processes) i i h
 
   -- a place that is chosen is one whose step is taken
-  chosen-carried : (i : ℕ) (l : List Process) → isCarried (stepChosen p C (firstFrom p C i l)) ≡ isSome (firstFrom p C i l)
+  chosen-carried : (i : ℕ) (l : List Process) → isTaken (stepChosen p C (firstFrom p C i l)) ≡ isSome (firstFrom p C i l)
   unfolding firstFrom
   chosen-carried i [] = refl
-  chosen-carried i (q ∷ l) = go (isCarried (step p C i)) refl (chosen-carried (suc i) l)
+  chosen-carried i (q ∷ l) = go (isTaken (step p C i)) refl (chosen-carried (suc i) l)
     where
-      go : (b : Bool) → isCarried (step p C i) ≡ b → isCarried (stepChosen p C (firstFrom p C (suc i) l)) ≡ isSome (firstFrom p C (suc i) l)
-          → isCarried (stepChosen p C (cond b (some i) (firstFrom p C (suc i) l))) ≡ isSome (cond b (some i) (firstFrom p C (suc i) l))
+      go : (b : Bool) → isTaken (step p C i) ≡ b → isTaken (stepChosen p C (firstFrom p C (suc i) l)) ≡ isSome (firstFrom p C (suc i) l)
+          → isTaken (stepChosen p C (cond b (some i) (firstFrom p C (suc i) l))) ≡ isSome (cond b (some i) (firstFrom p C (suc i) l))
       go true e r = e
       go false e r = r
 
-  pub first-carried : isCarried (stepFirst p C) ≡ isSome (choosePlace p C)
+  pub first-carried : isTaken (stepFirst p C) ≡ isSome (choosePlace p C)
   unfolding choosePlace
   first-carried = chosen-carried 0 (C .processes)
 
@@ -85,13 +85,13 @@ module _ (s w old : List ℕ) where
   abbrev C : Config
   C = configIn s w old
 
-  pub answers-so : {new : List ℕ} {r : OutcomeWords} (o : Outcome) → Carries s w old new r o → isCarried o ≡ wasCarried r
+  pub answers-so : {new : List ℕ} {r : OutcomeWords} (o : Outcome) → Carries s w old new r o → isTaken o ≡ wasCarried r
   answers-so (carried seen D) c = sym (ap wasCarried (c .is .0))
   answers-so uncaught c = sym (ap wasCarried (c .is .0))
   answers-so notOpen c = sym (ap wasCarried (c .is .0))
   answers-so lacking c = sym (ap wasCarried (c .is .0))
 
-  as-before : {new : List ℕ} {r : OutcomeWords} (o : Outcome) → Carries s w old new r o → isCarried o ≡ false → new ≡ old
+  as-before : {new : List ℕ} {r : OutcomeWords} (o : Outcome) → Carries s w old new r o → isTaken o ≡ false → new ≡ old
   as-before (carried seen D) c e = absurd (true≢false e)
   as-before uncaught c e = absurd (true≢false e)
   as-before notOpen c e = c .is .1

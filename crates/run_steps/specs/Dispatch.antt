@@ -15,10 +15,11 @@ use Rattle.calculus.specs.Named.{lookup, kept}
 use Rattle.calculus.specs.Types.{Side}
 use Rattle.calculus.specs.Program.{slot, Context, Signature, Program, signatureContext}
 use Rattle.calculus.specs.Mentions.{spawnTakes, spawnLeaves, halfMentions}
-use Rattle.calculus.specs.Typing.{Typed, calls, spawns, ListFits, none-left, one-fits}
+use Rattle.calculus.specs.Typing.{Typed, calls, ListFits, none-left, one-fits}
 use Rattle.calculus.specs.Configuration.{End, Process, Config, at}
 use Rattle.calculus.specs.Steps.{Outcome, notOpen, send, receive, cancelling, spawning, trying, calling, raising, forwarding, leaving, stepTerm, stepDoing, stepOf, step}
 use Rattle.calculus.specs.WellFormed.{contextOf, TypedAs, WellFormed}
+use Rattle.theory_derivations.specs.Halves.{spawn-iff}
 use Rattle.read_tables.specs.Access.{TermOf}
 use Rattle.read_tables.specs.Decode.{typeIn, processIn, argumentsAt}
 use Rattle.read_tables.specs.Names.{CallAt}
@@ -163,7 +164,9 @@ kept-many t (e ∷ l) = go (t (e .0)) (kept-many t l)
 
 pub spawn-room : {p : Program} {x : Located} {A : Ty Located} {P Q : Proc} (l : List (Name × End)) → Typed p (contextOf l) (spawn x A P Q) → (length (spawnTakes (x .name) P l) < heldLimit) × (length (spawnLeaves (x .name) P l) < heldLimit)
 unfolding spawnTakes spawnLeaves
-spawn-room {x = x} {P = P} l (spawns nb bP bQ dP dQ) = (omega (arith, bP .room, kept-many (halfMentions (x .name) P) l), omega (arith, bQ .room, kept-many (λ n. not (halfMentions (x .name) P n)) l))
+spawn-room {x = x} {P = P} l d =
+    let b = spawn-iff .1 d .1 .0 in
+    (omega (arith, b .0 .room, kept-many (halfMentions (x .name) P) l), omega (arith, b .1 .room, kept-many (λ n. not (halfMentions (x .name) P n)) l))
 
 fits-many : {equal : Ty Name → Ty Name → Type 0} {G : Context} {a : Side} {ns : List Name} {es : List (Name × Ty Name)} → ListFits equal G a ns es → length ns ≡ length es
 fits-many none-left = refl

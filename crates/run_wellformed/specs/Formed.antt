@@ -11,7 +11,7 @@ use lib.ListN.{length, length-map}
 use Rattle.notation.specs.Limits.{heldLimit, processPlaces, channelPlaces, outsideNumbers}
 use Rattle.notation.specs.Token.{nameAt}
 use Rattle.notation.specs.Tree.{Name}
-use Rattle.calculus.specs.Named.{all}
+use Rattle.calculus.specs.Named.{every}
 use Rattle.calculus.specs.Program.{Program}
 use Rattle.calculus.specs.Declarations.{outward}
 use Rattle.calculus.specs.Configuration.{End, Process, Outside, Config}
@@ -59,7 +59,7 @@ isOutward p o = outward p (o .type)
 abbrev isGiven : Config → Outside → Bool
 isGiven C o = ltb (o .number) (C .given)
 
-all-both : {X : Type 0} (f g : X → Bool) (l : List X) → So (all (λ x. f x && g x) l) ↔ (So (all f l) × So (all g l))
+all-both : {X : Type 0} (f g : X → Bool) (l : List X) → So (every (λ x. f x && g x) l) ↔ (So (every f l) × So (every g l))
 all-both f g l = (
   λ e. (all-iff f l .1 (λ x m. one x .0 (all-iff _ l .0 e x m) .0), all-iff g l .1 (λ x m. one x .0 (all-iff _ l .0 e x m) .1)),
   λ (a, b). all-iff _ l .1 (λ x m. one x .1 (all-iff f l .0 a x m, all-iff g l .0 b x m)),
@@ -70,12 +70,12 @@ all-both f g l = (
 
 -- what the bounds give
 abbrev Few : Config → Type 0
-Few C = So (leb (length (C .processes)) processPlaces) × So (all (λ (e : End). ltb (e .channel) channelPlaces) (ends C)) × So (leb (C .given) outsideNumbers) × So (all (λ (q : Process). leb (length (q .held)) heldLimit) (C .processes))
+Few C = So (leb (length (C .processes)) processPlaces) × So (every (λ (e : End). ltb (e .channel) channelPlaces) (ends C)) × So (leb (C .given) outsideNumbers) × So (every (λ (q : Process). leb (length (q .held)) heldLimit) (C .processes))
 
-split : (p : Program) (C : Config) → So (wellFormed? p C) ↔ (So (all (typedProcess p) (C .processes)) × So (endsFit p (ends C)) × So (all (isOutward p) (C .outside)) × So (haltFits C) × So (wellJoined C) × Few C)
+split : (p : Program) (C : Config) → So (wellFormed? p C) ↔ (So (every (typedProcess p) (C .processes)) × So (endsFit p (ends C)) × So (every (isOutward p) (C .outside)) × So (haltFits C) × So (wellJoined C) × Few C)
 unfolding wellFormed? wellJoined circleFree numbersRise numbersGiven
 split p C = Iff·trans
-    (itself (all (typedProcess p) (C .processes))
+    (itself (every (typedProcess p) (C .processes))
     and itself (endsFit p (ends C))
     and itself (linksLead C)
     and itself (handlersLinked C)
@@ -85,9 +85,9 @@ split p C = Iff·trans
     and itself (rising 0 (map (λ (o : Outside). o .number) (C .outside)))
     and itself (haltFits C)
     and itself (leb (length (C .processes)) processPlaces)
-    and itself (all (λ (e : End). ltb (e .channel) channelPlaces) (ends C))
+    and itself (every (λ (e : End). ltb (e .channel) channelPlaces) (ends C))
     and itself (leb (C .given) outsideNumbers)
-    and itself (all (λ (q : Process). leb (length (q .held)) heldLimit) (C .processes))) (
+    and itself (every (λ (q : Process). leb (length (q .held)) heldLimit) (C .processes))) (
       λ ((((((((((((t, e), l), h), m), f), (x, g)), n), z), a), b), c), d). (t, e, x, z, joined .1 (((((l, h), m), f), n), g), (a, b, c, d)),
       λ (t, e, x, z, j, (a, b, c, d)). let (((((l, h), m), f), n), g) = joined .0 j in ((((((((((((t, e), l), h), m), f), (x, g)), n), z), a), b), c), d),
     )
@@ -97,9 +97,9 @@ split p C = Iff·trans
         itself (linksLead C) and itself (handlersLinked C) and itself (linkedOnce C) and itself (circleFree C) and itself (numbersRise C) and itself (numbersGiven C)
 
 -- ── what a bounded run gives
-all-of : {X : Type 0} (P : X → Type 0) (f : X → Bool) → ((x : X) → P x → So (f x)) → (l : List X) → All P l → So (all f l)
+all-of : {X : Type 0} (P : X → Type 0) (f : X → Bool) → ((x : X) → P x → So (f x)) → (l : List X) → All P l → So (every f l)
 all-of P f h [] a = refl
-all-of P f h (x ∷ l) a = and-cond (f x) (all f l) .1 (h x (a .0), all-of P f h l (a .1))
+all-of P f h (x ∷ l) a = and-cond (f x) (every f l) .1 (h x (a .0), all-of P f h l (a .1))
 
 abbrev Near : RawEnd → Type 0
 Near e = e .channel < channelPlaces
@@ -112,7 +112,7 @@ module _ (s w : List ℕ) (C : RawConfig) where
   few : Bounded C → Few (configIn s w C)
   few b = (
     le-leb (length (configIn s w C .processes)) processPlaces (omega (arith, length-map (C .processes) process, b .places)),
-    ap (all (λ (e : End). ltb (e .channel) channelPlaces)) (ends-in s w C) ∙ all-map (asEnd s w) (λ (e : End). ltb (e .channel) channelPlaces) near? (λ e. refl) (rawEnds C)
+    ap (every (λ (e : End). ltb (e .channel) channelPlaces)) (ends-in s w C) ∙ all-map (asEnd s w) (λ (e : End). ltb (e .channel) channelPlaces) near? (λ e. refl) (rawEnds C)
         ∙ all-of Near near? (λ e. lt-ltb (e .channel) channelPlaces) (rawEnds C) near,
     le-leb (C .given) outsideNumbers (b .given),
     all-map process (λ (q : Process). leb (length (q .held)) heldLimit) few? (λ q. refl) (C .processes)
@@ -137,10 +137,10 @@ module _ (s w : List ℕ) (C : RawConfig) where
           (laws.all-map BoundedOutside Near outsideEnd (λ o h. h .channel) (C .outside) (b .outside))
 
   -- ── the tests that the code makes
-  typed-as : all (typedProcess (programIn s w)) (configIn s w C .processes) ≡ all (typedIn s w) (C .processes)
+  typed-as : every (typedProcess (programIn s w)) (configIn s w C .processes) ≡ every (typedIn s w) (C .processes)
   typed-as = all-map (decodedProcess (nameAt s) (plainIn s w) (processIn s w)) _ (typedIn s w) (λ q. refl) (C .processes)
 
-  outward-as : all (isOutward (programIn s w)) (configIn s w C .outside) ≡ all (outwardIn s w) (C .outside)
+  outward-as : every (isOutward (programIn s w)) (configIn s w C .outside) ≡ every (outwardIn s w) (C .outside)
   outward-as = all-map (decodedOutside (nameAt s) (plainIn s w) (processIn s w)) _ (outwardIn s w) (λ o. refl) (C .outside)
 
   halt-as : haltFits (configIn s w C) ≡ haltIn s w C
@@ -149,9 +149,9 @@ module _ (s w : List ℕ) (C : RawConfig) where
 
   -- all of them pass on what is well formed, and what they all pass on is
   pub record Parts : Type 0 where
-    pub typed : So (all (typedIn s w) (C .processes))
+    pub typed : So (every (typedIn s w) (C .processes))
     pub fit : So (pairwise (besideIn s w) [] (rawEnds C))
-    pub outwards : So (all (outwardIn s w) (C .outside))
+    pub outwards : So (every (outwardIn s w) (C .outside))
     pub halted : So (haltIn s w C)
     pub joined : So (wellJoined (configIn s w C))
 
@@ -168,7 +168,7 @@ module _ (s w : List ℕ) (C : RawConfig) where
   }
 
   -- the last test decides
-  pub decided : {r : Bool} → Bounded C → OfText w C → So (all (typedIn s w) (C .processes)) → So (pairwise (besideIn s w) [] (rawEnds C)) → So (all (outwardIn s w) (C .outside)) → So (haltIn s w C)
+  pub decided : {r : Bool} → Bounded C → OfText w C → So (every (typedIn s w) (C .processes)) → So (pairwise (besideIn s w) [] (rawEnds C)) → So (every (outwardIn s w) (C .outside)) → So (haltIn s w C)
       → Answers r wellJoined C → Decided r (Formed s w C)
   decided b o t f x h j =
       let last = j .is (nameAt s) (plainIn s w) (processIn s w) in

@@ -16,7 +16,7 @@ use Rattle.notation.specs.declared.reading.Found.{Found}
 use Rattle.notation.specs.declared.reading.Found.the-variants as found
 use Rattle.notation.specs.declared.reading.TermNode.{TermNode}
 use Rattle.calculus.specs.Configuration as calculus
-use Rattle.calculus.specs.Named.{all, any, isSome, lookup}
+use Rattle.calculus.specs.Named.{every, anyOf, isSome, lookup}
 use Rattle.calculus.specs.Steps.{Turn, sends, receives, alone, turnOf, branchOf}
 use Rattle.theory_decision.specs.Lists.{implies}
 use Rattle.theory_decision.specs.Halting.{lacksBranch, leavesOut, nobodyTakes, nobodyTakesOver, haltsBy, haltsDoing, haltsAt}
@@ -50,7 +50,7 @@ haltsIn s w C q = haltsAt (decoded (nameAt s) (plainIn s w) (processIn s w) C) (
 
 -- "one step would halt it", if it is halted
 abbrev pub haltIn : List ℕ → List ℕ → RawConfig → Bool
-haltIn s w C = implies (isHalted (C .halted)) (any (haltsIn s w C) (C .processes))
+haltIn s w C = implies (isHalted (C .halted)) (anyOf (haltsIn s w C) (C .processes))
 
 and-false : (b : Bool) → b && false ≡ false
 and-false true = refl
@@ -252,15 +252,15 @@ module _ (s w ws : List ℕ) (p : ProcessWords) where
       runs-other d z = sym (as-node ∙ λ i. cond (ne-eqb (n .kind) raiseKind d i) (not (isSome (linkOf (p .link)))) (cond (ne-eqb (n .kind) sendLabelKind z i) (label n) false))
 
 -- ── a loop that looks for one
-pub some-found : {X : Type 0} (f : X → Bool) (l : List X) → all (λ x. not (f x)) l ≡ false → true ≡ any f l
-some-found f l e = go (any f l) (sym (all-not f l) ∙ e)
+pub some-found : {X : Type 0} (f : X → Bool) (l : List X) → every (λ x. not (f x)) l ≡ false → true ≡ anyOf f l
+some-found f l e = go (anyOf f l) (sym (all-not f l) ∙ e)
   where
     go : (b : Bool) → not b ≡ false → true ≡ b
     go true z = refl
     go false z = z
 
-pub none-found : {X : Type 0} (f : X → Bool) (l : List X) → all (λ x. not (f x)) l ≡ true → false ≡ any f l
-none-found f l e = go (any f l) (sym (all-not f l) ∙ e)
+pub none-found : {X : Type 0} (f : X → Bool) (l : List X) → every (λ x. not (f x)) l ≡ true → false ≡ anyOf f l
+none-found f l e = go (anyOf f l) (sym (all-not f l) ∙ e)
   where
     go : (b : Bool) → not b ≡ true → false ≡ b
     go true z = z
@@ -269,7 +269,7 @@ none-found f l e = go (any f l) (sym (all-not f l) ∙ e)
 -- ── whether the run has halted
 module _ (s w : List ℕ) (C : RawConfig) where
   pub halt-none : isHalted (C .halted) ≡ false → true ≡ haltIn s w C
-  halt-none e = sym (ap (λ b. implies b (any (haltsIn s w C) (C .processes))) e)
+  halt-none e = sym (ap (λ b. implies b (anyOf (haltsIn s w C) (C .processes))) e)
 
-  pub halt-some : isHalted (C .halted) ≡ true → any (haltsIn s w C) (C .processes) ≡ haltIn s w C
-  halt-some e = sym (ap (λ b. implies b (any (haltsIn s w C) (C .processes))) e)
+  pub halt-some : isHalted (C .halted) ≡ true → anyOf (haltsIn s w C) (C .processes) ≡ haltIn s w C
+  halt-some e = sym (ap (λ b. implies b (anyOf (haltsIn s w C) (C .processes))) e)

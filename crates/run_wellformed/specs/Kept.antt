@@ -11,7 +11,7 @@ use lib.ListN.{length, getD, set, length-set, replicate, length-replicate}
 use lib.Seq.{getD-set-same, getD-set-other}
 use Rattle.notation.specs.Limits.{channelPlaces}
 use Rattle.notation.specs.Token.{nameAt}
-use Rattle.calculus.specs.Named.{all}
+use Rattle.calculus.specs.Named.{every}
 use Rattle.calculus.specs.Types.{Side, provided, used, other, sameSide}
 use Rattle.calculus.specs.SameType.{sameType}
 use Rattle.calculus.specs.Configuration.{End, end}
@@ -92,7 +92,7 @@ module _ (s w : List ℕ) where
 
   -- the words keep the ends of l: they tell which ends fit these
   pub record Keeps (ws : List ℕ) (l : List RawEnd) : Type 0 where
-    pub tells : (e : RawEnd) → all (besideIn s w e) l ≡ fits ws (e .channel) (e .side) (e .node)
+    pub tells : (e : RawEnd) → every (besideIn s w e) l ≡ fits ws (e .channel) (e .side) (e .node)
 
   -- what becomes of the words when ends are kept one after another, up to one that does not fit: whether all do
   pub record Entered (old new : List ℕ) (l : List RawEnd) (r : Bool) : Type 0 where

@@ -9,7 +9,7 @@ use lib.ListN.{length, getElem?}
 use Rattle.notation.specs.Bytes.{same}
 use Rattle.notation.specs.Token.{nameAt}
 use Rattle.notation.specs.Tree.{Name, Proc}
-use Rattle.calculus.specs.Named.{lookup, names, distinct, isSome, any}
+use Rattle.calculus.specs.Named.{lookup, names, distinct, isSome, anyOf}
 use Rattle.calculus.specs.Program.{Program}
 use Rattle.calculus.specs.Configuration.{End, Process}
 use Rattle.calculus.specs.Checking.{check}
@@ -43,12 +43,12 @@ typedIn s w q = typedProcess (programIn s w) (decodedProcess (nameAt s) (plainIn
 pub record Distinct (s : List ℕ) (h : Held) (r : Bool) : Type 0 where
   pub is : (w : List ℕ) → distinct (names (contextIn s w h)) ≡ r
 
-any-looked : (n : Name) (l : List (Name × End)) → any (same n) (names (contextOf l)) ≡ isSome (lookup n l)
+any-looked : (n : Name) (l : List (Name × End)) → anyOf (same n) (names (contextOf l)) ≡ isSome (lookup n l)
 unfolding names lookup
 any-looked n [] = refl
 any-looked n (e ∷ l) = go (same n (e .0)) (any-looked n l)
   where
-    go : (b : Bool) → any (same n) (names (contextOf l)) ≡ isSome (lookup n l) → cond b true (any (same n) (names (contextOf l))) ≡ isSome (cond b (some (e .1)) (lookup n l))
+    go : (b : Bool) → anyOf (same n) (names (contextOf l)) ≡ isSome (lookup n l) → cond b true (anyOf (same n) (names (contextOf l))) ≡ isSome (cond b (some (e .1)) (lookup n l))
     go true q = refl
     go false q = q
 

@@ -3,7 +3,7 @@ ghost use mathlib.Core.Path.{_≡_};
 ghost use Prim.Native.Nat.{_+_};
 ghost use lib.ListN.{length};
 ghost use Rattle.notation.specs.Token.{nameAt};
-ghost use Rattle.calculus.specs.Named.{any, lookup};
+ghost use Rattle.calculus.specs.Named.{anyOf, lookup};
 ghost use Rattle.theory_decision.specs.Halting.{nobodyTakesOver};
 ghost use Rattle.run_words.specs.Raw.{rawIn};
 ghost use Rattle.run_words.specs.Values.{processIn};
@@ -102,7 +102,7 @@ fn halts(text: &[u8], scratch: &[u32], run: &[u32], p: Process) -> bool
 // Whether the step of some process does.
 fn some_halts(text: &[u8], scratch: &[u32], run: &[u32]) -> bool
     requires { ⌜ RunOf (now text) (now scratch) (now run) ⌝ }
-    ensures { λ r. ⌜ r ≡ any (haltsIn (now (text .entry)) (now (scratch .entry)) (rawIn (now (run .entry)))) (rawIn (now (run .entry)) .processes) ⌝ }
+    ensures { λ r. ⌜ r ≡ anyOf (haltsIn (now (text .entry)) (now (scratch .entry)) (rawIn (now (run .entry)))) (rawIn (now (run .entry)) .processes) ⌝ }
 {
     let n = count(run);
     let mut i: usize = 0;

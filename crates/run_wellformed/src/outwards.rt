@@ -3,7 +3,7 @@ ghost use mathlib.Core.Path.{_≡_};
 ghost use Prim.Native.Nat.{_≤_};
 ghost use lib.ListN.{length};
 ghost use Rattle.notation.specs.Limits.{runWords};
-ghost use Rattle.calculus.specs.Named.{all};
+ghost use Rattle.calculus.specs.Named.{every};
 ghost use Rattle.read_tables.specs.Everywhere.{Everywhere};
 ghost use Rattle.read_tables.specs.Whole.{Tables};
 ghost use Rattle.run_words.specs.Raw.{rawIn, Bounded};
@@ -20,7 +20,7 @@ pub(crate) fn outside_outward(text: &[u8], scratch: &[u32], run: &[u32]) -> bool
     requires { ⌜ runWords ≤ length (now run) ⌝ }
     requires { ⌜ Bounded (rawIn (now run)) ⌝ }
     requires { ⌜ OfText (now scratch) (rawIn (now run)) ⌝ }
-    ensures { λ r. ⌜ r ≡ all (outwardIn (now (text .entry)) (now (scratch .entry))) (rawIn (now (run .entry)) .outside) ⌝ }
+    ensures { λ r. ⌜ r ≡ every (outwardIn (now (text .entry)) (now (scratch .entry))) (rawIn (now (run .entry)) .outside) ⌝ }
 {
     let marks = reach(text, scratch);
     let n = outside_count(run);

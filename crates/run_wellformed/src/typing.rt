@@ -4,7 +4,7 @@ ghost use mathlib.Core.Bool.{true};
 ghost use Prim.Native.Nat.{ℕ, _≤_, _<_};
 ghost use lib.ListN.{length};
 ghost use Rattle.notation.specs.Limits.{runWords, heldLimit};
-ghost use Rattle.calculus.specs.Named.{all};
+ghost use Rattle.calculus.specs.Named.{every};
 ghost use Rattle.theory_decision.specs.Decide.{isFine, typed?};
 ghost use Rattle.read_tables.specs.Decode.{processIn};
 ghost use Rattle.read_tables.specs.Everywhere.{Everywhere};
@@ -103,7 +103,7 @@ pub(crate) fn processes_typed(text: &[u8], scratch: &[u32], run: &[u32]) -> bool
     requires { ⌜ runWords ≤ length (now run) ⌝ }
     requires { ⌜ Bounded (rawIn (now run)) ⌝ }
     requires { ⌜ OfText (now scratch) (rawIn (now run)) ⌝ }
-    ensures { λ r. ⌜ r ≡ all (typedIn (now (text .entry)) (now (scratch .entry))) (rawIn (now (run .entry)) .processes) ⌝ }
+    ensures { λ r. ⌜ r ≡ every (typedIn (now (text .entry)) (now (scratch .entry))) (rawIn (now (run .entry)) .processes) ⌝ }
 {
     let n = count(run);
     // One that folds up is typed: nothing is before the first.

@@ -6,7 +6,7 @@ use mathlib.Core.List.{List, [], _∷_, map, List·Memᴰ·head, List·Memᴰ·t
 use mathlib.Core.Bool.{Bool, true, false, So, cond}
 use lib.Dec.{eqb}
 use Rattle.calculus.specs.Forest.{Joint, Forest}
-use Rattle.calculus.specs.WellFormed.{In}
+use Rattle.calculus.specs.Named.{In}
 use Rattle.theory_graphs.specs.Graph.{connected-refl, glue, glue-at, glue-off, glued, contract, expand}
 use Rattle.theory_derivations.specs.Booleans.{unless-cond, cond-true, cond-false}
 use Rattle.theory_derivations.specs.Equality.{eqb-decides, decides-cases, decides-not}

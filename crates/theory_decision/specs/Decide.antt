@@ -8,7 +8,7 @@ use lib.ListN.{length}
 use lib.Dec.{leb, ltb}
 use Rattle.notation.specs.Limits.{heldLimit, processPlaces, channelPlaces, outsideNumbers}
 use Rattle.notation.specs.Tree.{Proc}
-use Rattle.calculus.specs.Named.{names, distinct, all}
+use Rattle.calculus.specs.Named.{NoneTwice, names, distinct, every}
 use Rattle.calculus.specs.Program.{Context, Program}
 use Rattle.calculus.specs.Verdict.{Verdict, fine, refused}
 use Rattle.calculus.specs.Declarations.{outward}
@@ -17,8 +17,10 @@ use Rattle.calculus.specs.Checking.{check}
 use Rattle.calculus.specs.Configuration.{End, Doing, running, folding, waiting, Process, Outside, Config}
 use Rattle.calculus.specs.Forest.{joints}
 use Rattle.calculus.specs.WellFormed.{Rising, contextOf, ends, TypedAs, WellFormed}
-use Rattle.theory_derivations.specs.Booleans.{never, itself, _and_, and-cond, ltb-iff, leb-iff}
+use Rattle.theory_derivations.specs.Booleans.{never, _and_, and-cond, ltb-iff, leb-iff}
 use Rattle.theory_derivations.specs.Fine.{refuted}
+use Rattle.theory_derivations.specs.Named.{distinct-iff}
+use Rattle.theory_derivations.specs.Reached.{outward-iff}
 use Rattle.theory_derivations.specs.Rules.{check-iff}
 use Rattle.theory_decision.specs.Lists.{all-law}
 use Rattle.theory_decision.specs.Circles.{forest?, forest?-iff}
@@ -38,8 +40,8 @@ isFine-iff (refused n at) = (never, refuted)
 abbrev pub typed? : Program → Context → Proc → Bool
 typed? p G P = distinct (names G) && isFine (check p G P)
 
-typed?-iff : (p : Program) (G : Context) (P : Proc) → So (typed? p G P) ↔ (So (distinct (names G)) × Typed p G P)
-typed?-iff p G P = itself (distinct (names G)) and Iff·trans (isFine-iff (check p G P)) (check-iff p P G)
+typed?-iff : (p : Program) (G : Context) (P : Proc) → So (typed? p G P) ↔ (NoneTwice (names G) × Typed p G P)
+typed?-iff p G P = distinct-iff (names G) and Iff·trans (isFine-iff (check p G P)) (check-iff p P G)
 
 abbrev pub typedAs? : Program → Context → Doing → Bool
 typedAs? p G (running P) = typed? p G P
@@ -64,19 +66,19 @@ rising-iff low (n ∷ l) = Iff·trans (and-cond (leb low n) (rising (suc n) l)) 
 -- ── the clauses in one
 unfoldable pub wellFormed? : Program → Config → Bool
 wellFormed? p C =
-    all (λ q. typedAs? p (contextOf (q .held)) (q .doing)) (C .processes)
+    every (λ q. typedAs? p (contextOf (q .held)) (q .doing)) (C .processes)
     && endsFit p (ends C)
     && linksLead C
     && handlersLinked C
     && linkedOnce C
     && forest? (joints C)
-    && all (λ (o : Outside). outward p (o .type) && ltb (o .number) (C .given)) (C .outside)
+    && every (λ (o : Outside). outward p (o .type) && ltb (o .number) (C .given)) (C .outside)
     && rising 0 (map (λ (o : Outside). o .number) (C .outside))
     && haltFits C
     && leb (length (C .processes)) processPlaces
-    && all (λ (e : End). ltb (e .channel) channelPlaces) (ends C)
+    && every (λ (e : End). ltb (e .channel) channelPlaces) (ends C)
     && leb (C .given) outsideNumbers
-    && all (λ (q : Process). leb (length (q .held)) heldLimit) (C .processes)
+    && every (λ (q : Process). leb (length (q .held)) heldLimit) (C .processes)
 
 pub wellFormed?-iff : (p : Program) (C : Config) → So (wellFormed? p C) ↔ WellFormed p C
 unfolding wellFormed?
@@ -87,7 +89,7 @@ wellFormed?-iff p C = Iff·trans
     and handlersLinked-iff C
     and linkedOnce-iff C
     and forest?-iff (joints C)
-    and all-law _ (C .outside) (λ o. itself (outward p (o .type)) and ltb-iff (o .number) (C .given))
+    and all-law _ (C .outside) (λ o. outward-iff p (o .type) and ltb-iff (o .number) (C .given))
     and rising-iff 0 (map (λ (o : Outside). o .number) (C .outside))
     and haltFits-iff C
     and leb-iff (length (C .processes)) processPlaces

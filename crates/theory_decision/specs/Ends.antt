@@ -10,7 +10,8 @@ use Rattle.calculus.specs.SameType.{sameType}
 use Rattle.calculus.specs.Program.{Program}
 use Rattle.calculus.specs.OneType.{OneType}
 use Rattle.calculus.specs.Configuration.{End}
-use Rattle.calculus.specs.WellFormed.{In, NoneTwice, key}
+use Rattle.calculus.specs.Named.{In, NoneTwice}
+use Rattle.calculus.specs.WellFormed.{key}
 use Rattle.theory_derivations.specs.Booleans.{not-iff, _and_, eqb-iff, each-cons}
 use Rattle.theory_derivations.specs.Equality.{decides-not, decides-sym, eqb-decides, sameSide-decides}
 use Rattle.theory_derivations.specs.OneType.{one-iff, one-test-sym, one-refl, one-sym}

@@ -6,11 +6,11 @@ use mathlib.Core.Option.{Option, some, none}
 use mathlib.Core.Bool.{Bool, true, false, So, not, _&&_}
 use Rattle.notation.specs.Bytes.{same}
 use Rattle.notation.specs.Tree.{Name, Located, Proc, empty, sendUnit, sendChannel, sendLabel, cancel, spawn, recvUnit, recvChannel, recvLabel, fwd, call, raise, try, Branches}
-use Rattle.calculus.specs.Named.{any, isSome, lookup}
+use Rattle.calculus.specs.Named.{anyOf, isSome, lookup, In}
 use Rattle.calculus.specs.Configuration.{End, Doing, running, folding, waiting, Process, Stands, Holder, Far, atProcess, atOutside, givenUp, farEnd, Config}
 use Rattle.calculus.specs.Steps.{Wanted, onClose, onChannel, onLabel, Turn, sends, receives, alone, turnOf, branchOf}
 use Rattle.calculus.specs.Reduces.{its-own, Halts, nobody-catches, nobody-takes}
-use Rattle.calculus.specs.WellFormed.{In, WouldHalt, by-step}
+use Rattle.calculus.specs.WellFormed.{WouldHalt, by-step}
 use Rattle.theory_derivations.specs.Booleans.{never, itself, _and_, any-iff, isNone-iff}
 use Rattle.theory_derivations.specs.Equality.{same-iff}
 use Rattle.theory_ends.specs.Lists.{found-in, in-found}
@@ -64,7 +64,7 @@ abbrev pub haltsAt : Config → Process → Bool
 haltsAt C q = haltsDoing C q (q .doing)
 
 unfoldable pub haltFits : Config → Bool
-haltFits C = implies (C .halted) (any (haltsAt C) (C .processes))
+haltFits C = implies (C .halted) (anyOf (haltsAt C) (C .processes))
 
 -- ── what they say
 -- it runs a recv on the channel of name x that has no branch of the label l
@@ -133,7 +133,7 @@ module _ (C : Config) (i : ℕ) (q : Process) (there : Stands C i q) where
       go folding r s = never s
       go (waiting Q) r s = never s
 
-would-iff : (C : Config) → So (any (haltsAt C) (C .processes)) ↔ WouldHalt C
+would-iff : (C : Config) → So (anyOf (haltsAt C) (C .processes)) ↔ WouldHalt C
 would-iff C = Iff·trans (any-iff (haltsAt C) (C .processes)) (to, from)
   where
     to : (q : Process) × In q (C .processes) × So (haltsAt C q) → WouldHalt C

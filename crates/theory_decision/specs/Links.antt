@@ -7,9 +7,9 @@ use mathlib.Core.Bool.{Bool, true, false, So, true≢false, not}
 use mathlib.Core.Option.{Option, some, none, Option·none-ne-some, Option·some-injective}
 use borrow.Author.Tests.{not-false}
 use lib.Dec.{eqb}
-use Rattle.calculus.specs.Named.{all, any}
+use Rattle.calculus.specs.Named.{every, anyOf, In}
 use Rattle.calculus.specs.Configuration.{Process, Config, Stands, at}
-use Rattle.calculus.specs.WellFormed.{In, isWaiting}
+use Rattle.calculus.specs.WellFormed.{isWaiting}
 use Rattle.theory_derivations.specs.Booleans.{never, itself, eqb-iff, any-iff}
 use Rattle.theory_derivations.specs.Equality.{decides-sym, eqb-decides}
 use Rattle.theory_ends.specs.Lists.{found-in, in-found}
@@ -20,7 +20,7 @@ pub stands-iff : (C : Config) (A : Process → Type 0) → ((q : Process) → In
 stands-iff C A = (λ h i q s. h q (found-in (C .processes) i (s .there)), λ h q m. let r = in-found m in h (r .0) q (record { there = r .1 }))
 
 pub places-law : {A : Process → Type 0} (C : Config) (f : Process → Bool) → ((q : Process) → So (f q) ↔ A q)
-    → So (all f (C .processes)) ↔ ((i : ℕ) (q : Process) → Stands C i q → A q)
+    → So (every f (C .processes)) ↔ ((i : ℕ) (q : Process) → Stands C i q → A q)
 places-law {A} C f g = Iff·trans (all-law f (C .processes) g) (stands-iff C A)
 
 -- ── tests of a link
@@ -72,10 +72,10 @@ together-iff (some h) u = (λ e. (h, refl, isLink-iff h u .0 (not-false (isLink 
 
 -- ── the three clauses
 unfoldable pub linksLead : Config → Bool
-linksLead C = all (λ q. leads C (q .link)) (C .processes)
+linksLead C = every (λ q. leads C (q .link)) (C .processes)
 
 unfoldable pub handlersLinked : Config → Bool
-handlersLinked C = allFrom (λ h r. implies (isWaiting (r .doing)) (any (λ q. isLink h (q .link)) (C .processes))) 0 (C .processes)
+handlersLinked C = allFrom (λ h r. implies (isWaiting (r .doing)) (anyOf (λ q. isLink h (q .link)) (C .processes))) 0 (C .processes)
 
 unfoldable pub linkedOnce : Config → Bool
 linkedOnce C = pairwise (λ q r. linksApart (q .link) (r .link)) [] (C .processes)
@@ -87,7 +87,7 @@ linksLead-iff C = places-law C (λ q. leads C (q .link)) (λ q. leads-iff C (q .
 abbrev pub Linker : Config → ℕ → Type 0
 Linker C h = (i : ℕ) × (q : Process) × Stands C i q × (q .link ≡ some h)
 
-linker-iff : (C : Config) (h : ℕ) → So (any (λ q. isLink h (q .link)) (C .processes)) ↔ Linker C h
+linker-iff : (C : Config) (h : ℕ) → So (anyOf (λ q. isLink h (q .link)) (C .processes)) ↔ Linker C h
 linker-iff C h = Iff·trans (any-iff (λ q. isLink h (q .link)) (C .processes)) (
   λ (q, m, e). let r = in-found m in (r .0, q, record { there = r .1 }, isLink-iff h (q .link) .0 e),
   λ (i, q, s, e). (q, found-in (C .processes) i (s .there), isLink-iff h (q .link) .1 e),

@@ -8,8 +8,7 @@ use mathlib.Core.List.{List, [], _∷_, List·Memᴰ·head, List·Memᴰ·tail}
 use mathlib.Core.Bool.{Bool, true, false, So, true≢false, cond}
 use mathlib.Core.Option.{some, Option·none-ne-some, Option·some-injective}
 use lib.ListN.{getElem?}
-use Rattle.calculus.specs.Named.{all}
-use Rattle.calculus.specs.WellFormed.{In}
+use Rattle.calculus.specs.Named.{every, In}
 use Rattle.theory_derivations.specs.Booleans.{never, bool-cases, and-cond, each-cons, all-iff}
 use Rattle.theory_ends.specs.Lists.{found-in, in-found}
 
@@ -22,7 +21,7 @@ implies-iff {a = true} f g = (λ e x. g .0 e, λ h. g .1 (h (f .0 refl)))
 implies-iff {a = false} f g = (λ e x. never (f .1 x), λ h. refl)
 
 module _ {X : Type 0} where
-  pub all-law : {A : X → Type 0} (f : X → Bool) (l : List X) → ((x : X) → So (f x) ↔ A x) → So (all f l) ↔ ((x : X) → In x l → A x)
+  pub all-law : {A : X → Type 0} (f : X → Bool) (l : List X) → ((x : X) → So (f x) ↔ A x) → So (every f l) ↔ ((x : X) → In x l → A x)
   all-law f l g = Iff·trans (all-iff f l) (λ h x m. g x .0 (h x m), λ h x m. g x .1 (h x m))
 
   -- each element passes the test with its place, counted from k
@@ -61,7 +60,7 @@ module _ {X : Type 0} where
   -- each element passes the test with those before it: `seen`, the last one first
   unfoldable pub pairwise : (X → X → Bool) → List X → List X → Bool
   pairwise f seen [] = true
-  pairwise f seen (x ∷ l) = let r = pairwise f (x ∷ seen) l in cond (all (f x) seen) r false
+  pairwise f seen (x ∷ l) = let r = pairwise f (x ∷ seen) l in cond (every (f x) seen) r false
 
 module _ {X : Type 0} (f : X → X → Bool) (symmetric : (x y : X) → f x y ≡ f y x) where
   abbrev Beside : List X → List X → Type 0
@@ -81,7 +80,7 @@ module _ {X : Type 0} (f : X → X → Bool) (symmetric : (x y : X) → f x y �
   unfolding pairwise
   pairwise-beside [] seen = (λ e. (λ x m. elim m [ ], tt), λ h. refl)
   pairwise-beside (x ∷ l) seen =
-      Iff·trans (Iff·trans (and-cond (all (f x) seen) (pairwise f (x ∷ seen) l)) (Iff·and (all-iff (f x) seen) (pairwise-beside l (x ∷ seen)))) (passed x l seen)
+      Iff·trans (Iff·trans (and-cond (every (f x) seen) (pairwise f (x ∷ seen) l)) (Iff·and (all-iff (f x) seen) (pairwise-beside l (x ∷ seen)))) (passed x l seen)
 
   pub pairwise-iff : (l : List X) → So (pairwise f [] l) ↔ Pairwise f l
   pairwise-iff l = Iff·trans (pairwise-beside l []) (λ h. h .1, λ h. (λ x m y n. elim n [ ], h))

@@ -2,7 +2,7 @@
 use Prim.Native.Nat.{ℕ, zero, suc, _+_, _≤_}
 use native.Mathlib.Omega.{arith}
 use mathlib.Core.Path.{_≡_, refl, sym, _∙_, ap, subst}
-use mathlib.Core.Logic.{_↔_, Iff·rfl, Iff·trans}
+use mathlib.Core.Logic.{_↔_, Iff·trans}
 use mathlib.Core.List.{List, [], _∷_, _++_}
 use mathlib.Core.Option.{Option, some, none, Option·none-ne-some, Option·some-injective}
 use lib.ListN.{length, length-append, getElem?}
@@ -18,10 +18,12 @@ use Rattle.calculus.specs.Declarations.{channels, declared}
 use Rattle.calculus.specs.Typing.{Typed, TypedBranches, TypedBody}
 use Rattle.calculus.specs.Checking.{check, checkBranches, unlessNamed, checkDeclarations, typed}
 use Rattle.calculus.specs.Accepted.{Checked, accepted, faulty, judged, checkedRead, checked}
-use Rattle.calculus.specs.WellFormed.{In}
+use Rattle.calculus.specs.Named.{In}
 use Rattle.calculus.specs.Demands.{Derivation, Derivable}
+use Rattle.theory_notation.specs.Notated.{derives-iff}
 use Rattle.theory_derivations.specs.Booleans.{each-cons}
 use Rattle.theory_derivations.specs.Fine.{refuted, then-law}
+use Rattle.theory_derivations.specs.InOrder.{declared-iff}
 use Rattle.theory_derivations.specs.Rules.{check-iff, branches-iff}
 
 -- ── processes
@@ -106,11 +108,15 @@ read-iff r ds = (to r, λ (c, e, f). ap checkedRead e ∙ judged-iff ds ds (andT
         (c, ap (λ fs. got fs c) (h .0), subst (λ fs. andThen (declared fs) (typed fs) ≡ fine) (h .0) (h .1))
     to (refused n at) e = absurd (Option·none-ne-some ds (ap declarationsOf e))
 
+-- the reader reads the script that is derived
+pub read-as : {text : List ℕ} {ds : List Declaration} → Derivable text ds → (c : Cursor) × (readText text ≡ got ds c)
+read-as {text} {ds} d = derives-iff text ds .1 (d .script)
+
 pub accepts : (text : List ℕ) (ds : List Declaration) → (checked text ≡ accepted ds) ↔ Derivable text ds
 unfolding checked
 accepts text ds =
-    let t = then-law {u = declared ds} Iff·rfl (typed-iff ds) in
+    let t = then-law (declared-iff ds) (typed-iff ds) in
     Iff·trans (read-iff (readText text) ds) (
-      λ (c, e, f). record { cursor = c; read = e; declarations = t .0 f .0; derivation = t .0 f .1 },
-      λ d. (d .cursor, d .read, t .1 (d .declarations, d .derivation)),
+      λ (c, e, f). record { script = derives-iff text ds .0 (c, e); declarations = t .0 f .0; derivation = t .0 f .1 },
+      λ d. let (c, e) = read-as d in (c, e, t .1 (d .declarations, d .derivation)),
     )

@@ -10,7 +10,7 @@ use Rattle.trees.specs.Heads.{Head, matching-map}
 use Rattle.trees.specs.Equal.{Agree, Equal, equal-refl, equal-sym, equal-trans, equal-closed, closed-equal, equal-unfolded}
 use Rattle.notation.specs.Bytes.{same}
 use Rattle.notation.specs.Tree.{Name, Ty, unit, Alternatives}
-use Rattle.calculus.specs.Types.{shape, standing, Passing, passing, Choosing, choosing, labelled}
+use Rattle.calculus.specs.Types.{shape, unfolded, Passing, passing, Choosing, choosing, labelled}
 use Rattle.calculus.specs.Program.{Program}
 use Rattle.calculus.specs.OneType.{Alike, units, names, tensors, pars, lollis, pluses, withs, Closed, OneType}
 use Rattle.calculus.specs.SameType.{headBy, headOf, sameType}
@@ -26,7 +26,7 @@ module _ (p : Program) where
   tree-one : {A B : Ty Name} → Equal same Tree A B → OneType p A B
   tree-one {A} {B} e = record {
     relation = sameType (p .types);
-    closed = λ C D s. heads-alike (standing (p .types) C) (standing (p .types) D) (matching-map same (λ x y f. same-tree (p .types) x y .1 f) (equal-closed same Tree C D (same-tree (p .types) C D .0 s)));
+    closed = λ C D s. heads-alike (unfolded (p .types) C) (unfolded (p .types) D) (matching-map same (λ x y f. same-tree (p .types) x y .1 f) (equal-closed same Tree C D (same-tree (p .types) C D .0 s)));
     holds = same-tree (p .types) A B .1 e;
   }
 
@@ -45,7 +45,7 @@ module _ (p : Program) where
   closed-one c r = tree-one (closed-equal same Tree (λ C D s. alike-heads (c C D s)) r)
 
   pub one-closed : Closed p (OneType p)
-  one-closed A B h = heads-alike (standing (p .types) A) (standing (p .types) B) (matching-map same (λ x y e. tree-one e) (equal-closed same Tree A B (one-tree h)))
+  one-closed A B h = heads-alike (unfolded (p .types) A) (unfolded (p .types) B) (matching-map same (λ x y e. tree-one e) (equal-closed same Tree A B (one-tree h)))
 
   -- ── an equivalence
   pub one-refl : (A : Ty Name) → OneType p A A
@@ -58,7 +58,7 @@ module _ (p : Program) where
   one-trans h k = tree-one (equal-trans same Tree (one-tree h) (one-tree k))
 
   -- ── a type is one with its unfolding, unless that is a bare name, which refusal 8 rules out
-  pub one-unfolded : (A : Ty Name) → standing (p .types) (standing (p .types) A) ≡ standing (p .types) A → OneType p A (standing (p .types) A)
+  pub one-unfolded : (A : Ty Name) → unfolded (p .types) (unfolded (p .types) A) ≡ unfolded (p .types) A → OneType p A (unfolded (p .types) A)
   one-unfolded A e = tree-one (equal-unfolded same Tree (ap (λ B. headBy (shape B)) (sym e)))
 
   -- the test does not mind the order
@@ -66,8 +66,8 @@ module _ (p : Program) where
   one-test-sym A B = bool-ext (λ s. one-iff B A .1 (one-sym (one-iff A B .0 s))) (λ s. one-iff A B .1 (one-sym (one-iff B A .0 s)))
 
   -- ── where one is closed, so is the other
-  pub one-unit : {A B : Ty Name} → OneType p A B → standing (p .types) A ≡ unit → standing (p .types) B ≡ unit
-  one-unit {A} {B} h e = go (standing (p .types) B) (subst (λ C. Alike (OneType p) C (standing (p .types) B)) e (one-closed A B h))
+  pub one-unit : {A B : Ty Name} → OneType p A B → unfolded (p .types) A ≡ unit → unfolded (p .types) B ≡ unit
+  one-unit {A} {B} h e = go (unfolded (p .types) B) (subst (λ C. Alike (OneType p) C (unfolded (p .types) B)) e (one-closed A B h))
     where
       go : (D : Ty Name) → Alike (OneType p) unit D → D ≡ unit
       go D units = refl
@@ -89,9 +89,9 @@ module _ (p : Program) where
   alike-passing (pluses f) = neither
   alike-passing (withs f) = neither
 
-  pub one-passing : {A B : Ty Name} → OneType p A B → {t : Passing} → passing (standing (p .types) A) ≡ some t
-      → (u : Passing) × (passing (standing (p .types) B) ≡ some u) × OnePassing t u
-  one-passing {A} {B} h e = both-here (subst (λ o. Both OnePassing o (passing (standing (p .types) B))) e (alike-passing (one-closed A B h)))
+  pub one-passing : {A B : Ty Name} → OneType p A B → {t : Passing} → passing (unfolded (p .types) A) ≡ some t
+      → (u : Passing) × (passing (unfolded (p .types) B) ≡ some u) × OnePassing t u
+  one-passing {A} {B} h e = both-here (subst (λ o. Both OnePassing o (passing (unfolded (p .types) B))) e (alike-passing (one-closed A B h)))
 
   -- ── a label goes over both, or over neither: from the same side, and it leads to one type
   pub record OneChoosing (t u : Choosing) : Type 0 where
@@ -111,6 +111,6 @@ module _ (p : Program) where
   alike-choosing (pluses {r = r} {q = q} f) = both (record { sender = refl; leads = leads-one r q f })
   alike-choosing (withs {r = r} {q = q} f) = both (record { sender = refl; leads = leads-one r q f })
 
-  pub one-choosing : {A B : Ty Name} → OneType p A B → {t : Choosing} → choosing (standing (p .types) A) ≡ some t
-      → (u : Choosing) × (choosing (standing (p .types) B) ≡ some u) × OneChoosing t u
-  one-choosing {A} {B} h e = both-here (subst (λ o. Both OneChoosing o (choosing (standing (p .types) B))) e (alike-choosing (one-closed A B h)))
+  pub one-choosing : {A B : Ty Name} → OneType p A B → {t : Choosing} → choosing (unfolded (p .types) A) ≡ some t
+      → (u : Choosing) × (choosing (unfolded (p .types) B) ≡ some u) × OneChoosing t u
+  one-choosing {A} {B} h e = both-here (subst (λ o. Both OneChoosing o (choosing (unfolded (p .types) B))) e (alike-choosing (one-closed A B h)))

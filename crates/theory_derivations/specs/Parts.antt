@@ -7,15 +7,15 @@ use mathlib.Core.Option.{Option, some, none, Option·none-ne-some, Option·some-
 use lib.ListN.{length}
 use Rattle.notation.specs.Limits.{heldLimit}
 use Rattle.notation.specs.Tree.{Name, Ty, unit}
-use Rattle.calculus.specs.Named.{lookup, isSome, all}
+use Rattle.calculus.specs.Named.{lookup, isSome, every, In}
 use Rattle.calculus.specs.Types.{Side, sameSide}
-use Rattle.calculus.specs.Program.{Slot, slot, Context, Program}
+use Rattle.calculus.specs.Program.{Slot, slot, Context, Held, Program}
 use Rattle.calculus.specs.OneType.{OneType}
 use Rattle.calculus.specs.Typing.{Brought, ListFits, none-left, one-fits}
 use Rattle.calculus.specs.Checking.{mayBring, isUnitOn, fitsSlot, entryFits, listFits}
-use Rattle.calculus.specs.WellFormed.{In}
-use Rattle.theory_derivations.specs.Booleans.{never, _and_, ltb-iff, isNone-iff, all-iff}
+use Rattle.theory_derivations.specs.Booleans.{never, _and_, ltb-iff, isSome-iff, isNone-iff, all-iff}
 use Rattle.theory_derivations.specs.Equality.{sameSide-iff, atLeaf-iff}
+use Rattle.theory_derivations.specs.Named.{held-iff}
 use Rattle.theory_derivations.specs.OneType.{one-iff}
 
 -- ── slots
@@ -59,11 +59,15 @@ module _ (p : Program) (G : Context) (s : Side) where
       (λ ((A, ea, o), f). one-fits A ea o f, λ f. elim f [ one-fits A ea o f ↦ ((A, ea, o), f) ])
 
 -- what fits is held
-fits-held : {equal : Ty Name → Ty Name → Type 0} {G : Context} {s : Side} {n : Name} {ns : List Name} {es : List (Name × Ty Name)} → ListFits equal G s ns es → In n ns → So (isSome (lookup n G))
+fits-held : {equal : Ty Name → Ty Name → Type 0} {G : Context} {s : Side} {n : Name} {ns : List Name} {es : List (Name × Ty Name)} → ListFits equal G s ns es → In n ns → Held n G
 fits-held none-left m = absurd (List·Memᴰ·not-nil m)
-fits-held {G = G} (one-fits A e o f) (List·Memᴰ·head h) = rw (h, e) refl
+fits-held {G = G} {s} {n} (one-fits A e o f) (List·Memᴰ·head h) = held-iff n G .1 (slot s A, ap (λ m. lookup m G) h ∙ e)
 fits-held (one-fits A e o f) (List·Memᴰ·tail m) = fits-held f m
 
 pub lists-held : {equal : Ty Name → Ty Name → Type 0} {G : Context} {s r : Side} (xs ys : List Name) {es fs : List (Name × Ty Name)}
-    → ListFits equal G s xs es → ListFits equal G r ys fs → So (all (λ n. isSome (lookup n G)) (xs ++ ys))
-lists-held {G = G} xs ys f g = all-iff (λ n. isSome (lookup n G)) (xs ++ ys) .1 λ n m. ⊎-elim (fits-held f) (fits-held g) (List·Memᴰ·append-cases xs m)
+    → ListFits equal G s xs es → ListFits equal G r ys fs → (n : Name) → In n (xs ++ ys) → Held n G
+lists-held xs ys f g n m = ⊎-elim (fits-held f) (fits-held g) (List·Memᴰ·append-cases xs m)
+
+pub lists-tested : {equal : Ty Name → Ty Name → Type 0} {G : Context} {s r : Side} (xs ys : List Name) {es fs : List (Name × Ty Name)}
+    → ListFits equal G s xs es → ListFits equal G r ys fs → So (every (λ n. isSome (lookup n G)) (xs ++ ys))
+lists-tested {G = G} xs ys f g = all-iff (λ n. isSome (lookup n G)) (xs ++ ys) .1 λ n m. isSome-iff (lookup n G) .1 (held-iff n G .0 (lists-held xs ys f g n m))

@@ -12,7 +12,7 @@ use Rattle.trees.specs.Decide.{equal-iff}
 use Rattle.notation.specs.Bytes.{same}
 use Rattle.notation.specs.Tree.{Name, Ty, unit, named, tensor, par, lolli, plus, with, Alternatives, alternative, Ty-discrete}
 use Rattle.calculus.specs.Named.{lookup}
-use Rattle.calculus.specs.Types.{shape, standing}
+use Rattle.calculus.specs.Types.{shape, unfolded}
 use Rattle.calculus.specs.SameType.{rows, headBy, headOf, parts, partsBelow, declaredParts, same-sound, same-refl, sameName?, sameType}
 
 -- ── a list that holds the parts of whatever it holds
@@ -101,7 +101,7 @@ module _ (types : List (Name × Ty Name)) (A B : Ty Name) where
   among-full : Full among
   among-full = full-join (parts A ++ parts B) (declaredParts types) (full-join (parts A) (parts B) (parts-full A) (parts-full B)) (declared-full types)
 
-  standing-in : (x : Ty Name) → Listed x among → Listed (standing types x) among
+  standing-in : (x : Ty Name) → Listed x among → Listed (unfolded types x) among
   standing-in unit i = i
   standing-in (named n) i = go (lookup n types) refl
     where
@@ -115,7 +115,7 @@ module _ (types : List (Name × Ty Name)) (A B : Ty Name) where
   standing-in (with r) i = i
 
   among-whole : (x : Ty Name) → Listed x among → Inside same (λ y. Listed y among) (headOf types x)
-  among-whole x i = head-inside (λ y. Listed y among) (standing types x) (λ y j. among-full (standing types x) y (standing-in x i) j)
+  among-whole x i = head-inside (λ y. Listed y among) (unfolded types x) (λ y j. among-full (unfolded types x) y (standing-in x i) j)
 
   -- the test passes exactly for types that are equal as trees
   pub same-tree : So (sameType types A B) ↔ Equal same (headOf types) A B

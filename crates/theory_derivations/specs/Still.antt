@@ -5,17 +5,14 @@ use mathlib.Core.List.{List}
 use lib.ListN.{length}
 use Rattle.notation.specs.Limits.{heldLimit}
 use Rattle.notation.specs.Tree.{Name, Ty, Alternatives, Proc, Branches, Declaration}
-use Rattle.notation.specs.Reader.{got}
-use Rattle.notation.specs.Scripts.{readText}
-use Rattle.notation.specs.declared.reading.Cursor.{Cursor}
+use Rattle.grammar.specs.Notation.{Derives}
 use Rattle.calculus.specs.Types.{Side}
 use Rattle.calculus.specs.Program.{Context, Signature, Program, signatureContext, programOf}
 use Rattle.calculus.specs.OneType.{OneType}
-use Rattle.calculus.specs.Verdict.{fine}
-use Rattle.calculus.specs.Declarations.{declared}
+use Rattle.calculus.specs.InOrder.{InOrder}
 use Rattle.calculus.specs.Typing.{ListFits, none-left, one-fits, TypedBy, TypedBranchesBy, sends-unit, recvs-unit, sends-channel, recvs-channel, sends-label, recvs-label, forwards, calls, spawns, tries, raises, cancels, empties, last-branch, one-branch}
 use Rattle.calculus.specs.Accepted.{accepted, checked}
-use Rattle.calculus.specs.WellFormed.{In}
+use Rattle.calculus.specs.Named.{In}
 use Rattle.calculus.specs.Demands.{Derivable}
 use Rattle.theory_derivations.specs.OneType.{one-refl}
 use Rattle.theory_derivations.specs.Accepts.{accepts}
@@ -36,8 +33,8 @@ module _ {few more : Ty Name → Ty Name → Type 0} (wider : (A B : Ty Name) �
       typed-still (recvs-label T t et e d) = recvs-label T t et e (branches-still d)
       typed-still (forwards A B ex ec o n) = forwards A B ex ec (wider _ _ o) n
       typed-still (calls s e f g u n) = calls s e (fits-still f) (fits-still g) u n
-      typed-still (spawns n b k d e) = spawns n b k (typed-still d) (typed-still e)
-      typed-still (tries n d e) = tries n (typed-still d) (typed-still e)
+      typed-still (spawns H K h k n b c d e) = spawns H K h k n b c (typed-still d) (typed-still e)
+      typed-still (tries H K h k n d e) = tries H K h k n (typed-still d) (typed-still e)
       typed-still (raises d) = raises (typed-still d)
       typed-still (cancels e d) = cancels e (typed-still d)
       typed-still (empties e) = empties e
@@ -48,16 +45,14 @@ module _ {few more : Ty Name → Ty Name → Type 0} (wider : (A B : Ty Name) �
 
 -- a derivation as it was asked for before ticket 2.5, when a type was compared part by part, down to names: equal to itself alone
 pub record DerivableBefore (text : List ℕ) (ds : List Declaration) : Type 0 where
-  pub cursor : Cursor
-  pub read : readText text ≡ got ds cursor
-  pub declarations : declared ds ≡ fine
+  pub script : Derives text ds
+  pub declarations : InOrder ds
   pub room : (n : Name) (s : Signature) → In (n, s) (programOf ds .processes) → length (signatureContext s) ≤ heldLimit
   pub derivation : (n : Name) (s : Signature) → In (n, s) (programOf ds .processes) → TypedBy (λ A B. A ≡ B) (programOf ds) (signatureContext s) (s .body)
 
 pub derivable-still : {text : List ℕ} {ds : List Declaration} → DerivableBefore text ds → Derivable text ds
 derivable-still {ds = ds} d = record {
-  cursor = d .cursor;
-  read = d .read;
+  script = d .script;
   declarations = d .declarations;
   derivation = λ n s m. record { room = d .room n s m; body = typed-still (λ A B e. subst (OneType (programOf ds) A) e (one-refl (programOf ds) A)) (d .derivation n s m) };
 }

@@ -6,9 +6,9 @@ use mathlib.Core.Bool.{Bool}
 use lib.ListN.{length, length-map}
 use Rattle.notation.specs.Tree.{Name, Ty}
 use Rattle.calculus.specs.Named.{lookup, without, changed, kept, names}
-use Rattle.calculus.specs.Types.{Side, standing}
+use Rattle.calculus.specs.Types.{Side, unfolded}
 use Rattle.calculus.specs.Program.{Slot, slot, Program}
-use Rattle.calculus.specs.Typing.{defined, acting, retyped}
+use Rattle.calculus.specs.Typing.{unfoldedSlot, acting, retyped}
 use Rattle.calculus.specs.Configuration.{End, end}
 use Rattle.calculus.specs.Configuration.{retypedEnd}
 use Rattle.calculus.specs.WellFormed.{contextOf}
@@ -65,11 +65,11 @@ pub record Acts (p : Program) (c : Name) (l : List (Name × End)) (s : Side) (T 
   pub end : End
   pub found : lookup c l ≡ some end
   pub side : end .side ≡ s
-  pub type : standing (p .types) (end .type) ≡ T
+  pub type : unfolded (p .types) (end .type) ≡ T
 
 pub acts : (p : Program) (c : Name) (l : List (Name × End)) {s : Side} {T : Ty Name} → acting p c (contextOf l) ≡ some (slot s T) → Acts p c l s T
 acts p c l e =
-    let x = map-eq-some-iff {B = Slot} (defined p) (lookup c (contextOf l)) .0 e in
+    let x = map-eq-some-iff {B = Slot} (unfoldedSlot p) (lookup c (contextOf l)) .0 e in
     let r = map-eq-some-iff {B = Slot} slotOf (lookup c l) .0 (sym (context-lookup c l) ∙ x .1) in
-    let z = ap (defined p) (r .2) ∙ x .2 in
+    let z = ap (unfoldedSlot p) (r .2) ∙ x .2 in
     record { end = r .0; found = r .1; side = ap (λ (x : Slot). x .side) z; type = ap (λ (x : Slot). x .type) z }

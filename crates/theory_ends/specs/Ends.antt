@@ -11,7 +11,8 @@ use Rattle.notation.specs.Tree.{Name}
 use Rattle.calculus.specs.Types.{Side, provided, used, sameSide}
 use Rattle.calculus.specs.Program.{Program}
 use Rattle.calculus.specs.Configuration.{End, end, Process, Outside, Config, Stands}
-use Rattle.calculus.specs.WellFormed.{In, NoneTwice, key, heldEnds, processEnds, outsideEnds, ends, WellFormed}
+use Rattle.calculus.specs.Named.{In, NoneTwice}
+use Rattle.calculus.specs.WellFormed.{key, heldEnds, processEnds, outsideEnds, ends, WellFormed}
 use Rattle.theory_ends.specs.Lists.{once-by, once-append, once-left, once-right, once-apart, map-append}
 
 pub side-clash : provided ≢ used

@@ -12,7 +12,8 @@ use Rattle.notation.specs.Tree.{Name}
 use Rattle.calculus.specs.Types.{Side, provided, used, other, sameSide}
 use Rattle.calculus.specs.Program.{Program}
 use Rattle.calculus.specs.Configuration.{End, Process, Outside, Config, Stands, heldAs, Holder, holderHere, holderFrom, outsideOf, Far, atProcess, atOutside, givenUp, orOutside, farFrom, farEnd}
-use Rattle.calculus.specs.WellFormed.{In, key, WellFormed}
+use Rattle.calculus.specs.Named.{In}
+use Rattle.calculus.specs.WellFormed.{key, WellFormed}
 use Rattle.theory_derivations.specs.Booleans.{bool-cases, cond-true, cond-false, eqb-iff}
 use Rattle.theory_derivations.specs.Equality.{sameSide-iff}
 use Rattle.theory_ends.specs.Lists.{found-one}

@@ -10,7 +10,7 @@ use mathlib.Core.Bool.{Bool, true, false, cond, true≢false, false≢true}
 use lib.Dec.{eqb}
 use Rattle.notation.specs.Limits.{channelPlaces}
 use Rattle.calculus.specs.Configuration.{Config, channelsHeld, among, freeFrom, freshChannel}
-use Rattle.calculus.specs.WellFormed.{In}
+use Rattle.calculus.specs.Named.{In}
 use Rattle.theory_derivations.specs.Booleans.{or-cond, eqb-iff}
 
 among-iff : (k : ℕ) (l : List ℕ) → (among k l ≡ true) ↔ In k l

@@ -4,5 +4,4 @@ pub mod Contexts
 pub mod Ends
 pub mod FarEnds
 pub mod Fresh
-pub mod Outward
 pub mod Onward

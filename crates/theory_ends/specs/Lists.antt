@@ -4,14 +4,15 @@ use native.Mathlib.Omega.{arith}
 use native.Mathlib.Decide.{ℕ-discrete, decLe}
 use mathlib.Core.Path.{_≡_, refl, sym, _∙_, ap, subst}
 use mathlib.Core.Logic.{_↔_, _≢_, _⊎_, inl, inr}
-use mathlib.Core.List.{List, [], _∷_, _++_, map, List·Memᴰ·head, List·Memᴰ·tail, List·Memᴰ·not-nil, List·Memᴰ·cases-cons, List·Memᴰ·append-cases, List·Memᴰ·eq-of-singleton, Memᴰ·map, Memᴰ·of-map, Memᴰ·cast, Memᴰ·append-left, Memᴰ·append-right, cons-ne-nil, Sublistᴰ, Sublistᴰ·slnil, Sublistᴰ·cons, Sublistᴰ·cons-cons}
+use mathlib.Core.List.{List, [], _∷_, _++_, map, List·Memᴰ·head, List·Memᴰ·tail, List·Memᴰ·not-nil, List·Memᴰ·cases-cons, List·Memᴰ·append-cases, List·Memᴰ·eq-of-singleton, Memᴰ·map, Memᴰ·of-map, Memᴰ·cast, Memᴰ·append-left, Memᴰ·append-right, Sublistᴰ, Sublistᴰ·slnil, Sublistᴰ·cons, Sublistᴰ·cons-cons}
 use mathlib.Core.Option.{Option·map, some, none, Option·some-injective, Option·none-ne-some, Option·some-ne-none}
 use mathlib.Core.Bool.{Bool, true, false, true≢false}
 use lib.ListN.{length, take, drop, set, getElem?, length-map}
 use lib.Dec.{ltb}
 use Rattle.calculus.specs.Configuration.{Process, relinked, movedUp, movedDown, inserted, removed}
-use Rattle.calculus.specs.WellFormed.{In, NoneTwice}
+use Rattle.calculus.specs.Named.{In, NoneTwice}
 use Rattle.theory_derivations.specs.Booleans.{ltb-iff}
+use Rattle.theory_derivations.specs.Lists.{none-iff, sub-in}
 
 -- a test for less that fails
 pub not-below : (m n : ℕ) → (ltb m n ≡ false) ↔ (n ≤ m)
@@ -74,12 +75,10 @@ module _ {A : Type 0} where
 
   -- two lists make none
   pub nil-left : (l m : List A) → l ++ m ≡ [] → l ≡ []
-  nil-left [] m e = refl
-  nil-left (x ∷ l) m e = absurd (cons-ne-nil _ _ e)
+  nil-left l m e = none-iff l m .0 e .0
 
   pub nil-right : (l m : List A) → l ++ m ≡ [] → m ≡ []
-  nil-right [] m e = e
-  nil-right (x ∷ l) m e = absurd (cons-ne-nil _ _ e)
+  nil-right l m e = none-iff l m .0 e .1
 
   pub set-twice : (l : List A) (i : ℕ) (a b : A) → set (set l i a) i b ≡ set l i b
   set-twice [] i a b = refl
@@ -199,12 +198,6 @@ map-append f (x ∷ l) m = ap (λ r. f x ∷ r) (map-append f l m)
 
 -- ── sublists
 module _ {A : Type 0} where
-  pub sub-in : {l m : List A} → Sublistᴰ l m → {x : A} → In x l → In x m
-  sub-in Sublistᴰ·slnil i = i
-  sub-in (Sublistᴰ·cons s) i = List·Memᴰ·tail (sub-in s i)
-  sub-in (Sublistᴰ·cons-cons e s) (List·Memᴰ·head h) = List·Memᴰ·head (h ∙ e)
-  sub-in (Sublistᴰ·cons-cons e s) (List·Memᴰ·tail i) = List·Memᴰ·tail (sub-in s i)
-
   pub sub-once : {B : Type 0} (f : A → B) {l m : List A} → Sublistᴰ l m → NoneTwice (map f m) → NoneTwice (map f l)
   sub-once f Sublistᴰ·slnil u = tt
   sub-once f (Sublistᴰ·cons s) u = sub-once f s (u .1)
@@ -212,11 +205,6 @@ module _ {A : Type 0} where
     (λ i. let r = Memᴰ·of-map f l i in u .0 (Memᴰ·cast (ap f (sym e) ∙ sym (r .2)) (Memᴰ·map f (sub-in s (r .1))))),
     sub-once f s (u .1),
   )
-
-  pub sub-length : {l m : List A} → Sublistᴰ l m → length l ≤ length m
-  sub-length Sublistᴰ·slnil = omega arith
-  sub-length (Sublistᴰ·cons s) = omega (arith, sub-length s)
-  sub-length (Sublistᴰ·cons-cons e s) = omega (arith, sub-length s)
 
   pub length-snoc : (l : List A) (x : A) → length (l ++ (x ∷ [])) ≡ suc (length l)
   length-snoc [] x = refl

@@ -1,34 +1,14 @@
 -- Lists of named things: what a name stands for, and what is left, kept or changed.
-use mathlib.Core.Path.{_≡_, refl, sym, _∙_, ap, subst}
-use mathlib.Core.Logic.{_↔_, _≢_, _⊎_, inl, inr}
-use mathlib.Core.List.{List, [], _∷_, _++_, map, List·Memᴰ·head, List·Memᴰ·tail, List·Memᴰ·not-nil, List·Memᴰ·cases-cons, Memᴰ·map, Memᴰ·cast, Sublistᴰ, Sublistᴰ·slnil, Sublistᴰ·cons, Sublistᴰ·cons-cons, Sublistᴰ·refl}
-use mathlib.Core.Option.{Option, some, none, Option·map, Option·none-ne-some, Option·some-injective}
+use mathlib.Core.Path.{_≡_, refl, sym, _∙_, ap}
+use mathlib.Core.Logic.{_≢_, _⊎_, inl, inr}
+use mathlib.Core.List.{List, [], _∷_, _++_, map, List·Memᴰ·head, List·Memᴰ·tail, List·Memᴰ·not-nil, Memᴰ·map, Memᴰ·cast, Sublistᴰ, Sublistᴰ·slnil, Sublistᴰ·cons, Sublistᴰ·cons-cons, Sublistᴰ·refl}
+use mathlib.Core.Option.{Option, some, Option·map, Option·some-injective}
 use mathlib.Core.Bool.{Bool, true, false, cond, So}
 use Prim.Native.Nat.{suc}
 use lib.ListN.{length}
-use Rattle.notation.specs.Bytes.{same}
 use Rattle.notation.specs.Tree.{Name}
-use Rattle.calculus.specs.Named.{lookup, without, changed, kept, names, any, distinct}
-use Rattle.calculus.specs.WellFormed.{In, NoneTwice}
-use Rattle.theory_derivations.specs.Booleans.{never, any-iff}
-use Rattle.theory_derivations.specs.Equality.{same-cases, same-iff}
-
--- a goal that depends on the test of two names
-pub by-test : (Q : Bool → Type 0) (c n : Name) → (c ≡ n → Q true) → (c ≢ n → Q false) → Q (same c n)
-by-test Q c n f g = go (same-cases c n)
-  where
-    go : (So (same c n) × (c ≡ n)) ⊎ ((same c n ≡ false) × (c ≢ n)) → Q (same c n)
-    go (inl h) = subst Q (sym (h .0)) (f (h .1))
-    go (inr h) = subst Q (sym (h .0)) (g (h .1))
-
-pub distinct-iff : (l : List Name) → (distinct l ≡ true) ↔ NoneTwice l
-unfolding distinct
-distinct-iff [] = (λ _. tt, λ _. refl)
-distinct-iff (n ∷ l) = go (any (same n) l) refl (distinct-iff l)
-  where
-    go : (b : Bool) → any (same n) l ≡ b → (distinct l ≡ true) ↔ NoneTwice l → (cond b false (distinct l) ≡ true) ↔ NoneTwice (n ∷ l)
-    go true e r = (never, λ u. let h = any-iff (same n) l .0 e in absurd (u .0 (Memᴰ·cast (same-iff n (h .0) .0 (h .2)) (h .1))))
-    go false e r = (λ d. ((λ i. never (sym e ∙ any-iff (same n) l .1 (n, i, same-iff n n .1 refl))), r .0 d), λ u. r .1 (u .1))
+use Rattle.calculus.specs.Named.{lookup, without, changed, kept, names, In, NoneTwice}
+use Rattle.theory_derivations.specs.Named.{by-test, lookup-in}
 
 module _ {X : Type 0} where
   pub names-map : (l : List (Name × X)) → names l ≡ map (λ (e : Name × X). e .0) l
@@ -40,39 +20,6 @@ module _ {X : Type 0} where
   unfolding names
   names-append [] m = refl
   names-append (e ∷ l) m = ap (λ r. e .0 ∷ r) (names-append l m)
-
-  pub names-in : (l : List (Name × X)) {x : Name × X} → In x l → In (x .0) (names l)
-  unfolding names
-  names-in (e ∷ l) (List·Memᴰ·head h) = List·Memᴰ·head (ap (λ (e : Name × X). e .0) h)
-  names-in (e ∷ l) (List·Memᴰ·tail i) = List·Memᴰ·tail (names-in l i)
-
-  pub lookup-in : (c : Name) (l : List (Name × X)) {x : X} → lookup c l ≡ some x → In (c, x) l
-  unfolding lookup
-  lookup-in c [] {x} e = absurd (Option·none-ne-some x e)
-  lookup-in c (a ∷ l) {x} e =
-      by-test (λ b. cond b (some (a .1)) (lookup c l) ≡ some x → In (c, x) (a ∷ l)) c (a .0)
-      (λ p h. List·Memᴰ·head (λ i. (p i, sym (Option·some-injective (a .1) x h) i))) (λ n h. List·Memᴰ·tail (lookup-in c l h)) e
-
-  pub in-lookup : (l : List (Name × X)) → NoneTwice (names l) → (x : Name × X) → In x l → lookup (x .0) l ≡ some (x .1)
-  unfolding lookup names
-  in-lookup [] u x i = absurd (List·Memᴰ·not-nil i)
-  in-lookup (a ∷ l) u x (List·Memᴰ·head h) =
-      by-test (λ b. cond b (some (a .1)) (lookup (x .0) l) ≡ some (x .1)) (x .0) (a .0)
-      (λ p. ap (λ (e : Name × X). some (e .1)) (sym h)) (λ n. absurd (n (ap (λ (e : Name × X). e .0) h)))
-  in-lookup (a ∷ l) u x (List·Memᴰ·tail i) =
-      by-test (λ b. cond b (some (a .1)) (lookup (x .0) l) ≡ some (x .1)) (x .0) (a .0)
-      (λ p. absurd (u .0 (Memᴰ·cast (sym p) (names-in l i)))) (λ n. in-lookup l (u .1) x i)
-
-  pub absent : (c : Name) (l : List (Name × X)) → lookup c l ≡ none → ¬ In c (names l)
-  unfolding lookup names
-  absent c [] e i = List·Memᴰ·not-nil i
-  absent c (a ∷ l) e i =
-      by-test (λ b. cond b (some (a .1)) (lookup c l) ≡ none → ⊥) c (a .0)
-      (λ p h. Option·none-ne-some (a .1) (sym h)) (λ n h. go n (absent c l h) (List·Memᴰ·cases-cons i)) e
-    where
-      go : c ≢ a .0 → ¬ In c (names l) → (c ≡ a .0) ⊎ In c (names l) → ⊥
-      go n r (inl p) = n p
-      go n r (inr k) = r k
 
   pub without-sub : (c : Name) (l : List (Name × X)) → Sublistᴰ (without c l) l
   unfolding without

@@ -8,7 +8,7 @@ use native.Mathlib.Omega.{arith}
 use native.Mathlib.Decide.{ℕ-discrete}
 use lib.ListN.{length, length-map}
 use Rattle.calculus.specs.Forest.{Joint, Connected, here, past, over, back, Forest}
-use Rattle.calculus.specs.WellFormed.{In, NoneTwice}
+use Rattle.calculus.specs.Named.{In, NoneTwice}
 
 pub connected-refl : (J : List Joint) {x y : ℕ} → x ≡ y → Connected J x y
 connected-refl [] e = here e

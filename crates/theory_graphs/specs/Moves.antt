@@ -4,7 +4,7 @@ use mathlib.Core.Logic.{_↔_, _≢_, _⊎_, inl, inr, ite}
 use mathlib.Core.List.{List, [], _∷_, map, map-map, List·Memᴰ, List·Memᴰ·head, List·Memᴰ·tail, List·Memᴰ·cases-cons, Memᴰ·map, Memᴰ·of-map, Memᴰ·cast, List·Permᴰ, List·Permᴰ·nil, List·Permᴰ·cons, List·Permᴰ·swap, List·Permᴰ·trans, Permᴰ·symm, Permᴰ·refl}
 use Prim.Native.Nat.{ℕ, zero, suc, _+_, _≤_, _<_}
 use Rattle.calculus.specs.Forest.{Joint, Forest}
-use Rattle.calculus.specs.WellFormed.{In, NoneTwice}
+use Rattle.calculus.specs.Named.{In, NoneTwice}
 use Rattle.theory_graphs.specs.Graph.{connected-sym, connected-mono, connected-refl, forest-perm, del, in-del, glue, glueJ, glued, contract, expand, share-out}
 
 pub map-cong : {A B : Type 0} (f g : A → B) (l : List A) → ((x : A) → In x l → f x ≡ g x) → map f l ≡ map g l

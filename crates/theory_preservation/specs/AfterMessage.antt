@@ -2,19 +2,19 @@
 use mathlib.Core.Path.{_≡_, sym, _∙_, ap, subst}
 use mathlib.Core.List.{List, [], _∷_, _++_}
 use mathlib.Core.Option.{some, Option·getD, Option·none-ne-some, Option·some-injective}
-use mathlib.Core.Bool.{true, cond}
+use mathlib.Core.Bool.{cond}
 use Rattle.notation.specs.Tree.{Name, Located, Ty, Alternatives, Proc, Branches}
 use Rattle.calculus.specs.Named.{lookup}
-use Rattle.calculus.specs.Types.{Side, used, standing, Passing, passing, Choosing, choosing, labelled}
+use Rattle.calculus.specs.Types.{Side, used, unfolded, Passing, passing, Choosing, choosing, labelled}
 use Rattle.calculus.specs.Program.{slot, Context, Program}
-use Rattle.calculus.specs.Declarations.{outward}
+use Rattle.calculus.specs.Outward.{Outward}
 use Rattle.calculus.specs.OneType.{OneType}
 use Rattle.calculus.specs.Typing.{acting, Typed, TypedBranches, last-branch, one-branch, bringing, retyped}
 use Rattle.calculus.specs.Configuration.{End, retypedEnd}
 use Rattle.calculus.specs.Steps.{passes, chooses, afterPassing, afterChoosing, afterMessage, branchOf}
 use Rattle.calculus.specs.WellFormed.{contextOf}
 use Rattle.theory_derivations.specs.OneType.{one-trans, one-passing, one-choosing}
-use Rattle.theory_ends.specs.Names.{by-test}
+use Rattle.theory_derivations.specs.Named.{by-test}
 use Rattle.theory_ends.specs.Contexts.{context-retyped, context-append, acts}
 use Rattle.theory_preservation.specs.Outward.{outward-standing, outward-passing, outward-choosing}
 
@@ -29,7 +29,7 @@ branch-typed {p} {G} {c} {r} (one-branch {l = m} {P = Q} {B = B} A h d ds) l P e
 module _ (p : Program) where
   -- ── one end
   abbrev definitionOf : Ty Name → Ty Name
-  definitionOf A = standing (p .types) A
+  definitionOf A = unfolded (p .types) A
 
   pub after-label : (l : Located) (A : Ty Name) {B : Ty Name} {t : Choosing} → choosing (definitionOf A) ≡ some t → labelled (l .name) (t .labels) ≡ some B → afterMessage p (chooses l) A ≡ B
   unfolding afterMessage
@@ -64,7 +64,7 @@ module _ (p : Program) where
   -- ── two ends of one type: a label leads both to one type
   pub record LabelOver (l : Located) (A B : Ty Name) : Type 0 where
     pub one : OneType p (afterMessage p (chooses l) A) (afterMessage p (chooses l) B)
-    pub outwards : outward p B ≡ true → outward p (afterMessage p (chooses l) B) ≡ true
+    pub outwards : Outward p B → Outward p (afterMessage p (chooses l) B)
 
   pub label-over : (l : Located) {A B D : Ty Name} {t : Choosing} → OneType p A B → choosing (definitionOf A) ≡ some t → labelled (l .name) (t .labels) ≡ some D → LabelOver l A B
   label-over l {A} {B} one e h =
@@ -73,7 +73,7 @@ module _ (p : Program) where
       let z = after-label l B (u .1) (v .1) in
       record {
         one = rw (after-label l A e h, z) (v .2);
-        outwards = λ o. ap (outward p) z ∙ outward-choosing p (definitionOf B) (u .0) (l .name) (v .0) (u .1) (v .1) (outward-standing p B o);
+        outwards = λ o. subst (Outward p) (sym z) (outward-choosing p (definitionOf B) (u .0) (l .name) (v .0) (u .1) (v .1) (outward-standing p B o));
       }
 
   -- a channel of the type D goes over: what is left is of one type, and what comes over is of the type that the taker's own end says
@@ -83,9 +83,9 @@ module _ (p : Program) where
     pub one : OneType p (afterMessage p (passes a) A) (afterMessage p (passes a) B)
     pub what : OneType p D (passing-there .what)
     pub side : passing-there .side ≡ s
-    pub outside-uses : outward p B ≡ true → passing-there .side ≡ used
-    pub left : outward p B ≡ true → outward p (afterMessage p (passes a) B) ≡ true
-    pub passed : outward p B ≡ true → outward p (passing-there .what) ≡ true
+    pub outside-uses : Outward p B → passing-there .side ≡ used
+    pub left : Outward p B → Outward p (afterMessage p (passes a) B)
+    pub passed : Outward p B → Outward p (passing-there .what)
 
   pub channel-over : (a : Located) {A B D : Ty Name} {t : Passing} → OneType p A B → passing (definitionOf A) ≡ some t → OneType p D (t .what) → ChannelOver a A B D (t .side)
   channel-over a {A} {B} one e d =
@@ -98,6 +98,6 @@ module _ (p : Program) where
         what = one-trans p d (u .2 .what);
         side = sym (u .2 .side);
         outside-uses = λ o. outward-passing p (definitionOf B) (u .0) (u .1) (outward-standing p B o) .1;
-        left = λ o. ap (outward p) z ∙ outward-passing p (definitionOf B) (u .0) (u .1) (outward-standing p B o) .3;
+        left = λ o. subst (Outward p) (sym z) (outward-passing p (definitionOf B) (u .0) (u .1) (outward-standing p B o) .3);
         passed = λ o. outward-passing p (definitionOf B) (u .0) (u .1) (outward-standing p B o) .2;
       }

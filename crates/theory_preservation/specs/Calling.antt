@@ -1,22 +1,22 @@
 -- A call: the process holds the same ends, under the names, on the sides and with the types of the signature.
 use mathlib.Core.Path.{_≡_, refl, sym, _∙_, ap, subst}
 use mathlib.Core.List.{List, [], _∷_, _++_, map, Sublistᴰ·refl, List·Memᴰ·head, List·Memᴰ·tail, List·Memᴰ·not-nil, Memᴰ·of-map, Memᴰ·cast}
-use mathlib.Core.Option.{Option, some, Option·some-injective}
+use mathlib.Core.Option.{some, Option·some-injective}
 use Prim.Native.Nat.{ℕ, _≤_, _<_}
 use lib.ListN.{length, getElem?}
 use Rattle.notation.specs.Limits.{heldLimit, channelPlaces}
 use Rattle.notation.specs.Tree.{Name, Located, Ty, call}
-use Rattle.calculus.specs.Named.{lookup, names}
+use Rattle.calculus.specs.Named.{lookup, names, In, NoneTwice}
 use Rattle.calculus.specs.Types.{Side, provided, used}
-use Rattle.calculus.specs.Program.{Slot, slot, Context, Signature, Program, onSide, signatureContext}
+use Rattle.calculus.specs.Program.{Slot, Context, Signature, Program, onSide, signatureContext}
 use Rattle.calculus.specs.OneType.{OneType}
 use Rattle.calculus.specs.Typing.{Typed, calls, TypedBody, Bodies, namesOf, ListFits, none-left, one-fits}
 use Rattle.calculus.specs.Configuration.{End, end, running, Process, relinked, Config, replaced, goesOn, becoming}
 use Rattle.calculus.specs.Steps.{renamedEnd, renamed}
 use Rattle.calculus.specs.Reduces.{Runs}
-use Rattle.calculus.specs.WellFormed.{In, NoneTwice, contextOf, key}
+use Rattle.calculus.specs.WellFormed.{contextOf, key}
 use Rattle.theory_ends.specs.Lists.{once-by}
-use Rattle.theory_ends.specs.Names.{lookup-in, distinct-iff}
+use Rattle.theory_derivations.specs.Named.{lookup-in}
 use Rattle.theory_ends.specs.Contexts.{context-names, context-length, held-plain}
 use Rattle.theory_ends.specs.Ends.{keyAt}
 use Rattle.theory_preservation.specs.Witness.{of-channels, Recast}
@@ -165,8 +165,8 @@ module _ {p : Program} (B : Bodies p) {C : Config} (I : Inv p C) {i : ℕ} {q : 
       fine : Fine p (relinked (I .id) (becoming (running (s .body)) l q))
       fine = record {
         typed = subst (λ H. Typed p H (s .body)) (sym same) (body .body);
-        names = subst NoneTwice (sym (sym (context-names l) ∙ ap names same)) (distinct-iff (names G) .0 (B .names (f .name) s e′));
-        keys = renamed-once p (q .held) ns G fits (distinct-iff ns .0 d) (g .keys);
+        names = subst NoneTwice (sym (sym (context-names l) ∙ ap names same)) (B .names (f .name) s e′);
+        keys = renamed-once p (q .held) ns G fits d (g .keys);
         room = subst (λ n. n ≤ heldLimit) (sym (sym (context-length l) ∙ ap length same)) (body .room);
         channels = λ x m. let y = was x m in subst (λ (k : ℕ × Side). k .0 < channelPlaces) (y .same) (g .channels (y .name, y .end) (y .held));
       }

@@ -8,9 +8,10 @@ use lib.ListN.{take, drop, set, getElem?, take-append-drop}
 use Rattle.notation.specs.Tree.{Name}
 use Rattle.calculus.specs.Configuration.{End, Doing, Process, relinked, movedUp, movedDown, inserted, removed}
 use Rattle.calculus.specs.Steps.{putAt, changedAt}
-use Rattle.calculus.specs.WellFormed.{In}
+use Rattle.calculus.specs.Named.{In}
 use Rattle.theory_derivations.specs.Booleans.{each-cons}
-use Rattle.theory_ends.specs.Lists.{found-in, sub-in, putIn, takeOut}
+use Rattle.theory_derivations.specs.Lists.{sub-in}
+use Rattle.theory_ends.specs.Lists.{found-in, putIn, takeOut}
 
 -- Q holds of each element
 abbrev pub Each : {A : Type 0} → (A → Type 0) → List A → Type 0

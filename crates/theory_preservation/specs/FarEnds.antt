@@ -9,7 +9,7 @@ use Rattle.notation.specs.Limits.{channelPlaces}
 use Rattle.notation.specs.Tree.{Name, Ty}
 use Rattle.calculus.specs.Types.{Side, provided, used, other}
 use Rattle.calculus.specs.Configuration.{End, Process, relinked, Outside, Config, heldChannels, processChannels, channelsHeld, freshChannel}
-use Rattle.calculus.specs.WellFormed.{In}
+use Rattle.calculus.specs.Named.{In}
 use Rattle.theory_ends.specs.Ends.{side-clash}
 use Rattle.theory_ends.specs.FarEnds.{FarNobody}
 use Rattle.theory_ends.specs.Fresh.{fresh-free}

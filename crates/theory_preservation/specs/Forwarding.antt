@@ -7,14 +7,14 @@ use mathlib.Core.Bool.{false}
 use Prim.Native.Nat.{ℕ, _≤_, _<_}
 use Rattle.notation.specs.Limits.{heldLimit, channelPlaces}
 use Rattle.notation.specs.Tree.{Name}
-use Rattle.calculus.specs.Named.{lookup}
+use Rattle.calculus.specs.Named.{lookup, In}
 use Rattle.calculus.specs.Types.{provided, used, other}
 use Rattle.calculus.specs.Program.{Program}
 use Rattle.calculus.specs.OneType.{OneType}
 use Rattle.calculus.specs.Configuration.{End, end, ofChannel, folding, Process, Outside, outsideOfChannel, movedOutside, holding, foldsUp}
-use Rattle.calculus.specs.WellFormed.{In, key, isWaiting}
+use Rattle.calculus.specs.WellFormed.{key, isWaiting}
 use Rattle.theory_derivations.specs.OneType.{one-sym, one-trans}
-use Rattle.theory_ends.specs.Names.{lookup-in}
+use Rattle.theory_derivations.specs.Named.{lookup-in}
 use Rattle.theory_ends.specs.Ends.{side-clash, keyAt}
 use Rattle.theory_preservation.specs.Witness.{Tip, Rel, of-channels, Witness, Recast, recast-same, recasting, Moved, over, outing, keyNumber, keySide}
 use Rattle.theory_preservation.specs.Mates.{put}

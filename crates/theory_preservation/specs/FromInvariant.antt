@@ -8,15 +8,14 @@ use Prim.Native.Nat.{ℕ, _<_}
 use lib.ListN.{getElem?}
 use Rattle.notation.specs.Limits.{channelPlaces}
 use Rattle.notation.specs.Tree.{Name}
-use Rattle.calculus.specs.Named.{names}
+use Rattle.calculus.specs.Named.{names, In, NoneTwice}
 use Rattle.calculus.specs.Types.{Side, used}
 use Rattle.calculus.specs.Program.{Context, Program}
 use Rattle.calculus.specs.Configuration.{End, end, Doing, running, folding, waiting, Process, relinked, Config, Stands}
 use Rattle.calculus.specs.Forest.{Forest, joints}
-use Rattle.calculus.specs.WellFormed.{In, NoneTwice, contextOf, processEnds, outsideEnds, ends, key, TypedAs, isWaiting, WouldHalt, WellFormed}
+use Rattle.calculus.specs.WellFormed.{contextOf, processEnds, outsideEnds, ends, key, TypedAs, isWaiting, WouldHalt, WellFormed}
 use Rattle.theory_graphs.specs.Moves.{thin}
 use Rattle.theory_ends.specs.Lists.{once-append, map-append, found-below}
-use Rattle.theory_ends.specs.Names.{distinct-iff}
 use Rattle.theory_ends.specs.Contexts.{context-names}
 use Rattle.theory_ends.specs.Ends.{keyAt, end-process, keys-once, end-outside, keys-outside}
 use Rattle.theory_preservation.specs.Witness.{joint, Witness}
@@ -27,9 +26,9 @@ use Rattle.theory_preservation.specs.Invariant.{Inv, at-roster, fine-at,
 use Rattle.theory_preservation.specs.Joints.{forest-back, numbers, joints-are, numbers-once, numbers-live}
 
 typed-as : (p : Program) (G : Context) (d : Doing) → NamesDiffer d (names G) → TypedDoing p G d → TypedAs p G d
-typed-as p G (running P) n t = (distinct-iff (names G) .1 n, t)
+typed-as p G (running P) n t = (n, t)
 typed-as p G folding n t = tt
-typed-as p G (waiting P) n t = (distinct-iff (names G) .1 n, t)
+typed-as p G (waiting P) n t = (n, t)
 
 module _ {p : Program} {C : Config} (I : Inv p C) where
   abbrev S : Roster

@@ -9,14 +9,16 @@ use native.Mathlib.Omega.{arith}
 use lib.ListN.{length}
 use Rattle.notation.specs.Limits.{heldLimit, channelPlaces}
 use Rattle.notation.specs.Tree.{Name, Ty, Proc}
-use Rattle.calculus.specs.Named.{lookup, kept, names}
+use Rattle.calculus.specs.Named.{lookup, kept, names, In}
 use Rattle.calculus.specs.Types.{Side, provided, used}
 use Rattle.calculus.specs.Program.{Program}
 use Rattle.calculus.specs.Typing.{Typed}
 use Rattle.calculus.specs.Configuration.{End, end, Doing, running, folding, waiting, Process, process, Outside, goesOn, linkedBy, becoming}
-use Rattle.calculus.specs.WellFormed.{In, contextOf, key, isWaiting}
-use Rattle.theory_ends.specs.Lists.{once-by, sub-in, sub-once}
-use Rattle.theory_ends.specs.Names.{absent, kept-sub, kept-in, names-map, names-in}
+use Rattle.calculus.specs.WellFormed.{contextOf, key, isWaiting}
+use Rattle.theory_derivations.specs.Lists.{sub-in}
+use Rattle.theory_ends.specs.Lists.{once-by, sub-once}
+use Rattle.theory_derivations.specs.Named.{absent, names-in}
+use Rattle.theory_ends.specs.Names.{kept-sub, kept-in, names-map}
 use Rattle.theory_ends.specs.Ends.{keyAt}
 use Rattle.theory_preservation.specs.Witness.{Key, Tip, Rel, Witness, Moved, Joined, sides, Between, over, joined-uses, joined-provides, tipNumber, keyNumber}
 use Rattle.theory_preservation.specs.Mates.{put, put-elim, Profile, Mates, mates-same, mates-put, mates-new, Quiet, quiet-none, quiet-some}

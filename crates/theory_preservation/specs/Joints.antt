@@ -11,7 +11,8 @@ use Rattle.notation.specs.Tree.{Name}
 use Rattle.calculus.specs.Types.{Side, provided, used, other}
 use Rattle.calculus.specs.Configuration.{End, Process, relinked, Config, Holder, Far, atProcess, atOutside, givenUp, farEnd}
 use Rattle.calculus.specs.Forest.{Joint, Connected, here, past, over, back, Forest, jointAt, channelJoints, linkJoint, jointsFrom, joints}
-use Rattle.calculus.specs.WellFormed.{In, NoneTwice, isWaiting}
+use Rattle.calculus.specs.Named.{In, NoneTwice}
+use Rattle.calculus.specs.WellFormed.{isWaiting}
 use Rattle.theory_ends.specs.Lists.{once-append, map-append, found-below}
 use Rattle.theory_ends.specs.Ends.{side-clash, keyAt}
 use Rattle.theory_ends.specs.FarEnds.{Found, FarIs, at-process, at-outside, at-nobody, far-is}

@@ -8,11 +8,11 @@ use Prim.Native.Nat.{ℕ}
 use native.Mathlib.Omega.{arith}
 use native.Mathlib.Decide.{ℕ-discrete}
 use Rattle.notation.specs.Tree.{Name}
-use Rattle.calculus.specs.Named.{names}
+use Rattle.calculus.specs.Named.{names, In}
 use Rattle.calculus.specs.Program.{Program}
 use Rattle.calculus.specs.Configuration.{End, Doing, Process, Outside, doingNow, linkedBy, becoming}
-use Rattle.calculus.specs.WellFormed.{In, contextOf, isWaiting}
-use Rattle.theory_ends.specs.Lists.{sub-in}
+use Rattle.calculus.specs.WellFormed.{contextOf, isWaiting}
+use Rattle.theory_derivations.specs.Lists.{sub-in}
 use Rattle.theory_preservation.specs.Witness.{Tip, Recast, recast-same, recasting}
 use Rattle.theory_preservation.specs.Outsides.{fair-less}
 use Rattle.theory_preservation.specs.Mates.{put, put-elim, put-at, Profile, Mates, mates-same, mates-put, mates-cut, Quiet, quiet-none, quiet-some}

@@ -1,24 +1,26 @@
 -- Rules that make a process: spawn, and try, whose handler waits.
 use mathlib.Core.Path.{_≡_, sym, _∙_, ap, subst}
-use mathlib.Core.Logic.{_≢_}
+use mathlib.Core.Logic.{_≢_, ⊎-elim}
 use mathlib.Core.List.{List, [], _∷_, _++_}
 use mathlib.Core.Option.{some, none, Option·map, map-eq-some-iff, Option·none-ne-some, Option·some-injective}
-use mathlib.Core.Bool.{Bool, true, false, cond, So, not, false≢true}
+use mathlib.Core.Bool.{Bool, So, not}
 use Prim.Native.Nat.{ℕ, suc, _≤_, _<_}
 use native.Mathlib.Omega.{arith}
 use lib.ListN.{length, set, length-set}
 use Rattle.notation.specs.Limits.{processPlaces, channelPlaces, heldLimit}
 use Rattle.notation.specs.Tree.{Name, Located, Ty, Proc, spawn, try, plain}
-use Rattle.calculus.specs.Named.{kept, names}
+use Rattle.calculus.specs.Named.{In, kept}
 use Rattle.calculus.specs.Types.{provided, used}
 use Rattle.calculus.specs.Program.{slot, Program}
-use Rattle.calculus.specs.Mentions.{mentions, halfMentions, spawnTakes, spawnLeaves, tryTakes, exactlyOne}
-use Rattle.calculus.specs.Typing.{Typed, spawns, tries, bringing}
+use Rattle.calculus.specs.Mentions.{mentions, halfMentions, spawnTakes, spawnLeaves, tryTakes}
+use Rattle.calculus.specs.OneType.{OneType}
+use Rattle.calculus.specs.Typing.{Typed, bringing}
 use Rattle.calculus.specs.Configuration.{End, end, running, waiting, Process, process, Config, Stands, withProcesses, freshChannel, movedUp, relinked, inserted, linkedBy, goesOn}
-use Rattle.calculus.specs.WellFormed.{In, contextOf}
-use Rattle.theory_derivations.specs.Booleans.{all-iff}
+use Rattle.calculus.specs.WellFormed.{contextOf}
+use Rattle.theory_derivations.specs.Mentioned.{mentions-iff, exactlyOne-iff}
+use Rattle.theory_derivations.specs.Halves.{SpawnHalves, TryHalves, spawn-iff, try-iff}
 use Rattle.theory_ends.specs.Lists.{length-inserted, found-below, below-found}
-use Rattle.theory_ends.specs.Names.{names-in}
+use Rattle.theory_derivations.specs.Named.{names-in}
 use Rattle.theory_ends.specs.Contexts.{context-names, context-kept, context-append, context-length, absent-held}
 use Rattle.theory_preservation.specs.Mates.{put}
 use Rattle.theory_preservation.specs.Roster.{channelKey, Has, Good}
@@ -49,18 +51,21 @@ module _ {p : Program} {C : Config} (I : Inv p C) {i : ℕ} {q : Process} (here 
       (set (C .processes) i (goesOn q Q (spawnLeaves (x .name) P (q .held) ++ ((x .name, end used k (plain A)) ∷ [])))))
       C)
   unfolding spawnTakes spawnLeaves
-  spawn-keeps {x} {A} {P} {Q} {k} w lt e (spawns _ bP bQ tP tQ) = record {
+  spawn-keeps {x} {A} {P} {Q} {k} w lt e z = record {
     id = idIn s₁ i (I .next);
     roster = put (I .next) (some made) (put (I .id i) (some (relinked (I .id) maker)) (I .roster));
     next = suc (I .next);
     shows = shows-in s₁ i (I .next) (omega (arith, inside, len₁)) (λ j h. new-id j (omega (arith, len₁))) made (λ h z. absurd (Option·none-ne-some h z));
-    good = Growing.spawn-good (I .good) (I .id i) (relinked (I .id) q) (at-roster I i q (here .there)) w t n (plain A) k (fresh .1) (fresh .0) (absent-held n (q .held) (bP .new)) P Q
-        (room t (bP .room)) (room (λ m. not (t m)) (bQ .room)) (subst (λ G. Typed p G P) (sym (half-context t (q .held) n (end provided k (plain A)))) tP)
-        (subst (λ G. Typed p G Q) (sym (half-context (λ m. not (t m)) (q .held) n (end used k (plain A)))) tQ);
+    good = Growing.spawn-good (I .good) (I .id i) (relinked (I .id) q) (at-roster I i q (here .there)) w t n (plain A) k (fresh .1) (fresh .0) (absent-held n (q .held) (halves .1 .0 .0 .new)) P Q
+        (room t (halves .1 .0 .0 .room)) (room (λ m. not (t m)) (halves .1 .0 .1 .room)) (subst (λ G. Typed p G P) (sym (half-context t (q .held) n (end provided k (plain A)))) (halves .1 .1 .0))
+        (subst (λ G. Typed p G Q) (sym (half-context (λ m. not (t m)) (q .held) n (end used k (plain A)))) (halves .1 .1 .1));
     places = let c = length-inserted i made (set (C .processes) i maker) in omega (arith, len₁);
     numbers = I .numbers;
   }
     where
+      halves : SpawnHalves (OneType p) p (contextOf (q .held)) x A P Q
+      halves = spawn-iff .1 z
+
       n : Name
       n = x .name
 
@@ -90,19 +95,22 @@ module _ {p : Program} {C : Config} (I : Inv p C) {i : ℕ} {q : Process} (here 
       (set (inserted i (process (waiting Q) (tryTakes Q (q .held)) (Option·map (movedUp i) (q .link))) (C .processes)) i
       (linkedBy (some (suc i)) (goesOn q P (tryTakes P (q .held)))))
       C)
-  unfolding tryTakes exactlyOne
-  try-keeps {P = P} {Q = Q} w lt (tries one tP tQ) = record {
+  unfolding tryTakes
+  try-keeps {P = P} {Q = Q} w lt z = record {
     id = f;
     roster = put (f i) (some (relinked f tryer)) (put (I .next) (some (relinked f waiter)) (I .roster));
     next = suc (I .next);
     shows = shows-set s₁ i (omega (arith, inside, len₁)) tryer (λ h z. let y = Option·some-injective _ _ z in omega (arith, inside, len₁));
     good = subst (λ S. Good p S (C .outside) (C .given) (suc (I .next))) same
         (Growing.try-good (I .good) (I .id i) (relinked (I .id) q) (at-roster I i q (here .there)) w (mentions P) (mentions Q) disjoint P Q
-        (subst (λ G. Typed p G P) (context-kept (mentions P) (q .held)) tP) (subst (λ G. Typed p G Q) (context-kept (mentions Q) (q .held)) tQ));
+        (subst (λ G. Typed p G P) (context-kept (mentions P) (q .held)) (halves .1 .0)) (subst (λ G. Typed p G Q) (context-kept (mentions Q) (q .held)) (halves .1 .1)));
     places = subst (λ n. n ≤ processPlaces) (sym (length-set (inserted i waiter (C .processes)) i tryer ∙ len₁)) lt;
     numbers = I .numbers;
   }
     where
+      halves : TryHalves (OneType p) p (contextOf (q .held)) P Q
+      halves = try-iff .1 z
+
       waiter : Process
       waiter = process (waiting Q) (kept (mentions Q) (q .held)) (Option·map (movedUp i) (q .link))
 
@@ -124,13 +132,9 @@ module _ {p : Program} {C : Config} (I : Inv p C) {i : ℕ} {q : Process} (here 
       s₁ = shows-in (I .shows) i (I .next) inside new-id waiter up-within
 
       disjoint : (x : Name × End) → In x (q .held) → So (mentions P (x .0)) → So (mentions Q (x .0)) → ⊥
-      disjoint x m a c = exactly (mentions P (x .0)) (mentions Q (x .0))
-          (all-iff _ (names (contextOf (q .held))) .0 one (x .0) (subst (In (x .0)) (sym (context-names (q .held))) (names-in (q .held) m))) a c
-        where
-          exactly : (a c : Bool) → So (cond a (not c) c) → So a → So c → ⊥
-          exactly true true z _ _ = false≢true z
-          exactly true false z _ y = false≢true y
-          exactly false c z y _ = false≢true y
+      disjoint x m a c =
+          ⊎-elim (λ h. h .1 (mentions-iff Q (x .0) .0 c)) (λ h. h .0 (mentions-iff P (x .0) .0 a))
+          (exactlyOne-iff P Q (contextOf (q .held)) .0 (halves .0) (x .0) (subst (In (x .0)) (sym (context-names (q .held))) (names-in (q .held) m)))
 
       -- the maker's identity is as before, its handler's is the new one
       fi : f i ≡ I .id i

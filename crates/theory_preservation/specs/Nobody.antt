@@ -6,13 +6,13 @@ use mathlib.Core.List.{List, Memᴰ·map, Memᴰ·of-map}
 use mathlib.Core.Option.{Option, some, none}
 use lib.ListN.{set}
 use Rattle.notation.specs.Tree.{Name, Proc}
-use Rattle.calculus.specs.Named.{without}
+use Rattle.calculus.specs.Named.{without, In}
 use Rattle.calculus.specs.Types.{Side, used, other}
 use Rattle.calculus.specs.Program.{Program}
 use Rattle.calculus.specs.Mentions.{spawnTakes, spawnLeaves, tryTakes}
 use Rattle.calculus.specs.Configuration.{End, Process, Outside, Config, Far, givenUp, farEnd}
 use Rattle.calculus.specs.Steps.{Message, onward, bound, newOutside}
-use Rattle.calculus.specs.WellFormed.{In, key}
+use Rattle.calculus.specs.WellFormed.{key}
 use Rattle.theory_ends.specs.Lists.{found-in, in-found}
 use Rattle.theory_ends.specs.Names.{without-sub, kept-sub, changed-map}
 use Rattle.theory_ends.specs.Ends.{keyAt}

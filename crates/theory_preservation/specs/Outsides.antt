@@ -9,11 +9,13 @@ use lib.Dec.{eqb}
 use Rattle.notation.specs.Limits.{channelPlaces}
 use Rattle.notation.specs.Tree.{Name, Ty}
 use Rattle.calculus.specs.Program.{Program}
-use Rattle.calculus.specs.Declarations.{outward}
+use Rattle.calculus.specs.Outward.{Outward}
 use Rattle.calculus.specs.Configuration.{Outside, outsideOfType, outsideOfChannel, letGo, changedOutside, retypedOutside, movedOutside}
-use Rattle.calculus.specs.WellFormed.{In, NoneTwice, Rising}
+use Rattle.calculus.specs.Named.{In, NoneTwice}
+use Rattle.calculus.specs.WellFormed.{Rising}
 use Rattle.theory_derivations.specs.Booleans.{bool-cases, cond-true, cond-false, eqb-iff}
-use Rattle.theory_ends.specs.Lists.{sub-in, sub-once, once-snoc, map-append}
+use Rattle.theory_derivations.specs.Lists.{sub-in}
+use Rattle.theory_ends.specs.Lists.{sub-once, once-snoc, map-append}
 use Rattle.theory_preservation.specs.Roster.{Fair}
 use Rattle.theory_preservation.specs.Each.{each-more}
 
@@ -99,9 +101,9 @@ module _ (k : ℕ) (f : Outside → Outside) where
 
   -- the number stays
   fair-changed : {p : Program} {given : ℕ} {o : List Outside} → Fair p given o → ((y : Outside) → f y .number ≡ y .number) → NoneTwice (map channelOf (changedOutside k f o))
-      → ((y : Outside) → In y o → outward p (f y .type) ≡ true) → ((y : Outside) → In y o → f y .channel < channelPlaces) → Fair p given (changedOutside k f o)
+      → ((y : Outside) → In y o → Outward p (f y .type)) → ((y : Outside) → In y o → f y .channel < channelPlaces) → Fair p given (changedOutside k f o)
   fair-changed {p} {given} {o} F n u t c = record {
-    outwards = each-changed (λ y. outward p (y .type) ≡ true) o (F .keys) (λ y i _. t y i) (λ y i _. F .outwards y i);
+    outwards = each-changed (λ y. Outward p (y .type)) o (F .keys) (λ y i _. t y i) (λ y i _. F .outwards y i);
     below = each-changed (λ y. y .number < given) o (F .keys) (λ y i _. subst (λ m. m < given) (sym (n y)) (F .below y i)) (λ y i _. F .below y i);
     rising = subst (Rising 0) (sym (outside-map numberOf n o)) (F .rising);
     keys = u;
@@ -121,7 +123,7 @@ module _ (k : ℕ) (f : Outside → Outside) where
       go true r = ((λ m. n (List·Memᴰ·tail (Memᴰ·cast (sym (h a)) m))), u .1)
       go false r = ((λ m. let y = Memᴰ·of-map channelOf (changedOutside k f o) m in no-other (y .0) (y .1) (y .2)), r)
 
-pub fair-retyped : {p : Program} {given : ℕ} {o : List Outside} → Fair p given o → (k : ℕ) (A : Ty Name) → outward p A ≡ true → Fair p given (retypedOutside k A o)
+pub fair-retyped : {p : Program} {given : ℕ} {o : List Outside} → Fair p given o → (k : ℕ) (A : Ty Name) → Outward p A → Fair p given (retypedOutside k A o)
 fair-retyped {o = o} F k A a =
     fair-changed k (outsideOfType A) F (λ y. refl) (subst NoneTwice (sym (outside-map k (outsideOfType A) channelOf (λ y. refl) o)) (F .keys)) (λ _ _. a) (λ y i. F .channels y i)
 
@@ -137,10 +139,10 @@ rising-snoc (m ∷ l) low n r h b = (r .0, rising-snoc l (suc m) n (r .1) (b m (
 pub fair-later : {p : Program} {given : ℕ} {o : List Outside} → Fair p given o → Fair p (suc given) o
 fair-later F = record { outwards = F .outwards; below = λ y i. let b = F .below y i in omega arith; rising = F .rising; keys = F .keys; channels = F .channels }
 
-pub fair-more : {p : Program} {o : List Outside} (y : Outside) → Fair p (y .number) o → outward p (y .type) ≡ true → y .channel < channelPlaces → ¬ In (y .channel) (map channelOf o)
+pub fair-more : {p : Program} {o : List Outside} (y : Outside) → Fair p (y .number) o → Outward p (y .type) → y .channel < channelPlaces → ¬ In (y .channel) (map channelOf o)
     → Fair p (suc (y .number)) (o ++ (y ∷ []))
 fair-more {p} {o} y F a lt n = record {
-  outwards = each-more (λ x. outward p (x .type) ≡ true) o y (F .outwards) a;
+  outwards = each-more (λ x. Outward p (x .type)) o y (F .outwards) a;
   below = each-more (λ x. x .number < suc (y .number)) o y (λ x j. let b = F .below x j in omega arith) (omega arith);
   rising = subst (Rising 0) (sym (map-append numberOf o (y ∷ []))) (rising-snoc (map numberOf o) 0 (y .number) (F .rising) (omega arith)
       (λ m i. let x = Memᴰ·of-map numberOf o i in subst (λ m. m < y .number) (x .2) (F .below (x .0) (x .1))));

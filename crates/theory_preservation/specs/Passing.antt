@@ -3,22 +3,24 @@ use mathlib.Core.Path.{_≡_, refl, sym, _∙_, ap, subst}
 use mathlib.Core.Logic.{_≢_, _⊎_, inl, inr}
 use mathlib.Core.List.{List, [], _∷_, _++_, map, Sublistᴰ, List·Memᴰ·head, List·Memᴰ·append-cases, List·Memᴰ·eq-of-singleton, Memᴰ·of-map}
 use mathlib.Core.Option.{Option, some, none}
-use mathlib.Core.Bool.{true, cond}
+use mathlib.Core.Bool.{cond}
 use Prim.Native.Nat.{ℕ, suc, _<_}
 use lib.ListN.{length}
 use Rattle.notation.specs.Limits.{heldLimit, channelPlaces}
 use Rattle.notation.specs.Bytes.{same}
 use Rattle.notation.specs.Tree.{Name, Ty}
-use Rattle.calculus.specs.Named.{lookup, without, names}
+use Rattle.calculus.specs.Named.{lookup, without, names, In, NoneTwice}
 use Rattle.calculus.specs.Types.{used, other}
 use Rattle.calculus.specs.Program.{Program}
-use Rattle.calculus.specs.Declarations.{outward}
+use Rattle.calculus.specs.Outward.{Outward}
 use Rattle.calculus.specs.OneType.{OneType}
 use Rattle.calculus.specs.Configuration.{End, ofType, Doing, Process, Outside, retypedEnd, retypedOutside, becoming}
-use Rattle.calculus.specs.WellFormed.{In, NoneTwice, contextOf, key}
+use Rattle.calculus.specs.WellFormed.{contextOf, key}
 use Rattle.theory_derivations.specs.OneType.{one-refl}
-use Rattle.theory_ends.specs.Lists.{sub-in, sub-once}
-use Rattle.theory_ends.specs.Names.{by-test, lookup-in, absent, without-sub, without-cases, changed-cases, changed-names, changed-length}
+use Rattle.theory_derivations.specs.Lists.{sub-in}
+use Rattle.theory_ends.specs.Lists.{sub-once}
+use Rattle.theory_derivations.specs.Named.{by-test, lookup-in, absent}
+use Rattle.theory_ends.specs.Names.{without-sub, without-cases, changed-cases, changed-names, changed-length}
 use Rattle.theory_ends.specs.Ends.{keyAt}
 use Rattle.theory_ends.specs.FarEnds.{FarOutside}
 use Rattle.theory_preservation.specs.Witness.{Tip, Rel, of-channels, Witness, Retyped, retyping, Moved, over, outing, keyNumber}
@@ -185,7 +187,7 @@ module _ {p : Program} {S : Roster} {o : List Outside} {given next : ℕ} (G : G
         (fair-less (G .fair) sub)
 
     -- ── to the outside, which uses it from then on with the type A, or lets go of it at once; c then has the type B′ there
-    module _ {B′ A : Ty Name} (bb : OneType p B B′) (da : OneType p (d .type) A) (y : FarOutside o e) (sd : d .side ≡ used) (oB : outward p B′ ≡ true) (oA : outward p A ≡ true) where
+    module _ {B′ A : Ty Name} (bb : OneType p B B′) (da : OneType p (d .type) A) (y : FarOutside o e) (sd : d .side ≡ used) (oB : Outward p B′) (oA : Outward p A) where
       abbrev shown : Outside
       shown = record { number = given; channel = d .channel; type = A }
 

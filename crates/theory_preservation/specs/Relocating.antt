@@ -6,12 +6,12 @@ use mathlib.Core.Bool.{Bool, true, false, cond, false≢true}
 use Prim.Native.Nat.{ℕ, suc}
 use lib.ListN.{length}
 use Rattle.notation.specs.Tree.{Name}
-use Rattle.calculus.specs.Named.{names}
+use Rattle.calculus.specs.Named.{names, In, NoneTwice}
 use Rattle.calculus.specs.Types.{Side}
 use Rattle.calculus.specs.Program.{slot}
 use Rattle.calculus.specs.Configuration.{End, end}
 use Rattle.calculus.specs.Steps.{movedEnd}
-use Rattle.calculus.specs.WellFormed.{In, NoneTwice, contextOf, key}
+use Rattle.calculus.specs.WellFormed.{contextOf, key}
 use Rattle.theory_derivations.specs.Booleans.{bool-cases, cond-true, cond-false}
 use Rattle.theory_ends.specs.Lists.{once-by}
 use Rattle.theory_ends.specs.Ends.{keyAt}

@@ -3,21 +3,22 @@ use mathlib.Core.Path.{_≡_, refl, sym, ap, subst}
 use mathlib.Core.Logic.{_≢_, _⊎_, inl, inr}
 use mathlib.Core.List.{List, map, Memᴰ·map, Memᴰ·of-map, Sublistᴰ, Sublistᴰ·refl}
 use mathlib.Core.Option.{Option, some}
-use mathlib.Core.Bool.{true}
 use Prim.Native.Nat.{ℕ, _≤_, _<_}
 use native.Mathlib.Omega.{arith}
 use Rattle.notation.specs.Limits.{heldLimit, channelPlaces}
 use Rattle.notation.specs.Tree.{Name, Ty}
-use Rattle.calculus.specs.Named.{lookup, names}
+use Rattle.calculus.specs.Named.{lookup, names, In, NoneTwice}
 use Rattle.calculus.specs.Types.{other}
 use Rattle.calculus.specs.Program.{Program}
-use Rattle.calculus.specs.Declarations.{outward}
+use Rattle.calculus.specs.Outward.{Outward}
 use Rattle.calculus.specs.OneType.{OneType}
 use Rattle.calculus.specs.Configuration.{End, ofType, Doing, Process, Outside, outsideOfType, retypedEnd, retypedOutside, becoming}
-use Rattle.calculus.specs.WellFormed.{In, NoneTwice, contextOf, key}
+use Rattle.calculus.specs.WellFormed.{contextOf, key}
 use Rattle.theory_derivations.specs.OneType.{one-refl}
-use Rattle.theory_ends.specs.Lists.{sub-in, sub-once, sub-length}
-use Rattle.theory_ends.specs.Names.{lookup-in, changed-cases, changed-names, changed-length, changed-map}
+use Rattle.theory_derivations.specs.Lists.{sub-in, sub-length}
+use Rattle.theory_ends.specs.Lists.{sub-once}
+use Rattle.theory_derivations.specs.Named.{lookup-in}
+use Rattle.theory_ends.specs.Names.{changed-cases, changed-names, changed-length, changed-map}
 use Rattle.theory_ends.specs.Ends.{keyAt}
 use Rattle.theory_ends.specs.FarEnds.{FarOutside}
 use Rattle.theory_preservation.specs.Witness.{Tip, Rel, one-of-refl, of-channels, Retyped, retyping, keyNumber}
@@ -115,7 +116,7 @@ module _ {p : Program} {S : Roster} {o : List Outside} {given next : ℕ} (G : G
         m = held-facing G (a .there) (b .there) c c′ (lookup-in c (r .held) lc) (lookup-in c′ (q .held) lf) z s
 
     -- to the outside, whose end goes on by its own type
-    pub chosen-out : {B : Ty Name} → OneType p A B → FarOutside o e → outward p B ≡ true → Good p (put u (some after) S) (retypedOutside (e .channel) B o) given next
+    pub chosen-out : {B : Ty Name} → OneType p A B → FarOutside o e → Outward p B → Good p (put u (some after) S) (retypedOutside (e .channel) B o) given next
     chosen-out {B} one y ob =
         let m = opposite-outside G u0 hu y in
         one-good G (retyping (G .witness) (channelKey (e .channel)) (some A)) u after (retypes a c m (one-refl p A) lc td)

@@ -9,14 +9,15 @@ use native.Mathlib.Omega.{arith}
 use lib.ListN.{length}
 use Rattle.notation.specs.Limits.{heldLimit, channelPlaces}
 use Rattle.notation.specs.Tree.{Name, Proc}
-use Rattle.calculus.specs.Named.{names}
+use Rattle.calculus.specs.Named.{names, In, NoneTwice}
 use Rattle.calculus.specs.Types.{Side, provided, used}
 use Rattle.calculus.specs.Program.{Context, Program}
-use Rattle.calculus.specs.Declarations.{outward}
+use Rattle.calculus.specs.Outward.{Outward}
 use Rattle.calculus.specs.Typing.{Typed}
 use Rattle.calculus.specs.Configuration.{End, end, Doing, running, folding, waiting, Process, process, Outside, becoming, linkedBy}
-use Rattle.calculus.specs.WellFormed.{In, NoneTwice, Rising, contextOf, key, isWaiting}
-use Rattle.theory_ends.specs.Lists.{sub-in, sub-once, sub-length, once-snoc, length-snoc, map-append}
+use Rattle.calculus.specs.WellFormed.{Rising, contextOf, key, isWaiting}
+use Rattle.theory_derivations.specs.Lists.{sub-in, sub-length}
+use Rattle.theory_ends.specs.Lists.{sub-once, once-snoc, length-snoc, map-append}
 use Rattle.theory_ends.specs.Names.{names-map, names-append}
 use Rattle.theory_ends.specs.Ends.{keyAt}
 use Rattle.theory_preservation.specs.Witness.{Key, Tip, Rel, Witness, fewer}
@@ -135,7 +136,7 @@ pub record Continues (S : Roster) (u : ℕ) (r : Process) (d : Doing) : Type 0 w
 
 -- ── the outside's channels
 pub record Fair (p : Program) (given : ℕ) (o : List Outside) : Type 0 where
-  pub outwards : (y : Outside) → In y o → outward p (y .type) ≡ true
+  pub outwards : (y : Outside) → In y o → Outward p (y .type)
   pub below : (y : Outside) → In y o → y .number < given
   pub rising : Rising 0 (map (λ (y : Outside). y .number) o)
   pub keys : NoneTwice (map (λ (y : Outside). y .channel) o)

@@ -11,7 +11,8 @@ use Rattle.notation.specs.Tree.{Name, Ty}
 use Rattle.calculus.specs.Types.{Side, provided, used}
 use Rattle.calculus.specs.Program.{Program}
 use Rattle.calculus.specs.Configuration.{End, end, Process, relinked, Outside, Config}
-use Rattle.calculus.specs.WellFormed.{In, NoneTwice, processEnds, outsideEnds, ends, key, isWaiting, WellFormed}
+use Rattle.calculus.specs.Named.{In, NoneTwice}
+use Rattle.calculus.specs.WellFormed.{processEnds, outsideEnds, ends, key, isWaiting, WellFormed}
 use Rattle.theory_ends.specs.Lists.{search, map-append, found-below, once-left, once-apart}
 use Rattle.theory_ends.specs.Ends.{side-clash, process-end, one-process, outside-end}
 use Rattle.theory_preservation.specs.Witness.{Key, Tip, key-discrete, OneOf, of-channels, of-links, tipNumber, tipKey, keyNumber, keySide}

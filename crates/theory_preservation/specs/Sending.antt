@@ -3,7 +3,6 @@ use mathlib.Core.Path.{_≡_, refl, sym, _∙_, ap, subst}
 use mathlib.Core.Logic.{_≢_}
 use mathlib.Core.List.{List, _++_, Sublistᴰ, Sublistᴰ·refl}
 use mathlib.Core.Option.{some, Option·some-injective}
-use mathlib.Core.Bool.{true, false≢true}
 use Prim.Native.Nat.{ℕ, _<_}
 use native.Mathlib.Omega.{arith}
 use lib.ListN.{length-set, getElem?}
@@ -12,7 +11,7 @@ use Rattle.notation.specs.Tree.{Name, Located, Ty, Proc, sendUnit, sendChannel,
 use Rattle.calculus.specs.Named.{lookup, without}
 use Rattle.calculus.specs.Types.{used, Passing, passing, choosing}
 use Rattle.calculus.specs.Program.{slot, Program}
-use Rattle.calculus.specs.Declarations.{outward}
+use Rattle.calculus.specs.Outward.{Outward}
 use Rattle.calculus.specs.OneType.{OneType}
 use Rattle.calculus.specs.Typing.{Typed, sends-unit, recvs-unit, sends-channel, recvs-channel, sends-label, recvs-label, bringing, retyped}
 use Rattle.calculus.specs.Configuration.{End, end, ofType, Doing, running, folding, Process, relinked, Outside, Config, withOutside, oneMoreGiven, replaced, becoming, goesOn, foldsUp, Holder, atProcess, retypedEnd, letGo, outsideOf}
@@ -20,9 +19,9 @@ use Rattle.calculus.specs.Steps.{passes, chooses, afterMessage, onward, outside
 use Rattle.calculus.specs.Reduces.{Runs, Holds, Answers, GivesUp}
 use Rattle.calculus.specs.WellFormed.{contextOf}
 use Rattle.calculus.specs.declared.answers.Seen.{Seen}
-use Rattle.theory_derivations.specs.Equality.{same-iff}
 use Rattle.theory_ends.specs.Lists.{found-below, set-off}
-use Rattle.theory_ends.specs.Names.{lookup-in, in-lookup, without-sub}
+use Rattle.theory_derivations.specs.Named.{lookup-in, in-lookup}
+use Rattle.theory_ends.specs.Names.{without-sub}
 use Rattle.theory_ends.specs.Contexts.{context-without, context-length, absent-held, held-plain}
 use Rattle.theory_ends.specs.FarEnds.{HeldFar, FarOutside, FarNobody, far-held, stands-at}
 use Rattle.theory_ends.specs.Onward.{onward-is, outside-onward-is}
@@ -194,7 +193,7 @@ module _ {p : Program} {C : Config} (I : Inv p C) where
         let g = held-plain (a .name) (q .held) (t .side) A la in
         let z = ap passing (typed-end p (q .held) (c .name) le ac .type) ∙ ps in
         record {
-          apart = λ y. false≢true (sym ca ∙ same-iff (c .name) (a .name) .1 y);
+          apart = ca;
           typed = typed-on p (c .name) (without (a .name) (q .held)) (after-channel p a (e .type) z)
               (subst (λ G. Typed p (retyped (c .name) (t .after) G) P) (context-without (a .name) (q .held)) d);
           end = g .end;
@@ -246,7 +245,7 @@ module _ {p : Program} {C : Config} (I : Inv p C) where
       x : ChannelOver p a (e .type) (y .entry .type) (d .type) (d .side)
       x = subst (λ (d : End). ChannelOver p a (e .type) (y .entry .type) (d .type) (d .side)) (is-passed ld) (ps .over (y .entry .type) (outside-one r (c .name) le y))
 
-      out : outward p (y .entry .type) ≡ true
+      out : Outward p (y .entry .type)
       out = I .good .fair .outwards (y .entry) (y .listed)
 
       pub passes-used : d .side ≡ used

@@ -4,11 +4,11 @@ use mathlib.Core.Path.{_≡_, refl, sym, _∙_, ap, subst}
 use mathlib.Core.Logic.{_≢_}
 use mathlib.Core.List.{List, [], _∷_, _++_, cons-ne-nil}
 use mathlib.Core.Option.{Option, some, none, Option·none-ne-some, Option·some-injective}
-use mathlib.Core.Bool.{cond, not, false≢true}
+use mathlib.Core.Bool.{cond, not}
 use Rattle.notation.specs.Bytes.{same}
 use Rattle.notation.specs.Tree.{Name, Located, Ty, Alternatives, alternative, Proc, sendChannel, sendLabel, recvChannel, recvLabel, Branches, branch, plain}
 use Rattle.calculus.specs.Named.{lookup, without, isSome}
-use Rattle.calculus.specs.Types.{provided, used, standing, Passing, passing, Choosing, choosing, labelled}
+use Rattle.calculus.specs.Types.{provided, used, unfolded, Passing, passing, Choosing, choosing, labelled}
 use Rattle.calculus.specs.Program.{slot, Context, Signature, Program, signatureContext}
 use Rattle.calculus.specs.Mentions.{halfMentions, mentions, spawnTakes, spawnLeaves, tryTakes}
 use Rattle.calculus.specs.Typing.{Typed, sends-channel, recvs-channel, sends-label, recvs-label, retyped, bringing}
@@ -18,10 +18,9 @@ use Rattle.calculus.specs.Warnings.{leftOut, missing, branchesMissing, missingO
 use Rattle.calculus.specs.WellFormed.{contextOf}
 use Rattle.calculus.specs.Reduces.{Runs, Holds, Answers, GivesUp, Sends, close-meets, channel-meets, label-meets, label-left-out, close-shows, label-shows, channel-shows, gone-shows, close-lost, label-lost, channel-lost, Reduces, communicates, spawns, tries, calls, cancels, raises, joins, joins-outside, joins-nobody, nobody-joins, unanswered, folds, leaves}
 use Rattle.calculus.specs.declared.answers.Seen.{Seen}
-use Rattle.theory_derivations.specs.Equality.{same-iff}
 use Rattle.theory_derivations.specs.OneType.{one-passing, one-choosing}
 use Rattle.theory_ends.specs.Lists.{found-in, nil-left, nil-right}
-use Rattle.theory_ends.specs.Names.{by-test}
+use Rattle.theory_derivations.specs.Named.{by-test}
 use Rattle.theory_ends.specs.Contexts.{context-without, context-kept, context-retyped, context-append, held-plain, acts}
 use Rattle.theory_ends.specs.FarEnds.{HeldFar, far-held}
 use Rattle.theory_ends.specs.Onward.{onward-is}
@@ -81,7 +80,7 @@ module _ (p : Program) where
       let x = acts p (c .name) l ac in
       let rest : missing p (retyped (c .name) (t .after) (without (a .name) (contextOf l))) P ≡ [] = rw (ac, ps) at e in
       let z = onward-context (passes a) (c .name) (without (a .name) l)
-      (lookup-without (c .name) (a .name) l (λ y. false≢true (sym ca ∙ same-iff (c .name) (a .name) .1 y)) ∙ x .found)
+      (lookup-without (c .name) (a .name) l ca ∙ x .found)
       (after-channel p a (x .end .type) (ap passing (x .type) ∙ ps)) in
       none-as P (sym (z ∙ ap (retyped (c .name) (t .after)) (sym (context-without (a .name) l)))) rest
 
@@ -100,7 +99,7 @@ module _ (p : Program) where
 
     -- the end d came over it
     taken-none : {o : ℕ} {x : Located} {Q : Proc} (a : Located) (d : End) → Typed p (contextOf l) (recvChannel o c x Q) → missing p (contextOf l) (recvChannel o c x Q) ≡ []
-        → ((t : Passing) → passing (standing (p .types) (f .type)) ≡ some t → d .side ≡ t .side) → missing p (contextOf (onward p (passes a) n l ++ bound p (x .name) (some f) (some d))) Q ≡ []
+        → ((t : Passing) → passing (unfolded (p .types) (f .type)) ≡ some t → d .side ≡ t .side) → missing p (contextOf (onward p (passes a) n l ++ bound p (x .name) (some f) (some d))) Q ≡ []
     unfolding missing
     taken-none {x = x} {Q} a d (recvs-channel T t pt ac br dd) e side =
         let z = ap passing (typed-end p l (c .name) named ac .type) ∙ pt in
@@ -111,7 +110,7 @@ module _ (p : Program) where
         ∙ (λ j. over j ++ ((x .name, slot (side t z j) (passedType (d .type) (z j))) ∷ [])))) rest
 
     -- the branches of labels
-    labels-none : {o : ℕ} {B : Branches} {t : Choosing} → missing p (contextOf l) (recvLabel o c B) ≡ [] → Typed p (contextOf l) (recvLabel o c B) → choosing (standing (p .types) (f .type)) ≡ some t
+    labels-none : {o : ℕ} {B : Branches} {t : Choosing} → missing p (contextOf l) (recvLabel o c B) ≡ [] → Typed p (contextOf l) (recvLabel o c B) → choosing (unfolded (p .types) (f .type)) ≡ some t
         → (leftOut (t .labels) B ≡ []) × (branchesMissing p (contextOf l) (c .name) (t .labels) B ≡ [])
     unfolding missing
     labels-none {B = B} {t} e (recvs-label T u ch ac ds) z =
@@ -182,10 +181,10 @@ module _ {p : Program} {C : Config} (I : Inv p C) (S : Spotless p C) where
   -- the end that is passed is on the side that its taker's type says
   passed-side : {i o : ℕ} {q : Process} {c a : Located} {P : Proc} {e : End} {h : Holder} {c′ : Located} {R : Proc} → Runs C i q (sendChannel o c a P) → lookup (c .name) (q .held) ≡ some e
       → (f : HeldFar C e h) → Answers h c′ R
-      → (d : End) × (lookup (a .name) (q .held) ≡ some d) × ((t : Passing) → passing (standing (p .types) (f .end .type)) ≡ some t → d .side ≡ t .side)
+      → (d : End) × (lookup (a .name) (q .held) ≡ some d) × ((t : Passing) → passing (unfolded (p .types) (f .end .type)) ≡ some t → d .side ≡ t .side)
   passed-side {o = o} {q} {c} {a} {P} {e} {h} r le f an = go (runs-typed I r)
     where
-      go : Typed p (contextOf (q .held)) (sendChannel o c a P) → (d : End) × (lookup (a .name) (q .held) ≡ some d) × ((t : Passing) → passing (standing (p .types) (f .end .type)) ≡ some t → d .side ≡ t .side)
+      go : Typed p (contextOf (q .held)) (sendChannel o c a P) → (d : End) × (lookup (a .name) (q .held) ≡ some d) × ((t : Passing) → passing (unfolded (p .types) (f .end .type)) ≡ some t → d .side ≡ t .side)
       go (sends-channel T A t ca ps ac la sm dd) =
           let g = held-plain (a .name) (q .held) (t .side) A la in
           let u = one-passing p (far-one I e f an r (c .name) le) (ap passing (typed-end p (q .held) (c .name) le ac .type) ∙ ps) in

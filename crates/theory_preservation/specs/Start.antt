@@ -3,26 +3,25 @@ use mathlib.Core.Path.{_≡_, refl, sym, _∙_, ap, subst}
 use mathlib.Core.Logic.{_≢_, _⊎_, inl, inr}
 use mathlib.Core.List.{List, [], _∷_, _++_, map, append-nil, List·Memᴰ·head, List·Memᴰ·tail, List·Memᴰ·not-nil, Memᴰ·of-map}
 use mathlib.Core.Option.{some, none, Option·none-ne-some, Option·some-injective}
-use mathlib.Core.Bool.{true, true≢false, false≢true}
+use mathlib.Core.Bool.{true≢false, false≢true}
 use Prim.Native.Nat.{ℕ, zero, suc, _+_, _≤_, _<_}
 use native.Mathlib.Omega.{arith}
 use lib.ListN.{length, getElem?}
 use lib.Dec.{lit≤}
 use Rattle.notation.specs.Limits.{heldLimit, channelPlaces, outsideNumbers}
 use Rattle.notation.specs.Tree.{Name, Ty}
-use Rattle.calculus.specs.Named.{names, distinct, all}
+use Rattle.calculus.specs.Named.{names, In, NoneTwice}
 use Rattle.calculus.specs.Types.{provided, used}
 use Rattle.calculus.specs.Program.{slot, Signature, Program, onSide, signatureContext}
-use Rattle.calculus.specs.Declarations.{outward, entryTypes}
+use Rattle.calculus.specs.Declarations.{entryTypes}
+use Rattle.calculus.specs.Outward.{Outward}
 use Rattle.calculus.specs.OneType.{OneType}
 use Rattle.calculus.specs.Typing.{Typed, TypedBody}
 use Rattle.calculus.specs.Configuration.{End, end, running, Process, process, relinked, Outside}
 use Rattle.calculus.specs.Runs.{startHeld, startOutside, startConfig}
-use Rattle.calculus.specs.WellFormed.{In, NoneTwice, Rising, contextOf, isWaiting, WellFormed}
-use Rattle.theory_derivations.specs.Booleans.{all-iff}
+use Rattle.calculus.specs.WellFormed.{Rising, contextOf, isWaiting, WellFormed}
 use Rattle.theory_derivations.specs.OneType.{one-refl}
 use Rattle.theory_ends.specs.Lists.{once-by}
-use Rattle.theory_ends.specs.Names.{distinct-iff}
 use Rattle.theory_ends.specs.Contexts.{context-names, context-length}
 use Rattle.theory_ends.specs.Ends.{side-clash, keyAt}
 use Rattle.theory_preservation.specs.Witness.{Key, Tip, OneOf, of-channels, one-of-refl, one-of-sym, one-of-trans, Witness, tipNumber, tipSide, tipType, keyNumber}
@@ -85,7 +84,7 @@ start-channels k (e ∷ l) = (
 pub started-context : (s : Signature) → s .uses ≡ [] → contextOf (startHeld 0 (s .provides)) ≡ signatureContext s
 started-context s u = start-context 0 (s .provides) ∙ sym (append-nil (onSide provided (s .provides))) ∙ ap (λ r. onSide provided (s .provides) ++ onSide used r) (sym u)
 
-module _ (p : Program) (s : Signature) (d : distinct (names (signatureContext s)) ≡ true) (u : s .uses ≡ []) (o : all (outward p) (entryTypes (s .provides)) ≡ true) (t : TypedBody p s) where
+module _ (p : Program) (s : Signature) (d : NoneTwice (names (signatureContext s))) (u : s .uses ≡ []) (o : (A : Ty Name) → In A (entryTypes (s .provides)) → Outward p A) (t : TypedBody p s) where
   abbrev l : List (Name × Ty Name)
   l = s .provides
 
@@ -171,7 +170,7 @@ module _ (p : Program) (s : Signature) (d : distinct (names (signatureContext s)
   start-fine : Fine p q
   start-fine = record {
     typed = subst (λ G. Typed p G (s .body)) (sym same-context) (t .body);
-    names = subst NoneTwice (ap names (sym same-context) ∙ context-names (startHeld 0 l)) (distinct-iff (names (signatureContext s)) .0 d);
+    names = subst NoneTwice (ap names (sym same-context) ∙ context-names (startHeld 0 l)) d;
     keys = start-keys 0 l;
     room = subst (λ n. n ≤ heldLimit) (ap length (sym same-context) ∙ context-length (startHeld 0 l)) (t .room);
     channels = λ x i. let b = start-end 0 l x i .1 in let f = few in let c : heldLimit ≤ channelPlaces = lit≤ tt in omega arith;
@@ -179,7 +178,7 @@ module _ (p : Program) (s : Signature) (d : distinct (names (signatureContext s)
 
   start-fair : Fair p (length l) O
   start-fair = record {
-    outwards = λ y i. all-iff (outward p) (entryTypes l) .0 o (y .type) (start-number 0 l y i .3);
+    outwards = λ y i. o (y .type) (start-number 0 l y i .3);
     below = λ y i. let r = start-number 0 l y i in let a = r .0 in let b = r .2 in omega arith;
     rising = start-rising 0 l;
     keys = start-channels 0 l;

@@ -5,16 +5,16 @@ use mathlib.Core.Logic.{_≢_}
 use mathlib.Core.List.{List, [], _∷_, _++_, List·Memᴰ·tail}
 use mathlib.Core.Option.{some, none}
 use Rattle.notation.specs.Tree.{Name, Located, plain}
-use Rattle.calculus.specs.Named.{lookup, without}
+use Rattle.calculus.specs.Named.{lookup, without, In}
 use Rattle.calculus.specs.Types.{Side, provided, used, other}
 use Rattle.calculus.specs.Program.{Program}
 use Rattle.calculus.specs.Configuration.{End, end, Process, Outside, Config, Stands, withOutside, replaced, goesOn, foldsUp, linkedBy, freshChannel, Holder, atProcess, givenUp, farEnd, outsideOf, outsideOfChannel}
 use Rattle.calculus.specs.Steps.{Message, passes, chooses, onward, outsideOnward, handlerStarts, startedHandler, foldedHandler}
 use Rattle.calculus.specs.Reduces.{GivesUp, Sends, close-meets, channel-meets, label-meets, label-left-out, close-shows, label-shows, channel-shows, gone-shows, close-lost, label-lost, channel-lost, Reduces, communicates, spawns, tries, calls, cancels, raises, joins, joins-outside, joins-nobody, nobody-joins, unanswered, folds, leaves}
-use Rattle.calculus.specs.WellFormed.{In, key, WellFormed}
+use Rattle.calculus.specs.WellFormed.{key, WellFormed}
 use Rattle.calculus.specs.declared.answers.Seen.{Seen}
 use Rattle.theory_ends.specs.Lists.{found-in}
-use Rattle.theory_ends.specs.Names.{lookup-in}
+use Rattle.theory_derivations.specs.Named.{lookup-in}
 use Rattle.theory_ends.specs.FarEnds.{stands-at, far-held, far-outside}
 use Rattle.theory_preservation.specs.Roster.{channelKey, tipOf}
 use Rattle.theory_preservation.specs.Each.{each-none, each-sub, each-append, each-more, each-inserted, each-removed, each-changed-at}

@@ -14,7 +14,6 @@ use Rattle.calculus.specs.Configuration.{end, Doing, running, folding, waiting,
 use Rattle.calculus.specs.Forest.{Forest, joints}
 use Rattle.calculus.specs.WellFormed.{contextOf, processEnds, outsideEnds, key, TypedAs, isWaiting, WouldHalt, WellFormed}
 use Rattle.theory_ends.specs.Lists.{found-below, once-right}
-use Rattle.theory_ends.specs.Names.{distinct-iff}
 use Rattle.theory_ends.specs.Contexts.{context-names}
 use Rattle.theory_ends.specs.Ends.{process-end, keys-of-process, outside-end, outside-keys}
 use Rattle.theory_preservation.specs.Witness.{Witness}
@@ -32,9 +31,9 @@ as-typed p G folding t = tt
 as-typed p G (waiting P) t = t .1
 
 as-names : (p : Program) (G : Context) (d : Doing) → TypedAs p G d → NamesDiffer d (names G)
-as-names p G (running P) t = distinct-iff (names G) .0 (t .0)
+as-names p G (running P) t = t .0
 as-names p G folding t = tt
-as-names p G (waiting P) t = distinct-iff (names G) .0 (t .0)
+as-names p G (waiting P) t = t .0
 
 module _ {p : Program} {C : Config} (w : WellFormed p C) where
   handlers : (i : ℕ) (q : Process) → getElem? (C .processes) i ≡ some q → (h : ℕ) → q .link ≡ some h → (r : Process) × (getElem? (C .processes) h ≡ some r) × (isWaiting (r .doing) ≡ true)

@@ -10,7 +10,8 @@ use Rattle.calculus.specs.Types.{Side, provided, used, other}
 use Rattle.calculus.specs.Program.{Program}
 use Rattle.calculus.specs.OneType.{OneType}
 use Rattle.calculus.specs.Configuration.{End, Process, Outside}
-use Rattle.calculus.specs.WellFormed.{In, key}
+use Rattle.calculus.specs.Named.{In}
+use Rattle.calculus.specs.WellFormed.{key}
 use Rattle.theory_graphs.specs.Moves.{no-loop}
 use Rattle.theory_ends.specs.FarEnds.{FarOutside}
 use Rattle.theory_preservation.specs.Witness.{Key, Tip, side-discrete, of-channel, joint, Between, keyNumber}

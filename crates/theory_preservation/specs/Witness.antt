@@ -12,7 +12,7 @@ use Rattle.calculus.specs.Types.{Side, provided, used}
 use Rattle.calculus.specs.Program.{Program}
 use Rattle.calculus.specs.OneType.{OneType}
 use Rattle.calculus.specs.Forest.{Joint, Forest}
-use Rattle.calculus.specs.WellFormed.{In, NoneTwice}
+use Rattle.calculus.specs.Named.{In, NoneTwice}
 use Rattle.theory_graphs.specs.Graph.{decIn, glue, glueJ, glue-at, glue-off, glue-self}
 use Rattle.theory_graphs.specs.Moves.{map-cong, share, grow, grow-turned, thin}
 use Rattle.theory_derivations.specs.OneType.{one-refl, one-sym, one-trans}

@@ -11,7 +11,7 @@ use lib.ListN.{length}
 use Rattle.calculus.specs.Program.{Program}
 use Rattle.calculus.specs.Configuration.{Process, Config, halt}
 use Rattle.calculus.specs.Steps.{Outcome, carried, uncaught, notOpen, lacking, stepOf, step}
-use Rattle.calculus.specs.Runs.{isCarried, firstFrom, choosePlace}
+use Rattle.calculus.specs.Runs.{isTaken, firstFrom, choosePlace}
 use Rattle.calculus.specs.Reduces.{Lacks, Applies}
 use Rattle.calculus.specs.declared.answers.Seen.{Seen}
 use Rattle.theory_ends.specs.Lists.{past-the-end}
@@ -26,35 +26,35 @@ pub record Steps (p : Program) (C : Config) (i : ℕ) : Type 0 where
   pub after : Config
   pub takes : Takes p C i seen after
 
-pub steps : (p : Program) (C : Config) (i : ℕ) → isCarried (step p C i) ≡ true → Steps p C i
+pub steps : (p : Program) (C : Config) (i : ℕ) → isTaken (step p C i) ≡ true → Steps p C i
 steps p C i e = go (step p C i) refl e
   where
-    go : (r : Outcome) → step p C i ≡ r → isCarried r ≡ true → Steps p C i
+    go : (r : Outcome) → step p C i ≡ r → isTaken r ≡ true → Steps p C i
     go (carried s D) h e = record { seen = s; after = D; takes = carries-out h }
     go uncaught h e = record { seen = Nothing; after = halt C; takes = halts h }
     go notOpen h e = absurd (false≢true e)
     go lacking h e = absurd (false≢true e)
 
-pub is-taken : {p : Program} {C : Config} {i : ℕ} {seen : Seen} {D : Config} → Takes p C i seen D → isCarried (step p C i) ≡ true
-is-taken (carries-out e) = ap isCarried e
-is-taken (halts e) = ap isCarried e
+pub is-taken : {p : Program} {C : Config} {i : ℕ} {seen : Seen} {D : Config} → Takes p C i seen D → isTaken (step p C i) ≡ true
+is-taken (carries-out e) = ap isTaken e
+is-taken (halts e) = ap isTaken e
 
 -- a place that holds a process and whose step is taken, where none before it is
 pub record First (p : Program) (C : Config) (i : ℕ) : Type 0 where
   pub place : i < length (C .processes)
   pub taken : Steps p C i
-  pub none-before : (j : ℕ) → j < i → isCarried (step p C j) ≡ false
+  pub none-before : (j : ℕ) → j < i → isTaken (step p C j) ≡ false
 
 module _ (p : Program) (C : Config) where
   first-from : (i : ℕ) (l : List Process) {k : ℕ} → firstFrom p C i l ≡ some k
-      → (i ≤ k) × (k < i + length l) × (isCarried (step p C k) ≡ true) × ((j : ℕ) → i ≤ j → j < k → isCarried (step p C j) ≡ false)
+      → (i ≤ k) × (k < i + length l) × (isTaken (step p C k) ≡ true) × ((j : ℕ) → i ≤ j → j < k → isTaken (step p C j) ≡ false)
   unfolding firstFrom
   first-from i [] e = absurd (Option·none-ne-some _ e)
-  first-from i (q ∷ l) {k} e = go (isCarried (step p C i)) refl e (λ h. first-from (suc i) l h)
+  first-from i (q ∷ l) {k} e = go (isTaken (step p C i)) refl e (λ h. first-from (suc i) l h)
     where
-      go : (b : Bool) → isCarried (step p C i) ≡ b → cond b (some i) (firstFrom p C (suc i) l) ≡ some k
-          → (firstFrom p C (suc i) l ≡ some k → (suc i ≤ k) × (k < suc i + length l) × (isCarried (step p C k) ≡ true) × ((j : ℕ) → suc i ≤ j → j < k → isCarried (step p C j) ≡ false))
-          → (i ≤ k) × (k < i + length (q ∷ l)) × (isCarried (step p C k) ≡ true) × ((j : ℕ) → i ≤ j → j < k → isCarried (step p C j) ≡ false)
+      go : (b : Bool) → isTaken (step p C i) ≡ b → cond b (some i) (firstFrom p C (suc i) l) ≡ some k
+          → (firstFrom p C (suc i) l ≡ some k → (suc i ≤ k) × (k < suc i + length l) × (isTaken (step p C k) ≡ true) × ((j : ℕ) → suc i ≤ j → j < k → isTaken (step p C j) ≡ false))
+          → (i ≤ k) × (k < i + length (q ∷ l)) × (isTaken (step p C k) ≡ true) × ((j : ℕ) → i ≤ j → j < k → isTaken (step p C j) ≡ false)
       go true t e r = let z = Option·some-injective _ _ e in (omega arith, omega arith, rw (← z) t, λ j h g. absurd (omega arith))
       go false t e r =
           let y = r e in
@@ -62,20 +62,20 @@ module _ (p : Program) (C : Config) where
           let b = y .1 in
           (omega arith, omega arith, y .2, λ j h g. here j h g (ℕ-discrete j i))
         where
-          here : (j : ℕ) → i ≤ j → j < k → Dec (j ≡ i) → isCarried (step p C j) ≡ false
-          here j h g (yes z) = ap (λ j. isCarried (step p C j)) z ∙ t
+          here : (j : ℕ) → i ≤ j → j < k → Dec (j ≡ i) → isTaken (step p C j) ≡ false
+          here j h g (yes z) = ap (λ j. isTaken (step p C j)) z ∙ t
           here j h g (no n) = r e .3 j (omega arith) g
 
-  none-from : (i : ℕ) (l : List Process) → firstFrom p C i l ≡ none → (j : ℕ) → i ≤ j → j < i + length l → isCarried (step p C j) ≡ false
+  none-from : (i : ℕ) (l : List Process) → firstFrom p C i l ≡ none → (j : ℕ) → i ≤ j → j < i + length l → isTaken (step p C j) ≡ false
   unfolding firstFrom
   none-from i [] e j h g = absurd (omega arith)
-  none-from i (q ∷ l) e j h g = go (isCarried (step p C i)) refl e (λ f h g. none-from (suc i) l f j h g) (ℕ-discrete j i)
+  none-from i (q ∷ l) e j h g = go (isTaken (step p C i)) refl e (λ f h g. none-from (suc i) l f j h g) (ℕ-discrete j i)
     where
-      go : (b : Bool) → isCarried (step p C i) ≡ b → cond b (some i) (firstFrom p C (suc i) l) ≡ none
-          → (firstFrom p C (suc i) l ≡ none → suc i ≤ j → j < suc i + length l → isCarried (step p C j) ≡ false) → Dec (j ≡ i)
-          → isCarried (step p C j) ≡ false
+      go : (b : Bool) → isTaken (step p C i) ≡ b → cond b (some i) (firstFrom p C (suc i) l) ≡ none
+          → (firstFrom p C (suc i) l ≡ none → suc i ≤ j → j < suc i + length l → isTaken (step p C j) ≡ false) → Dec (j ≡ i)
+          → isTaken (step p C j) ≡ false
       go true t e r d = absurd (Option·some-ne-none _ e)
-      go false t e r (yes z) = ap (λ j. isCarried (step p C j)) z ∙ t
+      go false t e r (yes z) = ap (λ j. isTaken (step p C j)) z ∙ t
       go false t e r (no n) = r e (omega arith) (omega arith)
 
   -- where a place is chosen, its step is taken, and none before it
@@ -86,13 +86,13 @@ module _ (p : Program) (C : Config) where
       record { place = (let a = y .1 in omega arith); taken = steps p C i (y .2); none-before = λ j h. y .3 j (omega arith) h }
 
   -- where none is chosen, no step can be taken
-  pub none-chosen : choosePlace p C ≡ none → (i : ℕ) → isCarried (step p C i) ≡ false
+  pub none-chosen : choosePlace p C ≡ none → (i : ℕ) → isTaken (step p C i) ≡ false
   unfolding choosePlace step
   none-chosen e i = go (decLt i (length (C .processes)))
     where
-      go : Dec (i < length (C .processes)) → isCarried (step p C i) ≡ false
+      go : Dec (i < length (C .processes)) → isTaken (step p C i) ≡ false
       go (yes h) = none-from 0 (C .processes) e i (omega arith) (omega arith)
-      go (no n) = ap (λ o. isCarried (stepOf p C i o)) (past-the-end (C .processes) i (omega arith))
+      go (no n) = ap (λ o. isTaken (stepOf p C i o)) (past-the-end (C .processes) i (omega arith))
 
   -- where a rule applies and does not lack, the step is taken
   pub applies-takes : (i : ℕ) → Applies p C i → ¬ Lacks C i → Steps p C i

@@ -12,7 +12,7 @@ use Rattle.calculus.specs.Types.{other}
 use Rattle.calculus.specs.Program.{Program}
 use Rattle.calculus.specs.Configuration.{End, Doing, folding, Process, Config, Stands, inserted, removed}
 use Rattle.calculus.specs.Steps.{carried, turnOf, startedDoing, startedHandler, foldedHandler, changedAt, movedEnd, farMoved, step}
-use Rattle.calculus.specs.WellFormed.{In}
+use Rattle.calculus.specs.Named.{In}
 use Rattle.calculus.specs.Reduces.{Empty}
 use Rattle.calculus.specs.declared.answers.Seen.{Seen}
 use Rattle.theory_ends.specs.Lists.{found-below, found-one, set-at, set-off, length-inserted, length-removed}

@@ -9,7 +9,7 @@ use mathlib.Core.Bool.{Bool, true, false, true≢false, false≢true}
 use lib.ListN.{length}
 use Rattle.calculus.specs.Program.{Program}
 use Rattle.calculus.specs.Configuration.{Config}
-use Rattle.calculus.specs.Runs.{isCarried, choosePlace, runOn}
+use Rattle.calculus.specs.Runs.{isTaken, choosePlace, runOn}
 use Rattle.calculus.specs.WellFormed.{WellFormed}
 use Rattle.calculus.specs.Reduces.{Lacks, Open, Applies}
 use Rattle.calculus.specs.declared.answers.Seen.{Seen}
@@ -28,8 +28,8 @@ pub record AllLack (p : Program) (C : Config) : Type 0 where
   pub lack : (i : ℕ) → Open p C i → Lacks C i
 
 open-lacks : (p : Program) (C : Config) → choosePlace p C ≡ none → (i : ℕ) → Applies p C i → Lacks C i
-open-lacks p C e i (inl (s, D, r)) = absurd (false≢true (sym (none-chosen p C e i) ∙ ap isCarried (carried-out p r)))
-open-lacks p C e i (inr (inl h)) = absurd (false≢true (sym (none-chosen p C e i) ∙ ap isCarried (halts-out p h)))
+open-lacks p C e i (inl (s, D, r)) = absurd (false≢true (sym (none-chosen p C e i) ∙ ap isTaken (carried-out p r)))
+open-lacks p C e i (inr (inl h)) = absurd (false≢true (sym (none-chosen p C e i) ∙ ap isTaken (halts-out p h)))
 open-lacks p C e i (inr (inr l)) = l
 
 pub none-chosen-lack : (p : Program) (C : Config) → WellFormed p C → C .processes ≢ [] → C .halted ≡ false → choosePlace p C ≡ none → AllLack p C

@@ -12,7 +12,8 @@ use Rattle.calculus.specs.Types.{Side, provided, used, other}
 use Rattle.calculus.specs.Program.{Program}
 use Rattle.calculus.specs.Configuration.{End, Process, Config, Stands, Holder, Far, atProcess, atOutside, givenUp, farEnd}
 use Rattle.calculus.specs.Forest.{Joint, jointAt, channelJoints, linkJoint, jointsFrom, joints}
-use Rattle.calculus.specs.WellFormed.{In, WellFormed}
+use Rattle.calculus.specs.Named.{In}
+use Rattle.calculus.specs.WellFormed.{WellFormed}
 use Rattle.theory_graphs.specs.Graph.{EndsIn, forest-small}
 use Rattle.theory_ends.specs.Lists.{found-below}
 use Rattle.theory_ends.specs.FarEnds.{stands-at, found-key, HeldFar, FarIs, at-process, at-outside, at-nobody, far-is, far-back, far-found}

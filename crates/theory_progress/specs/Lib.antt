@@ -17,4 +17,5 @@ pub mod StandingStill
 pub mod Starting
 pub mod Together
 pub mod Turns
+pub mod UsedAgain
 pub mod Waiting

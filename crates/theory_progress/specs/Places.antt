@@ -5,7 +5,7 @@ use native.Mathlib.Decide.{decLe}
 use mathlib.Core.Path.{_≡_, refl, ap}
 use mathlib.Core.List.{List, [], _∷_, List·Memᴰ·head, List·Memᴰ·tail, List·Memᴰ·not-nil}
 use lib.ListN.{length}
-use Rattle.calculus.specs.WellFormed.{In, NoneTwice}
+use Rattle.calculus.specs.Named.{In, NoneTwice}
 
 unfoldable pub places : ℕ → List ℕ
 places zero = []

@@ -9,15 +9,16 @@ use mathlib.Core.Option.{Option, some, none, Option·none-ne-some}
 use mathlib.Core.Bool.{Bool, true, false, true≢false, false≢true}
 use lib.ListN.{length}
 use Rattle.notation.specs.Tree.{Located, Proc}
-use Rattle.calculus.specs.Types.{standing}
+use Rattle.calculus.specs.Types.{unfolded}
 use Rattle.calculus.specs.Program.{Program}
 use Rattle.calculus.specs.OneType.{OneType}
 use Rattle.calculus.specs.Configuration.{End, Process, Config, Stands, at, Holder, atProcess}
-use Rattle.calculus.specs.WellFormed.{In, isWaiting, WellFormed}
+use Rattle.calculus.specs.Named.{In}
+use Rattle.calculus.specs.WellFormed.{isWaiting, WellFormed}
 use Rattle.calculus.specs.Reduces.{Runs, Holds, Applies, Open}
 use Rattle.theory_graphs.specs.Graph.{pigeonhole, Twins}
 use Rattle.theory_ends.specs.Lists.{below-found, past-the-end}
-use Rattle.theory_ends.specs.Names.{lookup-in}
+use Rattle.theory_derivations.specs.Named.{lookup-in}
 use Rattle.theory_ends.specs.Ends.{entry-in-ends, one-holder}
 use Rattle.theory_ends.specs.FarEnds.{far-found}
 use Rattle.theory_reductions.specs.CarriedOut.{holder-found}
@@ -87,7 +88,7 @@ module _ {p : Program} {C : Config} (v : WellFormed p C) where
   -- a send meets a recv
   matched : {i j : ℕ} {q r : Process} {P Q : Proc} {c c′ : Located} {e d : End} {h g : Holder} → Runs C i q P → Runs C j r Q
       → Holds C q c e (atProcess h) → Holds C r c′ d (atProcess g) → e .channel ≡ d .channel → OneType p (e .type) (d .type)
-      → Sending (q .held) P c (e .side) (standing (p .types) (e .type)) → Receiving Q c′ (d .side) (standing (p .types) (d .type)) → Applies p C i
+      → Sending (q .held) P c (e .side) (unfolded (p .types) (e .type)) → Receiving Q c′ (d .side) (unfolded (p .types) (d .type)) → Applies p C i
   matched {r = r} {c′ = c′} {e} a b x y z w m m′ =
       let u = one-sending p w m in
       let f = far-found v e (b .stands) (lookup-in (c′ .name) (r .held) (y .held)) (λ i. (sym z i, faces u m′ i)) in

@@ -9,11 +9,11 @@ use Rattle.notation.specs.Tree.{Name, Located, Proc}
 use Rattle.calculus.specs.Program.{Program}
 use Rattle.calculus.specs.Configuration.{End, Process, Config, Stands, Holder, atProcess, givenUp, farEnd, inserted, removed}
 use Rattle.calculus.specs.Steps.{Outcome, carried, uncaught, notOpen, lacking, Turn, sends, receives, alone, turn, turnOf, startedHandler, foldedHandler, changedAt, farMoved, step}
-use Rattle.calculus.specs.WellFormed.{In}
+use Rattle.calculus.specs.Named.{In}
 use Rattle.calculus.specs.declared.answers.Seen.{Seen}
 use Rattle.calculus.specs.declared.answers.Seen.the-variants.{Nothing}
 use Rattle.calculus.specs.Reduces.{Holds, Answers, GivesUp, by-process, by-outside, by-nobody, Empty, Sends, close-meets, channel-meets, label-meets, label-left-out, close-shows, label-shows, channel-shows, gone-shows, close-lost, label-lost, channel-lost, Naming, its-own, its-recv, Reduces, communicates, spawns, tries, calls, cancels, raises, joins, joins-outside, joins-nobody, nobody-joins, unanswered, folds, leaves}
-use Rattle.theory_ends.specs.Names.{lookup-in}
+use Rattle.theory_derivations.specs.Named.{lookup-in}
 use Rattle.theory_ends.specs.FarEnds.{found-key, far-held, given-up-unheld, far-back}
 use Rattle.theory_reductions.specs.CarriedOut.{holder-stands}
 use Rattle.theory_reductions.specs.StepIff.{step-iff}

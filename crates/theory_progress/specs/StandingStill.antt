@@ -6,15 +6,15 @@ use mathlib.Core.List.{List, [], _∷_}
 use mathlib.Core.Option.{some, Option·none-ne-some, Option·some-injective}
 use mathlib.Core.Bool.{Bool, true, false, cond, true≢false}
 use Rattle.notation.specs.Tree.{Name, Located}
-use Rattle.calculus.specs.Named.{lookup, names}
+use Rattle.calculus.specs.Named.{lookup, names, In, NoneTwice}
 use Rattle.calculus.specs.Types.{Side, other}
 use Rattle.calculus.specs.Program.{Program}
 use Rattle.calculus.specs.Configuration.{End, Doing, running, ofChannel, Process, Config, Stands, farEnd}
 use Rattle.calculus.specs.Steps.{carried, turnOf, movedEnd, step}
-use Rattle.calculus.specs.WellFormed.{In, NoneTwice, key, contextOf, TypedAs, isWaiting, WellFormed}
+use Rattle.calculus.specs.WellFormed.{key, contextOf, TypedAs, isWaiting, WellFormed}
 use Rattle.calculus.specs.declared.answers.Seen.{Seen}
 use Rattle.theory_ends.specs.Lists.{found-one}
-use Rattle.theory_ends.specs.Names.{by-test, in-lookup, distinct-iff}
+use Rattle.theory_derivations.specs.Named.{by-test, in-lookup}
 use Rattle.theory_ends.specs.Contexts.{context-names}
 use Rattle.theory_ends.specs.FarEnds.{isEnd, is-end, given-up-unheld, far-back}
 use Rattle.theory_progress.specs.Starting.{Forsaken, starter-stands}
@@ -45,7 +45,7 @@ module _ {p : Program} {C : Config} (w : WellFormed p C) {i : ℕ} {q : Process}
   names-once : NoneTwice (names (q .held))
   names-once =
       let t = subst (TypedAs p (contextOf (q .held))) (f .runs .runs) (w .typed i q (f .runs .stands)) in
-      subst NoneTwice (context-names (q .held)) (distinct-iff (names (contextOf (q .held))) .0 (t .0))
+      subst NoneTwice (context-names (q .held)) (t .0)
 
   -- it is nobody's partner: of the channel that it acts on the far end was given up
   not-engaged : ¬ Engaged C q

@@ -10,7 +10,7 @@ use Rattle.calculus.specs.Configuration.{End, Process, Config}
 use Rattle.calculus.specs.Steps.{Message, Wanted, sends, receives, turn, step}
 use Rattle.calculus.specs.WellFormed.{key, WellFormed}
 use Rattle.calculus.specs.Reduces.{Runs, its-recv}
-use Rattle.theory_ends.specs.Names.{lookup-in}
+use Rattle.theory_derivations.specs.Named.{lookup-in}
 use Rattle.theory_ends.specs.FarEnds.{far-found}
 use Rattle.theory_reductions.specs.CarriedOut.{names-step}
 

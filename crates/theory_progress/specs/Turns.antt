@@ -7,7 +7,7 @@ use mathlib.Core.Option.{Option, some, none, Option·some-injective, Option·non
 use mathlib.Core.Bool.{true}
 use Rattle.notation.specs.Tree.{Name, Located, Ty, unit, named, tensor, par, lolli, plus, with, Proc, sendUnit, sendChannel, sendLabel, recvUnit, recvChannel, recvLabel, Branches}
 use Rattle.calculus.specs.Named.{lookup}
-use Rattle.calculus.specs.Types.{Side, provided, used, other, standing, Passing, passing, Choosing, choosing, labelled}
+use Rattle.calculus.specs.Types.{Side, provided, used, other, unfolded, Passing, passing, Choosing, choosing, labelled}
 use Rattle.calculus.specs.Program.{Program}
 use Rattle.calculus.specs.OneType.{OneType}
 use Rattle.calculus.specs.Configuration.{End, Process, Config, Holder, atProcess}
@@ -35,8 +35,8 @@ pub data Receiving : Proc → Located → Side → Ty Name → Type 0 where
 
 -- ── what is typed over an end is typed over every end of one type with it
 module _ (p : Program) {A B : Ty Name} (h : OneType p A B) where
-  pub one-sending : {l : List (Name × End)} {P : Proc} {c : Located} {s : Side} → Sending l P c s (standing (p .types) A)
-      → Sending l P c s (standing (p .types) B)
+  pub one-sending : {l : List (Name × End)} {P : Proc} {c : Located} {s : Side} → Sending l P c s (unfolded (p .types) A)
+      → Sending l P c s (unfolded (p .types) B)
   one-sending (sends-close e z) = sends-close e (one-unit p h z)
   one-sending (sends-passing t d e z k) =
       let u = one-passing p h e in
@@ -46,7 +46,7 @@ module _ (p : Program) {A B : Ty Name} (h : OneType p A B) where
       let w = u .2 .leads (n .name) k in
       sends-choice (u .0) (w .0) (u .1) (z ∙ u .2 .sender) (w .1)
 
-  pub one-receiving : {P : Proc} {c : Located} {s : Side} → Receiving P c s (standing (p .types) A) → Receiving P c s (standing (p .types) B)
+  pub one-receiving : {P : Proc} {c : Located} {s : Side} → Receiving P c s (unfolded (p .types) A) → Receiving P c s (unfolded (p .types) B)
   one-receiving (receives-close e z) = receives-close e (one-unit p h z)
   one-receiving (receives-passing t e z) = let u = one-passing p h e in receives-passing (u .0) (u .1) (z ∙ ap other (u .2 .sender))
   one-receiving (receives-choice t e z) = let u = one-choosing p h e in receives-choice (u .0) (u .1) (z ∙ ap other (u .2 .sender))

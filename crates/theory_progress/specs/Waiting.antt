@@ -10,20 +10,19 @@ use mathlib.Core.Bool.{true≢false}
 use lib.ListN.{length}
 use Rattle.notation.specs.Limits.{processPlaces, outsideNumbers}
 use Rattle.notation.specs.Tree.{Name, Located, Ty, Proc, sendChannel, spawn, fwd, raise}
-use Rattle.calculus.specs.Named.{lookup}
-use Rattle.calculus.specs.Types.{provided, standing, passing, choosing}
+use Rattle.calculus.specs.Named.{lookup, In}
+use Rattle.calculus.specs.Types.{provided, unfolded, passing, choosing}
 use Rattle.calculus.specs.Program.{Program}
 use Rattle.calculus.specs.OneType.{OneType}
 use Rattle.calculus.specs.Typing.{Typed, sends-unit, recvs-unit, sends-channel, recvs-channel, sends-label, recvs-label, forwards, calls, spawns, tries, raises, cancels, empties}
 use Rattle.calculus.specs.Configuration.{End, Doing, running, folding, waiting, Process, Outside, Config, Stands, Holder, Far, atProcess, atOutside, givenUp, farEnd, freshChannel}
 use Rattle.calculus.specs.Steps.{Wanted, receives, turn}
-use Rattle.calculus.specs.WellFormed.{In, contextOf, TypedAs, WellFormed}
+use Rattle.calculus.specs.WellFormed.{contextOf, TypedAs, WellFormed}
 use Rattle.calculus.specs.Reduces as rule
 use Rattle.calculus.specs.Reduces.{Runs, Holds, GivesUp, by-process, by-outside, by-nobody, no-term, no-channel, Sends, close-shows, label-shows, channel-shows, gone-shows, close-lost, label-lost, channel-lost, its-own, Reduces, communicates, joins, joins-outside, joins-nobody, nobody-joins, unanswered, folds, leaves, nobody-catches, Lacks, no-number, spawn-no-place, spawn-no-channel, try-no-place, Applies}
 use Rattle.calculus.specs.declared.answers.Seen.{Seen}
-use Rattle.theory_derivations.specs.Booleans.{isSome-iff}
 use Rattle.theory_derivations.specs.OneType.{one-sym}
-use Rattle.theory_ends.specs.Names.{lookup-in}
+use Rattle.theory_derivations.specs.Named.{lookup-in, held-iff}
 use Rattle.theory_ends.specs.Contexts.{acts, held-plain}
 use Rattle.theory_ends.specs.Ends.{entry-in-ends, outside-in-ends}
 use Rattle.theory_ends.specs.FarEnds.{FarIs, at-process, at-outside, at-nobody, far-is}
@@ -35,9 +34,9 @@ use Rattle.theory_progress.specs.Turns.{Sending, sends-close, sends-pass
 -- a process waits on a joint: a handler on its link, a send or recv on a channel whose far end a process holds
 pub data Waits (p : Program) (C : Config) (i : ℕ) (q : Process) : JointKey → Type 0 where
   waits-handler : {Q : Proc} → q .doing ≡ waiting Q → Waits p C i q (handler i)
-  waits-send : {P : Proc} {c : Located} {h : Holder} (e : End) → Runs C i q P → Sending (q .held) P c (e .side) (standing (p .types) (e .type))
+  waits-send : {P : Proc} {c : Located} {h : Holder} (e : End) → Runs C i q P → Sending (q .held) P c (e .side) (unfolded (p .types) (e .type))
       → Holds C q c e (atProcess h) → Waits p C i q (channel (e .channel))
-  waits-receive : {P : Proc} {c : Located} {h : Holder} (e : End) → Runs C i q P → Receiving P c (e .side) (standing (p .types) (e .type))
+  waits-receive : {P : Proc} {c : Located} {h : Holder} (e : End) → Runs C i q P → Receiving P c (e .side) (unfolded (p .types) (e .type))
       → Holds C q c e (atProcess h) → Waits p C i q (channel (e .channel))
 
 -- ── where a rule applies
@@ -109,7 +108,7 @@ module _ {p : Program} {C : Config} (v : WellFormed p C) {i : ℕ} {q : Process}
 
   -- a send steps with the outside, goes on where its far end was given up, and waits for a process
   send-moves : {P : Proc} {c : Located} (e : End) → Runs C i q P → lookup (c .name) (q .held) ≡ some e
-      → Sending (q .held) P c (e .side) (standing (p .types) (e .type))
+      → Sending (q .held) P c (e .side) (unfolded (p .types) (e .type))
       → ((n : ℕ) → Holds C q c e (atOutside n) → Applies p C i) → (Holds C q c e givenUp → Applies p C i) → Moves
   send-moves e r h g out lost = go (farEnd C e) refl
     where
@@ -119,15 +118,15 @@ module _ {p : Program} {C : Config} (v : WellFormed p C) {i : ℕ} {q : Process}
       go givenUp z = inl (lost (record { held = h; far = z }))
 
   -- a recv whose far end is the outside's is not typed
-  no-recv-outside : {P : Proc} {c : Located} {e : End} → In (c .name, e) (q .held) → Receiving P c (e .side) (standing (p .types) (e .type))
+  no-recv-outside : {P : Proc} {c : Located} {e : End} → In (c .name, e) (q .held) → Receiving P c (e .side) (unfolded (p .types) (e .type))
       → (o : Outside) → In o (C .outside) → o .channel ≡ e .channel → e .side ≡ provided → ⊥
   no-recv-outside {P} {c} {e} m r o k z t =
       let w : OneType p (e .type) (o .type) = one-sym p (v .agree _ _ (outside-in-ends C k) (entry-in-ends s m) z) in
-      let b : Receiving P c provided (standing (p .types) (o .type)) = rw t at (one-receiving p w r) in
+      let b : Receiving P c provided (unfolded (p .types) (o .type)) = rw t at (one-receiving p w r) in
       true≢false (sym (received-provided b) ∙ outward-stands p (o .type) (v .outside o k .0))
 
   receive-moves : {P : Proc} {c : Located} {w : Wanted} (e : End) → Runs C i q P → turn P ≡ receives c w → lookup (c .name) (q .held) ≡ some e
-      → Receiving P c (e .side) (standing (p .types) (e .type)) → Moves
+      → Receiving P c (e .side) (unfolded (p .types) (e .type)) → Moves
   receive-moves {c = c} e r t h g = go (far-is C e) refl
     where
       go : {f : Far} → FarIs C e f → farEnd C e ≡ f → Moves
@@ -159,11 +158,11 @@ module _ {p : Program} {C : Config} (v : WellFormed p C) {i : ℕ} {q : Process}
   term-moves r (forwards {x = x} {c = c} A B e f g h) =
       inl (forward-applies r (held-plain (x .name) (q .held) _ _ e .found) (held-plain (c .name) (q .held) _ _ f .found))
   term-moves r (calls s e f g h k) = inl (by-rule (rule.calls r e))
-  term-moves r (spawns n b b′ d d′) = inl (spawn-applies r)
-  term-moves r (tries e d d′) = inl (place-or-lack (λ b. by-rule (rule.tries r b)) (try-no-place r))
+  term-moves r (spawns H K h k n b b′ d d′) = inl (spawn-applies r)
+  term-moves r (tries H K h k e d d′) = inl (place-or-lack (λ b. by-rule (rule.tries r b)) (try-no-place r))
   term-moves r (raises d) = inl (raise-applies r)
   term-moves r (cancels {c = c} e d) =
-      let t = isSome-iff (lookup (c .name) (contextOf (q .held))) .0 e in
+      let t = held-iff (c .name) (contextOf (q .held)) .0 e in
       let a = held-plain (c .name) (q .held) (t .0 .side) (t .0 .type) (t .1) in
       inl (parts (a .end) λ _ _ g. by-rule (rule.cancels r (a .found) g))
   term-moves r (empties e) = inl (by-rule (leaves (r .stands) (no-term (r .runs))))

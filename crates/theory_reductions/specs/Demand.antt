@@ -12,8 +12,8 @@ use Rattle.calculus.specs.Program.{Program, programOf}
 use Rattle.calculus.specs.Accepted.{accepted, checked}
 use Rattle.calculus.specs.Configuration.{Process, Config, halt, at}
 use Rattle.calculus.specs.Steps.{Outcome, carried, uncaught, notOpen, lacking, step}
-use Rattle.calculus.specs.Runs.{isCarried}
-use Rattle.calculus.specs.Machine.{callStep, started, stepped, ranOn, reported, surveyed, named, Reply, reply, refusal, onGoing, onPlace, onStep, textChecked, respond}
+use Rattle.calculus.specs.Runs.{isTaken}
+use Rattle.calculus.specs.Machine.{callStep, started, stepped, ranOn, reported, surveyed, nameGiven, Reply, reply, refusal, onGoing, onPlace, onStep, textChecked, respond}
 use Rattle.calculus.specs.Demands.{Enough, Answered, AnsweredUncaught, Demand2}
 use Rattle.calculus.specs.Reduces.{Reduces, Halts, Lacks, Applies, Open}
 use Rattle.calculus.specs.declared.answers.Seen.{Seen}
@@ -32,7 +32,7 @@ told-in r = elim (r .answer) [
   | ranOn a ↦ notOpen
   | reported a l ↦ notOpen
   | surveyed a l ↦ notOpen
-  | named l n i ↦ notOpen
+  | nameGiven l n i ↦ notOpen
 ]
 
 module _ (text : List ℕ) (ds : List Declaration) (e : checked text ≡ accepted ds) (C : Config) (scratch run i : ℕ) (enough : Enough scratch run) where
@@ -49,15 +49,15 @@ module _ (text : List ℕ) (ds : List Declaration) (e : checked text ≡ accepte
   answer = rw (le-leb scratchWords scratch (enough .scratchEnough), e, le-leb runWords run (enough .runEnough))
 
   -- a reply that tells of a step taken answers that very step, in a run that has not halted
-  took : (b : Bool) (q : Option Process) (r : Outcome) {o : Outcome} → isCarried o ≡ true → told-in (step-reply b q r) ≡ o → (b ≡ false) × (r ≡ o)
-  took true q r t h = absurd (false≢true (ap isCarried h ∙ t))
-  took false none r t h = absurd (false≢true (ap isCarried h ∙ t))
+  took : (b : Bool) (q : Option Process) (r : Outcome) {o : Outcome} → isTaken o ≡ true → told-in (step-reply b q r) ≡ o → (b ≡ false) × (r ≡ o)
+  took true q r t h = absurd (false≢true (ap isTaken h ∙ t))
+  took false none r t h = absurd (false≢true (ap isTaken h ∙ t))
   took false (some q) (carried s D) t h = (refl, h)
   took false (some q) uncaught t h = (refl, h)
-  took false (some q) notOpen t h = absurd (false≢true (ap isCarried h ∙ t))
-  took false (some q) lacking t h = absurd (false≢true (ap isCarried h ∙ t))
+  took false (some q) notOpen t h = absurd (false≢true (ap isTaken h ∙ t))
+  took false (some q) lacking t h = absurd (false≢true (ap isTaken h ∙ t))
 
-  taken : {r : Reply} {o : Outcome} → told-in r ≡ o → isCarried o ≡ true → respond text C (callStep scratch run i) ≡ r → (C .halted ≡ false) × (step p C i ≡ o)
+  taken : {r : Reply} {o : Outcome} → told-in r ≡ o → isTaken o ≡ true → respond text C (callStep scratch run i) ≡ r → (C .halted ≡ false) × (step p C i ≡ o)
   taken z t h = took (C .halted) (at C i) (step p C i) t (ap told-in (sym answer ∙ h) ∙ z)
 
   -- and a rule that applies in such a run is replied to by its outcome

@@ -22,7 +22,7 @@ use Rattle.calculus.specs.Accepted.{Checked, accepted, faulty, judged, checkedR
 use Rattle.calculus.specs.Configuration.{Process, Config, at}
 use Rattle.calculus.specs.Steps.{Outcome, carried, uncaught, notOpen, lacking, step}
 use Rattle.calculus.specs.Runs.{execOf, runOn}
-use Rattle.calculus.specs.Machine.{Call, callStart, callStep, callRunOn, callReport, callPlaces, callExecName, Answer, started, stepped, ranOn, reported, surveyed, named, Reply, textChecked, onProgram, onRun, onLine, onGoing, onPlace, onStep, refusal, respond}
+use Rattle.calculus.specs.Machine.{Call, callStart, callStep, callRunOn, callReport, callPlaces, callExecName, Answer, started, stepped, ranOn, reported, surveyed, nameGiven, Reply, textChecked, onProgram, onRun, onLine, onGoing, onPlace, onStep, refusal, respond}
 use Rattle.calculus.specs.Demands.{isRefused}
 use Rattle.calculus.specs.declared.answers.Seen.{Seen}
 use Rattle.calculus.specs.declared.answers.RanOn.{RanOn}
@@ -32,7 +32,7 @@ use Rattle.calculus.specs.declared.answers.RanOn.the-variants as runs
 use Rattle.calculus.specs.declared.answers.Reported.the-variants as reports
 use Rattle.calculus.specs.declared.answers.Surveyed.the-variants as surveys
 use Rattle.theory_progress.specs.RunOn.{Ended, run-on-ends}
-use Rattle.theory_refusals.specs.Verdicts.{Between, Numbered, TypingNumber, declared-within, typed-within}
+use Rattle.theory_refusals.specs.Verdicts.{Between, Refusing, DeclaredFault, TypingFault, declared-within, typed-within}
 use Rattle.notation.proofs.ScriptReadings.{read-numbered}
 
 -- ── a text: 2 to 15, and never 14
@@ -48,10 +48,10 @@ fault-in m j b n i e = let z : m ≡ n = cc in omega arith
 no-fault : (ds : List Declaration) → FaultIn (accepted ds)
 no-fault ds n i e = absurd (let z : _≡_ {A = ℕ} 0 1 = cc in omega arith)
 
-judged-numbered : (ds : List Declaration) (v w : Verdict) → Numbered (Between 6 9) v → Numbered TypingNumber w → FaultIn (judged ds (andThen v w))
+judged-numbered : (ds : List Declaration) (v w : Verdict) → Refusing (DeclaredFault ds) v → Refusing (TypingFault ds) w → FaultIn (judged ds (andThen v w))
 judged-numbered ds fine fine a b = no-fault ds
-judged-numbered ds fine (verdicts.refused m j) a b = let h = b .holds in fault-in m j (omega arith)
-judged-numbered ds (verdicts.refused m j) w a b = let h = a .holds in fault-in m j (omega arith)
+judged-numbered ds fine (verdicts.refused m j) a b = let h = b .holds .number in fault-in m j (omega arith)
+judged-numbered ds (verdicts.refused m j) w a b = let h = a .holds .number in fault-in m j (omega arith)
 
 -- the refusal of a text is among them
 pub checked-numbered : (s : List ℕ) (n i : ℕ) → checked s ≡ faulty n i → TextNumber n
@@ -70,7 +70,7 @@ refusalOf (stepped a) = steppedAs a .refusal
 refusalOf (ranOn a) = ranOnAs a .refusal
 refusalOf (reported a l) = reportedAs a .refusal
 refusalOf (surveyed a l) = surveyedAs a .refusal
-refusalOf (named l n i) = n
+refusalOf (nameGiven l n i) = n
 
 abbrev pub offsetOf : Answer → ℕ
 offsetOf (started starts.Begun) = 0
@@ -88,7 +88,7 @@ offsetOf (reported (reports.Open n) l) = 0
 offsetOf (surveyed (surveys.Processes n) l) = 0
 offsetOf (reported (reports.Refused n i) l) = i
 offsetOf (surveyed (surveys.Refused n i) l) = i
-offsetOf (named l n i) = i
+offsetOf (nameGiven l n i) = i
 
 -- a call can "fail on 16 to 22 only where that argument exists"; the plain machine never on 18
 abbrev pub ByArguments : Call → ℕ → Type 0
@@ -124,9 +124,9 @@ some-number (callPlaces scratch run) n i (inr (inr e, z)) = omega arith
 some-number (callExecName scratch line) n i (inr (inr e, z)) = omega arith
 
 -- ── a law for each part of the refusal list
-named-refused : (scratch line n i : ℕ) → Refuses (callExecName scratch line) n i → 1 ≤ n → Answers (callExecName scratch line) (named [] n i)
-named-refused scratch line zero i h z = absurd (omega arith)
-named-refused scratch line (suc n) i h z = record { holds = h }
+name-refused : (scratch line n i : ℕ) → Refuses (callExecName scratch line) n i → 1 ≤ n → Answers (callExecName scratch line) (nameGiven [] n i)
+name-refused scratch line zero i h z = absurd (omega arith)
+name-refused scratch line (suc n) i h z = record { holds = h }
 
 refuses : (C : Config) (c : Call) (n i : ℕ) → Refuses c n i → Answers c (refusal C c n i .answer)
 unfolding startedAs steppedAs ranOnAs reportedAs surveyedAs
@@ -135,7 +135,7 @@ refuses C (callStep scratch run place) n i h = record { holds = h }
 refuses C (callRunOn scratch run budget) n i h = record { holds = h }
 refuses C (callReport scratch run) n i h = record { holds = h }
 refuses C (callPlaces scratch run) n i h = record { holds = h }
-refuses C (callExecName scratch line) n i h = named-refused scratch line n i h (some-number (callExecName scratch line) n i h .0 .0)
+refuses C (callExecName scratch line) n i h = name-refused scratch line n i h (some-number (callExecName scratch line) n i h .0 .0)
 
 abbrev Replies : Call → Reply → Type 0
 Replies c r = Answers c (r .answer)

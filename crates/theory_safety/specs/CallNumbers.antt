@@ -9,8 +9,8 @@ use Rattle.calculus.specs.Program.{Program, programOf}
 use Rattle.calculus.specs.Accepted.{accepted, checked}
 use Rattle.calculus.specs.Configuration.{Config}
 use Rattle.calculus.specs.Runs.{report, runOn}
-use Rattle.calculus.specs.WellFormed.{In, NoneTwice}
-use Rattle.calculus.specs.Machine.{Call, callStart, callStep, callRunOn, callReport, callPlaces, callExecName, Answer, started, stepped, ranOn, reported, surveyed, named, Reply, refusal, respond, Exchange, history}
+use Rattle.calculus.specs.Named.{In, NoneTwice}
+use Rattle.calculus.specs.Machine.{Call, callStart, callStep, callRunOn, callReport, callPlaces, callExecName, Answer, started, stepped, ranOn, reported, surveyed, nameGiven, Reply, refusal, respond, Exchange, history}
 use Rattle.calculus.specs.declared.answers.RanOn.{RanOn}
 use Rattle.calculus.specs.declared.answers.Stepped.the-variants as steps
 use Rattle.calculus.specs.declared.answers.RanOn.the-variants as runs
@@ -34,7 +34,7 @@ shownIn (ranOn (runs.Stopped t)) r = r
 shownIn (ranOn (runs.Refused n i)) r = r
 shownIn (reported a l) r = r
 shownIn (surveyed a l) r = r
-shownIn (named l n i) r = r
+shownIn (nameGiven l n i) r = r
 
 abbrev pub numbersShown : List Exchange → List ℕ
 numbersShown [] = []

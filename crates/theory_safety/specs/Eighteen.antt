@@ -9,7 +9,7 @@ use Rattle.calculus.specs.Program.{Signature, Program, programOf}
 use Rattle.calculus.specs.Accepted.{accepted, checked}
 use Rattle.calculus.specs.Configuration.{Config}
 use Rattle.calculus.specs.Runs.{startConfig, execOf, runOn}
-use Rattle.calculus.specs.WellFormed.{In}
+use Rattle.calculus.specs.Named.{In}
 use Rattle.calculus.specs.Machine.{Call, callStart, started, respond, idle, Exchange, history}
 use Rattle.calculus.specs.declared.answers.Seen.{Seen}
 use Rattle.calculus.specs.declared.answers.Started.the-variants as Starts

@@ -7,7 +7,7 @@ use Rattle.calculus.specs.Program.{Program}
 use Rattle.calculus.specs.Typing.{Bodies}
 use Rattle.calculus.specs.Configuration.{Process, Config}
 use Rattle.calculus.specs.WellFormed.{WellFormed}
-use Rattle.theory_ends.specs.Names.{lookup-in}
+use Rattle.theory_derivations.specs.Named.{lookup-in}
 use Rattle.theory_reductions.specs.StepIff.{step-iff}
 use Rattle.theory_reductions.specs.Halting.{carried-keeps}
 use Rattle.theory_progress.specs.Starting.{Forsaken}

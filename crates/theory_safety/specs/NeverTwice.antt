@@ -9,7 +9,7 @@ use Rattle.calculus.specs.Program.{Signature, Program}
 use Rattle.calculus.specs.Configuration.{Outside, Config}
 use Rattle.calculus.specs.Steps.{carried, step}
 use Rattle.calculus.specs.Runs.{startOutside, startConfig, report}
-use Rattle.calculus.specs.WellFormed.{In, NoneTwice}
+use Rattle.calculus.specs.Named.{In, NoneTwice}
 use Rattle.calculus.specs.declared.answers.Seen.{Seen}
 use Rattle.calculus.specs.declared.answers.Seen.the-variants.{Nothing, Label, Close, Passed, Cancelled}
 use Rattle.theory_reductions.specs.Halting.{Counted, carried-counts}

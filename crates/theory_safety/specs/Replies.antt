@@ -17,7 +17,7 @@ use Rattle.calculus.specs.Configuration.{Process, Config, halt, at}
 use Rattle.calculus.specs.Steps.{Outcome, carried, uncaught, notOpen, lacking, step}
 use Rattle.calculus.specs.Runs.{Ran, startConfig, lineSignature, execOf, runOn, report, places}
 use Rattle.calculus.specs.Reduces.{Lacks, Applies, Open}
-use Rattle.calculus.specs.Machine.{Call, callStart, callStep, callRunOn, callReport, callPlaces, callExecName, started, stepped, ranOn, reported, surveyed, named, Reply, reply, textChecked, onProgram, onRun, onLine, onGoing, onPlace, onStep, refusal, respond}
+use Rattle.calculus.specs.Machine.{Call, callStart, callStep, callRunOn, callReport, callPlaces, callExecName, started, stepped, ranOn, reported, surveyed, nameGiven, Reply, reply, textChecked, onProgram, onRun, onLine, onGoing, onPlace, onStep, refusal, respond}
 use Rattle.calculus.specs.Demands.{isRefused, lengths, RefusedWhere, AnsweredHalted}
 use Rattle.calculus.specs.declared.answers.Seen.{Seen}
 use Rattle.calculus.specs.declared.answers.RanOn.{RanOn}
@@ -54,7 +54,7 @@ pub data Replied (p : Program) (C : Config) : Call → Reply → Type 0 where
   runs : {scratch run budget : ℕ} → Replied p C (callRunOn scratch run budget) (reply (ranOn (runOn p C budget .answer)) (runOn p C budget .config))
   reports : {scratch run : ℕ} → Replied p C (callReport scratch run) (reply (reported (Reports.Open (length (report C))) (report C)) C)
   surveys-places : {scratch run : ℕ} → Replied p C (callPlaces scratch run) (reply (surveyed (Surveys.Processes (length (places p C))) (places p C)) C)
-  names : {scratch line : ℕ} (n : Located) → Replied p C (callExecName scratch line) (reply (named (n .name) 0 0) C)
+  names : {scratch line : ℕ} (n : Located) → Replied p C (callExecName scratch line) (reply (nameGiven (n .name) 0 0) C)
 
 module _ {p : Program} {C : Config} {c : Call} where
   on-run : (run : ℕ) {r : Reply} → Replied p C c r → Replied p C c (onRun run (refusal C c) r)
@@ -184,7 +184,7 @@ module _ (text : List ℕ) (ds : List Declaration) (ok : checked text ≡ accept
   refused-where C (callExecName scratch line) h = rw (enough-text scratch (h .scratchEnough)) (go (getElem? (P .execs) line) refl)
     where
       go : (o : Option Located) → getElem? (P .execs) line ≡ o
-          → (isRefused (onLine o (refusal C (callExecName scratch line)) (λ n. reply (named (n .name) 0 0) C) .answer) ≡ true) ↔ (length (P .execs) ≤ line)
+          → (isRefused (onLine o (refusal C (callExecName scratch line)) (λ n. reply (nameGiven (n .name) 0 0) C) .answer) ≡ true) ↔ (length (P .execs) ≤ line)
       go none e = holds-iff refl (none-past (P .execs) line e)
       go (some n) e = fails-iff refl (not-past (P .execs) line e)
 

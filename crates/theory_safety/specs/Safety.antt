@@ -8,8 +8,9 @@ use Rattle.calculus.specs.Program.{Program, programOf}
 use Rattle.calculus.specs.Accepted.{accepted, checked}
 use Rattle.calculus.specs.Configuration.{Config}
 use Rattle.calculus.specs.Runs.{runOn}
-use Rattle.calculus.specs.WellFormed.{In, WellFormed}
-use Rattle.calculus.specs.Machine.{Call, callStart, callStep, callRunOn, callReport, callPlaces, callExecName, Answer, started, stepped, ranOn, reported, surveyed, named, Reply, refusal, respond, idle, Exchange, history}
+use Rattle.calculus.specs.Named.{In}
+use Rattle.calculus.specs.WellFormed.{WellFormed}
+use Rattle.calculus.specs.Machine.{Call, callStart, callStep, callRunOn, callReport, callPlaces, callExecName, Answer, started, stepped, ranOn, reported, surveyed, nameGiven, Reply, refusal, respond, idle, Exchange, history}
 use Rattle.calculus.specs.Demands.{Safe, SafeBetween, SafeExchange, PlainDemand3}
 use Rattle.calculus.specs.declared.answers.Started.the-variants as Starts
 use Rattle.theory_progress.specs.Joints.{joints-fewer}
@@ -29,7 +30,7 @@ has-begun (stepped a) = false
 has-begun (ranOn a) = false
 has-begun (reported a l) = false
 has-begun (surveyed a l) = false
-has-begun (named l n i) = false
+has-begun (nameGiven l n i) = false
 
 -- only a start begins a run
 abbrev pub is-start : Call → Bool

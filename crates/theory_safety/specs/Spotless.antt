@@ -12,7 +12,8 @@ use Rattle.calculus.specs.Steps.{branchOf}
 use Rattle.calculus.specs.Runs.{startConfig, execOf}
 use Rattle.calculus.specs.Warnings.{Missing, missing, warningIn, ownWarnings, warnings}
 use Rattle.calculus.specs.Declarations.{gather}
-use Rattle.calculus.specs.WellFormed.{In, WellFormed}
+use Rattle.calculus.specs.Named.{In}
+use Rattle.calculus.specs.WellFormed.{WellFormed}
 use Rattle.calculus.specs.Reduces.{Runs, Holds, Answers}
 use Rattle.calculus.specs.Machine.{Call, callStart, started, respond, idle, Exchange, history}
 use Rattle.calculus.specs.declared.answers.Seen.{Seen}
@@ -20,7 +21,7 @@ use Rattle.calculus.specs.declared.answers.Started.the-variants as Starts
 use Rattle.theory_reductions.specs.StepIff.{step-iff}
 use Rattle.theory_reductions.specs.Halting.{Takes, carries-out, halts}
 use Rattle.theory_ends.specs.Lists.{nil-left, nil-right}
-use Rattle.theory_ends.specs.Names.{lookup-in}
+use Rattle.theory_derivations.specs.Named.{lookup-in}
 use Rattle.theory_preservation.specs.Each.{each-one}
 use Rattle.theory_preservation.specs.Start.{started-context}
 use Rattle.theory_preservation.specs.Accepted.{exec-process}

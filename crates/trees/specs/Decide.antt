@@ -64,9 +64,9 @@ module _ {N : Type 0} (same : N → N → Bool) (exact : (l m : N) → same l m 
   Visit n = (left : List (X × X)) → length left ≤ n → (a b : X) → Outcome left ((a, b) ∷ [])
 
   -- a list of pairs, one after the other
-  unfoldable pub all : (n : ℕ) → Visit n → (ps : List (X × X)) (left : List (X × X)) → length left ≤ n → Outcome left ps
-  all n f [] left h = done (record { rest = left; shorter = omega arith; within = λ p i. i; met = tt; closed = λ x y i m. absurd (m i) })
-  all n f (p ∷ ps) left h = first (f left h (p .0) (p .1)) (all n f ps)
+  unfoldable pub visitAll : (n : ℕ) → Visit n → (ps : List (X × X)) (left : List (X × X)) → length left ≤ n → Outcome left ps
+  visitAll n f [] left h = done (record { rest = left; shorter = omega arith; within = λ p i. i; met = tt; closed = λ x y i m. absurd (m i) })
+  visitAll n f (p ∷ ps) left h = first (f left h (p .0) (p .1)) (visitAll n f ps)
     where
       second : (d : Done left (p ∷ [])) → Outcome (d .rest) ps → Outcome left (p ∷ ps)
       second d (differ e) = differ (λ x. e (x .1))
@@ -105,7 +105,7 @@ module _ {N : Type 0} (same : N → N → Bool) (exact : (l m : N) → same l m 
 
   unfoldable pub visit : (n : ℕ) → Visit n
   visit zero left h a b = done (unvisited left a b (none-in left h (a, b)))
-  visit (suc n) left h a b = turn left a b (in? decPair (a, b) left) (λ i ps. all n (visit n) ps (without decPair (a, b) left) (let k = without-less decPair (a, b) left i in omega arith))
+  visit (suc n) left h a b = turn left a b (in? decPair (a, b) left) (λ i ps. visitAll n (visit n) ps (without decPair (a, b) left) (let k = without-less decPair (a, b) left i in omega arith))
 
   -- ── the test, over the trees of a list
   abbrev pub agreed : {left ps : List (X × X)} → Outcome left ps → Bool

@@ -1,5 +1,5 @@
 use borrow.Author.Tests.{le-leb, lt-leb}
-use Rattle.notation.specs.Token.{named}
+use Rattle.notation.specs.Token.{nameToken}
 use borrow.Author.Needs.{needs}
 use Rattle.notation.proofs.token.named.Statement.{statement}
 use Rattle.notation.proofs.token.named.Tie as tie
@@ -10,11 +10,11 @@ sub-if1 : tie.Need-sub-if1
 sub-if1 c = search needs
 
 returns : tie.Need-returns
-unfolding named
+unfolding nameToken
 returns c = rw (le-leb _ _ (c .if1 .taken))
 
 returns-2 : tie.Need-returns-2
-unfolding named
+unfolding nameToken
 returns-2 c = rw (lt-leb _ _ (c .if1 .left))
 
 pub named-spec : {M : Type 1} → statement M

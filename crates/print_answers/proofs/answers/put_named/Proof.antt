@@ -1,4 +1,4 @@
-use Rattle.print_answers.specs.Parts.{named-whole, named-refused}
+use Rattle.print_answers.specs.Parts.{named-whole, name-refused}
 use borrow.Author.Needs.{needs}
 use Rattle.print_answers.proofs.answers.put_named.Statement.{statement}
 use Rattle.print_answers.proofs.answers.put_named.Tie as tie
@@ -23,7 +23,7 @@ same-length-2 : tie.Need-same-length-2
 same-length-2 c = search needs
 
 returns-2 : tie.Need-returns-2
-returns-2 c = named-refused _ _ _ (c .before .before .before .before .if1 .left) (c .before .before .put-refused .ensures)
+returns-2 c = name-refused _ _ _ (c .before .before .before .before .if1 .left) (c .before .before .put-refused .ensures)
 
 pub put-named-spec : {M : Type 1} → statement M
 put-named-spec =

@@ -1,24 +1,24 @@
-use mathlib.Core.Path.{_≡_, refl, sym}
+use mathlib.Core.Path.{_≡_, refl}
 use Prim.Native.Nat.{_+_, _≤_}
 use native.Mathlib.Omega.{arith}
-use lib.ListN.{length}
-use lib.Seq.{length-take-le}
+use lib.ListN.{length, take}
 use Rattle.print_pieces.specs.Pieces.{pieceBytes, Going, turnsIn}
 use Rattle.print_pieces.specs.Stages.{next-falls}
-use Rattle.print_output.specs.Gathering.{gathered, few-bytes}
+use Rattle.print_output.specs.Gathering.{gathered, Due, due-next, waits-bytes}
 use borrow.Author.Needs.{needs}
 use Rattle.notation.specs.Limits.{runWords}
 use Rattle.print_output.proofs.text.print_rest.Statement.{statement}
 use Rattle.print_output.proofs.text.print_rest.Tie as tie
 use Rattle.print_output.proofs.text.print_rest.Reads as reads
 use Rattle.print_output.proofs.text.print_rest.Lts as lts
-use Rattle.io.proofs.write_all.Reads as write-all-reads
+use Rattle.print_output.proofs.text.write_due.Reads as write-due-reads
 use Rattle.print_output.proofs.text.write_many.Reads as write-many-reads
 use Rattle.print_pieces.proofs.pieces.is_left.Reads as is-left-reads
 use Rattle.print_pieces.proofs.pieces.next_piece.Reads as next-piece-reads
 
 abbrev Inv-loop : tie.InvT-loop
-Inv-loop text scratch run₀ out₀ stage₀ waiting₀ run out stage waiting = Going text scratch run stage × (length run ≡ length run₀) × (length out ≡ length out₀) × (runWords ≤ length run) × (gathered + pieceBytes ≤ length out) × (waiting ≤ gathered)
+Inv-loop text scratch run₀ out₀ stage₀ waiting₀ run out stage waiting =
+    Going text scratch run stage × (length run ≡ length run₀) × (length out ≡ length out₀) × (runWords ≤ length run) × (gathered + pieceBytes ≤ length out) × (waiting ≤ gathered) × Due text scratch run stage (take waiting out)
 
 abbrev μ-loop : tie.MeasureT-loop
 μ-loop text scratch run₀ out₀ stage₀ waiting₀ run out stage waiting = turnsIn text scratch stage
@@ -26,7 +26,7 @@ abbrev μ-loop : tie.MeasureT-loop
 loop-holds : tie.Need-loop-holds Inv-loop μ-loop
 loop-holds c =
     let entry = c .before .before .before .before in
-    (entry .pre .0, refl, refl, entry .pre .1 .0, entry .pre .1 .1, omega arith)
+    (entry .pre .0, refl, refl, entry .pre .1 .1 .0, entry .pre .1 .1 .1, omega arith, entry .pre .1 .0)
 
 is-left-requires : tie.Need-is-left-requires Inv-loop μ-loop
 is-left-requires c κs = search needs
@@ -47,7 +47,10 @@ add-write-many : tie.Need-add-write-many Inv-loop μ-loop
 add-write-many c = search needs
 
 write-many-requires : tie.Need-write-many-requires Inv-loop μ-loop
-write-many-requires c κs = search needs
+write-many-requires c κs =
+    let loop = c .before .before .before .before .before .before .before .before .before .before .before .before .loop in
+    let piece = c .before .before .before .before .before .before .before .next-piece in
+    (search needs, due-next {r = piece .result} _ _ (loop .waiting) (omega (arith, loop .inv .4, loop .inv .5)) (loop .inv .6) (piece .ensures))
 
 enum-known-w : tie.Need-enum-known-w Inv-loop μ-loop
 enum-known-w c = search needs
@@ -66,23 +69,18 @@ returns c = search needs
 
 loop-less : tie.Need-loop-less Inv-loop μ-loop
 loop-less c =
-    let after-if1 = c .before .before .before .before .before .before .before .before .before .before .before .before .before in
-    next-falls (c .before .before .before .before .before .before .before .before .before .before .next-piece .ensures) (after-if1 .before .is-left .ensures) (after-if1 .if1 .taken)
+    let after-if1 = c .before .before .before .before .before .before .before .before .before .before .before .before .before .before in
+    next-falls (c .before .before .before .before .before .before .before .before .before .before .before .next-piece .ensures) (after-if1 .before .is-left .ensures) (after-if1 .if1 .taken)
 
 loop-again : tie.Need-loop-again Inv-loop μ-loop
 loop-again c =
-    (c .before .before .before .before .before .before .before .before .before .before .next-piece .ensures .going, search needs, search needs, search needs, search needs, few-bytes (c .before .before .before .write-many .ensures) (c .before .w .given .1))
+    let waits = waits-bytes (c .before .before .before .write-many .ensures) (c .before .w .given .1) in
+    (c .before .before .before .before .before .before .before .before .before .before .before .next-piece .ensures .going, search needs, search needs, search needs, search needs, waits .0, waits .1)
 
-slice-reshare-prefix-write-all : tie.Need-slice-reshare-prefix-write-all Inv-loop μ-loop
-slice-reshare-prefix-write-all c = search needs
-
-slice-aggregate-write-all : tie.Need-slice-aggregate-write-all Inv-loop μ-loop
-slice-aggregate-write-all c =
-    let inv = c .before .before .before .loop .inv in
-    sym (length-take-le _ _ (omega (arith, inv .4, inv .5)))
-
-write-all-requires : tie.Need-write-all-requires Inv-loop μ-loop
-write-all-requires c κs = search needs
+write-due-requires : tie.Need-write-due-requires Inv-loop μ-loop
+write-due-requires c κs =
+    let loop = c .before .before .before .before .loop in
+    (omega (arith, loop .inv .4, loop .inv .5), loop .inv .6)
 
 same-length-3 : tie.Need-same-length-3 Inv-loop μ-loop
 same-length-3 c = search needs
@@ -114,9 +112,7 @@ print-rest-spec =
     returns
     loop-less
     loop-again
-    slice-reshare-prefix-write-all
-    slice-aggregate-write-all
-    write-all-requires
+    write-due-requires
     same-length-3
     same-length-4
     returns-2)

@@ -3,7 +3,7 @@ use native.Mathlib.Omega.{arith}
 use Prim.Native.Nat.{_-_, _≤_}
 use mathlib.Core.Path.{_≡_, refl, ap, _∙_}
 use Rattle.run_words.specs.Raw.{rawIn}
-use Rattle.calculus.specs.Named.{any}
+use Rattle.calculus.specs.Named.{anyOf}
 use Rattle.run_joints.specs.Tests.{before, before-none, any-here, any-on}
 use Rattle.run_joints.specs.Links.{linksTo}
 use Rattle.run_joints.proofs.Handlers.{link-is, link-not}
@@ -11,7 +11,7 @@ use Rattle.run_joints.proofs.links.linked_before.Statement.{statement}
 use Rattle.run_joints.proofs.links.linked_before.Tie as tie
 
 abbrev Inv-loop : tie.InvT-loop
-Inv-loop run h n i₀ i = (i ≤ n) × (any (linksTo h) (before n (rawIn run .processes)) ≡ any (linksTo h) (before i (rawIn run .processes)))
+Inv-loop run h n i₀ i = (i ≤ n) × (anyOf (linksTo h) (before n (rawIn run .processes)) ≡ anyOf (linksTo h) (before i (rawIn run .processes)))
 
 abbrev μ-loop : tie.MeasureT-loop
 μ-loop run h n i₀ i = i
@@ -56,7 +56,7 @@ returns-2 c =
     let a = c .before .before .before .args in
     let b = c .before .loop in
     let e : b .i ≡ 0 = omega arith in
-    b .inv .1 ∙ ap (λ k. any (linksTo (a .h)) (before k (rawIn (a .run .now) .processes))) e ∙ ap (any (linksTo (a .h))) (before-none (rawIn (a .run .now) .processes))
+    b .inv .1 ∙ ap (λ k. anyOf (linksTo (a .h)) (before k (rawIn (a .run .now) .processes))) e ∙ ap (anyOf (linksTo (a .h))) (before-none (rawIn (a .run .now) .processes))
 
 pub linked-before-spec : {M : Type 1} → statement M
 linked-before-spec =

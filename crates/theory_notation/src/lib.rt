@@ -1,0 +1,1 @@
+// No code: specs/ has the theory.
