@@ -2,7 +2,7 @@
 use Prim.Native.Nat.{ℕ, suc, _<_, _-_}
 use mathlib.Core.List.{List, [], _∷_}
 use Rattle.notation.specs.Limits.{typeLimit, processLimit, execLimit, typeTermLimit, processTermLimit, bracketLimit, labelLimit}
-use Rattle.grammar.specs.Terminals.{Terminal, declaresType, declaresProc, declaresExec, typeMark, typeName, termWord, maker, opens, closes, listed, sent, name, mark}
+use Rattle.grammar.specs.Terminals.{Terminal, declaresType, declaresProc, declaresExec, typeMark, typeName, termWord, brought, opens, closes, listed, sent, name, mark}
 
 pub record Counts : Type 0 where
   pub types : ℕ
@@ -27,7 +27,7 @@ counted k (declaresExec a) = counts (k .types) (k .processes) (suc (k .execs)) (
 counted k (typeMark j a) = counts (k .types) (k .processes) (k .execs) (suc (k .typeTerms)) (k .processTerms) (k .brackets)
 counted k (typeName n) = counts (k .types) (k .processes) (k .execs) (suc (k .typeTerms)) (k .processTerms) (k .brackets)
 counted k (termWord j a) = counts (k .types) (k .processes) (k .execs) (k .typeTerms) (suc (k .processTerms)) (k .brackets)
-counted k (maker n) = counts (k .types) (k .processes) (k .execs) (k .typeTerms) (suc (k .processTerms)) (k .brackets)
+counted k (brought n) = counts (k .types) (k .processes) (k .execs) (k .typeTerms) (suc (k .processTerms)) (k .brackets)
 counted k (opens j a) = counts (k .types) (k .processes) (k .execs) (k .typeTerms) (k .processTerms) (suc (k .brackets))
 counted k (closes j a) = counts (k .types) (k .processes) (k .execs) (k .typeTerms) (k .processTerms) (k .brackets - 1)
 counted k (listed before l) = k
@@ -43,7 +43,7 @@ Fits k (declaresExec a) = k .execs < execLimit
 Fits k (typeMark j a) = k .typeTerms < typeTermLimit
 Fits k (typeName n) = k .typeTerms < typeTermLimit
 Fits k (termWord j a) = k .processTerms < processTermLimit
-Fits k (maker n) = k .processTerms < processTermLimit
+Fits k (brought n) = k .processTerms < processTermLimit
 Fits k (opens j a) = k .brackets < bracketLimit
 Fits k (closes j a) = Unit {0}
 Fits k (listed before l) = before < labelLimit

@@ -4,7 +4,7 @@ use mathlib.Core.List.{List, [], _∷_, _++_}
 use Rattle.notation.specs.Token.{kSend, kRecv, kFwd, kCall, kCancel, kRaise, kTry, kCatch, kLolli, kFrom, kThen, kRoundOpen, kRoundClose, kSquareOpen, kSquareClose, kBraceOpen, kBraceClose, kColon, kComma, kSemicolon, kEquals, kBar, kOne, kStar, kAt, kPlus, kWith}
 use Rattle.notation.specs.Tree.{Located, Ty, Alternatives, Proc, Branches, Entry, Declaration, declareType, declareProc, declareExec}
 use Rattle.notation.specs.Tree as tree
-use Rattle.grammar.specs.Terminals.{Terminal, declaresType, declaresProc, declaresExec, typeMark, typeName, termWord, maker, opens, closes, listed, sent, name, mark, following}
+use Rattle.grammar.specs.Terminals.{Terminal, declaresType, declaresProc, declaresExec, typeMark, typeName, termWord, brought, opens, closes, listed, sent, name, mark, following}
 
 -- ── lists: `(x : A, ..)`, `[b, ..]`
 -- parts of one kind with commas between them, one or more
@@ -80,7 +80,7 @@ mutual
         → IsType p A
         → IsProcess e q P
         → IsRest next r Q
-        → IsProcess next (maker x ∷ mark kColon a ∷ (p ++ (mark kFrom b ∷ opens kRoundOpen d ∷ (q ++ (closes kRoundClose e ∷ r))))) (tree.spawn x A P Q)
+        → IsProcess next (brought x ∷ mark kColon a ∷ (p ++ (mark kFrom b ∷ opens kRoundOpen d ∷ (q ++ (closes kRoundClose e ∷ r))))) (tree.spawn x A P Q)
     -- recv c (() => P)
     recvUnit : {next a b d e f g : ℕ} {c : Located} {p : List Terminal} {P : Proc}
         → IsProcess g p P

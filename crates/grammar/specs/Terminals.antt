@@ -21,7 +21,7 @@ pub data Terminal : Type 0 where
   typeName : Located → Terminal
   -- the first token of a process term: its word, or the name that a spawn brings in
   termWord : (kind at : ℕ) → Terminal
-  maker : Located → Terminal
+  brought : Located → Terminal
   -- a bracket
   opens closes : (kind at : ℕ) → Terminal
   -- the label of a choice or branch list in which so many come before it
@@ -39,7 +39,7 @@ tokenOf (declaresExec a) = tok kExec a []
 tokenOf (typeMark k a) = tok k a []
 tokenOf (typeName n) = tok kName (n .at) (n .name)
 tokenOf (termWord k a) = tok k a []
-tokenOf (maker n) = tok kName (n .at) (n .name)
+tokenOf (brought n) = tok kName (n .at) (n .name)
 tokenOf (opens k a) = tok k a []
 tokenOf (closes k a) = tok k a []
 tokenOf (listed before l) = tok kLabel (l .at) (l .name)

@@ -21,7 +21,7 @@ use Rattle.grammar.specs.Grammar as rule
 use Rattle.grammar.specs.Grammar.{IsType, IsChannel, IsEntry, Commas, Listing}
 use Rattle.grammar.specs.Counting.{Counts}
 use Rattle.theory_notation.specs.Standing.{tokenIn, firstOf}
-use Rattle.theory_notation.specs.Phrases.{Phrase, rules, one, seq, ret, mapped, lang, Each, Right}
+use Rattle.theory_notation.specs.Phrases.{Phrase, rules, one, seq, ret, mapped, lang, Each, Right, leads, joins, ended, becomes}
 use Rattle.theory_notation.specs.Laws.{right-narrow, right-part, right-lastly, right-there}
 use Rattle.theory_notation.specs.Roles.{Plain, openers, closers, marks, names}
 use Rattle.theory_notation.specs.Levels.{Level, Closing, right-plain, right-opening, right-last}
@@ -86,14 +86,14 @@ module _ (s : List ℕ) {X : Type 0} (Item : List Terminal → X → Type 0) (be
     where
       out : Each Any (After Item k x) (λ xs q t ts. firstOf q t ≡ tokenIn s (d .at) → lang (commaP x) (t .at) xs q)
       out xs q t ts last f z = absurd (false≢true (sym away ∙ ap (λ (u : Tok). eqb (u .kind) kComma) z ∙ e))
-      out xs q t ts (more {b = b} {xs = ys} a c) f z = record { value = b; rest = _; is = refl; follows = record { value = ys; is = refl; of = some a c } }
+      out xs q t ts (more {b = b} {xs = ys} a c) f z = leads b (becomes ys (some a c))
   after-right x rest d n v m false e =
       right-narrow {ψ = closeP (x ∷ [])} _
       (λ next xs q y. recast (λ q xs. After Item k x next xs q) (last {a = y .value}) (let e = y .is in let f = y .follows .none in cc) (y .follows .value))
       out (right-last v k p (x ∷ []))
     where
       out : Each Any (After Item k x) (λ xs q t ts. firstOf q t ≡ tokenIn s (d .at) → lang (closeP (x ∷ [])) (t .at) xs q)
-      out xs q t ts (last {a = a}) f z = record { value = a; rest = []; is = refl; follows = record { value = refl; none = refl } }
+      out xs q t ts (last {a = a}) f z = leads a ended
       out xs q t ts (more a c) f z = absurd (true≢false (ap (λ (u : Tok). eqb (u .kind) kComma) z ∙ e))
 
   -- the whole list: some parts, the first of which begins with a name, or none
@@ -120,7 +120,7 @@ module _ (s : List ℕ) {X : Type 0} (Item : List Terminal → X → Type 0) (be
       first-named (rule.more {p = q} {q = q′} b c g) t r = named-first (q ++ (mark kComma b ∷ q′)) r t (λ u. named-first q (mark kComma b ∷ q′) u (λ w. named _ _ c w))
 
       out : Each Any (AnyClosed Item k) (λ xs q t ts. firstOf q t ≡ tokenIn s (d .at) → lang (closeP []) (t .at) xs q)
-      out xs q t ts (any a rule.none) f z = record { value = a; rest = []; is = refl; follows = record { value = refl; none = refl } }
+      out xs q t ts (any a rule.none) f z = leads a ended
       out xs q t ts (any a (rule.some c)) f z = absurd (eqb-false (kindAt s (d .at)) kName e (sym (ap (λ (u : Tok). u .kind) z) ∙ first-named c t (closes k a ∷ [])))
 
 -- ── parts in a row, however they are put together
@@ -210,8 +210,8 @@ names-read s (suc n) k p away {base} {o} c m v =
     into next xs q y = joined (y .is) (y .follows)
 
     out : Each Any (Closed IsChannel k) (λ xs q t ts. firstOf q t ≡ tokenIn s (c .at) → lang (one (names s) λ x. afterP {s = s} IsChannel names-begun k x) (t .at) xs q)
-    out xs q t ts (some a (rule.last (rule.channel {n = x}))) f z = record { value = x; rest = _; is = refl; follows = last }
-    out xs q t ts (some a (rule.more b (rule.channel {n = x}) g)) f z = record { value = x; rest = _; is = refl; follows = more a g }
+    out xs q t ts (some a (rule.last (rule.channel {n = x}))) f z = leads x last
+    out xs q t ts (some a (rule.more b (rule.channel {n = x}) g)) f z = leads x (more a g)
 
 -- ── entries
 pub entries-begun : (o : ℕ) → Begun IsEntry o
@@ -239,13 +239,8 @@ module _ (s : List ℕ) (k : ℕ) (p : Plain k) (away : eqb k kComma ≡ false) 
       recast (λ q xs. Closed IsEntry k next xs q) (entries-closed {a = x .value} {x = y .value} (z .begins) (z .follows)) (let e = y .is in let f = x .is in let g = z .is in cc) refl
 
   closed-out : {next : ℕ} {xs : List Entry} {q : List Terminal} → Closed IsEntry k next xs q → lang entriesP next xs q
-  closed-out (some a (rule.last (rule.typed {x = x} {a = b} {p = q} {A = A} d))) = record { value = x; rest = _; is = refl; follows = record { value = b; rest = _; is = refl; follows = record { value = A; first = q; rest = _; is = refl; begins = d; follows = last } } }
-  closed-out (some a (rule.more {q = r} b′ (rule.typed {x = x} {a = b} {p = q} {A = A} d) g)) = record {
-    value = x;
-    rest = _;
-    is = refl;
-    follows = record { value = b; rest = _; is = refl; follows = record { value = A; first = q; rest = mark kComma b′ ∷ (r ++ (closes k a ∷ [])); is = append-assoc q (mark kComma b′ ∷ r) (closes k a ∷ []); begins = d; follows = more a g } };
-  }
+  closed-out (some a (rule.last (rule.typed {x = x} {a = b} {p = q} {A = A} d))) = leads x (leads b (joins A q _ refl d last))
+  closed-out (some a (rule.more {q = r} b′ (rule.typed {x = x} {a = b} {p = q} {A = A} d) g)) = leads x (leads b (joins A q (mark kComma b′ ∷ (r ++ (closes k a ∷ []))) (append-assoc q (mark kComma b′ ∷ r) (closes k a ∷ [])) d (more a g)))
 
   after-ahead : (x : Entry) → Each Any (After IsEntry k x) (λ xs q t ts. NotInfix (firstOf q t .kind))
   unfolding isInfix

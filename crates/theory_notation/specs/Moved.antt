@@ -9,7 +9,7 @@ use lib.ListN.{length, length-append}
 use Rattle.notation.specs.Token.{kName, kLolli, kComma, kStar, kAt, kBraceClose, kRoundClose}
 use Rattle.notation.specs.Tree.{Located, Ty, Alternatives, Proc, Branches, Entry, Declaration}
 use Rattle.notation.specs.Tree as tree
-use Rattle.grammar.specs.Terminals.{Terminal, tokenOf, declaresType, declaresProc, declaresExec, typeMark, typeName, termWord, maker, opens, closes, listed, sent, name, mark, following}
+use Rattle.grammar.specs.Terminals.{Terminal, tokenOf, declaresType, declaresProc, declaresExec, typeMark, typeName, termWord, brought, opens, closes, listed, sent, name, mark, following}
 use Rattle.grammar.specs.Grammar as rule
 use Rattle.grammar.specs.Grammar.{Commas, Listing, IsType, IsAtom, AreAlternatives, IsChannel, IsProcess, IsRest, AreBranches, IsEntry, IsDeclaration, IsScript}
 
@@ -22,7 +22,7 @@ put l (declaresExec a) = declaresExec (l .at)
 put l (typeMark k a) = typeMark k (l .at)
 put l (typeName n) = typeName l
 put l (termWord k a) = termWord k (l .at)
-put l (maker n) = maker l
+put l (brought n) = brought l
 put l (opens k a) = opens k (l .at)
 put l (closes k a) = closes k (l .at)
 put l (listed before n) = listed before l
@@ -40,7 +40,7 @@ put-there (declaresExec a) = refl
 put-there (typeMark k a) = refl
 put-there (typeName n) = refl
 put-there (termWord k a) = refl
-put-there (maker n) = refl
+put-there (brought n) = refl
 put-there (opens k a) = refl
 put-there (closes k a) = refl
 put-there (listed before n) = refl
@@ -82,7 +82,7 @@ known (declaresType a) = true
 known (declaresProc a) = true
 known (declaresExec a) = true
 known (typeName n) = true
-known (maker n) = true
+known (brought n) = true
 known (listed before n) = true
 known (sent n) = true
 known (name n) = true

@@ -10,7 +10,7 @@ use lib.Dec.{leb}
 use lib.ListN.{length, drop, length-append}
 use borrow.Author.Tests.{leb-true}
 use Rattle.notation.specs.Limits.{textLimit}
-use Rattle.notation.specs.Token.{tokenAt, kindAt, kFault, kEnd}
+use Rattle.notation.specs.Token.{tokenAt, kindAt, kFault}
 use Rattle.notation.specs.Tree.{Declaration}
 use Rattle.notation.specs.Reader.{Result, got, refused}
 use Rattle.notation.specs.Scripts.{start, readText}

@@ -52,6 +52,20 @@ pub record Map {B A : Type 0} (f : B → A) (M : Lang B) (next : ℕ) (a : A) (p
   pub is : a ≡ f value
   pub of : M next value p
 
+-- .. and their members
+module _ {A : Type 0} {next : ℕ} {a : A} where
+  pub leads : {X : Type 0} {R : X → Terminal} {L : X → Lang A} {p : List Terminal} (v : X) → L v next a p → One R L next a (R v ∷ p)
+  leads {p = p} v x = record { value = v; rest = p; is = refl; follows = x }
+
+  pub joins : {B : Type 0} {M : Lang B} {L : B → Lang A} {r : List Terminal} (b : B) (p q : List Terminal) → r ≡ p ++ q → M (following q next) b p → L b next a q → Seq M L next a r
+  joins b p q e x y = record { value = b; first = p; rest = q; is = e; begins = x; follows = y }
+
+  pub ended : Ret a next a []
+  ended = record { value = refl; none = refl }
+
+pub becomes : {B A : Type 0} {next : ℕ} {f : B → A} {M : Lang B} {p : List Terminal} (b : B) → M next b p → Map f M next (f b) p
+becomes b x = record { value = b; is = refl; of = x }
+
 -- a part that tokens of one kind play in the text s
 pub record Role (s : List ℕ) (k : ℕ) {X : Type 0} (R : X → Terminal) (value : ℕ → X) : Type 0 where
   pub apart : (v w : X) → tokenOf (R v) ≡ tokenOf (R w) → v ≡ w

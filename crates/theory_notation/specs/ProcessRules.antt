@@ -20,9 +20,9 @@ use Rattle.grammar.specs.Grammar as rule
 use Rattle.grammar.specs.Grammar.{IsChannel, IsProcess, IsRest, AreBranches}
 use Rattle.grammar.specs.Counting.{Counts}
 use Rattle.theory_notation.specs.Standing.{tokenIn, firstOf}
-use Rattle.theory_notation.specs.Phrases.{Phrase, rules, one, seq, ret, mapped, lang, Each, Right}
+use Rattle.theory_notation.specs.Phrases.{Phrase, rules, one, seq, ret, mapped, lang, Each, Right, leads, joins, ended, becomes}
 use Rattle.theory_notation.specs.Laws.{right-got, right-ret, right-misfit, right-narrow, right-part, right-lastly, right-before}
-use Rattle.theory_notation.specs.Roles.{termWords, makers, openers, closers, marks, names, sentLabels, listedLabels}
+use Rattle.theory_notation.specs.Roles.{termWords, broughtNames, openers, closers, marks, names, sentLabels, listedLabels}
 use Rattle.theory_notation.specs.Levels.{Level, right-plain, right-process, right-opening, right-listed, right-close, right-unit}
 use Rattle.theory_notation.specs.TypeRules.{recast, Any, NotInfix, typeP, type-reads, ahead-one}
 use Rattle.theory_notation.specs.Lists.{AnyClosed, any, anyClosedP, names-begun, name-list-right}
@@ -101,7 +101,7 @@ module _ (s : List ℕ) where
   termP Cancel = one (termWords s kCancel refl) λ a. one (names s) λ c. mapped (cancel a c) restP
   termP Raise = one (termWords s kRaise refl) λ a. mapped (raise a) processP
   termP Try = one (termWords s kTry refl) λ a. seq bracketedP λ P. one (marks s kCatch refl) λ _. seq bracketedP λ Q. ret (try a P Q)
-  termP Spawn = one (makers s) λ x. one (marks s kColon refl) λ _. seq typeP λ A. one (marks s kFrom refl) λ _. seq bracketedP λ P. mapped (spawn x A P) restP
+  termP Spawn = one (broughtNames s) λ x. one (marks s kColon refl) λ _. seq typeP λ A. one (marks s kFrom refl) λ _. seq bracketedP λ P. mapped (spawn x A P) restP
   termP Empty = processP
 
   abbrev payloadP : ℕ → Located → Payload → Phrase s Proc
@@ -152,14 +152,14 @@ module _ (s : List ℕ) where
       }
 
   is-bracketed : {next b d : ℕ} {P : Proc} {p : List Terminal} → IsProcess d p P → lang bracketedP next P (opens kRoundOpen b ∷ (p ++ (closes kRoundClose d ∷ [])))
-  is-bracketed {next} {b} {d} {P} {p} x = record { value = b; rest = _; is = refl; follows = record { value = P; first = p; rest = closes kRoundClose d ∷ []; is = refl; begins = x; follows = record { value = d; rest = []; is = refl; follows = record { value = refl; none = refl } } } }
+  is-bracketed {next} {b} {d} {P} {p} x = leads b (joins P p (closes kRoundClose d ∷ []) refl x (leads d ended))
 
   -- what a recv has in its bracket, and the bracket that closes
   abbrev receivedP : ℕ → Located → Phrase s Proc
   receivedP a c = seq (receivesP a c) λ P. one (closers s kRoundClose refl) λ _. ret P
 
   received : {next a d : ℕ} {c : Located} {P : Proc} {p : List Terminal} → Receives a c d P p → lang (receivedP a c) next P (p ++ (closes kRoundClose d ∷ []))
-  received {d = d} {P = P} {p} x = record { value = P; first = p; rest = closes kRoundClose d ∷ []; is = refl; begins = x; follows = record { value = d; rest = []; is = refl; follows = record { value = refl; none = refl } } }
+  received {d = d} {P = P} {p} x = joins P p (closes kRoundClose d ∷ []) refl x (leads d ended)
 
   term-is : (h : TermHead) (next : ℕ) (P : Proc) (p : List Terminal) → lang (termP h) next P p → IsProcess next p P
   term-is Send next P p y = sends-is (let e = y .is in let f = y .follows .is in cc) (y .follows .follows)
@@ -209,101 +209,18 @@ module _ (s : List ℕ) where
   process-head : {next : ℕ} {p : List Terminal} {P : Proc} → IsProcess next p P → (t : Tok) → termHead (t .kind) ≡ Empty → lang (termP (termHead (firstOf p t .kind))) next P p
   unfolding termHead
   process-head {next} rule.empty t e = subst (λ h. lang (termP h) next (empty next) []) (sym e) rule.empty
-  process-head (rule.sendUnit {a = a} {c = c} r) t e = record { value = a; rest = _; is = refl; follows = record { value = c; rest = _; is = refl; follows = unit r } }
-  process-head (rule.sendChannel {a = a} {c = c} r) t e = record { value = a; rest = _; is = refl; follows = record { value = c; rest = _; is = refl; follows = channel r } }
-  process-head (rule.sendLabel {a = a} {c = c} r) t e = record { value = a; rest = _; is = refl; follows = record { value = c; rest = _; is = refl; follows = label r } }
-  process-head (rule.cancel {a = a} {c = c} {P = P} r) t e = record { value = a; rest = _; is = refl; follows = record { value = c; rest = _; is = refl; follows = record { value = P; is = refl; of = r } } }
-  process-head (rule.spawn {a = a} {e = e} b d {x} {p} {q} {r} {A} {P} {Q} type x′ z) t f = record {
-    value = x;
-    rest = _;
-    is = refl;
-    follows = record {
-      value = a;
-      rest = _;
-      is = refl;
-      follows = record {
-        value = A;
-        first = p;
-        rest = _;
-        is = refl;
-        begins = type;
-        follows = record {
-          value = b;
-          rest = opens kRoundOpen d ∷ (q ++ (closes kRoundClose e ∷ r));
-          is = refl;
-          follows = record {
-            value = P;
-            first = opens kRoundOpen d ∷ (q ++ (closes kRoundClose e ∷ []));
-            rest = r;
-            is = ap (λ l. opens kRoundOpen d ∷ l) (sym (append-assoc q (closes kRoundClose e ∷ []) r));
-            begins = is-bracketed x′;
-            follows = record { value = Q; is = refl; of = z };
-          };
-        };
-      };
-    };
-  }
-  process-head (rule.recvUnit {a = a} {b = b} {g = g} {c = c} {p = p} {P = P} x) t e = record {
-    value = a;
-    rest = _;
-    is = refl;
-    follows = record { value = c; rest = _; is = refl; follows = record { value = b; rest = _; is = refl; follows = received (unit x) } };
-  }
-  process-head (rule.recvChannel {a = a} {b = b} {c = c} x) t e = record {
-    value = a;
-    rest = _;
-    is = refl;
-    follows = record { value = c; rest = _; is = refl; follows = record { value = b; rest = _; is = refl; follows = received (channel x) } };
-  }
-  process-head (rule.recvLabel {a = a} {b = b} {c = c} x) t e = record {
-    value = a;
-    rest = _;
-    is = refl;
-    follows = record { value = c; rest = _; is = refl; follows = record { value = b; rest = _; is = refl; follows = received (labels x) } };
-  }
-  process-head (rule.fwd {a = a} {x = x} {c = c}) t e = record {
-    value = a;
-    rest = _;
-    is = refl;
-    follows = record { value = x; rest = _; is = refl; follows = record { value = c; rest = []; is = refl; follows = record { value = refl; none = refl } } };
-  }
-  process-head (rule.call {a = a} {b = b} d e f {n} {p} {q} {xs} {ys} x y) t g = record {
-    value = a;
-    rest = _;
-    is = refl;
-    follows = record {
-      value = n;
-      rest = _;
-      is = refl;
-      follows = record {
-        value = b;
-        rest = _;
-        is = refl;
-        follows = record {
-          value = xs;
-          first = p ++ (closes kRoundClose d ∷ []);
-          rest = opens kSquareOpen e ∷ (q ++ (closes kSquareClose f ∷ []));
-          is = sym (append-assoc p (closes kRoundClose d ∷ []) _);
-          begins = any d x;
-          follows = record { value = e; rest = _; is = refl; follows = record { value = ys; first = q ++ (closes kSquareClose f ∷ []); rest = []; is = sym (append-nil _); begins = any f y; follows = record { value = refl; none = refl } } };
-        };
-      };
-    };
-  }
-  process-head (rule.raise {a = a} {P = P} x) t e = record { value = a; rest = _; is = refl; follows = record { value = P; is = refl; of = x } }
-  process-head (rule.try {a = a} {b = b} {d = d} {g = g} e f {p} {q} {P} {Q} x y) t h = record {
-    value = a;
-    rest = _;
-    is = refl;
-    follows = record {
-      value = P;
-      first = opens kRoundOpen b ∷ (p ++ (closes kRoundClose d ∷ []));
-      rest = mark kCatch e ∷ opens kRoundOpen f ∷ (q ++ (closes kRoundClose g ∷ []));
-      is = ap (λ l. opens kRoundOpen b ∷ l) (sym (append-assoc p (closes kRoundClose d ∷ []) _));
-      begins = is-bracketed x;
-      follows = record { value = e; rest = _; is = refl; follows = record { value = Q; first = opens kRoundOpen f ∷ (q ++ (closes kRoundClose g ∷ [])); rest = []; is = sym (append-nil _); begins = is-bracketed y; follows = record { value = refl; none = refl } } };
-    };
-  }
+  process-head (rule.sendUnit {a = a} {c = c} r) t e = leads a (leads c (unit r))
+  process-head (rule.sendChannel {a = a} {c = c} r) t e = leads a (leads c (channel r))
+  process-head (rule.sendLabel {a = a} {c = c} r) t e = leads a (leads c (label r))
+  process-head (rule.cancel {a = a} {c = c} {P = P} r) t e = leads a (leads c (becomes P r))
+  process-head (rule.spawn {a = a} {e = e} b d {x} {p} {q} {r} {A} {P} {Q} type x′ z) t f = leads x (leads a (joins A p _ refl type (leads b (joins P (opens kRoundOpen d ∷ (q ++ (closes kRoundClose e ∷ []))) r (ap (λ l. opens kRoundOpen d ∷ l) (sym (append-assoc q (closes kRoundClose e ∷ []) r))) (is-bracketed x′) (becomes Q z)))))
+  process-head (rule.recvUnit {a = a} {b = b} {g = g} {c = c} {p = p} {P = P} x) t e = leads a (leads c (leads b (received (unit x))))
+  process-head (rule.recvChannel {a = a} {b = b} {c = c} x) t e = leads a (leads c (leads b (received (channel x))))
+  process-head (rule.recvLabel {a = a} {b = b} {c = c} x) t e = leads a (leads c (leads b (received (labels x))))
+  process-head (rule.fwd {a = a} {x = x} {c = c}) t e = leads a (leads x (leads c ended))
+  process-head (rule.call {a = a} {b = b} d e f {n} {p} {q} {xs} {ys} x y) t g = leads a (leads n (leads b (joins xs (p ++ (closes kRoundClose d ∷ [])) (opens kSquareOpen e ∷ (q ++ (closes kSquareClose f ∷ []))) (sym (append-assoc p (closes kRoundClose d ∷ []) _)) (any d x) (leads e (joins ys (q ++ (closes kSquareClose f ∷ [])) ([]) (sym (append-nil _)) (any f y) ended)))))
+  process-head (rule.raise {a = a} {P = P} x) t e = leads a (becomes P x)
+  process-head (rule.try {a = a} {b = b} {d = d} {g = g} e f {p} {q} {P} {Q} x y) t h = leads a (joins P (opens kRoundOpen b ∷ (p ++ (closes kRoundClose d ∷ []))) (mark kCatch e ∷ opens kRoundOpen f ∷ (q ++ (closes kRoundClose g ∷ []))) (ap (λ l. opens kRoundOpen b ∷ l) (sym (append-assoc p (closes kRoundClose d ∷ []) _))) (is-bracketed x) (leads e (joins Q (opens kRoundOpen f ∷ (q ++ (closes kRoundClose g ∷ []))) ([]) (sym (append-nil _)) (is-bracketed y) ended)))
 
   -- a term begins with a token that begins a term
   abbrev isTerm : TermHead → Bool
@@ -320,9 +237,9 @@ module _ (s : List ℕ) where
   -- ── the payload of a send and of a recv
   sent-head : {a next : ℕ} {c : Located} {P : Proc} {p : List Terminal} → Sends a c next P p → (t : Tok) → lang (payloadP a c (payload (firstOf p t .kind))) next P p
   unfolding payload
-  sent-head (unit {b = b} {d = d} {P = P} r) t = record { value = b; rest = _; is = refl; follows = record { value = d; rest = _; is = refl; follows = record { value = P; is = refl; of = r } } }
-  sent-head (channel {x = x} {P = P} r) t = record { value = x; rest = _; is = refl; follows = record { value = P; is = refl; of = r } }
-  sent-head (label {l = l} {P = P} r) t = record { value = l; rest = _; is = refl; follows = record { value = P; is = refl; of = r } }
+  sent-head (unit {b = b} {d = d} {P = P} r) t = leads b (leads d (becomes P r))
+  sent-head (channel {x = x} {P = P} r) t = leads x (becomes P r)
+  sent-head (label {l = l} {P = P} r) t = leads l (becomes P r)
 
   sent-is : (a : ℕ) (c : Located) (h : Payload) (next : ℕ) (P : Proc) (p : List Terminal) → lang (payloadP a c h) next P p → Sends a c next P p
   sent-is a c UnitPayload next P p y =
@@ -334,10 +251,10 @@ module _ (s : List ℕ) where
 
   got-head : {a next : ℕ} {c : Located} {P : Proc} {p : List Terminal} → Receives a c next P p → (t : Tok) → lang (wantedP a c (payload (firstOf p t .kind))) next P p
   unfolding payload
-  got-head (unit {b = b} {d = d} {e = e} {P = P} r) t = record { value = b; rest = _; is = refl; follows = record { value = d; rest = _; is = refl; follows = record { value = e; rest = _; is = refl; follows = record { value = P; is = refl; of = r } } } }
-  got-head (channel {e = e} {x = x} {P = P} r) t = record { value = x; rest = _; is = refl; follows = record { value = e; rest = _; is = refl; follows = record { value = P; is = refl; of = r } } }
-  got-head (labels (rule.last r)) t = record { value = _; is = refl; of = rule.last r }
-  got-head (labels (rule.more r x)) t = record { value = _; is = refl; of = rule.more r x }
+  got-head (unit {b = b} {d = d} {e = e} {P = P} r) t = leads b (leads d (leads e (becomes P r)))
+  got-head (channel {e = e} {x = x} {P = P} r) t = leads x (leads e (becomes P r))
+  got-head (labels (rule.last r)) t = becomes _ (rule.last r)
+  got-head (labels (rule.more r x)) t = becomes _ (rule.more r x)
 
   got-is : (a : ℕ) (c : Located) (h : Payload) (next : ℕ) (P : Proc) (p : List Terminal) → lang (wantedP a c h) next P p → Receives a c next P p
   got-is a c UnitPayload next P p y =
@@ -409,18 +326,8 @@ module _ (s : List ℕ) where
       recast (AreBranches n next) (with-more {a = x .value} {l = y .value} (z .begins) (z .follows .of)) (let e = y .is in let f = x .is in let g = z .is in cc) (z .follows .is)
 
   are-branches : {n next : ℕ} {p : List Terminal} {B : Branches} → AreBranches n next p B → lang (branchListP n) next B p
-  are-branches (rule.last {a = a} {p = p} {l} {P} x) = record {
-    value = l;
-    rest = _;
-    is = refl;
-    follows = record { value = a; rest = p; is = refl; follows = record { value = P; first = p; rest = []; is = sym (append-nil p); begins = x; follows = record { value = Branches.none; is = refl; of = none } } };
-  }
-  are-branches (rule.more {a = a} {b = b} {p = p} {q} {l} {P} {B} x d) = record {
-    value = l;
-    rest = _;
-    is = refl;
-    follows = record { value = a; rest = _; is = refl; follows = record { value = P; first = p; rest = mark kBar b ∷ q; is = refl; begins = x; follows = record { value = B; is = refl; of = some d } } };
-  }
+  are-branches (rule.last {a = a} {p = p} {l} {P} x) = leads l (leads a (joins P p ([]) (sym (append-nil p)) x (becomes (Branches.none) none)))
+  are-branches (rule.more {a = a} {b = b} {p = p} {q} {l} {P} {B} x d) = leads l (leads a (joins P p (mark kBar b ∷ q) refl x (becomes B (some d))))
 
   abbrev furtherP : ℕ → Located → Proc → Phrase s Branches
   furtherP n l P = mapped (branch l P) (moreP n)
@@ -454,7 +361,7 @@ module _ (s : List ℕ) where
         where
           out : Each Ends (lang {s = s} restP) (λ P q t ts. firstOf q t ≡ tokenIn s (c .at) → lang (one (marks s kSemicolon refl) λ _. processP) (t .at) P q)
           out P q t ts rule.nothing f z = absurd (false≢true (sym (f .1) ∙ ap (λ (u : Tok). eqb (u .kind) kSemicolon) z ∙ e))
-          out P q t ts (rule.goesOn {a = a} x) f z = record { value = a; rest = _; is = refl; follows = x }
+          out P q t ts (rule.goesOn {a = a} x) f z = leads a x
       rest-by c m lv false e = right-got restP _ rule.nothing lv (λ P q t ts y f z. only t y z refl)
         where
           only : {next : ℕ} {P : Proc} {q : List Terminal} (t : Tok) → IsRest next q P → firstOf q t ≡ tokenIn s (c .at) → t .at ≡ next → (q ≡ []) × (P ≡ empty (tokenAt s (c .at) .start))
@@ -475,7 +382,7 @@ module _ (s : List ℕ) where
         where
           out : Each BranchEnds (More n) (λ B q t ts. firstOf q t ≡ tokenIn s (c .at) → lang (one (marks s kBar refl) λ _. branchesP (suc n)) (t .at) B q)
           out B q t ts none f z = absurd (false≢true (sym (f .1) ∙ ap (λ (u : Tok). eqb (u .kind) kBar) z ∙ e))
-          out B q t ts (some {b = b} x) f z = record { value = b; rest = _; is = refl; follows = x }
+          out B q t ts (some {b = b} x) f z = leads b x
       more-by more n u c m lv false e = right-got (moreP n) Branches.none none lv (λ B q t ts y f z. only t y z)
         where
           only : {next : ℕ} {B : Branches} {q : List Terminal} (t : Tok) → More n next B q → firstOf q t ≡ tokenIn s (c .at) → (q ≡ []) × (B ≡ Branches.none)
@@ -530,7 +437,7 @@ module _ (s : List ℕ) where
           right-plain x (marks s kCatch refl) _ _ tt refl λ g k y.
           right-part Ends bracketedP _ (λ Q q k t ts y f. tt) _ _ (bracketed-right up g k y) λ Q q l z. right-ret _ z
       term-by Spawn e =
-          right-process lv (makers s) _ _ (λ h. h) (λ h. h) refl λ d n v.
+          right-process lv (broughtNames s) _ _ (λ h. h) (λ h. h) refl λ d n v.
           right-plain v (marks s kColon refl) _ _ tt refl λ f i x.
           right-part Ends typeP _ (λ A. ahead-one s Ends NotInfix (marks s kFrom refl) (λ _. seq bracketedP λ P. mapped (spawn _ A P) restP) refl) _ _ (type-reads s j f i x) λ A g k y.
           right-plain y (marks s kFrom refl) _ _ tt refl λ q l z.

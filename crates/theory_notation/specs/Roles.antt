@@ -10,7 +10,7 @@ use borrow.Author.Tests.{eqb-true, ltb-true}
 use Rattle.notation.specs.Token.{tokenAt, nameAt, kName, kLabel, kFault}
 use Rattle.notation.specs.Tree.{Located}
 use Rattle.notation.specs.Reader.{nameIn, labelIn}
-use Rattle.grammar.specs.Terminals.{Tok, tok, Terminal, tokenOf, typeMark, typeName, termWord, maker, opens, closes, listed, sent, name, mark}
+use Rattle.grammar.specs.Terminals.{Tok, tok, Terminal, tokenOf, typeMark, typeName, termWord, brought, opens, closes, listed, sent, name, mark}
 use Rattle.theory_notation.specs.Standing.{nameOf}
 use Rattle.theory_notation.specs.Phrases.{Role}
 
@@ -77,8 +77,8 @@ module _ (s : List ℕ) where
   abbrev pub typeNames : Role s kName typeName (nameIn s)
   typeNames = name-role s typeName (λ n. refl)
 
-  abbrev pub makers : Role s kName maker (nameIn s)
-  makers = name-role s maker (λ n. refl)
+  abbrev pub broughtNames : Role s kName brought (nameIn s)
+  broughtNames = name-role s brought (λ n. refl)
 
   abbrev pub names : Role s kName name (nameIn s)
   names = name-role s name (λ n. refl)

@@ -21,7 +21,7 @@ use Rattle.grammar.specs.Grammar as rule
 use Rattle.grammar.specs.Grammar.{IsEntry, IsProcess, IsDeclaration, IsScript}
 use Rattle.grammar.specs.Counting.{Counts, counts, counted, Fits}
 use Rattle.theory_notation.specs.Standing.{tokenIn, firstOf}
-use Rattle.theory_notation.specs.Phrases.{Phrase, Role, rules, one, seq, ret, mapped, lang, Each, Right}
+use Rattle.theory_notation.specs.Phrases.{Phrase, Role, rules, one, seq, ret, mapped, lang, Each, Right, leads, joins, ended, becomes}
 use Rattle.theory_notation.specs.Laws.{right-got, right-ret, right-misfit, right-narrow, right-part, right-lastly, right-limited, right-before}
 use Rattle.theory_notation.specs.Roles.{word-role, openers, marks, names}
 use Rattle.theory_notation.specs.Levels.{tally, Level, right-plain}
@@ -98,43 +98,9 @@ module _ (s : List ℕ) where
 
   is-declared : {next : ℕ} {p : List Terminal} {a : Declaration} → IsDeclaration next p a → (t : Tok) → lang (declaredP (declarationHead (firstOf p t .kind))) next a p
   unfolding declarationHead
-  is-declared (rule.type {a = a} {b = b} {t = t} {A = A} x) u = record { value = a; rest = _; is = refl; follows = record { value = t; rest = _; is = refl; follows = record { value = b; rest = _; is = refl; follows = record { value = A; is = refl; of = x } } } }
-  is-declared (rule.proc {a = a} {b = b} d e f g {n = n} {p} {q} {r} {xs} {ys} {P} x y z) u = record {
-    value = a;
-    rest = _;
-    is = refl;
-    follows = record {
-      value = n;
-      rest = _;
-      is = refl;
-      follows = record {
-        value = b;
-        rest = _;
-        is = refl;
-        follows = record {
-          value = xs;
-          first = p ++ (closes kRoundClose d ∷ []);
-          rest = opens kSquareOpen e ∷ (q ++ (closes kSquareClose f ∷ mark kEquals g ∷ r));
-          is = sym (append-assoc p (closes kRoundClose d ∷ []) _);
-          begins = any d x;
-          follows = record {
-            value = e;
-            rest = _;
-            is = refl;
-            follows = record {
-              value = ys;
-              first = q ++ (closes kSquareClose f ∷ []);
-              rest = mark kEquals g ∷ r;
-              is = sym (append-assoc q (closes kSquareClose f ∷ []) _);
-              begins = any f y;
-              follows = record { value = g; rest = r; is = refl; follows = record { value = P; is = refl; of = z } };
-            };
-          };
-        };
-      };
-    };
-  }
-  is-declared (rule.exec {a = a} {n = n}) u = record { value = a; rest = _; is = refl; follows = record { value = n; rest = []; is = refl; follows = record { value = refl; none = refl } } }
+  is-declared (rule.type {a = a} {b = b} {t = t} {A = A} x) u = leads a (leads t (leads b (becomes A x)))
+  is-declared (rule.proc {a = a} {b = b} d e f g {n = n} {p} {q} {r} {xs} {ys} {P} x y z) u = leads a (leads n (leads b (joins xs (p ++ (closes kRoundClose d ∷ [])) (opens kSquareOpen e ∷ (q ++ (closes kSquareClose f ∷ mark kEquals g ∷ r))) (sym (append-assoc p (closes kRoundClose d ∷ []) _)) (any d x) (leads e (joins ys (q ++ (closes kSquareClose f ∷ [])) (mark kEquals g ∷ r) (sym (append-assoc q (closes kSquareClose f ∷ []) _)) (any f y) (leads g (becomes P z)))))))
+  is-declared (rule.exec {a = a} {n = n}) u = leads a (leads n ended)
 
   -- ── the readings
   -- the keyword of a declaration, of which so many came before
@@ -248,14 +214,7 @@ module _ (s : List ℕ) where
       where
         out : {next : ℕ} {ds : List Declaration} {q : List Terminal} (t : Tok) → IsScript next q ds → t .kind ≡ kEnd → firstOf q t ≡ tokenIn s (c .at) → lang (againP h) next ds q
         out t rule.none f z = absurd (true≢false (ap (λ k. isEnd (declarationHead k)) (sym f ∙ ap (λ (u : Tok). u .kind) z) ∙ ap isEnd e ∙ w))
-        out {next} t (rule.more {p = p} {q} {a} {ds} d r) f z = record {
-          value = a;
-          first = p;
-          rest = q;
-          is = refl;
-          begins = subst (λ k. lang (declaredP k) (following q next) a p) (ap (λ (u : Tok). declarationHead (u .kind)) z ∙ e) (first-declared d q t);
-          follows = record { value = ds; is = refl; of = r };
-        }
+        out {next} t (rule.more {p = p} {q} {a} {ds} d r) f z = joins a p q refl (subst (λ k. lang (declaredP k) (following q next) a p) (ap (λ (u : Tok). declarationHead (u .kind)) z ∙ e) (first-declared d q t)) (becomes ds r)
 
     script-right : (h : DeclarationHead) → declarationHead (kindAt s (c .at)) ≡ h → Right s AtEnd Final scriptP m c (scriptBy script n s k c h)
     unfolding scriptBy declarationHead

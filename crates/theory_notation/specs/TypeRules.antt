@@ -19,7 +19,7 @@ use Rattle.grammar.specs.Grammar as rule
 use Rattle.grammar.specs.Grammar.{IsType, IsAtom, AreAlternatives}
 use Rattle.grammar.specs.Counting.{Counts}
 use Rattle.theory_notation.specs.Standing.{tokenIn, firstOf}
-use Rattle.theory_notation.specs.Phrases.{Phrase, Role, rules, one, seq, ret, mapped, lang, Each, Right}
+use Rattle.theory_notation.specs.Phrases.{Phrase, Role, rules, one, seq, ret, mapped, lang, Each, Right, leads, joins, ended, becomes}
 use Rattle.theory_notation.specs.Laws.{right-got, right-ret, right-misfit, right-narrow, right-part, right-lastly}
 use Rattle.theory_notation.specs.Roles.{typeMarks, typeNames, openers, closers, marks, listedLabels}
 use Rattle.theory_notation.specs.Levels.{Level, right-plain, right-type, right-opening, right-listed, right-close}
@@ -85,26 +85,11 @@ module _ (s : List ℕ) where
   -- .. and every atom has the head that its first token says
   atom-head : {p : List Terminal} {A : Ty Located} → IsAtom p A → (t : Tok) (next : ℕ) → lang (headP (typeHead (firstOf p t .kind))) next A p
   unfolding typeHead
-  atom-head (rule.unit {a}) t next = record { value = a; rest = []; is = refl; follows = record { value = refl; none = refl } }
-  atom-head (rule.named {n}) t next = record { value = n; rest = []; is = refl; follows = record { value = refl; none = refl } }
-  atom-head (rule.plus {p} {a} {b} c {r} d) t next = record {
-    value = a;
-    rest = _;
-    is = refl;
-    follows = record { value = b; rest = _; is = refl; follows = record { value = r; first = p; rest = closes kBraceClose c ∷ []; is = refl; begins = d; follows = record { value = c; rest = []; is = refl; follows = record { value = refl; none = refl } } } };
-  }
-  atom-head (rule.with {p} {a} {b} c {r} d) t next = record {
-    value = a;
-    rest = _;
-    is = refl;
-    follows = record { value = b; rest = _; is = refl; follows = record { value = r; first = p; rest = closes kBraceClose c ∷ []; is = refl; begins = d; follows = record { value = c; rest = []; is = refl; follows = record { value = refl; none = refl } } } };
-  }
-  atom-head (rule.round {p} {a} b {A} d) t next = record {
-    value = a;
-    rest = _;
-    is = refl;
-    follows = record { value = A; first = p; rest = closes kRoundClose b ∷ []; is = refl; begins = d; follows = record { value = b; rest = []; is = refl; follows = record { value = refl; none = refl } } };
-  }
+  atom-head (rule.unit {a}) t next = leads a ended
+  atom-head (rule.named {n}) t next = leads n ended
+  atom-head (rule.plus {p} {a} {b} c {r} d) t next = leads a (leads b (joins r p (closes kBraceClose c ∷ []) refl d (leads c ended)))
+  atom-head (rule.with {p} {a} {b} c {r} d) t next = leads a (leads b (joins r p (closes kBraceClose c ∷ []) refl d (leads c ended)))
+  atom-head (rule.round {p} {a} b {A} d) t next = leads a (joins A p (closes kRoundClose b ∷ []) refl d (leads b ended))
 
   atom-known : {p : List Terminal} {A : Ty Located} → IsAtom p A → (t : Tok) → isOther (typeHead (firstOf p t .kind)) ≡ false
   unfolding typeHead
@@ -162,10 +147,10 @@ tailed s next B p y = with-tail (y .is) (y .begins) (y .follows)
 
 tailed-of : {p : List Terminal} {B : Ty Located} → IsType p B → (s : List ℕ) (next : ℕ) → lang (tailedP s) next B p
 unfolding infixOf isInfix
-tailed-of (rule.atom {p} {A} x) s next = record { value = A; first = p; rest = []; is = sym (append-nil p); begins = x; follows = stop }
-tailed-of (rule.tensor {p} {q} a {A} x y) s next = record { value = A; first = p; rest = _; is = refl; begins = x; follows = goes kStar refl y }
-tailed-of (rule.par {p} {q} a {A} x y) s next = record { value = A; first = p; rest = _; is = refl; begins = x; follows = goes kAt refl y }
-tailed-of (rule.lolli {p} {q} a {A} x y) s next = record { value = A; first = p; rest = _; is = refl; begins = x; follows = goes kLolli refl y }
+tailed-of (rule.atom {p} {A} x) s next = joins A p ([]) (sym (append-nil p)) x stop
+tailed-of (rule.tensor {p} {q} a {A} x y) s next = joins A p _ refl x (goes kStar refl y)
+tailed-of (rule.par {p} {q} a {A} x y) s next = joins A p _ refl x (goes kAt refl y)
+tailed-of (rule.lolli {p} {q} a {A} x y) s next = joins A p _ refl x (goes kLolli refl y)
 
 -- what follows a label's type
 data More (n : ℕ) : ℕ → Alternatives Located → List Terminal → Type 0 where
@@ -190,18 +175,8 @@ module _ (s : List ℕ) where
       recast (AreAlternatives n) (with-more {a = x .value} {l = y .value} (z .begins) (z .follows .of)) (let e = y .is in let f = x .is in let g = z .is in cc) (z .follows .is)
 
   are-labels : {n : ℕ} {p : List Terminal} {r : Alternatives Located} → AreAlternatives n p r → (next : ℕ) → lang (labelsP n) next r p
-  are-labels (rule.last {a = a} {p} {l} {A} x) next = record {
-    value = l;
-    rest = _;
-    is = refl;
-    follows = record { value = a; rest = p; is = refl; follows = record { value = A; first = p; rest = []; is = sym (append-nil p); begins = x; follows = record { value = Alternatives.none; is = refl; of = none } } };
-  }
-  are-labels (rule.more {a = a} b {p} {q} {l} {A} {r} x d) next = record {
-    value = l;
-    rest = _;
-    is = refl;
-    follows = record { value = a; rest = _; is = refl; follows = record { value = A; first = p; rest = mark kComma b ∷ q; is = refl; begins = x; follows = record { value = r; is = refl; of = some d } } };
-  }
+  are-labels (rule.last {a = a} {p} {l} {A} x) next = leads l (leads a (joins A p ([]) (sym (append-nil p)) x (becomes (Alternatives.none) none)))
+  are-labels (rule.more {a = a} b {p} {q} {l} {A} {r} x d) next = leads l (leads a (joins A p (mark kComma b ∷ q) refl x (becomes r (some d))))
 
   -- an infix mark and a type, after A
   abbrev infixP : Ty Located → (k : ℕ) → ltb k kName ≡ true → Phrase s (Ty Located)
@@ -292,7 +267,7 @@ module _ (s : List ℕ) where
 
         out : Each NoLabel (More n) (λ r q t ts. firstOf q t ≡ tokenIn s (d .at) → lang (one (marks s kComma refl) (λ _. alternativesP (suc n))) (t .at) r q)
         out r q t ts none f z = absurd (false≢true (sym (f .1) ∙ ap (λ (u : Tok). eqb (u .kind) kComma) z ∙ e))
-        out r q t ts (some {b = b} {q = p} x) f z = record { value = b; rest = p; is = refl; follows = x }
+        out r q t ts (some {b = b} {q = p} x) f z = leads b x
     more-right d k v false e =
         right-got (moreP n) Alternatives.none none v (λ r q t ts y f z. only t y (ap (λ (u : Tok). eqb (u .kind) kComma) z ∙ e))
       where

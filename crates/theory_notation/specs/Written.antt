@@ -12,7 +12,7 @@ use borrow.Author.Tests.{ltb-true}
 use Rattle.notation.specs.Bytes.{letter, blank, position, same}
 use Rattle.notation.specs.Token.{symbols, symbol, kType, kProc, kExec, kLolli, kName, kLabel, kEnd}
 use Rattle.notation.specs.Tree.{Name, Located}
-use Rattle.grammar.specs.Terminals.{tok, Terminal, tokenOf, declaresType, declaresProc, declaresExec, typeMark, typeName, termWord, maker, opens, closes, listed, sent, name, mark}
+use Rattle.grammar.specs.Terminals.{tok, Terminal, tokenOf, declaresType, declaresProc, declaresExec, typeMark, typeName, termWord, brought, opens, closes, listed, sent, name, mark}
 use Rattle.grammar.specs.Lexical.{IsName, letters, Spells, IsWord, IsMark, text-ends, Token, Tokens}
 use Rattle.grammar.specs.Lexical as lexical
 use Rattle.grammar.specs.Notation.{endAt}
@@ -87,7 +87,7 @@ writes (declaresExec a) e = writes-symbol (declaresExec a) kExec refl refl (λ l
 writes (typeMark k a) e = writes-symbol (typeMark k a) k e refl (λ l. refl)
 writes (typeName n) e = writes-name (typeName n) refl (λ l. refl)
 writes (termWord k a) e = writes-symbol (termWord k a) k e refl (λ l. refl)
-writes (maker n) e = writes-name (maker n) refl (λ l. refl)
+writes (brought n) e = writes-name (brought n) refl (λ l. refl)
 writes (opens k a) e = writes-symbol (opens k a) k e refl (λ l. refl)
 writes (closes k a) e = writes-symbol (closes k a) k e refl (λ l. refl)
 writes (listed before n) e = writes-label (listed before n) refl (λ l. refl)
