@@ -9,7 +9,8 @@ use Rattle.calculus.specs.Named
 use Rattle.trees.specs.Heads as trees
 use Rattle.trees.specs.Listed as lists
 use Rattle.trees.specs.Asked as asking
-use Rattle.trees.specs.Decide as deciding
+use Rattle.trees.proofs.Asked as asked
+use Rattle.trees.proofs.Decide as deciding
 use Rattle.calculus.specs.SameType
 use Rattle.calculus.specs.Types
 use Rattle.calculus.specs.Verdict.{faults}
@@ -104,5 +105,5 @@ printed_of s (faulty n at) = line (bytes "refused " ++ (decimal n ++ (bytes " at
 
 -- to unfold it is to unfold all that it is made of, so that it computes
 unfoldable pub printed : List ℕ → List ℕ
-unfolding read_now plain Named.lookup Named.without Named.changed Named.kept Named.names Named.distinct trees.labelled asking.one_more asking.meet asking.asked_words asking.asked_pairs asking.asked_choices asking.asked lists.in? lists.without lists.row lists.square deciding.unvisited deciding.then_done deciding.visit_all deciding.visited deciding.parts deciding.look deciding.turn deciding.visit deciding.compared deciding.equal? SameType.parts SameType.declared_parts SameType.same_type Types.passing Types.choosing Types.labelled program_of faults Declarations.repeats Declarations.type_repeats Declarations.process_repeats Declarations.repeated Declarations.type_undefined Declarations.process_undefined Declarations.undefined Declarations.bare_names Declarations.has_other Declarations.reach_other Declarations.outward Declarations.wrong_execs Declarations.declared Mentions.mentions Mentions.half_mentions Mentions.spawn_takes Mentions.spawn_leaves Mentions.try_takes Mentions.never_both Mentions.exactly_one Checking.without_all Checking.list_fits Checking.fitting Checking.check Checking.typed checked Configuration.held_as Configuration.holder_from Configuration.outside_of Configuration.far_end Configuration.channels_held Configuration.fresh_channel Configuration.inserted Configuration.removed Configuration.let_go Configuration.changed_outside Steps.after_message Steps.after_send Steps.after_receive Steps.parting Steps.send Steps.receive Steps.cancelling Steps.spawning Steps.trying Steps.calling Steps.raising Steps.moved_end Steps.forwarding Steps.leaving Steps.folding_up Steps.step_term Steps.step Warnings.left_out Warnings.missing Warnings.warnings Runs.start_config Runs.exec_of Runs.first_from Runs.choose_place Runs.run_from Runs.run_on digits sighting run_lines
+unfolding read_now plain Named.lookup Named.without Named.changed Named.kept Named.names Named.distinct trees.labelled asking.one_more asking.meet asked.asked_words asked.asked_pairs asked.asked_choices asked.asked lists.in? lists.without lists.row lists.square deciding.unvisited deciding.then_done deciding.visit_all deciding.visited deciding.parts deciding.look deciding.turn deciding.visit deciding.compared deciding.equal? SameType.parts SameType.declared_parts SameType.same_type Types.passing Types.choosing Types.labelled program_of faults Declarations.repeats Declarations.type_repeats Declarations.process_repeats Declarations.repeated Declarations.type_undefined Declarations.process_undefined Declarations.undefined Declarations.bare_names Declarations.has_other Declarations.reach_other Declarations.outward Declarations.wrong_execs Declarations.declared Mentions.mentions Mentions.half_mentions Mentions.spawn_takes Mentions.spawn_leaves Mentions.try_takes Mentions.never_both Mentions.exactly_one Checking.without_all Checking.list_fits Checking.fitting Checking.check Checking.typed checked Configuration.held_as Configuration.holder_from Configuration.outside_of Configuration.far_end Configuration.channels_held Configuration.fresh_channel Configuration.inserted Configuration.removed Configuration.let_go Configuration.changed_outside Steps.after_message Steps.after_send Steps.after_receive Steps.parting Steps.send Steps.receive Steps.cancelling Steps.spawning Steps.trying Steps.calling Steps.raising Steps.moved_end Steps.forwarding Steps.leaving Steps.folding_up Steps.step_term Steps.step Warnings.left_out Warnings.missing Warnings.warnings Runs.start_config Runs.exec_of Runs.first_from Runs.choose_place Runs.run_from Runs.run_on digits sighting run_lines
 printed s = printed_of s (checked s)

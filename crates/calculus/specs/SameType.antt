@@ -4,7 +4,7 @@ use Rattle.std.proofs.Common.{sym, ◌∙◌, ap, subst, true≢false, eq-eqb}
 use Rattle.std.proofs.Math.Bool.{So}
 use Rattle.trees.specs.Heads as trees
 use Rattle.trees.specs.Heads.{Head}
-use Rattle.trees.specs.Decide.{equal?}
+use Rattle.trees.proofs.Decide.{equal?}
 use Rattle.notation.proofs.ByteTables.{same→eq}
 use Rattle.notation.specs.Bytes.{same}
 use Rattle.notation.specs.Tree.{Name, Ty, unit, named, tensor, par, lolli, plus, with, Alternatives, alternative, Ty-discrete}

@@ -1,5 +1,5 @@
 // What a check says: nothing is at fault, or the refusal's number and its offset.
-#[derive(Drop)]
+#[derive(Clone, Copy)]
 pub enum Verdict {
     Fine,
     Refused(u32, usize),

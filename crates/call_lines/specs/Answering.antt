@@ -1,5 +1,5 @@
 -- What a line of a log comes to: the entry's own contract, and the words of its answer.
-use Rattle.std.specs.Prelude.{ℕ, ◌+◌, ◌≤◌, ◌≡◌, refl, List, [], length}
+use Rattle.std.specs.Prelude.{ℕ, ◌+◌, ◌≤◌, ◌≡◌, List, [], length}
 use Rattle.std.proofs.Common.{sym, ◌∙◌, subst, arith, length-take}
 use Rattle.std.proofs.Math.Path.{ap}
 use Rattle.std.proofs.Math.ListN.{take}

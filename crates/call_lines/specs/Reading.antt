@@ -1,5 +1,5 @@
 -- The loops over the bytes of a line and of a log: what is looked for in all of them is what is looked for from i on.
-use Rattle.std.specs.Prelude.{ℕ, zero, suc, ◌+◌, ◌-◌, ◌≤◌, ◌<◌, ◌≡◌, refl, List, [], ◌∷◌, Bool, true, false, ◌&&◌, ltb, leb, eqb, length, take, drop, get_or}
+use Rattle.std.specs.Prelude.{ℕ, suc, ◌+◌, ◌-◌, ◌≤◌, ◌<◌, ◌≡◌, refl, List, [], ◌∷◌, Bool, true, false, ◌&&◌, ltb, leb, eqb, length, take, drop, get_or}
 use Rattle.std.proofs.Math.Path.{sym, ap}
 use Rattle.std.proofs.Common.{◌∙◌, add-one, arith, drop_of_length-le, length-drop, drop-cons, take_all, lt-ltb, le-ltb, eq-eqb, ne_eqb, leb-true}
 use Rattle.std.proofs.Math.Bool.{cond}

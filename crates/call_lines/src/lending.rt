@@ -5,7 +5,7 @@ ghost use Rattle.call_lines.specs.Lending.{lent_at_first, lent_after};
 use crate::lines::CallLine;
 use notation::script::Script;
 
-#[derive(Drop)]
+#[derive(Clone, Copy)]
 pub struct Lent {
     pub scratch: usize,
     pub run: usize,

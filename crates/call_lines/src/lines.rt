@@ -6,7 +6,7 @@ use crate::numbers::{Number, number_in};
 use crate::words::{after, begins_with, length_before};
 
 // A call with its number, or what is lent from there on, in words.
-#[derive(Drop)]
+#[derive(Clone, Copy)]
 pub enum CallLine {
     Start(u32),
     Step(u32),
@@ -27,7 +27,7 @@ impl CallLine {
 }
 
 // What a line begins with; a number follows all but the last three.
-#[derive(Drop)]
+#[derive(Clone, Copy)]
 enum Word {
     Start,
     Step,

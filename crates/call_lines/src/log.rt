@@ -6,7 +6,7 @@ use crate::lines::{CallLine, read_line};
 use crate::words::{begins_with, length_before};
 
 // A line that is sought: the one between script and calls, or one that is no call.
-#[derive(Drop)]
+#[derive(Clone, Copy)]
 pub enum Sought {
     Rule,
     NoCall,

@@ -3,7 +3,7 @@ ghost use Rattle.std.specs.Prelude.{◌≡◌, ◌≤◌, ◌<◌};
 ghost use Rattle.notation.specs.Bytes.{within};
 ghost use Rattle.call_lines.specs.CallLine.{numbers, with_digit, number_from, number_in};
 
-#[derive(Drop)]
+#[derive(Clone, Copy)]
 pub enum Number {
     Of(u32),
     Missing,

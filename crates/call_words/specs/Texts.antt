@@ -1,7 +1,7 @@
 -- What the functions promise that tell what a text is made of. s is the text, at an offset; w and old are the scratch and answer words lent, v and new what they are afterwards, r what is returned.
 use Rattle.std.specs.Prelude.{ℕ, ◌<◌, ◌≤◌, ◌≡◌, refl, List, [], ◌∷◌, ◌++◌, length, get_or, drop}
 use Rattle.std.proofs.Common.{◌∙◌, ap, arith}
-use Rattle.notation.specs.Token.{token_at, as_token}
+use Rattle.notation.specs.Token.{token_at}
 use Rattle.notation.specs.declared.token.Token.{Token}
 use Rattle.notation.specs.declared.token.Lexeme.{Lexeme}
 use Rattle.read_text.specs.Reading.{TextRead}

@@ -1,3 +1,5 @@
+#![tactic(auto)]
+
 pub mod exports;
 mod laying;
 pub mod texts;

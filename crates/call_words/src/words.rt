@@ -49,8 +49,19 @@ fn seen_words(text: &[u8], seen: Seen) -> [u32; 4]
     }
 }
 
-// Up to four words, and zeros after them.
-pub(crate) fn few_words(a: u32, b: u32, c: u32, d: u32) -> [u32; ANSWER_WORDS]
+// Two or three words, and zeros after them.
+pub(crate) fn few_words(a: u32, b: u32, c: u32) -> [u32; ANSWER_WORDS]
+    ensures { result ≡ padded (a ∷ b ∷ c ∷ []) }
+{
+    let mut words = [0u32; ANSWER_WORDS];
+    words[0] = a;
+    words[1] = b;
+    words[2] = c;
+    words
+}
+
+// Four words, and zeros after them.
+pub(crate) fn four_words(a: u32, b: u32, c: u32, d: u32) -> [u32; ANSWER_WORDS]
     ensures { result ≡ padded (a ∷ b ∷ c ∷ d ∷ []) }
 {
     let mut words = [0u32; ANSWER_WORDS];
@@ -65,14 +76,14 @@ pub(crate) fn few_words(a: u32, b: u32, c: u32, d: u32) -> [u32; ANSWER_WORDS]
 pub(crate) fn refused_words(n: u32, at: usize) -> [u32; ANSWER_WORDS]
     ensures { result ≡ padded (n ∷ as_word at ∷ []) }
 {
-    few_words(n, as_word(at), 0, 0)
+    few_words(n, as_word(at), 0)
 }
 
 pub(crate) fn started_words(answer: Started) -> [u32; ANSWER_WORDS]
     ensures { (s : List ℕ) (i : ℕ) → result ≡ padded (words_of s i (started answer)) }
 {
     match answer {
-        Started::Begun => return few_words(0, 0, 0, 0),
+        Started::Begun => return few_words(0, 0, 0),
         Started::Refused(n, at) => return refused_words(n, at),
     }
 }
@@ -87,7 +98,7 @@ pub(crate) fn stepped_words(text: &[u8], answer: Stepped) -> [u32; ANSWER_WORDS]
             lay(&mut words, 1, &shown);
             return words;
         }
-        Stepped::Uncaught => return few_words(0, 5, 0, 0),
+        Stepped::Uncaught => return few_words(0, 5, 0),
         Stepped::Refused(n, at) => return refused_words(n, at),
     }
 }
@@ -96,7 +107,7 @@ pub(crate) fn stepped_words(text: &[u8], answer: Stepped) -> [u32; ANSWER_WORDS]
 fn shown_words(text: &[u8], seen: Seen, steps: u32) -> [u32; ANSWER_WORDS]
     ensures { result ≡ padded (0 ∷ 1 ∷ steps ∷ seen_words text.now seen) }
 {
-    let mut words = few_words(0, 1, steps, 0);
+    let mut words = few_words(0, 1, steps);
     let shown = seen_words(text, seen);
     lay(&mut words, 3, &shown);
     words
@@ -107,10 +118,10 @@ pub(crate) fn ran_on_words(text: &[u8], answer: RanOn) -> [u32; ANSWER_WORDS]
 {
     match answer {
         RanOn::Shown(seen, steps) => return shown_words(text, seen, steps),
-        RanOn::Done(steps) => return few_words(0, 2, steps, 0),
-        RanOn::Full(steps) => return few_words(0, 3, steps, 0),
-        RanOn::Stopped(steps) => return few_words(0, 4, steps, 0),
-        RanOn::Uncaught(steps) => return few_words(0, 5, steps, 0),
+        RanOn::Done(steps) => return few_words(0, 2, steps),
+        RanOn::Full(steps) => return few_words(0, 3, steps),
+        RanOn::Stopped(steps) => return few_words(0, 4, steps),
+        RanOn::Uncaught(steps) => return few_words(0, 5, steps),
         RanOn::Refused(n, at) => return refused_words(n, at),
     }
 }
@@ -120,7 +131,7 @@ fn listed_words(count: u32, list: &[u32]) -> [u32; ANSWER_WORDS]
     requires { length list.now ≤ 128 }
     ensures { result ≡ padded (0 ∷ count ∷ list.now) }
 {
-    let mut words = few_words(0, count, 0, 0);
+    let mut words = few_words(0, count, 0);
     lay(&mut words, 2, list);
     words
 }
@@ -159,7 +170,7 @@ pub(crate) fn name_words(text: &[u8], place: usize, number: u32, at: usize) -> [
 {
     if number == 0 {
         let n = name_length(text, place);
-        return few_words(0, as_word(place), as_word(n), 0);
+        return few_words(0, as_word(place), as_word(n));
     }
     refused_words(number, at)
 }
@@ -196,7 +207,7 @@ pub(crate) fn warned_words(text: &[u8], answer: Warned) -> [u32; ANSWER_WORDS]
             lay(&mut words, 1, &told);
             return words;
         }
-        Warned::Nothing => return few_words(0, 0, 0, 0),
+        Warned::Nothing => return few_words(0, 0, 0),
         Warned::Refused(n, at) => return refused_words(n, at),
     }
 }

@@ -1,5 +1,5 @@
 // A log's calls, made on one run, and the log printed with their answers.
-ghost use Rattle.std.specs.Prelude.{◌≤◌, length};
+ghost use Rattle.std.specs.Prelude.{◌≤◌, length, IfOk};
 ghost use Rattle.call_lines.specs.Answering.{answer_room};
 ghost use Rattle.call_lines.specs.CallLine.{most_scratch, most_run};
 ghost use Rattle.call_lines.specs.Lending.{Lendable};
@@ -8,36 +8,37 @@ use call_lines::calls::answer_line;
 use call_lines::lending::{Lent, lend, lent_at_first};
 use call_lines::lines::{CallLine, asked_length, read_line};
 use call_lines::log::{Sought, count_feeds, line_length, seek};
-use libc::{STDERR_FILENO, STDOUT_FILENO};
-use print_bytes::writing::put_decimal;
+use std::io;
+use std::io::Write;
 
 // Prints a line with its answer; answers what is lent after it.
-fn print_answered(
+fn print_answered<W: Write>(
+    to: &mut W,
     text: &[u8],
     scratch: &mut [u32],
     run: &mut [u32],
     out: &mut [u8],
     line: &[u8],
     lent: Lent,
-) -> Lent
+) -> io::Result<Lent>
     requires lendable { Lendable lent }
     requires most_scratch_in_bounds { (most_scratch ≤ length scratch.old) × (most_run ≤ length run.old) × (answer_room text.now ≤ length out.old) }
-    ensures { Lendable result }
+    ensures { IfOk result (λ after. Lendable after) }
 {
     let call = read_line(line);
     let asked = asked_length(line);
     let a = lent.scratch;
     let b = lent.run;
     let n = answer_line(text, &mut scratch[..a], &mut run[..b], call, out);
-    io::write_all(STDOUT_FILENO, &line[..asked]);
-    io::write_all(STDOUT_FILENO, b" -> ");
-    io::write_all(STDOUT_FILENO, &out[..n]);
-    io::write_all(STDOUT_FILENO, b"\n");
-    lend(lent, call)
+    to.write_all(&line[..asked])?;
+    to.write_all(b" -> ")?;
+    to.write_all(&out[..n])?;
+    to.write_all(b"\n")?;
+    Ok(lend(lent, call))
 }
 
 // Every line of a log's calls.
-fn print_calls(text: &[u8], calls: &[u8])
+fn print_calls<W: Write>(to: &mut W, text: &[u8], calls: &[u8]) -> io::Result<()>
     requires { length text.now ≤ 65536 }
 {
     let mut scratch = [0u32; CallLine::MOST_SCRATCH as usize];
@@ -48,26 +49,25 @@ fn print_calls(text: &[u8], calls: &[u8])
     while at < calls.len() {
         let end = at + line_length(&calls[at..]);
         lent = print_answered(
+            to,
             text,
             &mut scratch,
             &mut run,
             &mut out,
             &calls[at..end],
             lent,
-        );
+        )?;
         at = end + 1;
     }
+    Ok(())
 }
 
 // Says that the line that starts at `at` is no call.
-fn say_no_call(log: &[u8], at: usize)
+fn say_no_call(rt: &impl Eprint, log: &[u8], at: usize) -> io::Result<()>
     requires { (at ≤ length log.now) × (length log.now ≤ 65536) }
 {
-    let mut number = [0u8; 10];
-    let n = put_decimal(&mut number, 0, count_feeds(&log[..at]) + 1);
-    io::write_all(STDERR_FILENO, b"calls: line ");
-    io::write_all(STDERR_FILENO, &number[..n]);
-    io::write_all(STDERR_FILENO, b": no call\n");
+    let number = count_feeds(&log[..at]) + 1;
+    eprintln!(rt; "calls: line {number}: no call")
 }
 
 // Where the calls start: after the line --- that starts at `rule`.
@@ -82,21 +82,19 @@ fn calls_start(log: &[u8], rule: usize) -> usize
 }
 
 // Prints nothing where a line is no call.
-pub fn replay(log: &[u8])
+pub fn replay<W: Write>(rt: &impl Eprint, to: &mut W, log: &[u8]) -> io::Result<()>
     requires { length log.now ≤ 65536 }
 {
     let rule = seek(log, Sought::Rule);
     if rule == log.len() {
-        io::write_all(STDERR_FILENO, b"calls: no line ---\n");
-        return;
+        return rt.eprintln("calls: no line ---");
     }
     let first = calls_start(log, rule);
     let wrong = first + seek(&log[first..], Sought::NoCall);
     if wrong < log.len() {
-        say_no_call(log, wrong);
-        return;
+        return say_no_call(rt, log, wrong);
     }
-    io::write_all(STDOUT_FILENO, &log[..rule]);
-    io::write_all(STDOUT_FILENO, b"---\n");
-    print_calls(&log[..rule], &log[first..]);
+    to.write_all(&log[..rule])?;
+    to.write_all(b"---\n")?;
+    print_calls(to, &log[..rule], &log[first..])
 }

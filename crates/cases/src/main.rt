@@ -1,33 +1,32 @@
-// For each file that an argument names: a line with the name, and what `epass` prints for the script in it.
-use libc::STDOUT_FILENO;
-use print_output::text::print_text;
+// For each file that an argument names: a line with the name, and what `epass` prints for the script in it. A file that cannot be read,
+// or a name that cannot be printed, ends it with that error.
+#![tactic(auto)]
 
-fn print_file(path: &[u8]) {
-    io::write_all(STDOUT_FILENO, path);
-    io::write_all(STDOUT_FILENO, b"\n");
-    let fd = os::open_read(path);
-    if fd < 0 {
-        os::fail(path);
-        return;
-    }
+use named_files::naming::{argument, open_named};
+use named_files::reading::read_full;
+use print_output::text::print_text;
+use std::io;
+use std::io::Write;
+use std::rt::Runtime;
+
+fn print_file(rt: &impl Runtime, err: &mut impl Write, path: &[u8]) -> io::Result<()> {
+    let Some(mut file) = open_named(rt, err, path)? else {
+        return Ok(());
+    };
     // One byte more than a text may have.
     let mut text = [0u8; 8193];
-    let n = io::read_full(fd, &mut text);
-    libc::close(fd);
-    print_text(&text[..n]);
+    let n = read_full(&mut file, &mut text)?;
+    print_text(&text[..n], &mut io::writer(rt));
+    Ok(())
 }
 
-fn print_argument(i: usize) {
-    let mut path = io::buffer();
-    let n = os::arg(i, &mut path);
-    print_file(&path[..n]);
-}
-
-fn main() {
-    let count = os::arg_count();
-    let mut i = 1;
-    while i < count {
-        print_argument(i);
-        i += 1;
+fn main(rt: HostRuntime) -> io::Result<()> {
+    let mut path = [0u8; 4096];
+    for i in 1..usize::MAX {
+        let Some(n) = argument(&rt, i, &mut path) else {
+            break;
+        };
+        print_file(&rt, &mut rt.stderr(), &path[..n])?;
     }
+    Ok(())
 }

@@ -1,7 +1,7 @@
 -- What the check of a text leaves: the refusal, or the tables of an accepted text.
-use Rattle.std.specs.Prelude.{ℕ, ◌+◌, ◌-◌, ◌<◌, ◌≤◌, ◌≡◌, List, [], ◌∷◌, ◌++◌, Bool, length, take, drop}
+use Rattle.std.specs.Prelude.{ℕ, ◌≤◌, ◌≡◌, List, ◌++◌, Bool, length, take, drop}
 use Rattle.std.proofs.Math.Path.{refl}
-use Rattle.std.proofs.Common.{sym, ◌∙◌, ap, subst, arith, leb-true, leb-false, le-leb, take_at}
+use Rattle.std.proofs.Common.{sym, ◌∙◌, ap, subst, leb-true, leb-false, take_at}
 use Rattle.std.proofs.Math.Bool.{true, false, cond}
 use Rattle.std.proofs.Math.Dec.{leb}
 use Rattle.notation.specs.Limits.{scratch_words}

@@ -1,5 +1,5 @@
 -- What the code that works by name promises, from the position that its search found.
-use Rattle.std.specs.Prelude.{ℕ, ◌+◌, ◌*◌, ◌≤◌, ◌<◌, ◌≡◌, refl, List, [], ◌∷◌, ◌++◌, map, get_or, set}
+use Rattle.std.specs.Prelude.{ℕ, ◌+◌, ◌*◌, ◌<◌, ◌≡◌, refl, List, [], ◌∷◌, ◌++◌, map, get_or, set}
 use Rattle.std.proofs.Common.{sym, ◌∙◌}
 use Rattle.std.proofs.Math.Path.{ap, subst}
 use Rattle.std.proofs.Math.Option.{some, some-injective}
@@ -7,20 +7,19 @@ use native.Mathlib.Omega.{arith}
 use Rattle.std.proofs.Math.ListN.{get_elem?}
 use Rattle.notation.specs.declared.reading.Found.TheVariants as found
 use Rattle.notation.specs.Limits.{type_term_limit}
-use Rattle.calculus.specs.Configuration.{End, end}
+use Rattle.calculus.specs.Configuration.{end}
 use Rattle.read_tables.specs.Program.{plain_in}
-use Rattle.read_tables.specs.Roots.{TypeIn}
 use Rattle.run_words.specs.Lists.{All, remove_at}
 use Rattle.run_words.specs.ListLaws.{all_at, all_set, all_append, all_remove, map_join}
 use Rattle.run_words.specs.Operations.{first}
-use Rattle.run_words.specs.Raw.{RawEnd, BoundedEnd, end_by, end_words}
+use Rattle.run_words.specs.Raw.{BoundedEnd, end_by, end_words}
 use Rattle.run_words.specs.SearchLaws.{first_of, first_at, first_below, first_here, none_from}
 use Rattle.run_words.specs.Values.{end_in, held_in, held_length}
 use Rattle.run_words.specs.declared.records.End.{End as EndWords}
 use Rattle.run_words.specs.declared.records.Held.{Held}
 use Rattle.run_words.proofs.Ends.{end_here}
 use Rattle.check_contexts.specs.declared.held.Lookup.TheVariants as lookups
-use Rattle.check_contexts.specs.Held.{end_is, channels_of, held_by, EndIn, HeldIn, retyped_raw, is_named, Sees, Drops, Retypes, RetypesAt, Brings}
+use Rattle.check_contexts.specs.Held.{end_is, channels_of, held_by, EndIn, retyped_raw, is_named, Sees, Drops, Retypes, RetypesAt, Brings}
 use Rattle.check_contexts.specs.Named.{there_lookup, there_without, there_changed, absent_lookup, absent_without, absent_changed}
 
 module _ (s : List ℕ) (h : Held) (at k : ℕ) (f : first (is_named s at) (held_in h) ≡ found.At k) where

@@ -8,7 +8,6 @@ use Rattle.std.proofs.Math.Bool.{true, false, cond}
 use Rattle.std.proofs.Math.Option.{none-ne-some, some-injective, some}
 use Rattle.std.proofs.lemmas.List.{length-map}
 use Rattle.std.proofs.Math.ListN.{get_elem?}
-use Rattle.notation.specs.Bytes.{same}
 use Rattle.notation.specs.Limits.{held_limit}
 use Rattle.notation.specs.Token.{name_at}
 use Rattle.notation.specs.Tree.{Name}

@@ -1,13 +1,12 @@
 -- What a process holds, as the calculus has it: the names are those of the text s, the types those of the tables w.
-use Rattle.std.specs.Prelude.{ℕ, ◌+◌, ◌≤◌, ◌<◌, ◌≡◌, List, [], ◌∷◌, ◌++◌, map, Bool, set}
+use Rattle.std.specs.Prelude.{ℕ, ◌≤◌, ◌<◌, ◌≡◌, List, [], ◌∷◌, ◌++◌, map, Bool, set}
 use Rattle.std.proofs.Math.Option.{Option, some, none}
 use Rattle.std.proofs.Math.ListN.{get_elem?}
 use Rattle.notation.specs.Bytes.{same}
 use Rattle.notation.specs.Limits.{held_limit, type_term_limit}
 use Rattle.notation.specs.Token.{name_at}
-use Rattle.notation.specs.Tree.{Name, Ty}
+use Rattle.notation.specs.Tree.{Name}
 use Rattle.calculus.specs.Named.{lookup, without}
-use Rattle.calculus.specs.Types.{Side}
 use Rattle.calculus.specs.Configuration.{End, end}
 use Rattle.calculus.specs.Configuration.{retyped_end}
 use Rattle.read_tables.specs.Program.{plain_in}
@@ -15,7 +14,6 @@ use Rattle.read_tables.specs.Roots.{TypeIn}
 use Rattle.run_words.specs.Lists.{All}
 use Rattle.run_words.specs.Raw.{RawEnd, BoundedEnd, side_of}
 use Rattle.run_words.specs.Values.{end_in, held_in}
-use Rattle.run_words.specs.declared.records.End.{End as EndWords}
 use Rattle.run_words.specs.declared.records.Held.{Held}
 use Rattle.check_contexts.specs.declared.held.Lookup.{Lookup}
 use Rattle.check_contexts.specs.declared.held.Lookup.TheVariants as lookups

@@ -1,14 +1,12 @@
 -- What the node of a process says of the names that the process mentions.
-use Rattle.std.specs.Prelude.{ℕ, zero, suc, ◌+◌, ◌-◌, ◌≤◌, ◌<◌, ◌≡◌, List, Bool, true, cond, not, ◌||◌, ◌&&◌, eqb, leb}
+use Rattle.std.specs.Prelude.{ℕ, suc, ◌+◌, ◌-◌, ◌≤◌, ◌<◌, ◌≡◌, List, Bool, true, cond, not, ◌||◌, ◌&&◌, eqb, leb}
 use Rattle.std.proofs.Math.Path.{refl, ap, subst}
 use Rattle.std.proofs.Common.{sym, ◌∙◌, true≢false, arith}
 use Rattle.std.proofs.Math.Bool.{false}
 use Rattle.std.proofs.lemmas.Bool.{false≢true}
 use borrow.Author.Tests.{eq-eqb, ne_eqb}
-use Rattle.notation.specs.Bytes.{same}
-use Rattle.notation.specs.Limits.{process_term_limit, held_limit}
+use Rattle.notation.specs.Limits.{process_term_limit}
 use Rattle.notation.specs.Sizes.{process_terms, branches_terms}
-use Rattle.notation.specs.Token.{name_at}
 use Rattle.notation.specs.Tree.{Name, Proc, empty}
 use Rattle.notation.specs.Tables.{term_node}
 use Rattle.notation.specs.declared.reading.TermNode.{TermNode}

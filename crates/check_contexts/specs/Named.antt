@@ -1,11 +1,10 @@
 -- A channel by its name is the one at the first position that has the name.
-use Rattle.std.specs.Prelude.{ℕ, zero, suc, ◌≤◌, ◌<◌, ◌≡◌, Bool, true, false, set}
+use Rattle.std.specs.Prelude.{ℕ, ◌≡◌, false, set}
 use Rattle.std.proofs.Math.Path.{refl, sym, ap}
 use Rattle.std.proofs.Common.{◌∙◌}
-use mathlib.Core.List.{List, [], ◌∷◌, map}
+use mathlib.Core.List.{List, [], ◌∷◌}
 use Rattle.std.proofs.Math.Bool.{cond}
-use Rattle.std.proofs.Math.Option.{Option, some, none}
-use Rattle.std.proofs.Math.ListN.{get_elem?}
+use Rattle.std.proofs.Math.Option.{some, none}
 use Rattle.notation.specs.Tree.{Name}
 use Rattle.notation.specs.Token.{name_at}
 use Rattle.calculus.specs.Named.{lookup, without, changed}

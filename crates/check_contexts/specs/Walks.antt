@@ -5,7 +5,7 @@ use Rattle.notation.specs.Bytes.{same}
 use Rattle.notation.specs.Token.{name_at, token_at}
 use Rattle.notation.specs.Tree.{Name, Located}
 use Rattle.notation.specs.Reader.{name_in}
-use Rattle.calculus.specs.Mentions.{is, is_one_of}
+use Rattle.calculus.specs.Mentions.{is_one_of}
 use Rattle.read_tables.specs.Names.{argument_from, Forward, NamesFrom, CallAt}
 use Rattle.read_tables.specs.declared.arguments.Argument.{Argument}
 use Rattle.read_tables.specs.declared.arguments.Argument.TheVariants as arguments
@@ -92,10 +92,10 @@ module _ {s : List ℕ} {from i : ℕ} {R : List Located → List Located → Ty
 abbrev pub Unmet : Name → List Located → List Located → Type 0
 Unmet n xs ys = is_one_of n xs ≡ is_one_of n ys
 
-module _ {s : List ℕ} {from i : ℕ} {n : Name} (t : Walking s from i (Unmet n)) where
-  pub unmet_on : (a p : ℕ) → argument_from s i ≡ arguments.Name a p → same n (name_at s a) ≡ false → Walking s from p (Unmet n)
-  unmet_on a p e f = walk_on t a p (Unmet n) e (λ xs ys rest o r. r ∙ ap (λ b. b || is_one_of n ys) f)
+pub unmet_on : {s : List ℕ} {from i : ℕ} (n : Name) → Walking s from i (Unmet n) → (a p : ℕ) → argument_from s i ≡ arguments.Name a p → same n (name_at s a) ≡ false → Walking s from p (Unmet n)
+unmet_on n t a p e f = walk_on t a p (Unmet n) e (λ xs ys rest o r. r ∙ ap (λ b. b || is_one_of n ys) f)
 
+module _ {s : List ℕ} {from i : ℕ} {n : Name} (t : Walking s from i (Unmet n)) where
   pub unmet_met : (a p : ℕ) → argument_from s i ≡ arguments.Name a p → same n (name_at s a) ≡ true → Among s from n true
   unmet_met a p e f = record { is = λ xs rest h. let (zs, o, r) = walk_here t a p e xs rest h in sym (r ∙ ap (λ b. b || is_one_of n zs) f) }
 

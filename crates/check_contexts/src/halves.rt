@@ -16,7 +16,7 @@ use run_words::held::{end_at, no_ends, with};
 use run_words::records::{End, Held, PROVIDED, USED};
 
 // A half of a spawn, in which the name at the first offset is a new one, or a half of a try; and its pointer.
-#[derive(Drop)]
+#[derive(Clone, Copy)]
 pub enum Half {
     OfSpawn(usize, usize),
     OfTry(usize),

@@ -14,7 +14,7 @@ use run_words::held::{end_at, replaced, with, without};
 use run_words::records::{END_WORDS, End, HELD_WORDS, Held, SIDE_RADIX};
 
 // What a search by name found.
-#[derive(Drop)]
+#[derive(Clone, Copy)]
 pub enum Lookup {
     Found(End),
     Nothing,

@@ -1,3 +1,5 @@
+#![tactic(auto)]
+
 pub mod halves;
 pub mod held;
 pub mod initials;

@@ -5,7 +5,7 @@ ghost use Rattle.check_contexts.specs.Marks.{mark_of, Puts, any_of};
 
 use notation::script::Script;
 
-#[derive(Drop)]
+#[derive(Clone, Copy)]
 pub struct Marks {
     pub set: [bool; Script::HELD],
 }

@@ -124,7 +124,7 @@ pub(crate) fn hide_name(
 }
 
 // Marks after a list of names, and where the list ends.
-#[derive(Drop)]
+#[derive(Clone, Copy)]
 pub struct ListMarks {
     pub marks: Marks,
     pub past: usize,

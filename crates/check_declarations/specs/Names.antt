@@ -23,7 +23,7 @@ use Rattle.check_declarations.specs.declared.names.Names.{Names}
 use Rattle.check_declarations.specs.declared.names.Names.TheVariants.{Types, Processes, Entries, Alternatives, Branches}
 use Rattle.check_declarations.specs.declared.names.Place.{Place}
 use Rattle.check_declarations.specs.declared.lowest.Lowest.{Lowest}
-use Rattle.check_declarations.specs.Lowest.{over, Lowered, lowered_as, lowered_none, Walking, walk_end}
+use Rattle.check_declarations.specs.Lowest.{over, Lowered, lowered_as, lowered_none}
 
 -- the name k of a list
 abbrev pub name_of : List ℕ → List ℕ → Names → ℕ → Located
@@ -60,7 +60,7 @@ repeat_at f k = cond (seen_below f (f k).name k) ((f k).at ∷ []) []
 
 module _ (f : ℕ → Located) where
   -- the names before i are those of the list
-  abbrev Seen : List Name → ℕ → Type 0
+  abbrev pub Seen : List Name → ℕ → Type 0
   Seen before i = (x : Name) → any_of (same x) before ≡ seen_below f x i
 
   seen_more : (i : ℕ) (x : Name) → seen_below f x (i + 1) ≡ cond (same x (f i).name) true (seen_below f x i)
@@ -78,7 +78,7 @@ module _ (f : ℕ → Located) where
       go (inl (a, e)) = ap (λ y. seen_below f y i) e ∙ t ∙ ap (λ b. cond b true (seen_below f x i)) (sym a)
       go (inr (a, e)) = ap (λ b. cond b true (seen_below f x i)) (sym a)
 
-  repeats_over : (n i : ℕ) (before : List Name) → Seen before i → over (repeat_at f) i n ≡ repeats before (numbered f i n)
+  pub repeats_over : (n i : ℕ) (before : List Name) → Seen before i → over (repeat_at f) i n ≡ repeats before (numbered f i n)
   unfolding repeats repeat_at
   repeats_over zero i before h = refl
   repeats_over (suc n) i before h =
@@ -91,10 +91,6 @@ module _ (f : ℕ → Located) where
           → cond b ((f i).at ∷ []) [] ++ over (repeat_at f) (i + 1) n ≡ repeats before (numbered f i (suc n))
       go true r q e = rw e (ap (◌∷◌ (f i).at) (r refl))
       go false r q e = rw e q
-
-  pub repeats_numbered : (n : ℕ) {i : ℕ} {l k : Lowest} → Walking (repeat_at f) l n i k → n ≤ i → Lowered l (repeats [] (numbered f 0 n)) k
-  unfolding seen_below
-  repeats_numbered n t h = lowered_as (repeats_over n 0 [] (λ x. refl)) (walk_end t h)
 
   -- the name j, as it was seen before or not
   module _ (j : ℕ) {b : Bool} (e : b ≡ seen_below f (f j).name j) {l : Lowest} where

@@ -5,7 +5,7 @@ use Rattle.std.proofs.Math.Path.{refl, sym, ap}
 use Rattle.std.proofs.Common.{◌∙◌, subst, arith}
 use mathlib.Core.List.{List, [], ◌++◌, append-nil}
 use borrow.Author.Tests.{ne_eqb}
-use Rattle.notation.specs.Tree.{Located, Proc, empty, call, Branches}
+use Rattle.notation.specs.Tree.{Located, Proc, empty, Branches}
 use Rattle.notation.specs.From.{ProcessFrom}
 use Rattle.notation.specs.Sizes.{process_terms, branches_terms}
 use Rattle.notation.specs.Tables.{term_node}

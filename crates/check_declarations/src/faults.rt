@@ -20,7 +20,7 @@ use read_tables::access::{alternative, type_node};
 use read_tables::search::{find_process, find_type};
 
 // What a walk looks for: names that come twice, or names that are not defined.
-#[derive(Drop)]
+#[derive(Clone, Copy)]
 pub enum Pass {
     Repeated,
     Undefined,

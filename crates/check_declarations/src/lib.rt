@@ -1,3 +1,5 @@
+#![tactic(auto)]
+
 pub mod bare;
 pub mod execs;
 pub mod faults;

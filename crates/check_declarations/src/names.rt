@@ -12,7 +12,7 @@ use notation::token::names_equal;
 use read_tables::access::{alternative, branch, declared_process, declared_type, entry};
 
 // The names of all types, of all processes, of signature entries, of alternatives or of branches from a place on.
-#[derive(Drop)]
+#[derive(Clone, Copy)]
 pub enum Names {
     Types,
     Processes,
@@ -22,7 +22,7 @@ pub enum Names {
 }
 
 // Where a name is reported, and where its first letter stands: a label has an apostrophe before it.
-#[derive(Drop)]
+#[derive(Clone, Copy)]
 pub struct Place {
     pub at: usize,
     pub letter: usize,

@@ -18,7 +18,7 @@ use notation::script::Script;
 use read_tables::access::{branch, term_node};
 
 // Which parts of a node are processes: none, the third, the second and the third, or those of its branches.
-#[derive(Drop)]
+#[derive(Clone, Copy)]
 pub enum Parts {
     Leaf,
     Third,

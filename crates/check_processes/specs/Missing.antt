@@ -2,7 +2,7 @@
 use Rattle.std.specs.Prelude.{ℕ, ◌+◌, ◌-◌, ◌<◌, ◌≤◌, ◌≡◌, refl, List, ◌++◌, map, true, false}
 use Rattle.std.proofs.Common.{sym, ◌∙◌, subst}
 use Rattle.std.proofs.Math.Path.{ap}
-use Rattle.std.proofs.Math.Logic.{Iff·rfl}
+use Rattle.std.proofs.Math.Logic.Iff
 use Rattle.std.proofs.Math.Option
 use Rattle.notation.specs.Reader.{name_in}
 use Rattle.notation.specs.Token.{name_at}
@@ -125,7 +125,7 @@ module _ {s w : List ℕ} {h : Held} {c e m d n : ℕ} where
 
       module _ {j : ℕ} (q : r ≡ found.At j) {x : Held} (u : Retypes s h c j x) where
         pub inside_fine : verdict_at s w x b.number ≡ fine
-        inside_fine = ap (λ H. check (program_in s w) H (process_in s w b.number)) (sym (retyped_so s w h c j x u)) ∙ ((then_law Iff·rfl Iff·rfl).0 (branch_by t.checks l o f (i + 1) refl (found.At j) q ∙ t.whole.fine)).0
+        inside_fine = ap (λ H. check (program_in s w) H (process_in s w b.number)) (sym (retyped_so s w h c j x u)) ∙ ((then_law Iff.rfl Iff.rfl).0 (branch_by t.checks l o f (i + 1) refl (found.At j) q ∙ t.whole.fine)).0
 
         begins : (g : ℕ) → g ≡ i + 1 → missing_inside s w h c e m (branches_in s w (d - i) (n - i)) ≡ missing_at s w x b.number ++ missing_inside s w h c e m (branches_in s w (d - g) (n - g))
         unfolding missing

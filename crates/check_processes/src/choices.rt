@@ -15,7 +15,7 @@ use notation::words::wide;
 use run_words::records::Held;
 
 // A refusal's number; or the place past the first alternative of the channel's type, and how many there are.
-#[derive(Drop)]
+#[derive(Clone, Copy)]
 pub enum Offer {
     Refused(u32),
     Labels(usize, usize),

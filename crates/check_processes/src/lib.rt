@@ -1,3 +1,5 @@
+#![tactic(auto)]
+
 pub mod choices;
 pub mod missing;
 pub mod process;

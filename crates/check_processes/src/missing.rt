@@ -26,7 +26,7 @@ use read_tables::access::branch;
 use run_words::records::Held;
 
 // Where the recv names its channel, and where the label's apostrophe stands in the type; or all were passed over, and so many are still to be.
-#[derive(Drop)]
+#[derive(Clone, Copy)]
 pub enum Search {
     At(usize, usize),
     Past(usize),

@@ -24,7 +24,7 @@ use run_words::records::{Held, NOTHING};
 
 // After one term: its first half is to be checked first, where it has halves; then the process at `rest`, with what is held, where it goes on;
 // or its branches, where it is a choice, which then stands at `rest`; or the verdict is given.
-#[derive(Drop)]
+#[derive(Clone, Copy)]
 pub struct Turn {
     pub on: bool,
     pub choice: bool,

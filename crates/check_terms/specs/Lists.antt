@@ -13,12 +13,11 @@ use Rattle.notation.specs.Token.{name_at}
 use Rattle.notation.specs.Tree.{Name, Located}
 use Rattle.calculus.specs.Named.{lookup, is_some, every, any_of, distinct}
 use Rattle.calculus.specs.SameType.{same_type}
-use Rattle.calculus.specs.Mentions.{is, is_one_of}
+use Rattle.calculus.specs.Mentions.{is_one_of}
 use Rattle.calculus.specs.Program.{Slot, Context, entries}
 use Rattle.calculus.specs.Program as Program
 use Rattle.calculus.specs.Typing.{names_of}
 use Rattle.calculus.specs.Checking.{entry_fits, list_fits, without_all}
-use Rattle.calculus.specs.Configuration.{End}
 use Rattle.run_words.specs.Raw.{side_of}
 use Rattle.run_words.specs.declared.records.End.{End as EndWords}
 use Rattle.run_words.specs.declared.records.Held.{Held}

@@ -1,8 +1,8 @@
 -- The ways through the code of a term that goes on.
-use Rattle.std.specs.Prelude.{ℕ, suc, ◌+◌, ◌<◌, ◌≤◌, ◌≡◌, refl, List, [], ◌∷◌, ◌++◌, Bool, true, false, cond, not, ◌&&◌, ltb, length}
+use Rattle.std.specs.Prelude.{ℕ, suc, ◌+◌, ◌<◌, ◌≤◌, ◌≡◌, refl, List, [], ◌∷◌, Bool, true, false, cond, not, ◌&&◌, ltb, length}
 use Rattle.std.proofs.Common.{sym, ◌∙◌, subst, lt-ltb, le-ltb}
 use Rattle.std.proofs.Math.Path.{ap}
-use Rattle.std.proofs.Math.Option.{Option, some, none, map}
+use Rattle.std.proofs.Math.Option.{some, none, map}
 use Rattle.std.proofs.Math.ListN.{length-map}
 use Rattle.notation.specs.Bytes.{same}
 use Rattle.notation.specs.Limits.{held_limit}

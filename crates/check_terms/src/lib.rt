@@ -1,3 +1,5 @@
+#![tactic(auto)]
+
 pub mod acting;
 pub mod calls;
 pub mod forwards;

@@ -2,7 +2,7 @@
 use run_words::records::Held;
 
 // 0 and what is held after the term; or the refusal's number.
-#[derive(Drop)]
+#[derive(Clone, Copy)]
 pub struct Next {
     pub refusal: u32,
     pub held: Held,

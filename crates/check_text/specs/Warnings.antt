@@ -4,7 +4,7 @@ use Rattle.std.specs.Prelude.{◌≡◌, Bool, true, false, ltb}
 use Rattle.std.proofs.Math.Path.{refl, ap}
 use Rattle.std.proofs.Common.{sym, ◌∙◌, subst, arith, ltb-true, ltb-false}
 use mathlib.Core.List.{List, [], ◌++◌, map, append-nil}
-use Rattle.std.proofs.Math.Logic.{Iff·rfl}
+use Rattle.std.proofs.Math.Logic.Iff
 use Rattle.std.proofs.Math.ListN.{get_elem?}
 use Rattle.notation.specs.Limits.{held_limit}
 use Rattle.notation.specs.Reader.{name_in}
@@ -78,7 +78,7 @@ module _ (s w : List ℕ) where
   -- the process i
   module _ (n k₀ i k : ℕ) (t : Seeking n k₀ i k) (l : i < n) (d : Declared) (g : SignatureOf w i d) where
     own_fine : check_declaration (program_in s w) (proc_declaration s w i) ≡ fine
-    own_fine = ((then_law Iff·rfl Iff·rfl).0 (sym (checking_here s w n i t.checks l) ∙ t.fine)).0
+    own_fine = ((then_law Iff.rfl Iff.rfl).0 (sym (checking_here s w n i t.checks l) ∙ t.fine)).0
 
     -- it has no 17th name
     pub seek_room : d.provided + d.used ≤ held_limit

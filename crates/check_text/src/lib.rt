@@ -1,3 +1,5 @@
+#![tactic(auto)]
+
 pub mod bodies;
 pub mod check;
 pub mod warnings;

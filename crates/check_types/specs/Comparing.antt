@@ -1,7 +1,8 @@
 -- What a turn of a comparison of two types promises, and the comparison as a whole.
 use Rattle.std.specs.Prelude.{◌≡◌, refl, ◌↔◌, List, Bool, true, false, ℕ, ◌<◌, ◌≤◌, length}
 use Rattle.std.proofs.Common.{sym, ◌∙◌, ap, subst}
-use Rattle.trees.specs.Equal.{Equal, equal_refl, equal_closed}
+use Rattle.trees.specs.Equal.{Equal, equal_refl}
+use Rattle.trees.proofs.Equal.{equal_closed}
 use Rattle.trees.specs.Classes.{at, Near, own, waiting, done, sum, joined_on, start, waits_node, turned, ended}
 use Rattle.notation.specs.Bytes.{same}
 use Rattle.notation.specs.Limits.{type_term_limit}

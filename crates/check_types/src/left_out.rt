@@ -11,7 +11,7 @@ use notation::reading::Found;
 use read_tables::access::alternative;
 
 // Where the label's apostrophe stands; or all were passed over, and so many are still to be.
-#[derive(Drop)]
+#[derive(Clone, Copy)]
 pub enum LeftOut {
     At(usize),
     Past(usize),

@@ -1,3 +1,5 @@
+#![tactic(auto)]
+
 pub mod acting;
 pub mod branches;
 mod classes;

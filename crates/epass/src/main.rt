@@ -1,20 +1,19 @@
-// Reads a script from standard input and prints what its execs show, or its refusal. A program here has no exit status, so it says on
-// standard error that the script is refused, or that the output could not be written; the command `./epass` exits by that.
-use libc::{STDERR_FILENO, STDIN_FILENO};
-use print_output::text::{Printed, print_text};
+// Reads a script from standard input and prints what its execs show, or its refusal. It ends with status 0 in each case, and says on
+// standard error that the script is refused, or that the output could not be written; the command `./epass` exits by that. Input that
+// cannot be read ends it with that error, and nothing is printed.
+#![tactic(auto)]
 
-fn main() {
+use named_files::reading::read_full;
+use print_output::text::{Printed, print_text};
+use std::io;
+
+fn main(rt: HostRuntime) -> io::Result<()> {
     // One byte more than a text may have.
     let mut text = [0u8; 8193];
-    let n = io::read_full(STDIN_FILENO, &mut text);
-    let p = print_text(&text[..n]);
-    match p {
-        Printed::Run => {}
-        Printed::Refused => {
-            io::write_all(STDERR_FILENO, b"epass: the script is refused\n");
-        }
-        Printed::Unwritten => {
-            io::write_all(STDERR_FILENO, b"epass: the output could not be written\n");
-        }
+    let n = read_full(&mut rt.reader(), &mut text)?;
+    match print_text(&text[..n], &mut io::writer(&rt)) {
+        Printed::Run => Ok(()),
+        Printed::Refused => rt.eprintln("epass: the script is refused"),
+        Printed::Unwritten => rt.eprintln("epass: the output could not be written"),
     }
 }

@@ -1,1 +1,2 @@
 // No code: specs/ has the notation as rules.
+#![tactic(auto)]

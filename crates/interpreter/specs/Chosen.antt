@@ -10,7 +10,7 @@ use Rattle.calculus.specs.Demands.{Derivable, Enough, Answered, AnsweredUncaught
 use Rattle.calculus.specs.Machine.{call_step, Answer, started, stepped, ran_on, reported, surveyed, name_given, Reply, reply, on_going, on_place, on_step, respond, idle}
 use Rattle.calculus.specs.Program.{Program, program_of}
 use Rattle.calculus.specs.Reduces.{Reduces, Halts, Lacks, Open}
-use Rattle.calculus.specs.Steps.{Outcome, uncaught, lacking, step}
+use Rattle.calculus.specs.Steps.{Outcome, step}
 use Rattle.calculus.specs.declared.answers.Seen.{Seen}
 use Rattle.calculus.specs.declared.answers.Stepped.{Stepped}
 use Rattle.calculus.specs.declared.answers.Stepped.TheVariants as steps

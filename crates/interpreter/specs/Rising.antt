@@ -8,7 +8,8 @@ use Rattle.calculus.specs.Configuration.{Config}
 use Rattle.calculus.specs.Demands.{is_refused}
 use Rattle.calculus.specs.Machine.{Answer, reported, Reply, text_checked, on_program}
 use Rattle.calculus.specs.Program.{program_of}
-use Rattle.calculus.specs.Reports.{ReportOf, report_iff}
+use Rattle.calculus.specs.Reports.{ReportOf}
+use Rattle.calculus.proofs.Reports.{report_iff}
 use Rattle.calculus.specs.Runs.{report}
 use Rattle.calculus.specs.declared.answers.Reported.TheVariants.{Open}
 use Rattle.calculus.specs.declared.answers.Report.{Report}

@@ -1,3 +1,5 @@
+#![tactic(auto)]
+
 pub mod entries;
 mod inside;
 pub mod names;

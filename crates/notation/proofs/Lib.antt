@@ -8,3 +8,4 @@ pub mod ScriptReadings
 pub mod Names
 pub mod Symbols
 pub mod Marks
+pub mod Zeroed

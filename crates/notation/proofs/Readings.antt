@@ -13,7 +13,6 @@ use Rattle.notation.specs.Onward.{width}
 use Rattle.notation.specs.Reader.{Result, got, refused, on_token, part, lastly, choose, fault, expect, misfit, limited, opening, type_term, process_term, closed_taken, onward_from, then_token}
 use Rattle.notation.specs.Types.{label_term}
 use Rattle.notation.specs.Processes.{unit_taken}
-use Rattle.notation.specs.declared.token.Token.{Token}
 use Rattle.notation.specs.declared.reading.Cursor.{Cursor}
 use Rattle.notation.specs.declared.reading.Taken.{Taken}
 use Rattle.notation.specs.declared.reading.Taken.TheVariants.{At, Refused}

@@ -2,7 +2,7 @@
 use Rattle.std.specs.Prelude.{◌≡◌, refl, ℕ, ◌+◌, ◌*◌, List, [], ◌∷◌, take, drop}
 use Rattle.notation.specs.Bytes.{bytes}
 use Rattle.notation.specs.Computed.{tables_now}
-use Rattle.notation.specs.Tables.{tables, types_at, processes_at, execs_at, entries_at, nodes_at, alternatives_at, terms_at, branches_at}
+use Rattle.notation.specs.Tables.{tables, types_at, processes_at, execs_at, entries_at, nodes_at, alternatives_at, terms_at}
 
 text : List ℕ
 text = bytes "type b = +{'t : 1, 'f : b} proc p (x : b) [] = send x 't; send x () exec p"

@@ -3,7 +3,7 @@ use Rattle.std.specs.Prelude.{ℕ, ◌+◌, ◌*◌, ◌≤◌, ◌≡◌, refl,
 use Rattle.std.proofs.Common.{arith}
 use Rattle.std.proofs.lemmas.List.{length-replicate}
 use Rattle.notation.specs.Limits.{type_limit, process_limit, exec_limit, type_term_limit, process_term_limit, scratch_words}
-use Rattle.notation.specs.Tables.{types_at, processes_at, execs_at, entries_at, nodes_at, alternatives_at, terms_at, branches_at, branch_room, table_words, zeros, Area}
+use Rattle.notation.specs.Tables.{types_at, processes_at, execs_at, entries_at, nodes_at, alternatives_at, terms_at, branches_at, branch_room, table_words, zeros}
 
 pub record Layout : Type 0 where
   -- the eight counts stand before them
@@ -34,6 +34,3 @@ layout = record {
 
 pub zeros_length : length zeros ≡ scratch_words
 zeros_length = length-replicate {A = ℕ} scratch_words 0
-
-pub zeros_area : Area zeros
-zeros_area = omega (arith, layout.fits, zeros_length)

@@ -1,5 +1,5 @@
 // Where the reading stands, and what counts against the limits: type terms, process terms, open brackets.
-#[derive(Drop)]
+#[derive(Clone, Copy)]
 pub struct Cursor {
     pub at: u16,
     pub types: usize,
@@ -8,14 +8,14 @@ pub struct Cursor {
 }
 
 // A token that was wanted: where it stands and the cursor past it; or the refusal's number and offset.
-#[derive(Drop)]
+#[derive(Clone, Copy)]
 pub enum Taken {
     At(u16, Cursor),
     Refused(u32, u16),
 }
 
 // How far each table is filled, and what was read last: the number of a type or the length of a list.
-#[derive(Drop)]
+#[derive(Clone, Copy)]
 pub struct Tally {
     pub types: usize,
     pub processes: usize,
@@ -29,7 +29,7 @@ pub struct Tally {
 }
 
 // A node of the type table.
-#[derive(Drop)]
+#[derive(Clone, Copy)]
 pub struct TypeNode {
     pub kind: usize,
     pub first: usize,
@@ -37,7 +37,7 @@ pub struct TypeNode {
 }
 
 // A node of a process's body.
-#[derive(Drop)]
+#[derive(Clone, Copy)]
 pub struct TermNode {
     pub kind: usize,
     pub at: usize,
@@ -47,7 +47,7 @@ pub struct TermNode {
 }
 
 // An entry of the process table: its name, its first signature entry, how many channels it provides and uses, its body.
-#[derive(Drop)]
+#[derive(Clone, Copy)]
 pub struct ProcessEntry {
     pub at: usize,
     pub first: usize,
@@ -57,7 +57,7 @@ pub struct ProcessEntry {
 }
 
 // What a search found: a position or a number.
-#[derive(Drop)]
+#[derive(Clone, Copy)]
 pub enum Found {
     At(usize),
     Nothing,

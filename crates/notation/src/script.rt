@@ -1,5 +1,5 @@
 // A script that was read: how many declarations of each kind it has.
-#[derive(Drop)]
+#[derive(Clone, Copy)]
 pub struct Script {
     pub types: usize,
     pub processes: usize,

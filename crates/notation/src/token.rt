@@ -11,7 +11,7 @@ use crate::script::Script;
 // A token as the reading carries it: its kind, where its first byte stands, and where the byte after its last one stands.
 // "No offset passes 8,192", the end of a full text: sixteen bits hold each.
 // Kinds 0 to 10 are the reserved words, 11 to 29 the marks, in the order of the definition's table.
-#[derive(Drop)]
+#[derive(Clone, Copy)]
 pub struct Token {
     pub kind: usize,
     pub start: u16,
@@ -89,7 +89,7 @@ impl Token {
 }
 
 // A token of any text, however long: the check and the run read a call's names again in texts that they have not measured.
-#[derive(Drop)]
+#[derive(Clone, Copy)]
 pub struct Lexeme {
     pub kind: usize,
     pub start: usize,
@@ -97,7 +97,7 @@ pub struct Lexeme {
 }
 
 // What begins a type.
-#[derive(Drop)]
+#[derive(Clone, Copy)]
 pub enum TypeHead {
     One,
     Name,
@@ -108,7 +108,7 @@ pub enum TypeHead {
 }
 
 // What begins a process: the first token of a term; a name begins a spawn, and what begins no term leaves the process empty.
-#[derive(Drop)]
+#[derive(Clone, Copy)]
 pub enum TermHead {
     Send,
     Recv,
@@ -122,7 +122,7 @@ pub enum TermHead {
 }
 
 // What follows the channel of a send, or the bracket of a recv.
-#[derive(Drop)]
+#[derive(Clone, Copy)]
 pub enum Payload {
     Unit,
     Channel,
@@ -131,7 +131,7 @@ pub enum Payload {
 }
 
 // What begins a declaration; End where no token is left.
-#[derive(Drop)]
+#[derive(Clone, Copy)]
 pub enum DeclarationHead {
     TypeWord,
     ProcWord,

@@ -1,12 +1,17 @@
--- What is handed over to be written, of which no contract of a writer speaks: what is due, what waits in the buffer until it is much, and what the program's answer says.
+-- What is handed over to be written: what is due, what waits in the buffer until it is much, what a writer whose bytes are known then holds, and what the program's answer says.
 use Rattle.std.specs.Prelude.{ℕ, ◌+◌, ◌≤◌, ◌≡◌, List, [], ◌++◌, Bool, true, false, length, take}
-use Rattle.std.proofs.Common.{sym, ◌∙◌, ap, subst, append_assoc, length-take-le}
+use Rattle.std.specs.Io.KnownBytes.{Appends}
+use Rattle.std.specs.declared.option.Option.{Option}
+use Rattle.std.proofs.Common.{refl, sym, ◌∙◌, ap, subst, append_assoc, append-nil, length-take-le}
+use Rattle.std.proofs.lemmas.Bool.{false≢true}
+use Rattle.std.proofs.KnownBytes.{Appends-nil, Appends-trans}
 use Rattle.std.proofs.lemmas.List.{take-append-le}
 use Rattle.std.proofs.Math.Seq.{take-append-add}
 use Rattle.calculus.specs.Accepted.{checked}
 use Rattle.calculus.specs.Printed.{printed}
-use Rattle.print_pieces.specs.Pieces.{left_in, is_accepted, First, Next}
+use Rattle.print_pieces.specs.Pieces.{left_in, is_left, is_accepted, First, Next}
 use Rattle.print_pieces.specs.declared.pieces.Stage.{Stage}
+use Rattle.print_pieces.specs.declared.pieces.Stage.TheVariants.{Warning, Channel, Label, Exec, Running, Finished}
 use Rattle.print_pieces.specs.declared.pieces.Piece.{Piece}
 use Rattle.print_output.specs.declared.text.Waiting.{Waiting}
 use Rattle.print_output.specs.declared.text.Waiting.TheVariants as waiting
@@ -32,22 +37,23 @@ module _ {s w : List ℕ} where
   due_none {ws} {stage} {l} d = record { before = d.before ++ l; is = d.is ∙ sym (append_assoc d.before l (left_in s w ws stage)) }
 
   -- the next piece, put after the m bytes that wait; whatever lies past it
-  pub due_next : {ws vs part : List ℕ} {stage : Stage} {r : Piece} (out rest : List ℕ) (m : ℕ) → m ≤ length out → Due s w ws stage (take m out) → Next s w ws vs part stage r
-      → Due s w vs r.stage (take (m + r.length) (take m out ++ (part ++ rest)))
-  due_next {ws} {vs} {part} {stage} {r} out rest m h d n = record {
-    before = d.before;
-    is =
-        d.is
-        ∙ ap (λ l. d.before ++ (take m out ++ l)) n.is
-        ∙ ap (λ l. d.before ++ l) (sym (append_assoc (take m out) (take r.length part) (left_in s w vs r.stage)))
-        ∙ ap (λ l. d.before ++ (l ++ left_in s w vs r.stage)) (sym put);
-  }
+  put_next : {ws vs part all : List ℕ} {stage : Stage} {r : Piece} (before out rest : List ℕ) (m : ℕ) → m ≤ length out → all ≡ before ++ (take m out ++ left_in s w ws stage)
+      → Next s w ws vs part stage r → all ≡ before ++ (take (m + r.length) (take m out ++ (part ++ rest)) ++ left_in s w vs r.stage)
+  put_next {ws} {vs} {part} {all} {stage} {r} before out rest m h e n =
+      e
+      ∙ ap (λ l. before ++ (take m out ++ l)) n.is
+      ∙ ap (λ l. before ++ l) (sym (append_assoc (take m out) (take r.length part) (left_in s w vs r.stage)))
+      ∙ ap (λ l. before ++ (l ++ left_in s w vs r.stage)) (sym put)
     where
       put : take (m + r.length) (take m out ++ (part ++ rest)) ≡ take m out ++ take r.length part
       put =
           ap (λ k. take (k + r.length) (take m out ++ (part ++ rest))) (sym (length-take-le m out h))
           ∙ take-append-add (take m out) (part ++ rest) r.length
           ∙ ap (λ l. take m out ++ l) (take-append-le r.length part rest n.within)
+
+  pub due_next : {ws vs part : List ℕ} {stage : Stage} {r : Piece} (out rest : List ℕ) (m : ℕ) → m ≤ length out → Due s w ws stage (take m out) → Next s w ws vs part stage r
+      → Due s w vs r.stage (take (m + r.length) (take m out ++ (part ++ rest)))
+  due_next out rest m h d n = record { before = d.before; is = put_next d.before out rest m h d.is n }
 
 -- ── what waits: few bytes, and they are due
 abbrev waits_by : List ℕ → List ℕ → List ℕ → Stage → List ℕ → Waiting → Type 0
@@ -81,3 +87,68 @@ says_run {s} false a e = record { is = subst (says_by s) (sym e) tt }
 pub says_refused : {s : List ℕ} (b : Bool) {r : Printed} → is_accepted (checked s) ≡ false → r ≡ told_as b Refused → Says s r
 says_refused {s} true a e = record { is = subst (says_by s) (sym e) a }
 says_refused {s} false a e = record { is = subst (says_by s) (sym e) tt }
+
+-- ── what a writer holds: old before, new after, where its bytes are known
+-- of the bytes l, those that wait no longer were taken
+abbrev gone_by : Option (List ℕ) → Option (List ℕ) → List ℕ → List ℕ → Waiting → Type 0
+gone_by old new l out (waiting.Bytes n) = (gone : List ℕ) × Appends old new gone × (l ≡ gone ++ take n out)
+gone_by old new l out waiting.Unwritten = Unit {0}
+
+pub record Gone (old new : Option (List ℕ)) (l out : List ℕ) (r : Waiting) : Type 0 where
+  pub is : gone_by old new l out r
+
+-- of what was left at the stage a, all was taken but the bytes l, which wait, and what is left at the stage b
+pub record Taken (old new : Option (List ℕ)) (s w vs : List ℕ) (a : Stage) (ws : List ℕ) (b : Stage) (l : List ℕ) : Type 0 where
+  pub before : List ℕ
+  pub is : left_in s w vs a ≡ before ++ (l ++ left_in s w ws b)
+  pub appends : Appends old new before
+
+-- nothing is left at the last stage
+left_none : (s w ws : List ℕ) (b : Stage) → is_left b ≡ false → left_in s w ws b ≡ []
+left_none s w ws (Warning k) e = absurd (false≢true (sym e))
+left_none s w ws (Channel next channel label) e = absurd (false≢true (sym e))
+left_none s w ws (Label next label) e = absurd (false≢true (sym e))
+left_none s w ws (Exec line) e = absurd (false≢true (sym e))
+left_none s w ws (Running line taken) e = absurd (false≢true (sym e))
+left_none s w ws Finished e = refl
+
+module _ {old : Option (List ℕ)} {s w vs : List ℕ} {a : Stage} where
+  pub taken_next : {new : Option (List ℕ)} {ws us part : List ℕ} {b : Stage} {r : Piece} (out rest : List ℕ) (m : ℕ) → m ≤ length out → Taken old new s w vs a ws b (take m out)
+      → Next s w ws us part b r → Taken old new s w vs a us r.stage (take (m + r.length) (take m out ++ (part ++ rest)))
+  taken_next out rest m h t n = record { before = t.before; is = put_next t.before out rest m h t.is n; appends = t.appends }
+
+  pub taken_gone : {mid new : Option (List ℕ)} {ws l out : List ℕ} {b : Stage} {n : ℕ} → Taken old mid s w vs a ws b l → Gone mid new l out (waiting.Bytes n) → Taken old new s w vs a ws b (take n out)
+  taken_gone {mid} {new} {ws} {l} {out} {b} {n} t f =
+      let (gone, taken, is) = f.is in
+      record {
+        before = t.before ++ gone;
+        is =
+            t.is
+            ∙ ap (λ k. t.before ++ (k ++ left_in s w ws b)) is
+            ∙ ap (λ k. t.before ++ k) (append_assoc gone (take n out) (left_in s w ws b))
+            ∙ sym (append_assoc t.before gone (take n out ++ left_in s w ws b));
+        appends = Appends-trans old mid new t.before gone t.appends taken;
+      }
+
+-- the execs' lines, or the refusal, of a text were taken, to the byte, where it is answered that they were written
+abbrev writes_by : Option (List ℕ) → Option (List ℕ) → List ℕ → Printed → Type 0
+writes_by old new s Run = Appends old new (printed s)
+writes_by old new s Refused = Appends old new (printed s)
+writes_by old new s Unwritten = Unit {0}
+
+pub record Writes (old new : Option (List ℕ)) (s : List ℕ) (r : Printed) : Type 0 where
+  pub is : writes_by old new s r
+
+-- the first piece, and then all that is left, where both were written
+pub writes_run : {old new : Option (List ℕ)} {s w out : List ℕ} {f : Piece} {r : Printed} (mid : Option (List ℕ)) (ws : List ℕ) (b : Bool) → First s w out f → Appends old mid (take f.length out)
+    → (b ≡ true → Appends mid new (left_in s w ws f.stage)) → r ≡ told_as b Run → Writes old new s r
+writes_run {old} {new} {s} {w} {out} {f} mid ws true g h k e =
+    record { is = subst (writes_by old new s) (sym e) (subst (Appends old new) (sym (g.is ws)) (Appends-trans old mid new (take f.length out) (left_in s w ws f.stage) h (k refl))) }
+writes_run {old} {new} {s} mid ws false g h k e = record { is = subst (writes_by old new s) (sym e) tt }
+
+-- the first piece alone
+pub writes_refused : {old new : Option (List ℕ)} {s w out : List ℕ} {f : Piece} {r : Printed} (b : Bool) → First s w out f → is_left f.stage ≡ false
+    → (b ≡ true → Appends old new (take f.length out)) → r ≡ told_as b Refused → Writes old new s r
+writes_refused {old} {new} {s} {w} {out} {f} true g n h e =
+    record { is = subst (writes_by old new s) (sym e) (subst (Appends old new) (sym (g.is [] ∙ ap (λ l. take f.length out ++ l) (left_none s w [] f.stage n) ∙ append-nil (take f.length out))) (h refl)) }
+writes_refused {old} {new} {s} false g n h e = record { is = subst (writes_by old new s) (sym e) tt }

@@ -1,15 +1,16 @@
-// The pieces of a text, one after another, to standard output.
-ghost use Rattle.std.specs.Prelude.{◌≡◌, [], ℕ, ◌+◌, ◌≤◌, length, take};
+// The pieces of a text, one after another, to a writer.
+ghost use Rattle.std.specs.Prelude.{◌≡◌, [], ℕ, ◌+◌, ◌≤◌, length, take, IsTrue};
+ghost use Rattle.std.specs.Io.KnownBytes.{Appends};
 ghost use Rattle.notation.specs.Limits.{run_words};
-ghost use Rattle.print_pieces.specs.Pieces.{piece_bytes, Going};
-ghost use Rattle.print_output.specs.Gathering.{gathered, Due, Waits, told_as, Says};
+ghost use Rattle.print_pieces.specs.Pieces.{piece_bytes, left_in, Going};
+ghost use Rattle.print_output.specs.Gathering.{gathered, Due, Waits, Gone, told_as, Says, Writes};
 
-use libc::STDOUT_FILENO;
 use notation::script::Script;
 use print_pieces::pieces::{PIECE_BYTES, Stage, first_piece, is_left, next_piece};
+use std::io::Write;
 
 // What became of a text: its execs' lines, or its refusal, were written; or what was to be written could not be.
-#[derive(Drop)]
+#[derive(Clone, Copy)]
 pub enum Printed {
     Run,
     Refused,
@@ -22,22 +23,32 @@ const GATHERED: usize = 4096;
 const BUFFER_BYTES: usize = GATHERED + PIECE_BYTES;
 
 // How many bytes wait in the buffer; or that they could not be written.
-#[derive(Drop)]
+#[derive(Clone, Copy)]
 pub enum Waiting {
     Bytes(usize),
     Unwritten,
 }
 
 // Hands the first n bytes over to be written: they come directly before what is left at the stage. Answers whether they were written.
-fn write_due(text: &[u8], scratch: &[u32], run: &[u32], out: &[u8], n: usize, stage: Stage) -> bool
+fn write_due<W: Write>(
+    to: &mut W,
+    text: &[u8],
+    scratch: &[u32],
+    run: &[u32],
+    out: &[u8],
+    n: usize,
+    stage: Stage,
+) -> bool
     requires n_in_bounds { n ≤ length out.now }
     requires due { Due text.now scratch.now run.now stage (take n out.now) }
+    ensures { IsTrue result → Appends (W.contents to.old) (W.contents to.new) (take n out.now) }
 {
-    io::write_all(STDOUT_FILENO, &out[..n])
+    to.write_all(&out[..n]).is_ok()
 }
 
 // Writes the first n bytes, if they are many.
-fn write_many(
+fn write_many<W: Write>(
+    to: &mut W,
     text: &[u8],
     scratch: &[u32],
     run: &[u32],
@@ -47,35 +58,44 @@ fn write_many(
 ) -> Waiting
     requires n_in_bounds { n ≤ length out.now }
     requires due { Due text.now scratch.now run.now stage (take n out.now) }
-    ensures { Waits text.now scratch.now run.now stage out.now result }
+    ensures waits { Waits text.now scratch.now run.now stage out.now result }
+    ensures gone { Gone (W.contents to.old) (W.contents to.new) (take n out.now) out.now result }
 {
     if n <= GATHERED {
         return Waiting::Bytes(n);
     }
-    if write_due(text, scratch, run, out, n, stage) {
+    if write_due(to, text, scratch, run, out, n, stage) {
         return Waiting::Bytes(0);
     }
     Waiting::Unwritten
 }
 
 // All that is left at a stage; answers whether it was written.
-fn print_rest(text: &[u8], scratch: &[u32], run: &mut [u32], out: &mut [u8], from: Stage) -> bool
+fn print_rest<W: Write>(
+    to: &mut W,
+    text: &[u8],
+    scratch: &[u32],
+    run: &mut [u32],
+    out: &mut [u8],
+    from: Stage,
+) -> bool
     requires going { Going text.now scratch.now run.old from }
     requires due { Due text.now scratch.now run.old from [] }
     requires run_words_in_bounds { (run_words ≤ length run.old) × (gathered + piece_bytes ≤ length out.old) }
+    ensures { IsTrue result → Appends (W.contents to.old) (W.contents to.new) (left_in text.now scratch.now run.old from) }
 {
     let mut stage = from;
     let mut waiting: usize = 0;
     while is_left(stage) {
         let p = next_piece(text, scratch, run, &mut out[waiting..], stage);
         stage = p.stage;
-        let w = write_many(text, scratch, run, out, waiting + p.length, stage);
+        let w = write_many(to, text, scratch, run, out, waiting + p.length, stage);
         let Waiting::Bytes(n) = w else {
             return false;
         };
         waiting = n;
     }
-    write_due(text, scratch, run, out, waiting, stage)
+    write_due(to, text, scratch, run, out, waiting, stage)
 }
 
 fn told(is_written: bool, what: Printed) -> Printed
@@ -88,8 +108,9 @@ fn told(is_written: bool, what: Printed) -> Printed
 }
 
 // What a text's refusal, or its execs, are to print.
-pub fn print_text(text: &[u8]) -> Printed
-    ensures { Says text.now result }
+pub fn print_text<W: Write>(text: &[u8], to: &mut W) -> Printed
+    ensures says { Says text.now result }
+    ensures writes { Writes (W.contents to.old) (W.contents to.new) text.now result }
 {
     let mut scratch = [0u32; Script::SCRATCH_WORDS];
     let mut run = [0u32; Script::RUN_WORDS];
@@ -97,11 +118,11 @@ pub fn print_text(text: &[u8]) -> Printed
     let p = first_piece(text, &mut scratch, &mut out);
     let n = p.length;
     let stage = p.stage;
-    let is_written = write_due(text, &scratch, &run, &out, n, stage);
+    let is_written = write_due(to, text, &scratch, &run, &out, n, stage);
     if is_left(stage) {
         if is_written {
             return told(
-                print_rest(text, &scratch, &mut run, &mut out, stage),
+                print_rest(to, text, &scratch, &mut run, &mut out, stage),
                 Printed::Run,
             );
         }

@@ -1,2 +1,4 @@
+#![tactic(auto)]
+
 pub mod lines;
 pub mod pieces;

@@ -25,7 +25,7 @@ pub const PIECE_BYTES: usize = Script::TEXT + 128;
 
 // What is left to print: all from a warning on; what is left of a warning's line from its channel on, and all from the next warning on, with where the names of the
 // channel and the label stand; the same from its label on; all from an exec line on; what is left of that line, of which so many steps were taken, and all after it; nothing.
-#[derive(Drop)]
+#[derive(Clone, Copy)]
 pub enum Stage {
     Warning(usize),
     Channel(usize, usize, usize),
@@ -49,7 +49,7 @@ pub fn is_left(stage: Stage) -> bool
 }
 
 // How many bytes stand in the buffer, and what is left after them.
-#[derive(Drop)]
+#[derive(Clone, Copy)]
 pub struct Piece {
     pub length: usize,
     pub stage: Stage,

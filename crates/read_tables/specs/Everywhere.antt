@@ -13,7 +13,7 @@ use Rattle.notation.specs.declared.reading.Tally.{Tally}
 use Rattle.notation.specs.declared.reading.TypeNode.{TypeNode}
 use Rattle.notation.specs.declared.reading.TermNode.{TermNode}
 use Rattle.notation.specs.Tables.{Area}
-use Rattle.notation.specs.Layout.{zeros_area}
+use Rattle.notation.proofs.Zeroed.{zeros_area}
 use Rattle.notation.proofs.ScriptReadings.{text_read}
 use Rattle.read_tables.specs.Decode.{tally_in}
 use Rattle.read_tables.specs.Growth.{Grown, grown_none, grown_then, grown_lasting, grown_node, grown_alternative, grown_term, grown_branch, grown_exec}

@@ -2,7 +2,7 @@
 use Rattle.std.specs.Prelude.{ℕ, ◌≡◌, refl, List, [], ◌∷◌}
 use Rattle.notation.specs.Bytes.{bytes}
 use Rattle.notation.specs.Computed.{tables_now}
-use Rattle.notation.specs.Tree.{Located, Ty, unit, named, tensor, plus, alternative, Proc, empty, send_label, send_unit, call, Alternatives, Declaration, declare_type, declare_proc, declare_exec}
+use Rattle.notation.specs.Tree.{Located, unit, named, plus, alternative, send_label, call, Alternatives, declare_type, declare_proc, declare_exec}
 use Rattle.notation.specs.Tables.{tables}
 use Rattle.read_tables.specs.Decode.{type_node_of, term_node_of, pair_of, node_at, alternative_at, term_at, branch_at, entry_at, type_at, process_entry_of, process_at, exec_at, type_of, arguments_at, process_of, entries_in, type_declaration, proc_declaration, exec_declaration, script_in}
 

@@ -1,15 +1,15 @@
 -- The names of a call's two lists, one after the other, as the code walks over them in the text.
-use Prim.Native.Nat.{ℕ, zero, suc, ◌+◌, ◌<◌, ◌≤◌}
+use Prim.Native.Nat.{ℕ, zero, suc, ◌<◌, ◌≤◌}
 use Rattle.std.specs.Prelude.{◌≡◌, Bool, true, false, length}
 use Rattle.std.proofs.Math.Path.{refl, sym, ap}
 use Rattle.std.proofs.Common.{◌∙◌, subst, arith, eqb-true, eq-eqb, ne_eqb}
 use mathlib.Core.List.{List, [], ◌∷◌}
 use Rattle.std.proofs.Math.Bool.{cond}
 use Rattle.std.proofs.Math.Dec.{eqb}
-use Rattle.notation.specs.Token.{token_at, kind_at, k_name, k_comma, k_round_open, k_round_close, k_square_open, k_square_close}
+use Rattle.notation.specs.Token.{token_at, kind_at, k_name, k_comma}
 use Rattle.notation.specs.Onward.{width, Onward}
 use Rattle.notation.specs.Tree.{Located}
-use Rattle.notation.specs.Reader.{Result, got, refused, on_token, part, lastly, choose, past, fault, expect, limited, may_open, deeper, opening, closed, name_in}
+use Rattle.notation.specs.Reader.{Result, got, refused, on_token, part, lastly, choose, past, fault, expect, limited, may_open, deeper, opening, name_in}
 use Rattle.notation.specs.Processes.{read_names, name_list}
 use Rattle.notation.specs.declared.token.Token.{Token}
 use Rattle.notation.specs.declared.reading.Cursor.{Cursor}

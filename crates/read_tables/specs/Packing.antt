@@ -1,8 +1,7 @@
 -- What is packed into words is read back from them: one law for each packing, then one for each table.
-use Rattle.std.specs.Prelude.{ℕ, ◌+◌, ◌*◌, ◌/◌, ◌%◌, ◌<◌, ◌≤◌, ◌≡◌, refl, List, length, get_or, set}
+use Rattle.std.specs.Prelude.{ℕ, ◌+◌, ◌*◌, ◌/◌, ◌%◌, ◌<◌, ◌≡◌, List, set}
 use Rattle.std.proofs.Common.{◌∙◌, ap, arith, length-set, get_or-set_same, get_or-set_other}
 use Rattle.notation.specs.Tables.{types_at, processes_at, execs_at, entries_at, nodes_at, alternatives_at, terms_at, branches_at, type_node, term_node, type_word, term_word, term_word', pair_word, put_node, put_alternative, put_term, put_branch, put_entry, put_type, put_process, put_exec, process_entry, branch_room, offset_radix, pointer_radix, provided_radix, term_first_unit, term_kind_radix, type_first_radix, type_kind_radix, type_second_unit}
-use Rattle.notation.specs.declared.reading.TypeNode.{TypeNode}
 use Rattle.notation.specs.Tables.{Area}
 use Rattle.notation.specs.Limits.{process_limit, process_term_limit, type_limit, type_term_limit}
 use Rattle.read_tables.specs.Decode.{type_node_of, term_node_of, pair_of, node_at, alternative_at, term_at, branch_at, entry_at, type_at, exec_at, process_entry_of, process_at}

@@ -12,7 +12,7 @@ use Rattle.notation.specs.Reader.{name_in}
 use Rattle.notation.specs.Tables.{lasting, after_entries, after_declaration, after_script, write_script, write_counts, nothing, zeros, tables_of, Within}
 use Rattle.notation.specs.declared.reading.Tally.{Tally}
 use Rattle.notation.specs.Tables.{Area}
-use Rattle.notation.specs.Layout.{zeros_area}
+use Rattle.notation.proofs.Zeroed.{zeros_area}
 use Rattle.read_tables.specs.Decode.{tally_in, type_in, entries_in, type_declaration, proc_by, proc_declaration, exec_declaration, numbered, script_in}
 use Rattle.read_tables.specs.Growth.{grown_counts}
 use Rattle.notation.specs.From.{EntriesFrom, DeclarationFrom, ScriptFrom}

@@ -1,5 +1,5 @@
 -- The tables as a whole: at each number of the tables of declarations stand trees and signatures, so that code may begin its walk there.
-use Rattle.std.specs.Prelude.{ℕ, suc, ◌+◌, ◌-◌, ◌<◌, ◌≤◌, ◌≡◌, refl, ◌⊎◌, length}
+use Rattle.std.specs.Prelude.{ℕ, suc, ◌+◌, ◌<◌, ◌≤◌, ◌≡◌, refl, ◌⊎◌, length}
 use Rattle.std.proofs.Common.{sym, ◌∙◌, inl, inr, eq-or-lt_of_le, arith}
 use Rattle.std.proofs.Math.Path.{subst}
 use mathlib.Core.List.{List, [], ◌∷◌}
@@ -13,7 +13,8 @@ use Rattle.notation.specs.declared.reading.Cursor.{Cursor}
 use Rattle.notation.specs.declared.reading.Tally.{Tally}
 use Rattle.notation.specs.declared.reading.ProcessEntry.{ProcessEntry}
 use Rattle.notation.specs.Tables.{tables_read, Area}
-use Rattle.notation.specs.Layout.{zeros_length, zeros_area}
+use Rattle.notation.specs.Layout.{zeros_length}
+use Rattle.notation.proofs.Zeroed.{zeros_area}
 use Rattle.read_tables.specs.Decode.{tally_in, entry_at, type_at, process_at, entries_in, type_in, script_in}
 use Rattle.read_tables.specs.Growth.{Grown, grown_then, grown_lasting, grown_counts}
 use Rattle.notation.specs.From.{EntriesFrom, DeclarationFrom, ScriptFrom}

@@ -22,7 +22,7 @@ fn word(scratch: &[u32], i: usize) -> usize
 }
 
 // Two words side by side.
-#[derive(Drop)]
+#[derive(Clone, Copy)]
 struct Two {
     first: usize,
     second: usize,
@@ -68,7 +68,7 @@ pub fn term_node(scratch: &[u32], i: usize) -> TermNode
 }
 
 // An entry of a table of pairs: where its name or label stands, and the number that belongs to it.
-#[derive(Drop)]
+#[derive(Clone, Copy)]
 pub struct Labelled {
     pub at: usize,
     pub number: usize,
@@ -158,7 +158,7 @@ pub fn declared_type(scratch: &[u32], i: usize) -> Labelled
 }
 
 // A process's entry: its name, its first signature entry, how many it provides and uses, its body.
-#[derive(Drop)]
+#[derive(Clone, Copy)]
 pub struct Declared {
     pub at: usize,
     pub first: usize,

@@ -6,7 +6,7 @@ ghost use Rattle.read_tables.specs.Names.{as_argument, argument_from, Forward};
 use notation::token::{Lexeme, Token, next_lexeme};
 
 // What a list goes on with: a name, by its offset, and the offset past it; or no name, and the offset past the bracket that closes the list.
-#[derive(Drop)]
+#[derive(Clone, Copy)]
 pub enum Argument {
     Name(usize, usize),
     End(usize),

@@ -6,8 +6,8 @@ use native.Mathlib.Omega.{arith}
 use lib.ListN.{set}
 use lib.Seq.{set_comm}
 use Rattle.notation.specs.Limits.{type_term_limit, process_term_limit}
-use Rattle.notation.specs.Tree.{Located, Ty, unit, named, tensor, par, lolli, plus, with, Alternatives, alternative, Proc, empty, send_unit, send_channel, send_label, cancel, spawn, recv_unit, recv_channel, recv_label, fwd, call, raise, try, Branches, branch}
-use Rattle.notation.specs.Tables.{terms_at, nodes_at, alternatives_at, branches_at, type_word, pair_word, put_node, put_alternative, put_term, put_branch, more_nodes, more_terms, term_word, term_word', term_node, type_node, put_infix, put_choice, pointer_to, after_type, after_alternatives, write_type, write_alternatives, after_process, after_branches, write_process, write_branches}
+use Rattle.notation.specs.Tree.{Located, Ty, Proc, empty, send_unit, send_channel, send_label, cancel, spawn, recv_unit, recv_channel, recv_label, fwd, call, raise, try, Branches, branch}
+use Rattle.notation.specs.Tables.{terms_at, nodes_at, alternatives_at, branches_at, type_word, pair_word, put_node, put_alternative, put_term, put_branch, more_terms, term_word, term_word', term_node, pointer_to, after_type, write_type, after_process, after_branches, write_process, write_branches}
 use Rattle.notation.specs.declared.reading.Tally.{Tally}
 use Rattle.notation.specs.declared.reading.TypeNode.{TypeNode}
 use Rattle.notation.specs.declared.reading.TermNode.{TermNode}

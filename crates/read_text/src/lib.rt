@@ -1,3 +1,5 @@
+#![tactic(auto)]
+
 pub mod names;
 pub mod payloads;
 pub mod processes;

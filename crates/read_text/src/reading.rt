@@ -11,7 +11,7 @@ use read_types::steps::Out;
 use read_types::store::put_word;
 
 // A text that was read, or its refusal's number and offset.
-#[derive(Drop)]
+#[derive(Clone, Copy)]
 pub enum Reading {
     Read(Script),
     Refused(u32, usize),

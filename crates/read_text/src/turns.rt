@@ -13,7 +13,7 @@ use notation::token::{TermHead, Token, next_token};
 use read_types::steps::{Out, expect, refusal, term_head};
 
 // After one term: a process follows here, or the answer is there.
-#[derive(Drop)]
+#[derive(Clone, Copy)]
 pub enum Turn {
     On(Cursor, Tally),
     Done(Out),

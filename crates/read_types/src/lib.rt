@@ -1,3 +1,5 @@
+#![tactic(auto)]
+
 pub mod steps;
 pub mod store;
 pub mod types;

@@ -13,7 +13,7 @@ use notation::script::Script;
 use notation::token::{Payload, TermHead, Token, next_token};
 
 // Where a reading went on to, with the fill of the tables; or the refusal's number and offset.
-#[derive(Drop)]
+#[derive(Clone, Copy)]
 pub enum Out {
     Got(Cursor, Tally),
     Not(u32, u16),

@@ -3,7 +3,7 @@ use Rattle.std.specs.Prelude.{ℕ, zero, suc, ◌+◌, ◌-◌, ◌≤◌, ◌<�
 use Rattle.std.proofs.Math.Path.{refl, sym, ap, subst}
 use Rattle.std.proofs.Common.{◌∙◌, arith}
 use mathlib.Core.List.{List, [], ◌∷◌, ◌++◌}
-use Rattle.std.proofs.Math.Option.{Option, some, none, map}
+use Rattle.std.proofs.Math.Option.{Option, some, map}
 use Rattle.std.proofs.Math.ListN.{length-append}
 use Rattle.notation.specs.Limits.{held_limit, type_term_limit}
 use Rattle.notation.specs.Token.{name_at, token_at}

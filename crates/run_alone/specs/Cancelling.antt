@@ -4,7 +4,6 @@ use Rattle.std.proofs.Common.{subst}
 use Rattle.notation.specs.Reader.{name_in}
 use Rattle.calculus.specs.Configuration.{goes_on}
 use Rattle.calculus.specs.Steps.{parting, cancelling}
-use Rattle.calculus.specs.declared.answers.Seen.TheVariants.{Nothing}
 use Rattle.read_tables.specs.Decode.{process_in}
 use Rattle.run_words.specs.Values as values
 use Rattle.run_words.specs.declared.records.End.{End as EndWords}

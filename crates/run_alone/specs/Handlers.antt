@@ -5,7 +5,6 @@ use Rattle.std.proofs.Math.Option.{Option, some, none, map}
 use Rattle.std.proofs.Math.ListN.{get_elem?}
 use Rattle.calculus.specs.Configuration.{Process, Config, with_processes, replaced, doing_now}
 use Rattle.calculus.specs.Steps.{started_doing, started_handler, folded_handler, put_at, changed_at, handler_starts}
-use Rattle.read_tables.specs.Decode.{process_in}
 use Rattle.run_words.specs.Lists.{All}
 use Rattle.run_words.specs.ListLaws.{all_set, all_at, all_map, all_of, map_at}
 use Rattle.run_words.specs.Raw.{raw_in, link_of, links_below, Bounded}

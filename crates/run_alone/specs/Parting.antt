@@ -8,7 +8,7 @@ use Rattle.notation.specs.Token.{name_at}
 use Rattle.calculus.specs.Named.{lookup}
 use Rattle.calculus.specs.Configuration.{End, Outside, Config, with_outside, replaced, far_end}
 use Rattle.calculus.specs.Configuration as calculus
-use Rattle.calculus.specs.Steps.{Outcome, on_held, seen_at, outside_after, parting, folding_up}
+use Rattle.calculus.specs.Steps.{Outcome, on_held, seen_at, outside_after, parting}
 use Rattle.calculus.specs.declared.answers.Seen.{Seen}
 use Rattle.calculus.specs.declared.answers.Seen.TheVariants.{Nothing, Cancelled}
 use Rattle.read_tables.specs.Decode.{process_in}

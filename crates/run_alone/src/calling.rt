@@ -45,7 +45,7 @@ fn enter_end(
 }
 
 // What is held after a list was entered, and where its walk stopped.
-#[derive(Drop)]
+#[derive(Clone, Copy)]
 struct Entered {
     held: Held,
     at: usize,

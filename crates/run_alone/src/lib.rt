@@ -1,3 +1,5 @@
+#![tactic(auto)]
+
 pub mod calling;
 pub mod cancelling;
 pub mod folding;

@@ -18,7 +18,7 @@ use run_words::processes::{count, store};
 use run_words::records::{NEW, Process, RUNNING, UNLINKED};
 
 // A spawn: where the new name stands, the node of its type, the pointers of its halves.
-#[derive(Drop)]
+#[derive(Clone, Copy)]
 pub struct SpawnTerm {
     pub name: u32,
     pub node: u32,

@@ -5,7 +5,6 @@ use Rattle.calculus.specs.Named.{lookup}
 use Rattle.calculus.specs.Program.{Program}
 use Rattle.calculus.specs.Steps.{Message, Outcome, Received, Turn, after_receive, alone, both_to, bound, by_branch, caught_by, handler_starts, leaves_out, meeting, not_open, on_channel, on_close, on_label, onward, passed_end, passed_type, receives, sending, sends, takes, takes_channel, takes_close, takes_label, turn_of}
 use Rattle.calculus.specs.Types.{passing, unfolded}
-use Rattle.calculus.specs.declared.answers.Seen.TheVariants.{Nothing}
 use Rattle.check_contexts.specs.Halves.{append-nil}
 use Rattle.check_contexts.specs.Held.{Brings, Drops, EndIn, FoundIn, HeldIn, Sees, channels_of, end_found}
 use Rattle.check_contexts.specs.declared.held.Lookup.{Lookup}
@@ -30,7 +29,6 @@ use Rattle.run_alone.specs.declared.outcome.Outcome.{Outcome as OutcomeWords}
 use Rattle.run_messages.specs.Messages.{Heard, MovesOn, SendNode, TypeAfter, heard, message, message_by, parts_by, turn_by}
 use Rattle.run_messages.specs.declared.messages.Receiver.{Receiver}
 use Rattle.run_messages.specs.declared.messages.Sending.{Sending}
-use Rattle.run_words.specs.DecodeLaws.{at_process}
 use Rattle.run_words.specs.Raw.{Bounded, link_of, raw_in, side_of}
 use Rattle.run_words.specs.Values.{Changed, end_in}
 use Rattle.run_words.specs.declared.records.End.{End as EndWords}

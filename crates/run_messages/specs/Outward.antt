@@ -3,14 +3,13 @@ use Rattle.std.specs.Prelude.{◌+◌, ◌<◌, ◌≤◌, suc, ℕ, eqb, length
 use Rattle.calculus.specs.Configuration.{Config, End, Outside, Process, one_more_given, outside_of, replaced, retyped_outside, with_given, with_outside}
 use Rattle.calculus.specs.Steps.{Outcome, after_message, is_given_up, lacking, new_outside, outside_onward, passed_out, passed_type, sending, to_outside}
 use Rattle.calculus.specs.Types.{passing, unfolded}
-use Rattle.calculus.specs.declared.answers.Seen.TheVariants.{Close, Label, Nothing, Passed}
+use Rattle.calculus.specs.declared.answers.Seen.TheVariants.{Close, Label, Passed}
 use Rattle.check_contexts.specs.Halves.{append-nil}
 use Rattle.check_contexts.specs.Held.{Sees}
 use Rattle.check_contexts.specs.declared.held.Lookup.{Lookup}
 use Rattle.notation.specs.Limits.{outside_numbers}
 use Rattle.notation.specs.Reader.{name_in}
 use Rattle.notation.specs.Token.{name_at}
-use Rattle.notation.specs.declared.reading.Found.{Found}
 use Rattle.read_tables.specs.Decode.{process_in}
 use Rattle.read_tables.specs.Program.{plain_in, program_in}
 use Rattle.read_tables.specs.Roots.{TypeIn}

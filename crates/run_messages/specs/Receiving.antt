@@ -9,7 +9,6 @@ use Rattle.check_contexts.specs.declared.held.Lookup.{Lookup}
 use Rattle.notation.specs.Bytes.{same}
 use Rattle.notation.specs.Reader.{name_in}
 use Rattle.notation.specs.Token.{name_at}
-use Rattle.notation.specs.declared.reading.Found.{Found}
 use Rattle.notation.specs.declared.reading.TermNode.{TermNode}
 use Rattle.read_tables.specs.Decode.{process_in}
 use Rattle.read_tables.specs.Program.{plain_in, program_in}
@@ -21,10 +20,9 @@ use Rattle.run_alone.specs.Run.{Becomes, Carries, config_in, doing_as, process_a
 use Rattle.run_alone.specs.declared.outcome.Outcome.TheVariants.{Carried, NotOpen}
 use Rattle.run_alone.specs.declared.outcome.Outcome.{Outcome as OutcomeWords}
 use Rattle.run_messages.specs.Messages.{Heard, SendNode, heard, message_by, parts_by, turn_by}
-use Rattle.run_words.specs.DecodeLaws.{FarAs, at_outside, at_process, given_up}
+use Rattle.run_words.specs.DecodeLaws.{FarAs, at_outside, given_up}
 use Rattle.run_words.specs.Raw.{raw_in}
 use Rattle.run_words.specs.declared.records.End.{End as EndWords}
-use Rattle.run_words.specs.declared.records.Far.{Far}
 use Rattle.run_words.specs.declared.records.Held.{Held}
 use Rattle.run_words.specs.declared.records.Process.{Process as ProcessWords}
 use Rattle.std.proofs.Common.{inl, inr, ◌∙◌, ap, subst, sym, arith}

@@ -7,7 +7,6 @@ use Rattle.check_contexts.specs.Held.{Sees, channels_of}
 use Rattle.check_contexts.specs.declared.held.Lookup.{Lookup}
 use Rattle.notation.specs.Reader.{name_in}
 use Rattle.notation.specs.Token.{name_at}
-use Rattle.notation.specs.declared.reading.Found.{Found}
 use Rattle.notation.specs.declared.reading.TermNode.{TermNode}
 use Rattle.read_tables.specs.Decode.{process_in}
 use Rattle.read_tables.specs.Program.{plain_in, program_in}
@@ -22,7 +21,6 @@ use Rattle.run_messages.specs.declared.messages.Sending.{Sending}
 use Rattle.run_words.specs.DecodeLaws.{FarAs, given_up}
 use Rattle.run_words.specs.Raw.{raw_in}
 use Rattle.run_words.specs.declared.records.End.{End as EndWords}
-use Rattle.run_words.specs.declared.records.Far.{Far}
 use Rattle.run_words.specs.declared.records.Held.{Held}
 use Rattle.run_words.specs.declared.records.Process.{Process as ProcessWords}
 use Rattle.std.proofs.Common.{subst, sym, arith}

@@ -1,3 +1,5 @@
+#![tactic(auto)]
+
 pub mod meeting;
 pub mod messages;
 pub mod outward;

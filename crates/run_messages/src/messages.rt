@@ -25,7 +25,7 @@ use run_words::held::end_at;
 use run_words::records::{End, Held, Process, RUNNING};
 
 // A send under way: the process at a place before it and after it, its term, and the end that it goes over.
-#[derive(Drop)]
+#[derive(Clone, Copy)]
 pub struct Sending {
     pub place: usize,
     pub before: Process,
@@ -35,7 +35,7 @@ pub struct Sending {
 }
 
 // A process that receives: its place, where its name for the channel stands, and its term.
-#[derive(Drop)]
+#[derive(Clone, Copy)]
 pub struct Receiver {
     pub place: usize,
     pub process: Process,

@@ -42,7 +42,7 @@ fn end_named(text: &[u8], run: &[u32], i: usize, at: usize) -> Lookup
 }
 
 // The process at the far end of a channel, by the kind of its turn on that channel (IDLE if it has none); or no process is there.
-#[derive(Drop)]
+#[derive(Clone, Copy)]
 pub(crate) enum Partner {
     Turns(usize),
     Nobody,

@@ -15,7 +15,7 @@ use Rattle.calculus.specs.Types.{Side}
 use Rattle.calculus.specs.Program.{slot, Context, Signature, Program, signature_context}
 use Rattle.calculus.specs.Mentions.{spawn_takes, spawn_leaves, half_mentions}
 use Rattle.calculus.specs.Typing.{Typed, calls, ListFits, none_left, one_fits}
-use Rattle.calculus.specs.Configuration.{End, Process, Config, at}
+use Rattle.calculus.specs.Configuration.{End, Process, Config}
 use Rattle.calculus.specs.Steps.{Outcome, not_open, send, receive, cancelling, spawning, trying, calling, raising, forwarding, leaving, step_term, step_doing, step_of, step}
 use Rattle.calculus.specs.WellFormed.{context_of, TypedAs, WellFormed}
 use Rattle.theory_derivations.specs.Halves.{spawn_iff}

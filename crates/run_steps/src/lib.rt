@@ -1,3 +1,5 @@
+#![tactic(auto)]
+
 pub mod choosing;
 pub mod dispatch;
 pub mod running;

@@ -19,7 +19,7 @@ use run_words::halting::is_halted;
 use run_words::processes::count;
 
 // How the steps of a budget end: by an answer, or with the budget spent and nothing shown.
-#[derive(Drop)]
+#[derive(Clone, Copy)]
 pub enum Within {
     Ended(RanOn),
     Spent,

@@ -2,7 +2,7 @@
 use Rattle.std.specs.Prelude.{ℕ, ◌<◌, ◌≡◌, refl, ◌↔◌, List, [], ◌∷◌, map, Bool, ◌&&◌, leb, ltb, length}
 use Rattle.std.proofs.Common.{sym, ◌∙◌, true≢false, arith, le-leb, lt-ltb}
 use Rattle.std.proofs.Math.Path.{ap}
-use Rattle.std.proofs.Math.Logic.{Iff·trans}
+use Rattle.std.proofs.Math.Logic.Iff
 use Rattle.std.proofs.Math.Bool.{So}
 use Rattle.std.proofs.lemmas.List.{length-map}
 use Rattle.notation.specs.Limits.{held_limit, process_places, channel_places, outside_numbers}
@@ -71,7 +71,7 @@ Few C = So (leb (length C.processes) process_places) × So (every (λ (e : End).
 
 split : (p : Program) (C : Config) → So (well_formed? p C) ↔ (So (every (typed_process p) C.processes) × So (ends_fit p (ends C)) × So (every (is_outward p) C.outside) × So (halt_fits C) × So (well_joined C) × Few C)
 unfolding well_formed? well_joined circle_free numbers_rise numbers_given
-split p C = Iff·trans
+split p C = Iff.trans
     (itself (every (typed_process p) C.processes)
     and itself (ends_fit p (ends C))
     and itself (links_lead C)

@@ -27,7 +27,6 @@ use Rattle.run_words.specs.DecodeLaws.{FarAs, at_outside, given_up}
 use Rattle.run_words.specs.Values.{end_in, held_in}
 use Rattle.run_words.specs.Values as values
 use Rattle.run_words.specs.declared.records.End.{End as EndWords}
-use Rattle.run_words.specs.declared.records.Far.{Far}
 use Rattle.run_words.specs.declared.records.Far.TheVariants as far
 use Rattle.run_words.specs.declared.records.Held.{Held}
 use Rattle.run_words.specs.declared.records.Process.{Process as ProcessWords}

@@ -1,3 +1,5 @@
+#![tactic(auto)]
+
 ghost use Rattle.std.specs.Prelude.{◌≤◌, length};
 ghost use Rattle.notation.specs.Limits.{run_words};
 ghost use Rattle.read_tables.specs.Everywhere.{Everywhere};

@@ -1,20 +1,18 @@
 -- Laws of places that move.
-use Prim.Native.Nat.{ℕ, zero, suc, ◌+◌, ◌-◌, ◌*◌, ◌%◌, ◌≤◌, ◌<◌}
+use Prim.Native.Nat.{ℕ, suc, ◌+◌, ◌-◌, ◌*◌, ◌%◌, ◌≤◌, ◌<◌}
 use mathlib.Core.List.{List, map}
 use mathlib.Core.Path.{◌≡◌, sym, ap, subst, ◌∙◌}
-use mathlib.Core.Bool.{Bool, true, false, cond}
-use mathlib.Core.Option.{some}
+use mathlib.Core.Bool.{Bool, cond}
 use native.Mathlib.Omega.{arith}
-use native.Mathlib.Decide.{dec_lt}
-use borrow.Author.Tests.{lt-ltb, le-ltb, eq-eqb, ne_eqb}
-use lib.Dec.{ltb, eqb}
+use borrow.Author.Tests.{eq-eqb, ne_eqb}
+use lib.Dec.{eqb}
 use lib.ListN.{length, get_or, set, length-set, length-map}
 use lib.Seq.{get_or-set_same, get_or-set_other}
 use Rattle.notation.specs.Limits.{held_limit, process_places, outside_numbers, run_words}
 use Rattle.calculus.specs.Configuration.{moved_up, moved_down}
 use Rattle.run_words.specs.Lists.{All, insert_at, remove_at}
 use Rattle.run_words.specs.ListLaws.{tab_same, map_tab, all_map, all_at}
-use Rattle.run_words.specs.Raw.{RawProcess, RawConfig, link_of, links_below, rows, process_of, raw_in, Bounded, process_row, places_at, place_words}
+use Rattle.run_words.specs.Raw.{RawProcess, RawConfig, link_of, rows, process_of, raw_in, Bounded, process_row, places_at, place_words}
 use Rattle.run_words.specs.Values.{Changed, Moved, Written}
 use Rattle.run_words.specs.Operations.{with_processes, moved, moved_word, relinked, inserted, removed}
 use Rattle.run_words.specs.Bounds.{after, link_moved, link_word}

@@ -1,5 +1,5 @@
 -- The operations on a run's numbers are the calculus' own on the configuration that they stand for.
-use Rattle.std.specs.Prelude.{ℕ, suc, ◌+◌, ◌-◌, ◌≡◌, Bool, eqb, set}
+use Rattle.std.specs.Prelude.{ℕ, suc, ◌+◌, ◌≡◌, Bool, eqb, set}
 use mathlib.Core.List.{List, [], ◌∷◌, ◌++◌, map, map-map}
 use Rattle.std.proofs.Math.Path.{refl, ap, ap₂}
 use Rattle.std.proofs.Common.{sym, subst, ◌∙◌}
@@ -20,7 +20,6 @@ use Rattle.run_words.specs.Operations as raw
 use Rattle.run_words.specs.Decode as decode
 use Rattle.notation.specs.declared.reading.Found.{Found}
 use Rattle.notation.specs.declared.reading.Found.TheVariants as found
-use Rattle.run_words.specs.declared.records.Holder.{Holder}
 use Rattle.run_words.specs.declared.records.Holder.TheVariants as holder
 use Rattle.run_words.specs.declared.records.Far.{Far}
 use Rattle.run_words.specs.declared.records.Far.TheVariants as far

@@ -1,3 +1,5 @@
+#![tactic(auto)]
+
 pub mod bounded;
 pub mod channels;
 pub mod far;

@@ -61,7 +61,7 @@ pub const CHANNEL_RADIX: u32 = 512;
 pub const POINTER_LIMIT: u32 = 16384;
 
 // An end that a process holds: the offset of its name, its side (PROVIDED or USED), the node of its type, its channel.
-#[derive(Drop)]
+#[derive(Clone, Copy)]
 pub struct End {
     pub name: u32,
     pub side: u32,
@@ -70,14 +70,14 @@ pub struct End {
 }
 
 // What a process holds, oldest first, as two words for each end.
-#[derive(Drop)]
+#[derive(Clone, Copy)]
 pub struct Held {
     pub count: usize,
     pub words: [u32; HELD_WORDS],
 }
 
 // A process: what it does (RUNNING, FOLDING or WAITING as a handler); its term; its link, which is UNLINKED or 1 + place; what it holds.
-#[derive(Drop)]
+#[derive(Clone, Copy)]
 pub struct Process {
     pub kind: u32,
     pub pointer: u32,
@@ -86,7 +86,7 @@ pub struct Process {
 }
 
 // What a process does, and its term.
-#[derive(Drop)]
+#[derive(Clone, Copy)]
 pub struct Doing {
     pub kind: u32,
     pub pointer: u32,
@@ -107,7 +107,7 @@ pub const NEW: Process = Process {
 };
 
 // A channel that the outside uses.
-#[derive(Drop)]
+#[derive(Clone, Copy)]
 pub struct Outside {
     pub number: u32,
     pub node: u32,
@@ -115,21 +115,21 @@ pub struct Outside {
 }
 
 // A change of a channel that the outside uses: another type, or another channel in its place.
-#[derive(Drop)]
+#[derive(Clone, Copy)]
 pub enum Change {
     Node(u32),
     Channel(u32),
 }
 
 // Who holds an end: the process at a place, at a position of what it holds.
-#[derive(Drop)]
+#[derive(Clone, Copy)]
 pub enum Holder {
     At(usize, usize),
     Nobody,
 }
 
 // A far end: held by the process at a place, at a position of what it holds; the outside's, at a position of its channels; given up.
-#[derive(Drop)]
+#[derive(Clone, Copy)]
 pub enum Far {
     Process(usize, usize),
     Outside(usize),

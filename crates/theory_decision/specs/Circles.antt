@@ -1,7 +1,7 @@
 -- Whether joints close a circle, by joining labels.
 use Rattle.std.specs.Prelude.{ℕ, ◌≡◌, refl, ◌↔◌, ◌⊎◌, ◌≢◌, List, [], ◌∷◌, map, Bool, true, false, cond, eqb}
 use Rattle.std.proofs.Common.{sym, ◌∙◌, ap, subst, inl, inr}
-use Rattle.std.proofs.Math.Logic.{Iff·trans, Iff·and}
+use Rattle.std.proofs.Math.Logic.Iff
 use mathlib.Core.List.Memᴰ
 use Rattle.std.proofs.Math.Bool.{So}
 use Rattle.calculus.specs.Forest.{Joint, Forest}
@@ -56,8 +56,8 @@ joins_iff [] label = (λ e. tt, λ h. refl)
 joins_iff (j ∷ J) label =
     let a = label j.0 in
     let b = label j.1 in
-    let l = Iff·trans (joins_iff J (joined j label)) (along Forest (sym (labels_glued a b label J))) in
-    Iff·trans (unless_cond (eqb a b) (joins (joined j label) J)) (Iff·trans (Iff·and (decides_not eqb_decides a b) l) (forest_cons a b (labels label J)))
+    let l = Iff.trans (joins_iff J (joined j label)) (along Forest (sym (labels_glued a b label J))) in
+    Iff.trans (unless_cond (eqb a b) (joins (joined j label) J)) (Iff.trans (Iff.and (decides_not eqb_decides a b) l) (forest_cons a b (labels label J)))
 
 labels_self : (J : List Joint) → labels (λ x. x) J ≡ J
 labels_self [] = refl
@@ -65,7 +65,7 @@ labels_self (j ∷ J) = ap (λ K. j ∷ K) (labels_self J)
 
 pub forest?_iff : (J : List Joint) → So (forest? J) ↔ Forest J
 unfolding forest?
-forest?_iff J = Iff·trans (joins_iff J (λ x. x)) (along Forest (labels_self J))
+forest?_iff J = Iff.trans (joins_iff J (λ x. x)) (along Forest (labels_self J))
 
 -- only the labels of places that are joined matter
 abbrev pub AgreeOn : List Joint → (ℕ → ℕ) → (ℕ → ℕ) → Type 0

@@ -1,6 +1,6 @@
 -- Whether a configuration is well formed, as a test.
 use Rattle.std.specs.Prelude.{ℕ, suc, ◌≡◌, refl, ◌↔◌, List, [], ◌∷◌, map, Bool, true, false, cond, ◌&&◌, length, leb, ltb}
-use Rattle.std.proofs.Math.Logic.{Iff·trans, Iff·and}
+use Rattle.std.proofs.Math.Logic.Iff
 use Rattle.std.proofs.Math.Bool.{So}
 use Rattle.notation.specs.Limits.{held_limit, process_places, channel_places, outside_numbers}
 use Rattle.notation.specs.Tree.{Proc}
@@ -37,7 +37,7 @@ abbrev pub typed? : Program → Context → Proc → Bool
 typed? p G P = distinct (names G) && is_fine (check p G P)
 
 typed?_iff : (p : Program) (G : Context) (P : Proc) → So (typed? p G P) ↔ (NoneTwice (names G) × Typed p G P)
-typed?_iff p G P = distinct_iff (names G) and Iff·trans (is_fine_iff (check p G P)) (check_iff p P G)
+typed?_iff p G P = distinct_iff (names G) and Iff.trans (is_fine_iff (check p G P)) (check_iff p P G)
 
 abbrev pub typed_as? : Program → Context → Doing → Bool
 typed_as? p G (running P) = typed? p G P
@@ -57,7 +57,7 @@ rising low (n ∷ l) = let r = rising (suc n) l in cond (leb low n) r false
 rising_iff : (low : ℕ) (l : List ℕ) → So (rising low l) ↔ Rising low l
 unfolding rising
 rising_iff low [] = (λ _. tt, λ _. refl)
-rising_iff low (n ∷ l) = Iff·trans (and_cond (leb low n) (rising (suc n) l)) (Iff·and (leb_iff low n) (rising_iff (suc n) l))
+rising_iff low (n ∷ l) = Iff.trans (and_cond (leb low n) (rising (suc n) l)) (Iff.and (leb_iff low n) (rising_iff (suc n) l))
 
 -- ── the clauses in one
 unfoldable pub well_formed? : Program → Config → Bool
@@ -78,7 +78,7 @@ well_formed? p C =
 
 pub well_formed?_iff : (p : Program) (C : Config) → So (well_formed? p C) ↔ WellFormed p C
 unfolding well_formed?
-well_formed?_iff p C = Iff·trans
+well_formed?_iff p C = Iff.trans
     (places_law C _ (λ q. typed_as?_iff p (context_of q.held) q.doing)
     and ends_fit_iff p (ends C)
     and links_lead_iff C

@@ -1,7 +1,7 @@
 -- The ends of channels: no key twice, and one type for both ends, by one pass.
 use Rattle.std.specs.Prelude.{ℕ, ◌≡◌, refl, ◌↔◌, ◌≢◌, List, [], ◌∷◌, map, Bool, not, ◌&&◌, eqb}
 use Rattle.std.proofs.Common.{sym, ap}
-use Rattle.std.proofs.Math.Logic.{Iff·trans}
+use Rattle.std.proofs.Math.Logic.Iff
 use mathlib.Core.List.Memᴰ
 use Rattle.std.proofs.Math.Bool.{So}
 use Rattle.calculus.specs.Types.{Side, same_side}
@@ -39,7 +39,7 @@ module _ (p : Program) where
   beside_iff : (e d : End) → So (beside e d) ↔ (e.channel ≡ d.channel → (e.side ≢ d.side) × OneType p e.type d.type)
   beside_iff e d =
       implies_iff (eqb_iff e.channel d.channel)
-      (Iff·trans (not_iff (same_side e.side d.side)) (decides_not same_side_decides e.side d.side) and one_iff p e.type d.type)
+      (Iff.trans (not_iff (same_side e.side d.side)) (decides_not same_side_decides e.side d.side) and one_iff p e.type d.type)
 
   agree_sym : (e d : End) → Agree e d → Agree d e
   agree_sym e d h c = one_sym p (h (sym c))
@@ -72,4 +72,4 @@ module _ (p : Program) where
   -- "each held at most once, and both ends of a channel have one type"
   pub ends_fit_iff : (l : List End) → So (ends_fit l) ↔ (NoneTwice (map key l) × AllAgree l)
   unfolding ends_fit
-  ends_fit_iff l = Iff·trans (pairwise_iff beside beside_sym l) (to_ends l, λ h. from_ends l h.0 h.1)
+  ends_fit_iff l = Iff.trans (pairwise_iff beside beside_sym l) (to_ends l, λ h. from_ends l h.0 h.1)

@@ -1,7 +1,7 @@
 -- Whether some step would halt the run, as a test.
 use Rattle.std.specs.Prelude.{ℕ, ◌≡◌, refl, ◌↔◌, Bool, true, false, not, ◌&&◌}
 use Rattle.std.proofs.Common.{sym, subst}
-use Rattle.std.proofs.Math.Logic.{Iff·trans}
+use Rattle.std.proofs.Math.Logic.Iff
 use Rattle.std.proofs.Math.Option.{Option, some, none}
 use Rattle.std.proofs.Math.Bool.{So}
 use Rattle.notation.specs.Bytes.{same}
@@ -134,7 +134,7 @@ module _ (C : Config) (i : ℕ) (q : Process) (there : Stands C i q) where
       go (waiting Q) r s = never s
 
 would_iff : (C : Config) → So (any_of (halts_at C) C.processes) ↔ WouldHalt C
-would_iff C = Iff·trans (any_iff (halts_at C) C.processes) (to, from)
+would_iff C = Iff.trans (any_iff (halts_at C) C.processes) (to, from)
   where
     to : (q : Process) × In q C.processes × So (halts_at C q) → WouldHalt C
     to (q, m, s) = let (i, e) = in_found m in by_step {i = i} (at_halts C i q (record { there = e }) s)

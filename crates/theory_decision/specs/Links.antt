@@ -1,7 +1,7 @@
 -- Links: each leads to a waiting handler, and each waiting handler is linked by one process.
 use Rattle.std.specs.Prelude.{ℕ, ◌≡◌, refl, ◌↔◌, [], Bool, true, false, not, eqb}
 use Rattle.std.proofs.Common.{sym, ◌∙◌, ap, subst, true≢false}
-use Rattle.std.proofs.Math.Logic.{Iff·trans}
+use Rattle.std.proofs.Math.Logic.Iff
 use Rattle.std.proofs.Math.Bool.{So}
 use Rattle.std.proofs.Math.Option.{Option, some, none, none-ne-some, some-injective}
 use Rattle.std.proofs.lemmas.Bool.{not-false}
@@ -19,7 +19,7 @@ stands_iff C A = (λ h i q s. h q (found_in C.processes i s.there), λ h q m. le
 
 pub places_law : {A : Process → Type 0} (C : Config) (f : Process → Bool) → ((q : Process) → So (f q) ↔ A q)
     → So (every f C.processes) ↔ ((i : ℕ) (q : Process) → Stands C i q → A q)
-places_law {A} C f g = Iff·trans (all_law f C.processes g) (stands_iff C A)
+places_law {A} C f g = Iff.trans (all_law f C.processes g) (stands_iff C A)
 
 -- ── tests of a link
 abbrev pub is_link : ℕ → Option ℕ → Bool
@@ -52,7 +52,7 @@ waits_iff none = (never, λ h. absurd (none-ne-some h.0 h.1))
 waits_iff (some r) = (λ e. (r, refl, e), λ h. ap (λ (k : Process). is_waiting k.doing) (some-injective r h.0 h.1) ∙ h.2)
 
 handler_iff : (C : Config) (h : ℕ) → So (waits (at C h)) ↔ Handler C h
-handler_iff C h = Iff·trans (waits_iff (at C h)) (λ (r, e, w). (r, record { there = e }, w), λ (r, s, w). (r, s.there, w))
+handler_iff C h = Iff.trans (waits_iff (at C h)) (λ (r, e, w). (r, record { there = e }, w), λ (r, s, w). (r, s.there, w))
 
 leads_iff : (C : Config) (o : Option ℕ) → So (leads C o) ↔ ((h : ℕ) → o ≡ some h → Handler C h)
 leads_iff C none = (λ _ h e. absurd (none-ne-some h e), λ _. refl)
@@ -86,20 +86,20 @@ abbrev pub Linker : Config → ℕ → Type 0
 Linker C h = (i : ℕ) × (q : Process) × Stands C i q × (q.link ≡ some h)
 
 linker_iff : (C : Config) (h : ℕ) → So (any_of (λ q. is_link h q.link) C.processes) ↔ Linker C h
-linker_iff C h = Iff·trans (any_iff (λ q. is_link h q.link) C.processes) (
+linker_iff C h = Iff.trans (any_iff (λ q. is_link h q.link) C.processes) (
   λ (q, m, e). let r = in_found m in (r.0, q, record { there = r.1 }, (is_link_iff h q.link).0 e),
   λ (i, q, s, e). (q, found_in C.processes i s.there, (is_link_iff h q.link).1 e),
 )
 
 pub handlers_linked_iff : (C : Config) → So (handlers_linked C) ↔ ((h : ℕ) (r : Process) → Stands C h r → So (is_waiting r.doing) → Linker C h)
 unfolding handlers_linked
-handlers_linked_iff C = Iff·trans
+handlers_linked_iff C = Iff.trans
     (all_from_law _ C.processes (λ h r. implies_iff (itself (is_waiting r.doing)) (linker_iff C h)))
     (λ f h r s. f h r s.there, λ f h r e. f h r (record { there = e }))
 
 pub linked_once_iff : (C : Config) → So (linked_once C) ↔ ((i j : ℕ) (q r : Process) → Stands C i q → Stands C j r → (h : ℕ) → q.link ≡ some h → r.link ≡ some h → i ≡ j)
 unfolding linked_once
-linked_once_iff C = Iff·trans
+linked_once_iff C = Iff.trans
     (apart_iff (λ q r. links_apart q.link r.link) (λ q r. apart_sym q.link r.link) C.processes) (
       λ f i j q r s t h a b. f i j q r s.there t.there ((together_iff q.link r.link).1 (h, a, b)),
       λ f i j q r a b e.

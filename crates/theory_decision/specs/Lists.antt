@@ -5,7 +5,7 @@ use Rattle.std.proofs.Math.Nat.{add-zero}
 use Rattle.std.proofs.Common.{zero-add, sym, ◌∙◌, ap, ⊎_elim, true≢false}
 use Rattle.std.specs.Prelude.{◌≡◌, ◌↔◌, Bool, true, false, cond}
 use Rattle.std.proofs.Math.Path.{refl, subst}
-use Rattle.std.proofs.Math.Logic.{Iff·trans, Iff·and}
+use Rattle.std.proofs.Math.Logic.Iff
 use mathlib.Core.List.Memᴰ
 use mathlib.Core.List.{List, [], ◌∷◌}
 use Rattle.std.proofs.Math.Bool.{So}
@@ -25,7 +25,7 @@ implies_iff {a = false} f g = (λ e x. never (f.1 x), λ h. refl)
 
 module _ {X : Type 0} where
   pub all_law : {A : X → Type 0} (f : X → Bool) (l : List X) → ((x : X) → So (f x) ↔ A x) → So (every f l) ↔ ((x : X) → In x l → A x)
-  all_law f l g = Iff·trans (all_iff f l) (λ h x m. (g x).0 (h x m), λ h x m. (g x).1 (h x m))
+  all_law f l g = Iff.trans (all_iff f l) (λ h x m. (g x).0 (h x m), λ h x m. (g x).1 (h x m))
 
   -- each element passes the test with its place, counted from k
   unfoldable pub all_from : (ℕ → X → Bool) → ℕ → List X → Bool
@@ -83,10 +83,10 @@ module _ {X : Type 0} (f : X → X → Bool) (symmetric : (x y : X) → f x y �
   unfolding pairwise
   pairwise_beside [] seen = (λ e. (λ x m. elim m [ ], tt), λ h. refl)
   pairwise_beside (x ∷ l) seen =
-      Iff·trans (Iff·trans (and_cond (every (f x) seen) (pairwise f (x ∷ seen) l)) (Iff·and (all_iff (f x) seen) (pairwise_beside l (x ∷ seen)))) (passed x l seen)
+      Iff.trans (Iff.trans (and_cond (every (f x) seen) (pairwise f (x ∷ seen) l)) (Iff.and (all_iff (f x) seen) (pairwise_beside l (x ∷ seen)))) (passed x l seen)
 
   pub pairwise_iff : (l : List X) → So (pairwise f [] l) ↔ Pairwise f l
-  pairwise_iff l = Iff·trans (pairwise_beside l []) (λ h. h.1, λ h. (λ x m y n. elim n [ ], h))
+  pairwise_iff l = Iff.trans (pairwise_beside l []) (λ h. h.1, λ h. (λ x m y n. elim n [ ], h))
 
   -- no two places fail the test
   abbrev pub Apart : List X → Type 0
@@ -112,4 +112,4 @@ module _ {X : Type 0} (f : X → X → Bool) (symmetric : (x y : X) → f x y �
       later i j y z a b e = let n = h (suc i) (suc j) y z a b e in omega arith
 
   pub apart_iff : (l : List X) → So (pairwise f [] l) ↔ Apart l
-  apart_iff l = Iff·trans (pairwise_iff l) (pairwise_apart l, apart_pairwise l)
+  apart_iff l = Iff.trans (pairwise_iff l) (pairwise_apart l, apart_pairwise l)

@@ -1,7 +1,7 @@
 -- The checking pass accepts exactly what the rules derive: processes, scripts, texts.
 use Rattle.std.specs.Prelude.{ℕ, zero, suc, ◌+◌, ◌≤◌, ◌≡◌, refl, ◌↔◌, List, [], ◌∷◌, ◌++◌, length}
 use Rattle.std.proofs.Common.{arith, sym, ◌∙◌, ap, subst, length-append}
-use Rattle.std.proofs.Math.Logic.{Iff·trans}
+use Rattle.std.proofs.Math.Logic.Iff
 use Rattle.std.proofs.Math.Option.{Option, some, none, none-ne-some, some-injective}
 use Rattle.std.proofs.Math.ListN.{get_elem?}
 use Rattle.notation.specs.Limits.{held_limit}
@@ -64,7 +64,7 @@ length_signature xs ys P =
 
 body_iff : (p : Program) (xs ys : List Entry) (P : Proc)
     → (unless_named (get_elem? (channels xs ++ channels ys) held_limit) (check p (signature_context (signed xs ys P)) P) ≡ fine) ↔ TypedBody p (signed xs ys P)
-body_iff p xs ys P = Iff·trans
+body_iff p xs ys P = Iff.trans
     (unless_named_law (none_there_iff (channels xs ++ channels ys) held_limit) (check_iff p P (signature_context (signed xs ys P)))) (
       λ (l, d). record { room = omega (arith, length_signature xs ys P); body = d },
       λ b. (omega (arith, length_signature xs ys P, b.room), b.body),
@@ -78,14 +78,14 @@ declarations_iff : (p : Program) (ds : List Declaration) → (check_declarations
 unfolding program_of
 declarations_iff p [] = (λ _ e m. elim m [ ], λ _. refl)
 declarations_iff p (declare_type n A ∷ r) = declarations_iff p r
-declarations_iff p (declare_proc n xs ys P ∷ r) = Iff·trans
+declarations_iff p (declare_proc n xs ys P ∷ r) = Iff.trans
     (then_law (body_iff p xs ys P) (declarations_iff p r))
     (each_cons (λ e. TypedBody p e.1) (n.name, signed xs ys P) (program_of r).processes)
 declarations_iff p (declare_exec n ∷ r) = declarations_iff p r
 
 pub typed_iff : (ds : List Declaration) → (typed ds ≡ fine) ↔ Derivation ds
 unfolding typed
-typed_iff ds = Iff·trans (declarations_iff (program_of ds) ds) (λ f n s. f (n, s), λ f e. f e.0 e.1)
+typed_iff ds = Iff.trans (declarations_iff (program_of ds) ds) (λ f n s. f (n, s), λ f e. f e.0 e.1)
 
 -- ── texts
 abbrev declarations_of : Checked → Option (List Declaration)
@@ -114,7 +114,7 @@ pub accepts : (text : List ℕ) (ds : List Declaration) → (checked text ≡ ac
 unfolding checked
 accepts text ds =
     let t = then_law (declared_iff ds) (typed_iff ds) in
-    Iff·trans (read_iff (read_text text) ds) (
+    Iff.trans (read_iff (read_text text) ds) (
       λ (c, e, f). record { script = (derives_iff text ds).0 (c, e); declarations = (t.0 f).0; derivation = (t.0 f).1 },
       λ d. let (c, e) = read_as d in (c, e, t.1 (d.declarations, d.derivation)),
     )

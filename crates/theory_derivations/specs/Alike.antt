@@ -1,7 +1,7 @@
 -- Types are alike exactly where their heads match.
 use Rattle.std.specs.Prelude.{◌≡◌, refl, List, [], ◌∷◌, Bool, true, false, cond, eqb}
 use Rattle.std.proofs.Common.{ap, subst}
-use Rattle.std.proofs.Math.Option.{some, none}
+use Rattle.std.proofs.Math.Option.{some}
 use Rattle.trees.specs.Both.{Both}
 use Rattle.trees.specs.Heads as trees
 use Rattle.trees.specs.Heads.{Head, Matching, leaves, words, pairs, choices}

@@ -1,7 +1,7 @@
 -- What the Boolean tests of the definitions say.
 use Rattle.std.specs.Prelude.{ℕ, ◌≤◌, ◌<◌, ◌≡◌, refl, ◌↔◌, ◌⊎◌, List, [], ◌∷◌, Bool, true, false, not, cond, ◌&&◌, ◌||◌, eqb, ltb, leb}
 use Rattle.std.proofs.Common.{sym, ap, subst, inl, inr, ⊎_elim, eqb-true, eq-eqb, ltb-true, lt-ltb, leb-true, le-leb}
-use Rattle.std.proofs.Math.Logic.{Iff·rfl, Iff·trans, Iff·and}
+use Rattle.std.proofs.Math.Logic.Iff
 use mathlib.Core.List.Memᴰ
 use Rattle.std.proofs.Math.Bool.{So, and-eq-true_iff}
 use Rattle.std.proofs.lemmas.Bool.{false≢true}
@@ -34,15 +34,15 @@ fails_iff {b = true} f = (λ e. never (sym e), λ n. absurd (n (f.0 refl)))
 fails_iff {b = false} f = (λ e a. never (f.1 a), λ n. refl)
 
 pub no_iff : {A : Type 0} {b : Bool} → So b ↔ A → So (not b) ↔ (¬ A)
-no_iff {b = b} f = Iff·trans (not_iff b) (fails_iff f)
+no_iff {b = b} f = Iff.trans (not_iff b) (fails_iff f)
 
 -- a test that says no more than that it passes
 pub itself : (b : Bool) → So b ↔ So b
-itself b = Iff·rfl
+itself b = Iff.rfl
 
 -- two tests, each with what it says; infix where the two can be read off
 pub and_iff : {A B : Type 0} (a b : Bool) → So a ↔ A → So b ↔ B → So (a && b) ↔ (A × B)
-and_iff a b f g = Iff·trans (and-eq-true_iff a b) (Iff·and f g)
+and_iff a b f g = Iff.trans (and-eq-true_iff a b) (Iff.and f g)
 
 infixl 35 ◌and◌
 pub ◌and◌ : {A B : Type 0} {a b : Bool} → So a ↔ A → So b ↔ B → So (a && b) ↔ (A × B)
@@ -108,11 +108,11 @@ module _ {X : Type 0} where
 
   pub all_iff : (p : X → Bool) (l : List X) → So (every p l) ↔ ((x : X) → In x l → So (p x))
   all_iff p [] = (λ e x m. elim m [ ], λ h. refl)
-  all_iff p (x ∷ l) = Iff·trans (and_cond (p x) (every p l)) (Iff·trans (Iff·and Iff·rfl (all_iff p l)) (each_cons (λ y. So (p y)) x l))
+  all_iff p (x ∷ l) = Iff.trans (and_cond (p x) (every p l)) (Iff.trans (Iff.and Iff.rfl (all_iff p l)) (each_cons (λ y. So (p y)) x l))
 
   -- a test of each element, with what it says of it
   pub each_iff : {p : X → Bool} {P : X → Type 0} → ((x : X) → So (p x) ↔ P x) → (l : List X) → So (every p l) ↔ ((x : X) → In x l → P x)
-  each_iff {p = p} f l = Iff·trans (all_iff p l) (λ h x m. (f x).0 (h x m), λ h x m. (f x).1 (h x m))
+  each_iff {p = p} f l = Iff.trans (all_iff p l) (λ h x m. (f x).0 (h x m), λ h x m. (f x).1 (h x m))
 
   in_any : (p : X → Bool) {x : X} {l : List X} → In x l → So (p x) → So (any_of p l)
   in_any p (Memᴰ.head {x = y} {xs = l} h) e = (or_cond (p y) (any_of p l)).1 (inl (rw (← h) e))

@@ -1,5 +1,5 @@
 -- The tests for equal names and sides decide equality.
-use Rattle.std.specs.Prelude.{ℕ, ◌≡◌, refl, ◌↔◌, ◌≢◌, ◌⊎◌, List, Bool, true, false, eqb}
+use Rattle.std.specs.Prelude.{ℕ, ◌≡◌, refl, ◌↔◌, ◌≢◌, ◌⊎◌, List, Bool, false, eqb}
 use Rattle.std.proofs.Common.{sym, ◌∙◌, ap, subst, ⊎_elim, true≢false}
 use Rattle.std.proofs.Math.Logic.{⊎_map}
 use Rattle.std.proofs.Math.Bool.{So}

@@ -1,7 +1,7 @@
 -- Refusals 6 to 9 apply nowhere exactly where the declarations are in order.
 use Rattle.std.specs.Prelude.{ℕ, ◌≡◌, refl, ◌↔◌, ◌≢◌, Bool, true, false, cond}
 use Rattle.std.proofs.Common.{sym, ◌∙◌, ap, subst, ⊎_elim}
-use Rattle.std.proofs.Math.Logic.{Iff·rfl, Iff·trans, Iff·and}
+use Rattle.std.proofs.Math.Logic.Iff
 use mathlib.Core.List.Memᴰ
 use mathlib.Core.List.{List, [], ◌∷◌, ◌++◌, cons-ne-nil}
 use Rattle.std.proofs.Math.Bool.{So}
@@ -29,7 +29,7 @@ faults_iff n (i ∷ l) = (refuted, λ e. absurd (cons-ne-nil _ _ e))
 
 gather_iff : {X : Type 0} (f : Declaration → List X) (ds : List Declaration) → (gather f ds ≡ []) ↔ ((d : Declaration) → In d ds → f d ≡ [])
 gather_iff f [] = (λ _ d m. elim m [ ], λ _. refl)
-gather_iff f (d ∷ ds) = Iff·trans (none_iff (f d) (gather f ds)) (Iff·trans (Iff·and Iff·rfl (gather_iff f ds)) (each_cons (λ d. f d ≡ []) d ds))
+gather_iff f (d ∷ ds) = Iff.trans (none_iff (f d) (gather f ds)) (Iff.trans (Iff.and Iff.rfl (gather_iff f ds)) (each_cons (λ d. f d ≡ []) d ds))
 
 -- an offset unless a test passes
 unless_none : (b : Bool) (i : ℕ) (l : List ℕ) → (cond b l (i ∷ l) ≡ []) ↔ (So b × (l ≡ []))
@@ -45,18 +45,18 @@ repeats_iff before (n ∷ ns) = go (any_of (same n.name) before) refl (repeats_i
     go : (b : Bool) → any_of (same n.name) before ≡ b → (repeats (n.name ∷ before) ns ≡ []) ↔ (Once ns × ((x : Name) → In x (names_of ns) → ¬ In x (n.name ∷ before)))
         → (cond b (n.at ∷ repeats before ns) (repeats (n.name ∷ before) ns) ≡ []) ↔ (Once (n ∷ ns) × ((x : Name) → In x (n.name ∷ names_of ns) → ¬ In x before))
     go true z r = (λ e. absurd (cons-ne-nil _ _ e), λ h. absurd (h.1 n.name (Memᴰ.head refl) ((listed_iff n.name before).0 z)))
-    go false z r = Iff·trans r (
+    go false z r = Iff.trans r (
       λ h. (((λ i. h.1 n.name i (Memᴰ.head refl)), h.0), (each_cons (λ x. ¬ In x before) n.name (names_of ns)).0 ((fails_iff (listed_iff n.name before)).0 z, λ x i m. h.1 x i (Memᴰ.tail m))),
       λ h. (h.0.1, λ x i m. ⊎_elim (λ e. h.0.0 (Memᴰ.cast (sym e) i)) (λ k. h.1 x (Memᴰ.tail i) k) (Memᴰ.cases_cons m)),
     )
 
 pub once_iff : (ns : List Located) → (repeats [] ns ≡ []) ↔ Once ns
-once_iff ns = Iff·trans (repeats_iff [] ns) (λ h. h.0, λ u. (u, λ x i m. Memᴰ.not-nil m))
+once_iff ns = Iff.trans (repeats_iff [] ns) (λ h. h.0, λ u. (u, λ x i m. Memᴰ.not-nil m))
 
 -- ── 7: each name defined
 defined_iff : {X : Type 0} (l : List (Name × X)) (n : Located) → (unless_defined l n ≡ []) ↔ Defined n l
-defined_iff l n = Iff·trans
-    (Iff·trans (unless_none (is_some (lookup n.name l)) n.at []) (λ h. (is_some_iff (lookup n.name l)).0 h.0, λ h. ((is_some_iff (lookup n.name l)).1 h, refl)))
+defined_iff l n = Iff.trans
+    (Iff.trans (unless_none (is_some (lookup n.name l)) n.at []) (λ h. (is_some_iff (lookup n.name l)).0 h.0, λ h. ((is_some_iff (lookup n.name l)).1 h, refl)))
     ((held_iff n.name l).1, (held_iff n.name l).0)
 
 -- ── both passes over the parts of a tree
@@ -94,7 +94,7 @@ module _ (p : Program) where
 
   entries_iff : (l : List Entry) → ((entries_repeats l ≡ []) × (entries_undefined p l ≡ [])) ↔ EntriesInOrder p l
   entries_iff [] = (λ _ e m. elim m [ ], λ _. (refl, refl))
-  entries_iff (e ∷ l) = Iff·trans (two (type_iff e.type) (entries_iff l)) (each_cons (λ (e : Entry). TypeInOrder p e.type) e l)
+  entries_iff (e ∷ l) = Iff.trans (two (type_iff e.type) (entries_iff l)) (each_cons (λ (e : Entry). TypeInOrder p e.type) e l)
 
   mutual
     unfolding process_repeats branches_repeats process_undefined branches_undefined ProcessInOrder BranchesInOrder
@@ -151,11 +151,11 @@ module _ (p : Program) where
   KeepsRule (declare_exec n) = So (keeps_rule p (lookup n.name p.processes))
 
   own_iff : (d : Declaration) → (((own_repeats d ≡ []) × (own_undefined p d ≡ [])) × ((own_bare_name d ≡ []) × KeepsRule d)) ↔ DeclarationInOrder p d
-  own_iff (declare_type n A) = Iff·and (type_iff A) (λ h. (not_bare_iff A).0 h.0, λ h. ((not_bare_iff A).1 h, tt))
-  own_iff (declare_proc n xs ys P) = Iff·trans
+  own_iff (declare_type n A) = Iff.and (type_iff A) (λ h. (not_bare_iff A).0 h.0, λ h. ((not_bare_iff A).1 h, tt))
+  own_iff (declare_proc n xs ys P) = Iff.trans
       (λ h. h.0, λ h. (h, (refl, tt)))
       (with_labels (channels xs ++ channels ys) (two (entries_iff xs) (two (entries_iff ys) (process_iff P))))
-  own_iff (declare_exec n) = Iff·trans (
+  own_iff (declare_exec n) = Iff.trans (
     λ ((_, e), (_, k)). (((unless_none (is_some (lookup n.name p.processes)) n.at []).0 e).0, k),
     λ (e, k). ((refl, (unless_none (is_some (lookup n.name p.processes)) n.at []).1 (e, refl)), (refl, k)),
   ) (exec_iff (lookup n.name p.processes))
@@ -164,16 +164,16 @@ module _ (p : Program) where
   breaking_iff : (ds : List Declaration) → (breaking p (program_of ds).execs ≡ []) ↔ ((d : Declaration) → In d ds → KeepsRule d)
   unfolding program_of
   breaking_iff [] = (λ _ d m. elim m [ ], λ _. refl)
-  breaking_iff (declare_type n A ∷ ds) = Iff·trans (breaking_iff ds) (Iff·trans (λ h. (tt, h), λ h. h.1) (each_cons KeepsRule (declare_type n A) ds))
-  breaking_iff (declare_proc n xs ys P ∷ ds) = Iff·trans (breaking_iff ds) (Iff·trans (λ h. (tt, h), λ h. h.1) (each_cons KeepsRule (declare_proc n xs ys P) ds))
-  breaking_iff (declare_exec n ∷ ds) = Iff·trans
+  breaking_iff (declare_type n A ∷ ds) = Iff.trans (breaking_iff ds) (Iff.trans (λ h. (tt, h), λ h. h.1) (each_cons KeepsRule (declare_type n A) ds))
+  breaking_iff (declare_proc n xs ys P ∷ ds) = Iff.trans (breaking_iff ds) (Iff.trans (λ h. (tt, h), λ h. h.1) (each_cons KeepsRule (declare_proc n xs ys P) ds))
+  breaking_iff (declare_exec n ∷ ds) = Iff.trans
       (unless_none (keeps_rule p (lookup n.name p.processes)) n.at (breaking p (program_of ds).execs))
-      (Iff·trans (Iff·and Iff·rfl (breaking_iff ds)) (each_cons KeepsRule (declare_exec n) ds))
+      (Iff.trans (Iff.and Iff.rfl (breaking_iff ds)) (each_cons KeepsRule (declare_exec n) ds))
 
 -- ── the four passes
 pub declared_iff : (ds : List Declaration) → (declared ds ≡ fine) ↔ InOrder ds
 unfolding declared repeated undefined bare_names wrong_execs
-declared_iff ds = Iff·trans
+declared_iff ds = Iff.trans
     (then_law (faults_iff 6 (repeated ds)) (then_law (faults_iff 7 (undefined ds)) (then_law (faults_iff 8 (bare_names ds)) (faults_iff 9 (wrong_execs ds)))))
     (λ (r, (u, (b, w))). ordered r u b w, λ o. (once o, each_own o))
   where

@@ -1,7 +1,7 @@
 -- The tests of what a process mentions are exact.
 use Rattle.std.specs.Prelude.{◌≡◌, refl, ◌↔◌, ◌≢◌, ◌⊎◌, List, [], ◌∷◌, not}
 use Rattle.std.proofs.Common.{◌∙◌, ap, inl, inr, ⊎_elim}
-use Rattle.std.proofs.Math.Logic.{Iff·trans}
+use Rattle.std.proofs.Math.Logic.Iff
 use mathlib.Core.List.Memᴰ
 use Rattle.std.proofs.Math.Bool.{So}
 use Rattle.notation.specs.Bytes.{same}
@@ -19,7 +19,7 @@ other_iff n x = no_iff (same_iff n x)
 
 is_one_of_iff : (n : Name) (xs : List Located) → So (is_one_of n xs) ↔ ((x : Located) × In x xs × (n ≡ x.name))
 is_one_of_iff n [] = (never, λ (x, m, e). elim m [ ])
-is_one_of_iff n (x ∷ xs) = Iff·trans (same_iff n x.name or is_one_of_iff n xs) (
+is_one_of_iff n (x ∷ xs) = Iff.trans (same_iff n x.name or is_one_of_iff n xs) (
   ⊎_elim (λ e. (x, Memᴰ.head refl, e)) (λ (y, m, e). (y, Memᴰ.tail m, e)),
   λ (y, m, e). ⊎_elim (λ h. inl (e ∙ ap (λ (z : Located). z.name) h)) (λ k. inr (y, k, e)) (Memᴰ.cases_cons m),
 )
@@ -29,33 +29,33 @@ mutual
 
   pub mentions_iff : (P : Proc) (n : Name) → So (mentions P n) ↔ Mentions P n
   mentions_iff (empty at) n = (never, λ m. elim m [ ])
-  mentions_iff (send_unit at c P) n = Iff·trans (same_iff n c.name or mentions_iff P n)
+  mentions_iff (send_unit at c P) n = Iff.trans (same_iff n c.name or mentions_iff P n)
       (⊎_elim by_send_unit after_send_unit, λ m. elim m [ by_send_unit e ↦ inl e | after_send_unit d ↦ inr d ])
-  mentions_iff (send_channel at c a P) n = Iff·trans (same_iff n c.name or (same_iff n a.name or mentions_iff P n))
+  mentions_iff (send_channel at c a P) n = Iff.trans (same_iff n c.name or (same_iff n a.name or mentions_iff P n))
       (⊎_elim by_send_channel (⊎_elim as_sent after_send_channel), λ m. elim m [ by_send_channel e ↦ inl e | as_sent e ↦ inr (inl e) | after_send_channel d ↦ inr (inr d) ])
-  mentions_iff (send_label at c l P) n = Iff·trans (same_iff n c.name or mentions_iff P n)
+  mentions_iff (send_label at c l P) n = Iff.trans (same_iff n c.name or mentions_iff P n)
       (⊎_elim by_send_label after_send_label, λ m. elim m [ by_send_label e ↦ inl e | after_send_label d ↦ inr d ])
-  mentions_iff (cancel at c P) n = Iff·trans (same_iff n c.name or mentions_iff P n)
+  mentions_iff (cancel at c P) n = Iff.trans (same_iff n c.name or mentions_iff P n)
       (⊎_elim by_cancel after_cancel, λ m. elim m [ by_cancel e ↦ inl e | after_cancel d ↦ inr d ])
-  mentions_iff (spawn x A P Q) n = Iff·trans (other_iff n x.name and (mentions_iff P n or mentions_iff Q n))
+  mentions_iff (spawn x A P Q) n = Iff.trans (other_iff n x.name and (mentions_iff P n or mentions_iff Q n))
       (λ (h, m). ⊎_elim (in_spawned h) (in_rest h) m, λ m. elim m [ in_spawned h d ↦ (h, inl d) | in_rest h d ↦ (h, inr d) ])
-  mentions_iff (recv_unit at c P) n = Iff·trans (same_iff n c.name or mentions_iff P n)
+  mentions_iff (recv_unit at c P) n = Iff.trans (same_iff n c.name or mentions_iff P n)
       (⊎_elim by_recv_unit after_recv_unit, λ m. elim m [ by_recv_unit e ↦ inl e | after_recv_unit d ↦ inr d ])
-  mentions_iff (recv_channel at c x P) n = Iff·trans (same_iff n c.name or (other_iff n x.name and mentions_iff P n))
+  mentions_iff (recv_channel at c x P) n = Iff.trans (same_iff n c.name or (other_iff n x.name and mentions_iff P n))
       (⊎_elim by_recv_channel (λ (h, d). after_recv_channel h d), λ m. elim m [ by_recv_channel e ↦ inl e | after_recv_channel h d ↦ inr (h, d) ])
-  mentions_iff (recv_label at c B) n = Iff·trans (same_iff n c.name or branches_mention_iff B n)
+  mentions_iff (recv_label at c B) n = Iff.trans (same_iff n c.name or branches_mention_iff B n)
       (⊎_elim by_recv_label in_branches, λ m. elim m [ by_recv_label e ↦ inl e | in_branches d ↦ inr d ])
-  mentions_iff (fwd at x c) n = Iff·trans (same_iff n x.name or same_iff n c.name)
+  mentions_iff (fwd at x c) n = Iff.trans (same_iff n x.name or same_iff n c.name)
       (⊎_elim as_provided as_used, λ m. elim m [ as_provided e ↦ inl e | as_used e ↦ inr e ])
-  mentions_iff (call at q bracket xs ys) n = Iff·trans (is_one_of_iff n xs or is_one_of_iff n ys)
+  mentions_iff (call at q bracket xs ys) n = Iff.trans (is_one_of_iff n xs or is_one_of_iff n ys)
       (⊎_elim (λ (x, i, e). in_provided x i e) (λ (y, i, e). in_used y i e), λ m. elim m [ in_provided x i e ↦ inl (x, i, e) | in_used y i e ↦ inr (y, i, e) ])
-  mentions_iff (raise at P) n = Iff·trans (mentions_iff P n) (after_raise, λ m. elim m [ after_raise d ↦ d ])
-  mentions_iff (try at P Q) n = Iff·trans (mentions_iff P n or mentions_iff Q n)
+  mentions_iff (raise at P) n = Iff.trans (mentions_iff P n) (after_raise, λ m. elim m [ after_raise d ↦ d ])
+  mentions_iff (try at P Q) n = Iff.trans (mentions_iff P n or mentions_iff Q n)
       (⊎_elim in_tried in_handler, λ m. elim m [ in_tried d ↦ inl d | in_handler d ↦ inr d ])
 
   branches_mention_iff : (B : Branches) (n : Name) → So (branches_mention B n) ↔ BranchesMention B n
   branches_mention_iff Branches.none n = (never, λ m. elim m [ ])
-  branches_mention_iff (branch l P B) n = Iff·trans (mentions_iff P n or branches_mention_iff B n)
+  branches_mention_iff (branch l P B) n = Iff.trans (mentions_iff P n or branches_mention_iff B n)
       (⊎_elim in_this in_another, λ m. elim m [ in_this d ↦ inl d | in_another d ↦ inr d ])
 
 pub half_mentions_iff : (x : Name) (P : Proc) (n : Name) → So (half_mentions x P n) ↔ HalfMentions x P n

@@ -2,7 +2,7 @@
 use Rattle.std.specs.Prelude.{◌≡◌, refl, ◌↔◌, ◌≢◌, ◌⊎◌, Bool, true, false}
 use Rattle.std.proofs.Math.Path.{sym, ap}
 use Rattle.std.proofs.Common.{subst, inl, inr}
-use Rattle.std.proofs.Math.Logic.{Iff·trans, Iff·and}
+use Rattle.std.proofs.Math.Logic.Iff
 use mathlib.Core.List.Memᴰ
 use mathlib.Core.List.{List, [], ◌∷◌}
 use Rattle.std.proofs.Math.Bool.{cond, So}
@@ -23,16 +23,17 @@ by_test Q c n f g = go (same_cases c n)
 
 -- a name among others
 pub listed_iff : (n : Name) (l : List Name) → So (any_of (same n) l) ↔ In n l
-listed_iff n l = Iff·trans (any_iff (same n) l) (λ (x, i, e). Memᴰ.cast ((same_iff n x).0 e) i, λ i. (n, i, (same_iff n n).1 refl))
+listed_iff n l = Iff.trans (any_iff (same n) l) (λ (x, i, e). Memᴰ.cast ((same_iff n x).0 e) i, λ i. (n, i, (same_iff n n).1 refl))
 
 pub distinct_iff : (l : List Name) → (distinct l ≡ true) ↔ NoneTwice l
 unfolding distinct
 distinct_iff [] = (λ _. tt, λ _. refl)
-distinct_iff (n ∷ l) = Iff·trans (unless_cond (any_of (same n) l) (distinct l)) (Iff·and (fails_iff (listed_iff n l)) (distinct_iff l))
+distinct_iff (n ∷ l) = Iff.trans (unless_cond (any_of (same n) l) (distinct l)) (Iff.and (fails_iff (listed_iff n l)) (distinct_iff l))
 
 module _ {X : Type 0} where
   pub names_in : (l : List (Name × X)) {x : Name × X} → In x l → In x.0 (names l)
   unfolding names
+  names_in [] i = elim i [ ]
   names_in (e ∷ l) (Memᴰ.head h) = Memᴰ.head (ap (λ (e : Name × X). e.0) h)
   names_in (e ∷ l) (Memᴰ.tail i) = Memᴰ.tail (names_in l i)
 

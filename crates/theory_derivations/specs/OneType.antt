@@ -6,7 +6,8 @@ use Rattle.std.proofs.Math.Bool.{So}
 use Rattle.std.proofs.Math.Option.{some}
 use Rattle.trees.specs.Both.{Both, neither, both, both_here}
 use Rattle.trees.specs.Heads.{Head, matching_map}
-use Rattle.trees.specs.Equal.{Agree, Equal, equal_refl, equal_sym, equal_trans, equal_closed, closed_equal, equal_unfolded}
+use Rattle.trees.specs.Equal.{Agree, Equal, equal_refl, equal_sym, equal_trans, closed_equal, equal_unfolded}
+use Rattle.trees.proofs.Equal.{equal_closed}
 use Rattle.notation.specs.Bytes.{same}
 use Rattle.notation.specs.Tree.{Name, Ty, unit, Alternatives}
 use Rattle.calculus.specs.Types.{shape, unfolded, Passing, passing, Choosing, choosing, labelled}

@@ -1,7 +1,7 @@
 -- What the check's tests say of the channels held, in the words of the rules.
 use Rattle.std.specs.Prelude.{◌≡◌, refl, ◌↔◌, length}
 use Rattle.std.proofs.Common.{sym, ◌∙◌, ap, subst, ⊎_elim}
-use Rattle.std.proofs.Math.Logic.{Iff·trans}
+use Rattle.std.proofs.Math.Logic.Iff
 use mathlib.Core.List.Memᴰ
 use mathlib.Core.List.{List, [], ◌∷◌, ◌++◌}
 use Rattle.std.proofs.Math.Bool.{So}
@@ -55,7 +55,7 @@ module _ (p : Program) (G : Context) (s : Side) where
   list_fits_iff [] [] = (λ _. none_left, λ _. refl)
   list_fits_iff [] (e ∷ es) = (λ z. never z, λ f. elim f [ ])
   list_fits_iff (a ∷ ns) [] = (λ z. never z, λ f. elim f [ ])
-  list_fits_iff (a ∷ ns) (e ∷ es) = Iff·trans
+  list_fits_iff (a ∷ ns) (e ∷ es) = Iff.trans
       (entry_fits_iff e.1 (lookup a G) and list_fits_iff ns es)
       (λ ((A, ea, o), f). one_fits A ea o f, λ f. elim f [ one_fits A ea o f ↦ ((A, ea, o), f) ])
 

@@ -113,6 +113,7 @@ module _ (types : List (Name × Ty Name)) where
       go (inr h) = absurd (omega (arith, names_length (reach (length types)) types))
 
   names_in_bad : (bad : List Name) (l : List (Name × Ty Name)) (n : Name) (D : Ty Name) → In (n, D) l → So (has_other bad D) → In n (names_with_other bad l)
+  names_in_bad bad [] n D m z = elim m [ ]
   names_in_bad bad (e ∷ l) n D (Memᴰ.head h) z =
       subst (In n) (sym (cond_true (e.0 ∷ names_with_other bad l) (names_with_other bad l) (ap (λ (x : Name × Ty Name). has_other bad x.1) (sym h) ∙ z)))
       (Memᴰ.head (ap (λ (x : Name × Ty Name). x.0) h))

@@ -7,7 +7,7 @@ use Rattle.trees.specs.Heads as trees
 use Rattle.trees.specs.Heads.{Inside}
 use Rattle.trees.specs.Equal.{Equal}
 use Rattle.trees.specs.Listed.{Listed, in_left, in_right, in_either}
-use Rattle.trees.specs.Decide.{equal_iff}
+use Rattle.trees.proofs.Decide.{equal_iff}
 use Rattle.notation.specs.Bytes.{same}
 use Rattle.notation.specs.Tree.{Name, Ty, unit, named, tensor, par, lolli, plus, with, Alternatives, alternative, Ty-discrete}
 use Rattle.calculus.specs.Named.{lookup}

@@ -25,6 +25,7 @@ held_keys_lem [] = refl
 held_keys_lem (x ∷ l) = ap (λ r. key x.1 ∷ r) (held_keys_lem l)
 
 held_in_lem : (l : List (Name × End)) (x : Name × End) → In x l → In x.1 (held_ends l)
+held_in_lem [] x i = elim i [ ]
 held_in_lem (y ∷ l) x (Memᴰ.head e) = Memᴰ.head (ap (λ (x : Name × End). x.1) e)
 held_in_lem (y ∷ l) x (Memᴰ.tail i) = Memᴰ.tail (held_in_lem l x i)
 
@@ -97,6 +98,7 @@ keys_once (p ∷ l) u h =
 
 -- ── ends of the outside
 pub outside_end_lem : (o : List Outside) (y : Outside) → In y o → In (end used y.channel y.type) (outside_ends o)
+outside_end_lem [] y i = elim i [ ]
 outside_end_lem (x ∷ o) y (Memᴰ.head e) = Memᴰ.head (λ i. end used (e i).channel (e i).type)
 outside_end_lem (x ∷ o) y (Memᴰ.tail i) = Memᴰ.tail (outside_end_lem o y i)
 

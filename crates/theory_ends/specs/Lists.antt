@@ -188,6 +188,7 @@ module _ {A : Type 0} where
   once_right (x ∷ l) m u = once_right l m u.1
 
   pub once_apart : (l m : List A) → NoneTwice (l ++ m) → {x y : A} → In x l → In y m → x ≢ y
+  once_apart [] m u i j z = elim i [ ]
   once_apart (a ∷ l) m u (Memᴰ.head e) j z = u.0 (Memᴰ.append_right l (Memᴰ.cast (sym e ∙ z) j))
   once_apart (a ∷ l) m u (Memᴰ.tail i) j z = once_apart l m u.1 i j z
 

@@ -1,7 +1,7 @@
 -- An end moves on from its own type: where it is known, what is left of it is known.
 use Rattle.std.specs.Prelude.{ℕ, ◌≡◌, refl, List, [], ◌∷◌, Bool, true, false, cond, eqb}
 use Rattle.std.proofs.Common.{sym, ◌∙◌, ap}
-use Rattle.std.proofs.Math.Option.{Option, some, none, some-injective, none-ne-some}
+use Rattle.std.proofs.Math.Option.{some, some-injective, none-ne-some}
 use Rattle.notation.specs.Bytes.{same}
 use Rattle.notation.specs.Tree.{Name}
 use Rattle.calculus.specs.Named.{lookup, changed}

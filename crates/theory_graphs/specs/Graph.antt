@@ -52,7 +52,7 @@ pub connected_equiv : (J : List Joint) → Equiv (Connected J)
 connected_equiv J = record { rfl = λ x y e. connected_refl J e; flip = λ x y p. connected_sym p; next = λ x y z p q. connected_trans p q }
 
 -- a joint connects its ends
-pub connected_joint : {J : List Joint} (j : Joint) → In j J → Connected J j.0 j.1
+pub connected_joint : (j : Joint) {J : List Joint} → In j J → Connected J j.0 j.1
 connected_joint j (Memᴰ.head {x = i} {xs = J} e) = over (connected_refl J (ap (λ k. k.0) e)) (connected_refl J (ap (λ k. k.1) (sym e)))
 connected_joint j (Memᴰ.tail m) = past (connected_joint j m)
 

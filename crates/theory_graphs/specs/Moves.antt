@@ -1,13 +1,12 @@
 -- Moves that close no circle, of joints that are numbered: `map jt K`, for a list K of numbers and the joint of each.
-use Rattle.std.specs.Prelude.{◌≡◌, refl, ◌↔◌, ◌≢◌, ◌⊎◌, ℕ, zero, suc, ◌+◌, ◌≤◌, ◌<◌}
-use Rattle.std.proofs.Common.{sym, ◌∙◌, ap, subst, inl, inr}
-use Rattle.std.proofs.Math.Logic.{ite}
+use Rattle.std.specs.Prelude.{◌≡◌, refl, ◌≢◌, ℕ}
+use Rattle.std.proofs.Common.{sym, ◌∙◌, ap, subst}
 use mathlib.Core.List.Memᴰ
 use mathlib.Core.List.Permᴰ
 use mathlib.Core.List.{List, [], ◌∷◌, map, map-map, Memᴰ, Permᴰ}
 use Rattle.calculus.specs.Forest.{Joint, Forest}
 use Rattle.calculus.specs.Named.{In, NoneTwice}
-use Rattle.theory_graphs.specs.Graph.{connected_sym, connected_mono, connected_refl, forest_perm, del, in_del, glue, glue_j, glued, contract, expand, share_out}
+use Rattle.theory_graphs.specs.Graph.{connected_sym, connected_mono, connected_refl, forest_perm, del, in_del, glue_j, glued, contract, expand, share_out}
 
 pub map_cong : {A B : Type 0} (f g : A → B) (l : List A) → ((x : A) → In x l → f x ≡ g x) → map f l ≡ map g l
 map_cong f g [] h = refl

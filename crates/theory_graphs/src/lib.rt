@@ -1,1 +1,2 @@
 // No code: specs/ has the theory.
+#![tactic(auto)]

@@ -5,7 +5,7 @@ use Rattle.std.proofs.Math.Path.{refl, subst}
 use Rattle.std.proofs.Common.{sym, ◌∙◌, ap, append_assoc, true≢false, arith, eqb-true, ltb-true}
 use Rattle.std.proofs.lemmas.Bool.{false≢true, eqb-false}
 use Rattle.notation.specs.Token.{token_at, kind_at, k_name, k_one, k_colon, k_comma}
-use Rattle.notation.specs.Tree.{Located, Ty, unit, Entry}
+use Rattle.notation.specs.Tree.{Located, Ty, Entry}
 use Rattle.notation.specs.Reader.{Result, got, refused, on_token, part, lastly, choose, past, fault, expect, limited, may_open, deeper, opening, closed}
 use Rattle.notation.specs.Types.{is_infix}
 use Rattle.notation.specs.Processes.{read_names, name_list}

@@ -223,6 +223,7 @@ mutual
       (_, rule.try e.at f.at (x d.at).1 (y g.at).1)
 
   branches_anywhere : (B : Branches) {n next : ℕ} {p : List Terminal} → AreBranches n next p B → Anywhere (SomeBranches n) p
+  branches_anywhere Branches.none d = elim d [ ]
   branches_anywhere (tree.branch l P B) (rule.last d) = one refl λ l. one refl λ a. also (process_anywhere P d) λ q x n. (_, rule.last (x n).1)
   branches_anywhere (tree.branch l P B) (rule.more d e) =
       one refl λ l. one refl λ a. seq (process_anywhere P d) λ p x. one refl λ b. also (branches_anywhere B e) λ q y n. (_, rule.more (x b.at).1 (y n).1)

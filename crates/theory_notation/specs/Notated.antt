@@ -1,5 +1,5 @@
 -- The reader reads exactly the scripts that the rules of the notation derive, and refuses exactly where they do.
-use Rattle.std.specs.Prelude.{ℕ, zero, suc, ◌+◌, ◌≤◌, ◌<◌, ◌≡◌, ◌≢◌, ◌↔◌, Bool, length, drop}
+use Rattle.std.specs.Prelude.{ℕ, zero, suc, ◌≤◌, ◌<◌, ◌≡◌, ◌≢◌, ◌↔◌, Bool, length, drop}
 use Rattle.std.proofs.Common.{arith, sym, ◌∙◌, ap, subst, true≢false, length-append}
 use Rattle.std.proofs.Math.Decide.{dec_lt}
 use Rattle.std.proofs.Math.Path.{refl}

@@ -7,9 +7,7 @@ use Rattle.notation.specs.Reader.{Result, got, refused}
 use Rattle.notation.specs.declared.reading.Cursor.{Cursor}
 use Rattle.grammar.specs.Terminals.{Tok, Terminal, token_of, offset, following}
 use Rattle.grammar.specs.Counting.{Counts, Fits, Within}
-use Rattle.grammar.specs.Counting as counting
 use Rattle.theory_notation.specs.Standing.{token_in, Stand, spelled, following_append, Agree}
-use Rattle.theory_notation.specs.Standing as standing
 
 -- ── languages
 abbrev pub Lang : Type 0 → Type 1

@@ -57,7 +57,7 @@ pub record Split (k : Counts) (p : List Terminal) (x : Terminal) : Type 0 where
 
 pub within_split : {k m : Counts} (p : List Terminal) (x : Terminal) (q : List Terminal) → Within k (p ++ (x ∷ q)) m → Split k p x
 within_split [] x q (counting.more f g) = record { counts = _; before = counting.none; fits = f }
-within_split (y ∷ p) x q (counting.more f g) = let h = within_split p x q g in record { counts = h.counts; before = counting.more f h.before; fits = h.fits }
+within_split {k = k} (y ∷ p) x q (counting.more f g) = let h = within_split {k = counting.counted k y} p x q g in record { counts = h.counts; before = counting.more f h.before; fits = h.fits }
 
 abbrev pub tail_of : {A : Type 0} → List A → List A
 tail_of [] = []

@@ -1,11 +1,11 @@
 -- The reading of types is right about the rules of types.
-use Rattle.std.specs.Prelude.{ℕ, zero, suc, ◌+◌, ◌≡◌, ◌≢◌, Bool, true, false, ◌||◌, eqb, ltb}
+use Rattle.std.specs.Prelude.{ℕ, zero, suc, ◌+◌, ◌≡◌, Bool, true, false, ◌||◌, eqb, ltb}
 use Rattle.std.proofs.Math.Path.{refl, subst}
 use Rattle.std.proofs.Common.{sym, ◌∙◌, ap, true≢false, arith, eqb-true}
 use mathlib.Core.List.{List, [], ◌∷◌, ◌++◌, append-nil}
 use Rattle.std.proofs.lemmas.Bool.{false≢true}
 use Rattle.notation.specs.Token.{kind_at, k_one, k_name, k_round_open, k_round_close, k_brace_open, k_brace_close, k_plus, k_with, k_colon, k_comma, k_star, k_at, k_lolli}
-use Rattle.notation.specs.Tree.{Located, Ty, unit, named, tensor, par, lolli, plus, with, Alternatives, alternative}
+use Rattle.notation.specs.Tree.{Located, Ty, unit, named, plus, with, Alternatives, alternative}
 use Rattle.notation.specs.Reader.{Result, got, on_token, lastly, choose, expect}
 use Rattle.notation.specs.Types.{type_head, is_infix, infix_of, right_by, type_by, round_by, choice_by, atom_by, alternatives_by, read_type, read_atom, read_alternatives}
 use Rattle.notation.specs.declared.reading.Cursor.{Cursor}

@@ -38,6 +38,7 @@ module _ {A : Type 0} (Q : A → Type 0) where
   each_map g h l f x i = let y = Memᴰ.of_map g l i in subst Q y.2 (h y.0 (f y.0 y.1))
 
   pub each_set : (l : List A) (i : ℕ) (a : A) → Each Q l → Q a → Each Q (set l i a)
+  each_set [] i a f q x m = elim m [ ]
   each_set (y ∷ l) zero a f q x (Memᴰ.head e) = subst Q (sym e) q
   each_set (y ∷ l) zero a f q x (Memᴰ.tail m) = f x (Memᴰ.tail m)
   each_set (y ∷ l) (suc i) a f q x (Memᴰ.head e) = f x (Memᴰ.head e)

@@ -15,11 +15,10 @@ use Rattle.theory_ends.specs.Names.{without_sub}
 use Rattle.theory_ends.specs.Contexts.{context_without}
 use Rattle.theory_preservation.specs.Roster.{TypedDoing, Goes, runs_on, goes_folding}
 use Rattle.theory_preservation.specs.Outsides.{let_go_sub}
-use Rattle.theory_preservation.specs.Growing
 use Rattle.theory_preservation.specs.Invariant.{Inv, inv_less}
 
 -- an end is given up: the outside lets go of some of its channels, or of none
-pub gives_up : (Q : Config → Type 0) {C D : Config} {e : End} {seen : Seen} → GivesUp C e seen D → ((ys : List Outside) → Sublistᴰ ys C.outside → Q (with_outside ys C)) → Q D
+pub gives_up : (Q : Config → Type 0) {C : Config} {e : End} {D : Config} {seen : Seen} → GivesUp C e seen D → ((ys : List Outside) → Sublistᴰ ys C.outside → Q (with_outside ys C)) → Q D
 gives_up Q {C} (by_process _) f = f C.outside (Sublistᴰ.refl C.outside)
 gives_up Q {C} {e = e} (by_outside _) f = f (let_go e.channel C.outside) (let_go_sub e.channel C.outside)
 gives_up Q {C} (by_nobody _) f = f C.outside (Sublistᴰ.refl C.outside)

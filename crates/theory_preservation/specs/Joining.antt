@@ -10,7 +10,7 @@ use Rattle.calculus.specs.Types.{provided, used, other}
 use Rattle.calculus.specs.Program.{Program}
 use Rattle.calculus.specs.OneType.{OneType}
 use Rattle.calculus.specs.Typing.{Typed, forwards}
-use Rattle.calculus.specs.Configuration.{End, end, running, folding, Process, process, Config, Stands, with_outside, replaced, Holder, relinked, moved_outside, folds_up}
+use Rattle.calculus.specs.Configuration.{End, running, folding, Process, Config, Stands, with_outside, replaced, Holder, relinked, moved_outside, folds_up}
 use Rattle.calculus.specs.Steps.{moved_end, far_moved}
 use Rattle.calculus.specs.Reduces.{GivesUp}
 use Rattle.calculus.specs.WellFormed.{context_of}
@@ -20,7 +20,6 @@ use Rattle.theory_ends.specs.FarEnds.{HeldFar}
 use Rattle.theory_preservation.specs.Roster.{runs_awake, goes_folding}
 use Rattle.theory_preservation.specs.Forwarding.{forwarded, forwarded_out}
 use Rattle.theory_preservation.specs.Relocating.{Relocated, relocated}
-use Rattle.theory_preservation.specs.Growing
 use Rattle.theory_preservation.specs.Invariant.{Inv, at_roster, fine_at, inv_set, inv_two}
 use Rattle.theory_preservation.specs.GivingUp.{folds_up_lem, parts}
 

@@ -250,6 +250,7 @@ module _ (C : Config) {id : ℕ → ℕ} {S : Roster} (s : Shows id C.processes 
   in_numbers (r ∷ l) (suc i) q e k m = Memᴰ.append_right (held_keys C r.held ++ link_numbers id r.link) (in_numbers l i q e k m)
 
   in_held : (l : List (Name × End)) (x : Name × End) → In x l → (k : ℕ) → In k (far_key x.1 x.1.side (far_end C x.1)) → In k (held_keys C l)
+  in_held [] x i k m = elim i [ ]
   in_held (y ∷ l) x (Memᴰ.head e) k m = Memᴰ.append_left (held_keys C l) (subst (λ (x : Name × End). In k (far_key x.1 x.1.side (far_end C x.1))) e m)
   in_held (y ∷ l) x (Memᴰ.tail i) k m = Memᴰ.append_right (far_key y.1 y.1.side (far_end C y.1)) (in_held l x i k m)
 

@@ -5,7 +5,6 @@ use Rattle.std.proofs.Common.{◌∙◌}
 use mathlib.Core.List.{List, [], ◌∷◌, ◌++◌, cons-ne-nil}
 use Rattle.std.proofs.Math.Option.{Option, some, none, none-ne-some, some-injective}
 use Rattle.std.proofs.Math.Bool.{cond, not}
-use Rattle.notation.specs.Bytes.{same}
 use Rattle.notation.specs.Tree.{Name, Located, Ty, Alternatives, alternative, Proc, send_channel, send_label, recv_channel, recv_label, Branches, branch, plain}
 use Rattle.calculus.specs.Named.{lookup, without, is_some}
 use Rattle.calculus.specs.Types.{provided, used, unfolded, Passing, passing, Choosing, choosing, labelled}

@@ -1,7 +1,6 @@
 -- Joints are fewer than processes; and a joint by its key, which each of its two ends finds.
 use Rattle.std.specs.Prelude.{ℕ, zero, suc, ◌+◌, ◌<◌, ◌≡◌, refl, ◌≢◌, ◌⊎◌, List, [], ◌∷◌, ◌++◌, length}
 use Rattle.std.proofs.Common.{arith, sym, ◌∙◌, ap, subst, inl, inr, length-append}
-use mathlib.Core.HLevel.{Discrete}
 use mathlib.Core.List.Memᴰ
 use Rattle.std.proofs.Math.Option.{Option, some, none, some-injective, none-ne-some}
 use Rattle.std.proofs.Math.ListN.{get_elem?}
@@ -27,6 +26,7 @@ stands_below {C} {i} s = found_below C.processes i s.there
 joint_within : {C : Config} {i : ℕ} {e : End} {f : Far} {j : Joint} → i < length C.processes → (s : Side) → FarIs C e f → In j (joint_at i s f)
     → Within C j
 joint_within {C} h provided (at_process_lem _ v) (Memᴰ.head e) = subst (Within C) (sym e) (h, stands_below (stands_at C v))
+joint_within h provided (at_process_lem _ v) (Memᴰ.tail m) = elim m [ ]
 joint_within h used (at_process_lem _ v) m = absurd (Memᴰ.not-nil m)
 joint_within h provided (at_outside_lem _ _ _ _ _) m = absurd (Memᴰ.not-nil m)
 joint_within h used (at_outside_lem _ _ _ _ _) m = absurd (Memᴰ.not-nil m)
@@ -45,6 +45,7 @@ link_within : {p : Program} {C : Config} → WellFormed p C → {i : ℕ} {q : P
     → In j (link_joint i o) → Within C j
 link_within w s none e m = absurd (Memᴰ.not-nil m)
 link_within {C = C} w {i} {q} s (some h) e (Memᴰ.head z) = subst (Within C) (sym z) (stands_below s, stands_below (w.links i q s h e).1)
+link_within w s (some h) e (Memᴰ.tail m) = elim m [ ]
 
 joints_within : {p : Program} {C : Config} → WellFormed p C → (i : ℕ) (l : List Process)
     → ((k : ℕ) (q : Process) → get_elem? l k ≡ some q → Stands C (i + k) q) → {j : Joint} → In j (joints_from C i l) → Within C j
@@ -134,6 +135,7 @@ keys_of_joints C = length_keys C 0 C.processes
 
 channel_key_lem : (C : Config) {n : Name} {e : End} {h : Holder} (l : List (Name × End)) → In (n, e) l → e.side ≡ provided → far_end C e ≡ at_process h
     → In (channel e.channel) (channel_keys C l)
+channel_key_lem C [] m s f = elim m [ ]
 channel_key_lem C {e = e} (x ∷ l) (Memᴰ.head g) s f =
     Memᴰ.append_left (channel_keys C l)
     (subst (λ (y : Name × End). In (channel e.channel) (key_at y.1.channel y.1.side (far_end C y.1))) g (rw (f, s) (Memᴰ.head refl)))

@@ -14,7 +14,7 @@ use Rattle.calculus.specs.Accepted.{accepted, faulty, checked}
 use Rattle.calculus.specs.Configuration.{Process, Config, halt, at}
 use Rattle.calculus.specs.Steps.{Outcome, carried, uncaught, not_open, lacking, step}
 use Rattle.calculus.specs.Runs.{Ran, start_config, line_signature, exec_of, run_on, report, places}
-use Rattle.calculus.specs.Reduces.{Lacks, Applies, Open}
+use Rattle.calculus.specs.Reduces.{Lacks, Applies}
 use Rattle.calculus.specs.Machine.{Call, call_start, call_step, call_run_on, call_report, call_places, call_exec_name, started, stepped, ran_on, reported, surveyed, name_given, Reply, reply, text_checked, on_program, on_run, on_line, on_going, on_place, on_step, refusal, respond}
 use Rattle.calculus.specs.Demands.{is_refused, lengths, RefusedWhere, AnsweredHalted}
 use Rattle.calculus.specs.declared.answers.Seen.{Seen}

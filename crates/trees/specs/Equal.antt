@@ -1,10 +1,8 @@
 -- Two trees are equal: they have one mark and equal trees below, without end.
 use Rattle.std.specs.Prelude.{◌≡◌, ◌↔◌, Bool}
 use Rattle.std.proofs.Common.{subst}
-use Rattle.std.proofs.Math.Option.{Option}
 use Prim.Native.Nat.{ℕ, zero, suc}
-use Rattle.trees.specs.Both.{Both, neither, both, both_some}
-use Rattle.trees.specs.Heads.{Head, Matching, leaves, words, pairs, choices, matching_map, matching_refl, matching_sym, matching_trans, pair_parts, choice_parts}
+use Rattle.trees.specs.Heads.{Head, Matching, matching_map, matching_refl, matching_sym, matching_trans}
 
 module _ {N : Type 0} (same : N → N → Bool) where
   module _ {X : Type 0} (head : X → Head N X) where
@@ -44,21 +42,6 @@ module _ {N : Type 0} (same : N → N → Bool) where
 
     pub equal_trans : {a b c : X} → Equal a b → Equal b c → Equal a c
     equal_trans e f = record { agree = λ n. agree_trans n _ _ _ (e.agree n) (f.agree n) }
-
-    -- equal trees have heads with one mark, and equal trees below
-    both_all : {o p : Option X} → ((n : ℕ) → Both (Agree n) o p) → Both (Agree zero) o p → Both Equal o p
-    both_all f neither = neither
-    both_all f (both x) = both (record { agree = λ n. both_some (f n) })
-
-    matching_all : {h g : Head N X} → ((n : ℕ) → Matching same (Agree n) h g) → Matching same (Agree zero) h g → Matching same Equal h g
-    matching_all f leaves = leaves
-    matching_all f words = words
-    matching_all f (pairs a b) = pairs (record { agree = λ n. (pair_parts same (f n)).1 }) (record { agree = λ n. (pair_parts same (f n)).2 })
-    matching_all f (choices e) = choices (λ l. both_all (λ n. (choice_parts same (f n)).1 l) (e l))
-
-    pub equal_closed : Closed Equal
-    unfolding Agree
-    equal_closed a b e = matching_all (λ n. e.agree (suc n)) (e.agree 1)
 
     -- whatever a closed relation relates is equal
     agree_closed : {R : X → X → Type 0} → Closed R → (n : ℕ) (a b : X) → R a b → Agree n a b

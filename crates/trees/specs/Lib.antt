@@ -3,5 +3,4 @@ pub mod Heads
 pub mod Equal
 pub mod Listed
 pub mod Asked
-pub mod Decide
 pub mod Classes

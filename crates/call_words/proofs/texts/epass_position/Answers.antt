@@ -1,0 +1,11 @@
+use mathlib.Core.Path.{◌∙◌, ap}
+use Rattle.call_words.specs.Words.{padded}
+use Rattle.call_words.specs.Texts.{position_words, too_short, long_enough, written}
+use borrow.Author.Rules.{rules}
+use Rattle.call_words.proofs.texts.epass_position.Goals as goal
+
+pub returns-then-answer-lt-ANSWER_WORDS : goal.returns-then-answer-lt-ANSWER_WORDS
+returns-then-answer-lt-ANSWER_WORDS c = too_short c.if-answer-lt-ANSWER_WORDS.true
+
+pub returns : goal.returns
+returns c = long_enough (search rules) (written _ (c.position_words.ensures ∙ ap (λ p. padded (position_words p)) c.position_at-p.ensures) c.tell.ensures)

@@ -1,0 +1,8 @@
+use Rattle.check_declarations.specs.Reach.{marked_not, marked_named}
+use Rattle.check_declarations.proofs.reach.marked_so.Goals as goal
+
+pub returns-then-mark : goal.returns-then-mark
+returns-then-mark c = marked_named _ _ _ _ _ c.if-mark.true c.declared_type-t.ensures c.names_equal.ensures
+
+pub returns : goal.returns
+returns c = marked_not _ _ _ _ _ c.if-mark.false

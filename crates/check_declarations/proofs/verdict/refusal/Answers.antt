@@ -1,0 +1,6 @@
+use mathlib.Core.Path.{ap, sym}
+use Rattle.check_declarations.specs.Lowest.{refused_at}
+use Rattle.check_declarations.proofs.verdict.refusal.Goals as goal
+
+pub returns-in-At : goal.returns-in-At
+returns-in-At c = sym (ap (refused_at _) c.in-At.is)

@@ -1,0 +1,17 @@
+use mathlib.Core.Path.{sym}
+use Rattle.check_terms.specs.Next.{context_in}
+use Rattle.check_processes.specs.Turns.{turned_onward}
+use Rattle.check_processes.specs.Nodes.{raise_at}
+use Rattle.check_processes.proofs.turns.check_ending.Goals as goal
+
+pub returns-then-n-le-CALL : goal.returns-then-n-le-CALL
+returns-then-n-le-CALL c = c.check_last.ensures
+
+pub returns-then-n-eq-RAISE : goal.returns-then-n-eq-RAISE
+returns-then-n-eq-RAISE c =
+    let e = c.args in
+    let raises = raise_at e.text.now e.scratch.now e.p e.n c.requires.2 c.if-n-eq-RAISE.true in
+    turned_onward c.goes_on.ensures (sym (raises.1 (context_in e.text.now e.scratch.now e.h))) c.requires.1 raises.0.1 raises.0.0
+
+pub returns : goal.returns
+returns c = c.check_try.ensures

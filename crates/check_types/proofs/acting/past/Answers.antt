@@ -1,0 +1,6 @@
+use native.Mathlib.Omega.{arith}
+use Rattle.check_types.specs.Labels.{both_beyond}
+use Rattle.check_types.proofs.acting.past.Goals as goal
+
+pub returns : goal.returns
+returns c = both_beyond _ _ _ (omega arith) (omega arith)

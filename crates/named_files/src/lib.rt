@@ -1,0 +1,5 @@
+// The files that a program's arguments name.
+#![tactic(auto)]
+
+pub mod naming;
+pub mod reading;

@@ -1,0 +1,20 @@
+use mathlib.Core.Path.{refl, sym, ap, ◌∙◌}
+use mathlib.Core.Bool.{not}
+use Rattle.notation.specs.Token.{skip}
+use Rattle.notation.proofs.Scans.{scan_hit, scan_next, scan_end}
+use borrow.Author.Rules.{rules}
+use Rattle.notation.proofs.token.skip.Goals as goal
+
+pub loop-i-init : goal.loop-i-init
+loop-i-init c = record { left = refl }
+
+pub returns-then-not-is_blank : goal.returns-then-not-is_blank
+unfolding skip
+returns-then-not-is_blank c = scan_hit c.loop-i.invariant 0 (search rules) (ap not (sym c.is_blank.ensures) ∙ c.if-not-is_blank.true-raw)
+
+pub loop-i-preserved : goal.loop-i-preserved
+loop-i-preserved c = scan_next c.loop-i.invariant 0 (search rules) (ap not (sym c.is_blank.ensures) ∙ c.if-not-is_blank.false-raw)
+
+pub returns : goal.returns
+unfolding skip
+returns c = scan_end c.loop-i.invariant (search rules)
