@@ -1,4 +1,4 @@
-//! Links the static library that `rt staticlib call_words` writes; EPASS_LIBRARY names another folder that holds it.
+//! Links the static library that `rt lib` writes in crates/call_words; EPASS_LIBRARY names another folder that holds it.
 use std::env;
 use std::path::PathBuf;
 
@@ -6,7 +6,7 @@ fn main() {
     println!("cargo:rerun-if-env-changed=EPASS_LIBRARY");
     let folder = env::var_os("EPASS_LIBRARY").map(PathBuf::from).unwrap_or_else(|| {
         let here = PathBuf::from(env::var_os("CARGO_MANIFEST_DIR").expect("cargo names the package's folder"));
-        here.join("../../target/staticlib")
+        here.join("../../crates/call_words/out")
     });
     println!("cargo:rustc-link-search=native={}", folder.display());
     println!("cargo:rustc-link-lib=static=call_words");

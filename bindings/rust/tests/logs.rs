@@ -102,12 +102,12 @@ fn stored_logs() {
 
 /// What the program prints for a log.
 fn printed(log: &[u8]) -> Vec<u8> {
-    let program = project().join("target/bin/calls");
+    let program = project().join("crates/calls/out/calls");
     let mut calls = Command::new(&program)
         .stdin(Stdio::piped())
         .stdout(Stdio::piped())
         .spawn()
-        .unwrap_or_else(|e| panic!("{}: {e}; `rt check calls` builds it", program.display()));
+        .unwrap_or_else(|e| panic!("{}: {e}; `rt run` in crates/calls builds it", program.display()));
     let mut input = calls.stdin.take().expect("it is piped");
     let log = log.to_vec();
     let writer = std::thread::spawn(move || input.write_all(&log));
