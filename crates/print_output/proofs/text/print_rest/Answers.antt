@@ -11,3 +11,7 @@ loop-run-preserved g c =
     let waits = c.in-Bytes.ensures.waits.is in
     let next = taken_next {r = c.next_piece-p.result} _ _ c.loop-run.waiting (omega (arith, c.loop-run.invariant.2, c.loop-run.invariant.3)) c.loop-run.invariant.5 c.next_piece-p.ensures in
     (c.next_piece-p.ensures.going, search rules, search rules, waits.0, waits.1, taken_gone next c.in-Bytes.ensures.gone)
+
+-- (the check finds it, and the edit of what waits at the end gives another)
+pub write_due-requires-clause-due : goal.write_due-requires-clause-due
+write_due-requires-clause-due g c = c.loop-run.invariant.4
