@@ -5,8 +5,8 @@
 
 mod replay;
 
-use named_files::naming::{argument, open_named};
-use named_files::reading::read_full;
+use program_input::naming::{argument, open_named};
+use program_input::reading::read_full;
 use replay::replay;
 use std::io;
 use std::io::{Read, Write};

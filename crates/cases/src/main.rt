@@ -2,9 +2,9 @@
 // or a name that cannot be printed, ends it with that error.
 #![tactic(auto)]
 
-use named_files::naming::{argument, open_named};
-use named_files::reading::read_full;
 use print_output::text::print_text;
+use program_input::naming::{argument, open_named};
+use program_input::reading::read_full;
 use std::io;
 use std::io::Write;
 use std::rt::Runtime;

@@ -3,8 +3,8 @@
 // cannot be read ends it with that error, and nothing is printed.
 #![tactic(auto)]
 
-use named_files::reading::read_full;
 use print_output::text::{Printed, print_text};
+use program_input::reading::read_full;
 use std::io;
 
 fn main(rt: HostRuntime) -> io::Result<()> {

@@ -1,5 +1,0 @@
-// The files that a program's arguments name.
-#![tactic(auto)]
-
-pub mod naming;
-pub mod reading;
